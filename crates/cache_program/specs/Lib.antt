@@ -1,0 +1,10 @@
+pub mod Lines
+pub mod Fault
+pub mod Writing
+pub mod Reading
+pub mod Script
+pub mod Playing
+pub mod Words
+pub mod Answer
+pub mod Wire
+pub mod Reply

@@ -1,0 +1,28 @@
+-- The lines of an input.
+use Rattle.std.specs.Prelude.{ℕ, Bool, ◌==◌, nat_lt, List, [], ◌∷◌, length, if◌then◌else◌}
+use Rattle.std.specs.List.{list_any}
+
+-- LF, which ends a line
+abbrev pub newline : ℕ
+newline = 10
+
+-- the octet in front of the first line
+abbrev pub in_first : ℕ → List (List ℕ) → List (List ℕ)
+in_first octet [] = (octet ∷ []) ∷ []
+in_first octet (line ∷ lines) = (octet ∷ line) ∷ lines
+
+-- what stands before each LF, and what follows the last one unless it is empty
+abbrev pub lines_of : List ℕ → List (List ℕ)
+lines_of [] = []
+lines_of (octet ∷ octets) = if octet == newline then [] ∷ lines_of octets else in_first octet (lines_of octets)
+
+-- the most octets that a line may have
+abbrev pub longest_line : ℕ
+longest_line = 140000
+
+abbrev pub is_long : List ℕ → Bool
+is_long line = nat_lt longest_line (length line)
+
+-- some line is longer than that
+abbrev pub has_long_line : List (List ℕ) → Bool
+has_long_line lines = list_any is_long lines

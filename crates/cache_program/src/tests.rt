@@ -1,0 +1,293 @@
+//! Worked rows: whole inputs and what must be written for them.
+use crate::answer::run_answer;
+use crate::fault::RunFault;
+use crate::wire::{Codec, run_wire};
+use std::io;
+use std::io::{Error, ErrorKind, Read, Write};
+use std::test::Fail;
+
+/// Twelve and sixteen zero octets, in hex.
+const Z12: &str = "000000000000000000000000";
+const Z16: &str = "00000000000000000000000000000000";
+
+/// `http://o/a` in hex.
+const U: &str = "687474703a2f2f6f2f61";
+
+/// What `cache answer` writes for an input.
+fn answers(rt: &HostRuntime, input: &str) -> Result<String, Fail> {
+    let mut written = Vec::new(rt.alloc());
+    run_answer(rt.alloc(), &mut input.as_bytes(), &mut written)?;
+    Ok(String::from_utf8(written)?)
+}
+
+/// What `cache wire icp` writes for an input.
+fn shown(rt: &HostRuntime, input: &str) -> Result<String, Fail> {
+    let mut written = Vec::new(rt.alloc());
+    run_wire(rt.alloc(), Codec::Icp, &mut input.as_bytes(), &mut written)?;
+    Ok(String::from_utf8(written)?)
+}
+
+#[test]
+fn queries_are_answered(rt: HostRuntime) -> Result<(), Fail> {
+    let alloc = rt.alloc();
+    let query = format!(in alloc; "icp 0102002300000007{Z16}{U}00")?;
+    let table = [
+        // A hit; a URL of the same key; a miss; a URL that is no key; a message that is no query.
+        (
+            format!(in alloc; "store http://o/a\n{query}\n")?,
+            format!(in alloc; "stored\n0202001f00000007{Z12}{U}00\n")?,
+        ),
+        (
+            format!(in alloc; "store http://o/a\nicp 0102002600000007{Z16}485454503a2f2f4f3a38302f6100\n")?,
+            format!(in alloc; "stored\n0202002200000007{Z12}485454503a2f2f4f3a38302f6100\n")?,
+        ),
+        (
+            format!(in alloc; "{query}\n")?,
+            format!(in alloc; "0302001f00000007{Z12}{U}00\n")?,
+        ),
+        (
+            format!(in alloc; "icp 0102001a00000007{Z16}7800\n")?,
+            format!(in alloc; "0402001600000007{Z12}7800\n")?,
+        ),
+        (
+            format!(in alloc; "icp 0202001600000007{Z12}7800\n")?,
+            format!(in alloc; "nothing\n")?,
+        ),
+        // The last line needs no end; hex may be in upper case; an empty input has no line.
+        (query, format!(in alloc; "0302001f00000007{Z12}{U}00\n")?),
+        (
+            format!(in alloc; "icp 0202001600000007{Z12}7800")?,
+            format!(in alloc; "nothing\n")?,
+        ),
+        (format!(in alloc; "")?, format!(in alloc; "")?),
+    ];
+    for (input, expected) in table.iter() {
+        assert_eq!(rt; answers(&rt, input.as_str())?.as_str(), expected.as_str(), "{input}");
+    }
+    Ok(())
+}
+
+#[test]
+fn faults_of_datagrams(rt: HostRuntime) -> Result<(), Fail> {
+    let alloc = rt.alloc();
+    let short = "00".repeat(alloc, 19)?;
+    let long = "00".repeat(alloc, 16_385)?;
+    let table = [
+        (format!(in alloc; "{short}")?, "Short"),
+        (format!(in alloc; "{long}")?, "TooLong"),
+        (format!(in alloc; "0103002400000007{Z16}{U}00")?, "BadVersion"),
+        (format!(in alloc; "0102002400000007{Z16}{U}00")?, "BadLength"),
+        (format!(in alloc; "0a02001400000007{Z12}")?, "BadOpcode"),
+        (format!(in alloc; "0102001800000007{Z16}")?, "NoZero"),
+        (format!(in alloc; "0202001700000007{Z12}610062")?, "Trailing"),
+        (format!(in alloc; "1702001900000007{Z12}6100000278")?, "BadObject"),
+        (format!(in alloc; "0g")?, "bad hex"),
+        (format!(in alloc; "012")?, "bad hex"),
+    ];
+    for (hex, expected) in table.iter() {
+        let expected = format!(in alloc; "{expected}\n")?;
+        let input = format!(in alloc; "icp {hex}\n")?;
+        assert_eq!(rt; answers(&rt, input.as_str())?.as_str(), expected.as_str(), "{hex}");
+        let input = format!(in alloc; "{hex}\n")?;
+        assert_eq!(rt; shown(&rt, input.as_str())?.as_str(), expected.as_str(), "{hex}");
+    }
+    Ok(())
+}
+
+#[test]
+fn lines_of_answer(rt: HostRuntime) -> Result<(), Fail> {
+    for (input, expected) in [
+        ("\n", "bad line\n"),
+        ("icp\n", "bad line\n"),
+        ("icp \n", "bad line\n"),
+        ("icp 01 02\n", "bad line\n"),
+        (" icp 01\n", "bad line\n"),
+        ("ICP 01\n", "bad line\n"),
+        ("store\n", "bad line\n"),
+        ("store \n", "bad line\n"),
+        ("store  1\n", "bad line\n"),
+        ("store http://o/ 1 \n", "bad line\n"),
+        ("store http://o/ 01\n", "bad line\n"),
+        ("store http://o/ +1\n", "bad line\n"),
+        ("store http://o/ 4294967296\n", "bad line\n"),
+        ("store http://o/ 99999999999999999999\n", "bad line\n"),
+        ("store http://o/ \n", "bad line\n"),
+        ("htcp 00\n", "bad line\n"),
+        ("store http://o/ 0\n", "stored\n"),
+        ("store http://o/ 4294967295\n", "stored\n"),
+        ("store http://o/ 3\nstore HTTP://O 2\nstore http://o:80 3\n", "stored\nKept\nstored\n"),
+        ("store http://o/\r\n", "NotVisibleAscii\n"),
+        ("store https://o/\n", "NotHttp\n"),
+        ("store http://o/#a\n", "Fragment\n"),
+        ("store http://u@o/\n", "UserInfo\n"),
+        ("store http://o:0/\n", "BadPort\n"),
+        ("store http://:1/\n", "NoHost\n"),
+        ("store http://\n", "NotUri\n"),
+        ("store \u{e9}\n", "NotVisibleAscii\n"),
+        ("\u{e9}\n", "bad line\n"),
+    ] {
+        assert_eq!(rt; answers(&rt, input)?.as_str(), expected, "{input:?}");
+    }
+    Ok(())
+}
+
+#[test]
+fn what_was_stored_before_a_bad_line_stays(rt: HostRuntime) -> Result<(), Fail> {
+    let alloc = rt.alloc();
+    let input = format!(in alloc;
+        "store http://o/a\nicp 0g\nstore\n\nicp 0102002300000007{Z16}{U}00\n"
+    )?;
+    let expected = format!(in alloc;
+        "stored\nbad hex\nbad line\nbad line\n0202001f00000007{Z12}{U}00\n"
+    )?;
+    assert_eq!(rt; answers(&rt, input.as_str())?.as_str(), expected.as_str());
+    Ok(())
+}
+
+#[test]
+fn datagrams_are_shown(rt: HostRuntime) -> Result<(), Fail> {
+    let alloc = rt.alloc();
+    let table = [
+        (
+            format!(in alloc; "0102002300000007{Z16}{U}00\n")?,
+            format!(in alloc; "Query 7 {U}\n")?,
+        ),
+        (
+            format!(in alloc; "1702001900000007{Z12}6100000178\n")?,
+            format!(in alloc; "HitObj 7 61 78\n")?,
+        ),
+        (
+            format!(in alloc; "17020018ffffffff{Z12}61000000\n")?,
+            format!(in alloc; "HitObj 4294967295 61 -\n")?,
+        ),
+        (
+            format!(in alloc; "0202001500000000{Z12}00\n")?,
+            format!(in alloc; "Hit 0 -\n")?,
+        ),
+        (
+            format!(in alloc; "0302001600000001{Z12}6100\n0402001600000001{Z12}6100\n")?,
+            format!(in alloc; "Miss 1 61\nError 1 61\n")?,
+        ),
+        (
+            format!(in alloc; "1502001600000001{Z12}6100\n1602001600000001{Z12}6100\n")?,
+            format!(in alloc; "MissNoFetch 1 61\nDenied 1 61\n")?,
+        ),
+        (
+            format!(in alloc; "\n01 02\n")?,
+            format!(in alloc; "bad line\nbad line\n")?,
+        ),
+    ];
+    for (input, expected) in table.iter() {
+        assert_eq!(rt; shown(&rt, input.as_str())?.as_str(), expected.as_str(), "{input}");
+    }
+    Ok(())
+}
+
+/// A reader of one octet a call, which fails where no octet is left.
+#[derive(Drop)]
+struct Failing<'a>(&'a [u8]);
+
+impl Read for Failing<'_> {
+    fn read(&mut self, buffer: &mut [u8]) -> io::Result<usize> {
+        let (Some((octet, rest)), Some(place)) = (self.0.split_first(), buffer.first_mut()) else {
+            return Err(Error::from(ErrorKind::Other));
+        };
+        *place = *octet;
+        self.0 = rest;
+        Ok(1)
+    }
+}
+
+/// A writer that takes one octet a call, and then fails.
+#[derive(Drop)]
+struct Narrow {
+    taken: Vec<u8>,
+    room: usize,
+}
+
+impl Write for Narrow {
+    fn write(&mut self, buffer: &[u8]) -> io::Result<usize> {
+        match buffer.first() {
+            Some(octet) if self.room > 0 => {
+                self.taken.push(*octet)?;
+                self.room = self.room.saturating_sub(1);
+                Ok(1)
+            }
+            Some(_) => Err(Error::from(ErrorKind::Other)),
+            None => Ok(0),
+        }
+    }
+
+    fn flush(&mut self) -> io::Result<()> {
+        Ok(())
+    }
+}
+
+#[test]
+fn a_reader_that_fails(rt: HostRuntime) -> Result<(), Fail> {
+    let mut written = Vec::new(rt.alloc());
+    let mut reader = Failing(b"store http://o/a\nstore http");
+    let done = run_answer(rt.alloc(), &mut reader, &mut written);
+    assert!(rt; done == Err(RunFault::Io));
+    assert_eq!(rt; written.as_slice(), b"stored\n".as_slice());
+    Ok(())
+}
+
+#[test]
+fn a_writer_that_fails(rt: HostRuntime) -> Result<(), Fail> {
+    for room in 0..16 {
+        let mut writer = Narrow {
+            taken: Vec::new(rt.alloc()),
+            room,
+        };
+        let mut input = b"store http://o/a\nicp\nicp 0\n".as_slice();
+        let done = run_answer(rt.alloc(), &mut input, &mut writer);
+        assert!(rt; done == Err(RunFault::Io));
+        assert_eq!(rt; writer.taken.as_slice(), &b"stored\nbad line\nbad hex\n".as_slice()[..room]);
+    }
+    Ok(())
+}
+
+#[test]
+fn long_lines(rt: HostRuntime) -> Result<(), Fail> {
+    let longest = "a".repeat(rt.alloc(), 140_000)?;
+    assert_eq!(rt; answers(&rt, longest.as_str())?.as_str(), "bad line\n");
+    let mut written = Vec::new(rt.alloc());
+    let longer = format!(in rt.alloc(); "store http://o/\n{longest}a\nstore http://o/\n")?;
+    let done = run_answer(rt.alloc(), &mut longer.as_bytes(), &mut written);
+    assert!(rt; done == Err(RunFault::LineTooLong));
+    assert_eq!(rt; written.as_slice(), b"stored\n".as_slice());
+    // The same where the line's end never comes.
+    let mut written = Vec::new(rt.alloc());
+    let longer = format!(in rt.alloc(); "store http://o/\n{longest}a")?;
+    let done = run_answer(rt.alloc(), &mut longer.as_bytes(), &mut written);
+    assert!(rt; done == Err(RunFault::LineTooLong));
+    assert_eq!(rt; written.as_slice(), b"stored\n".as_slice());
+    Ok(())
+}
+
+/// A reader of one octet a call, without an end.
+#[derive(Drop)]
+struct Endless;
+
+impl Read for Endless {
+    fn read(&mut self, buffer: &mut [u8]) -> io::Result<usize> {
+        match buffer.first_mut() {
+            Some(place) => {
+                *place = b'\n';
+                Ok(1)
+            }
+            None => Ok(0),
+        }
+    }
+}
+
+#[test]
+fn an_input_without_an_end(rt: HostRuntime) -> Result<(), Fail> {
+    let mut written = Vec::new(rt.alloc());
+    let done = run_wire(rt.alloc(), Codec::Icp, &mut Endless, &mut written);
+    assert!(rt; done == Err(RunFault::TooManyTurns));
+    assert_eq!(rt; written.len(), 70_000 * "bad line\n".len());
+    assert_eq!(rt; RunFault::TooManyTurns.name(), "TooManyTurns");
+    Ok(())
+}

@@ -1,0 +1,48 @@
+-- A store as contracts see it, and what putting a copy into it does.
+use Rattle.std.specs.Prelude.{◌≡◌, ℕ, ◌≤◌, Bool, false, nat_lt, List, ◌∷◌, length, Option, Some, None, if◌then◌else◌}
+use Rattle.object_store.specs.declared.copy.WebCopy.{WebCopy}
+use Rattle.object_store.specs.declared.store.Put.{Put}
+use Rattle.object_store.specs.declared.store.Put.TheVariants.{TooLarge, Kept, Stored}
+use Rattle.object_store.specs.Copy.{size}
+use Rattle.object_store.specs.Listed.{copy_of, without, fitting, octets, OneEach}
+
+-- the limits, and the copies with the most recent first
+pub record Held (T : Type 0) : Type 0 where
+  pub limit_count : ℕ
+  pub limit_bytes : ℕ
+  pub copies : List (WebCopy T)
+
+-- within its limits, with at most one copy of each key
+pub record IsStore {T : Type 0} (held : Held T) : Type 0 where
+  pub count : length held.copies ≤ held.limit_count
+  pub bytes : octets held.copies ≤ held.limit_bytes
+  pub one_each : OneEach held.copies
+
+-- a copy with a greater stamp than this one's
+abbrev pub is_newer_than : {T : Type 0} → WebCopy T → Option (WebCopy T) → Bool
+is_newer_than c None = false
+is_newer_than c (Some old) = nat_lt c.stamp old.stamp
+
+-- a copy with a stamp of less than n
+abbrev pub is_older_than : {T : Type 0} → ℕ → Option (WebCopy T) → Bool
+is_older_than n None = false
+is_older_than n (Some old) = nat_lt old.stamp n
+
+-- what putting a copy answers
+abbrev pub put_answer : {T : Type 0} → Held T → WebCopy T → Put
+put_answer held c =
+    if nat_lt held.limit_bytes (size c) then TooLarge
+    else (if is_newer_than c (copy_of c.key held.copies) then Kept else Stored)
+
+-- the copies after that answer: a new copy comes to the front, in the place of the key's old one, and the least recent copies that no longer fit go
+abbrev pub copies_after : {T : Type 0} → Held T → WebCopy T → Put → List (WebCopy T)
+copies_after held c TooLarge = held.copies
+copies_after held c Kept = held.copies
+copies_after held c Stored = fitting held.limit_count held.limit_bytes (c ∷ without c.key held.copies)
+
+-- the store with these copies
+abbrev pub with_copies : {T : Type 0} → Held T → List (WebCopy T) → Held T
+with_copies held copies = record held { copies = copies }
+
+abbrev pub after_put : {T : Type 0} → Held T → WebCopy T → Held T
+after_put held c = with_copies held (copies_after held c (put_answer held c))

@@ -1,0 +1,5 @@
+pub mod Copy
+pub mod Listed
+pub mod Held
+pub mod Counted
+pub mod Looked

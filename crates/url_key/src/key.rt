@@ -1,0 +1,255 @@
+ghost use Rattle.std.specs.Prelude.{◌≡◌, ◌≤◌, ◌==◌, Ok, Err, IfOk, IfErr, MatchResult, [], nat_eq, unwrap_or, option_copied};
+ghost use Rattle.std.specs.Cmp.{partial_equiv_from_equiv, partial_order_from_own_ties};
+ghost use Rattle.std.specs.Cmp.Lexicographic.{pointwise, nat_list_eq_equiv, slice_cmp};
+ghost use Rattle.std.specs.Cmp.Rules.{comparing, hashing};
+ghost use Rattle.std.specs.Hash as fed;
+ghost use Rattle.std.specs.Ordering.{nat_cmp, as_partial_cmp};
+ghost use Rattle.std.proofs.Common.{rules};
+ghost use Rattle.http_uri.specs.Uri.{uri_scheme, uri_authority};
+ghost use Rattle.url_key.specs.Fault.{UnlessNoMemory};
+ghost use Rattle.url_key.specs.Key.{HasKey, HasUriKey, IsKey, KeepsParts, is_http as has_http, early_fault as first_fault, key_of_uri as uri_outcome, key_of_authority as authority_outcome};
+ghost use Rattle.url_key.specs.Text.{key_authority, key_host, key_path, key_port};
+
+use crate::text::{
+    HTTP_PORT, after_host, all_visible, authority_of, canonical_text, has, host_of, path_of,
+    port_of,
+};
+use crate::KeyFault;
+use http_uri::{Uri, UriError};
+use std::alloc::{AllocError, Global};
+use std::cmp::Ordering;
+use std::fmt;
+use std::hash::{Hash, Hasher};
+use std::marker::Model;
+
+/// The most octets that a text which is read may have, and a key too.
+pub const LONGEST_KEY: usize = 1024;
+
+/// The canonical text of an http URL. All texts of one resource have one key.
+///
+/// A contract sees it as that text.
+#[derive(Drop)]
+pub struct Key {
+    text: Vec<u8>,
+}
+
+impl Model for Key {
+    ghost use Rattle.std.specs.Prelude.{ℕ, List};
+    ghost use Rattle.url_key.specs.Key.{IsKey};
+
+    ghost Value = { List ℕ };
+
+    ghost view = { λ k. k.text.items };
+
+    ghost invariant = { λ k. IsKey k.text.items };
+}
+
+impl Key {
+    /// The key of a URL, or the first reason why it has none.
+    pub fn read(alloc: Global, text: &[u8]) -> Result<Key, KeyFault>
+        ensures ok { IfOk result (λ key. HasKey text.now (Ok key)) }
+        ensures parts { IfOk result (λ key. KeepsParts text.now key) }
+        ensures err { IfErr result (λ fault. UnlessNoMemory fault (HasKey text.now (Err fault))) }
+    {
+        if let Some(fault) = early_fault(text) {
+            return Err(fault);
+        }
+        match key_of_text(alloc, text) {
+            Ok(text) => Ok(Key { text }),
+            Err(fault) => Err(fault),
+        }
+    }
+
+    /// The key's text, which reads as this key.
+    pub fn text(&self) -> &[u8]
+        ensures value { result.now ≡ self.now }
+        ensures valid { IsKey self.now }
+    {
+        self.text.as_slice()
+    }
+
+    /// The host, in lower case.
+    pub fn host(&self) -> &[u8]
+        ensures { result.now ≡ key_host self.now }
+    {
+        host_of(self.authority())
+    }
+
+    /// The port, which is 80 where the text writes none.
+    pub fn port(&self) -> u16
+        ensures { result ≡ key_port self.now }
+    {
+        let rest = after_host(self.authority());
+        port_of(rest).unwrap_or(HTTP_PORT)
+    }
+
+    /// The host, and the port where it is not 80: what a `host` field holds.
+    pub fn authority(&self) -> &[u8]
+        ensures { result.now ≡ key_authority self.now }
+    {
+        authority_of(&self.text)
+    }
+
+    /// The path, and the query where there is one.
+    pub fn path_and_query(&self) -> &[u8]
+        ensures { result.now ≡ key_path self.now }
+    {
+        path_of(&self.text)
+    }
+
+    /// The same key once more.
+    pub fn copy(&self, alloc: Global) -> Result<Key, AllocError>
+        ensures { IfOk result (λ copy. copy ≡ self.now) }
+    {
+        let text = Vec::from_slice(alloc, &self.text)?;
+        Ok(Key { text })
+    }
+}
+
+/// The fault of a text that is tested before the text is cut.
+fn early_fault(text: &[u8]) -> Option<KeyFault>
+    ensures { result ≡ first_fault text.now }
+{
+    if text.len() > LONGEST_KEY {
+        Some(KeyFault::TooLong)
+    } else if !all_visible(text) {
+        Some(KeyFault::NotVisibleAscii)
+    } else if has(b'#', text) {
+        Some(KeyFault::Fragment)
+    } else {
+        None
+    }
+}
+
+/// The text of the key of a text that has passed the early tests.
+fn key_of_text(alloc: Global, text: &[u8]) -> Result<Vec<u8>, KeyFault>
+    ensures { MatchResult result (λ key. HasUriKey text.now (Ok key.items))
+        (λ fault. UnlessNoMemory fault (HasUriKey text.now (Err fault))) }
+{
+    match Uri::from_bytes(alloc, text) {
+        Ok(uri) => key_of_uri(alloc, text.len(), &uri),
+        Err(UriError::Invalid(_)) => Err(KeyFault::NotUri),
+        Err(UriError::OutOfMemory) => Err(KeyFault::NoMemory),
+    }
+}
+
+/// The text of the key of a URI whose text has this length: the key is longer by a `/` at most.
+fn key_of_uri(alloc: Global, length: usize, uri: &Uri) -> Result<Vec<u8>, KeyFault>
+    ensures { MatchResult result (λ key. Ok key.items ≡ uri_outcome uri.now)
+        (λ fault. UnlessNoMemory fault (Err fault ≡ uri_outcome uri.now)) }
+{
+    if is_http(uri) {
+        let room = length.saturating_add(1);
+        key_of_authority(
+            alloc,
+            room,
+            authority_or_empty(uri),
+            uri.path(),
+            uri.query(),
+        )
+    } else {
+        Err(KeyFault::NotHttp)
+    }
+}
+
+fn is_http(uri: &Uri) -> bool
+    ensures { result ≡ has_http (uri_scheme uri.now) }
+{
+    match uri.scheme_str() {
+        Some(scheme) => scheme == "http",
+        None => false,
+    }
+}
+
+fn authority_or_empty(uri: &Uri) -> &[u8]
+    ensures { result.now ≡ unwrap_or (uri_authority uri.now) [] }
+{
+    match uri.authority() {
+        Some(authority) => authority.as_str().as_bytes(),
+        None => b"".as_slice(),
+    }
+}
+
+/// The text of the key of an authority, a path and a query.
+fn key_of_authority(
+    alloc: Global,
+    room: usize,
+    authority: &[u8],
+    path: &str,
+    query: Option<&str>,
+) -> Result<Vec<u8>, KeyFault>
+    ensures { let outcome = authority_outcome authority.now path.now (option_copied query.entry) in
+        MatchResult result (λ key. Ok key.items ≡ outcome)
+        (λ fault. UnlessNoMemory fault (Err fault ≡ outcome)) }
+{
+    if has(b'@', authority) {
+        return Err(KeyFault::UserInfo);
+    }
+    let host = host_of(authority);
+    if host.is_empty() {
+        return Err(KeyFault::NoHost);
+    }
+    let Some(port) = port_of(after_host(authority)) else {
+        return Err(KeyFault::BadPort);
+    };
+    let key = canonical_text(alloc, room, host, port, path, query)?;
+    if key.len() > LONGEST_KEY {
+        return Err(KeyFault::TooLong);
+    }
+    Ok(key)
+}
+
+impl PartialEq for Key {
+    ghost eq = { pointwise nat_eq };
+
+    ghost laws = { partial_equiv_from_equiv nat_list_eq_equiv };
+
+    fn eq(&self, other: &Key) -> bool {
+        self.text() == other.text()
+    }
+}
+
+impl Eq for Key {
+    ghost laws = { nat_list_eq_equiv };
+}
+
+impl PartialOrd for Key {
+    ghost partial_cmp = { as_partial_cmp (slice_cmp nat_cmp) };
+
+    ghost laws = { partial_order_from_own_ties (Prim.search (comparing, rules))
+        (Prim.search (comparing, rules)) };
+
+    fn partial_cmp(&self, other: &Key) -> Option<Ordering> {
+        Some(self.cmp(other))
+    }
+}
+
+impl Ord for Key {
+    ghost cmp = { slice_cmp nat_cmp };
+
+    ghost total = { Prim.search (comparing, rules) };
+
+    ghost matches_partial_cmp = { Prim.search (comparing, rules) };
+
+    ghost matches_eq = { Prim.search (comparing, rules) };
+
+    fn cmp(&self, other: &Key) -> Ordering {
+        self.text().cmp(other.text())
+    }
+}
+
+impl Hash for Key {
+    ghost hash_input = { fed.slice fed.u8 };
+
+    ghost respects_eq = { Prim.search (hashing, rules) };
+
+    fn hash<H: Hasher>(&self, state: &mut H) {
+        self.text().hash(state);
+    }
+}
+
+impl fmt::Debug for Key {
+    fn fmt<W: fmt::Write>(&self, f: &mut fmt::Formatter<W>) -> fmt::Result {
+        fmt::Debug::fmt(&self.text(), f)
+    }
+}

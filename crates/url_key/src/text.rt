@@ -1,0 +1,182 @@
+//! The parts of an authority and of a key's text.
+ghost use Rattle.std.specs.Prelude.{◌≡◌, ◌==◌, ◌<◌, ◌≤◌, ◌++◌, length, codes, [], IfOk, OnOk, IsTrue, Some, None, option_copied, if◌then◌else◌};
+ghost use Rattle.std.specs.List.{list_all, list_any};
+ghost use Rattle.std.specs.Char.{is_ascii_digit};
+ghost use Rattle.std.specs.Str.Parse.{digits_value};
+ghost use Rattle.http_uri.specs.ByteClasses as bytes;
+ghost use Rattle.http_uri.specs.ByteClasses.{framed_text};
+ghost use Rattle.http_uri.specs.Grammar.{authority_len};
+ghost use Rattle.url_key.specs.Text.{is_visible, is_port, port_of as port_named, host_of as host_named, after_host as behind_host, key_authority, key_path};
+ghost use Rattle.url_key.specs.Text.{canonical_text as text_of_key, http_prefix, port_text};
+
+use itoa::Buffer;
+use std::alloc::{AllocError, Global};
+
+pub(crate) const HTTP_PORT: u16 = 80;
+
+const PREFIX_LEN: usize = 7;
+
+/// Whether each octet is a visible character of ASCII.
+pub(crate) fn all_visible(text: &[u8]) -> bool
+    ensures { result ≡ list_all is_visible text.now }
+{
+    text.iter().all(|b| 33 <= *b && *b <= 126)
+}
+
+/// Whether the text has this octet.
+pub(crate) fn has(octet: u8, text: &[u8]) -> bool
+    ensures { result ≡ list_any (λ b. b == octet) text.now }
+{
+    text.iter().any(|b| *b == octet)
+}
+
+/// Where the octet first stands, or the length.
+fn index_of(octet: u8, text: &[u8]) -> usize
+    ensures value { result ≡ bytes.index_of octet text.now }
+    ensures within { result ≤ length text.now }
+{
+    text.iter().take_while(|b| **b != octet).count()
+}
+
+/// The host of an authority that has no userinfo.
+pub(crate) fn host_of(authority: &[u8]) -> &[u8]
+    ensures { result.now ≡ host_named authority.now }
+{
+    if authority.first() == Some(&b'[') {
+        let end = index_of(b']', authority) + 1;
+        &authority[..end.min(authority.len())]
+    } else {
+        &authority[..index_of(b':', authority)]
+    }
+}
+
+/// What follows the host.
+pub(crate) fn after_host(authority: &[u8]) -> &[u8]
+    ensures { result.now ≡ behind_host authority.now }
+{
+    let host = host_of(authority);
+    &authority[host.len()..]
+}
+
+/// Whether each octet is a decimal digit.
+fn all_digits(text: &[u8]) -> bool
+    ensures { result ≡ list_all is_ascii_digit text.now }
+{
+    text.iter().all(|b| b'0' <= *b && *b <= b'9')
+}
+
+/// The number that a few decimal digits write.
+#[tactic(auto, using(crate::proofs::TextLemmas::few_digits, crate::proofs::TextLemmas::next_digit))]
+fn number_of(digits: &[u8]) -> u32
+    requires few { length digits.now ≤ 5 }
+    requires decimal { IsTrue (list_all is_ascii_digit digits.now) }
+    ensures { result ≡ digits_value 10 digits.now }
+{
+    let mut number = 0u32;
+    for digit in digits {
+        number = number * 10 + u32::from(*digit - b'0');
+    }
+    number
+}
+
+/// The port that stands behind a host, and 80 where nothing stands there.
+pub(crate) fn port_of(rest: &[u8]) -> Option<u16>
+    ensures { result ≡ port_named rest.now }
+{
+    let Some((first, digits)) = rest.split_first() else {
+        return Some(HTTP_PORT);
+    };
+    if *first == b':' {
+        port_number(digits)
+    } else {
+        None
+    }
+}
+
+/// The port that these digits write, if they write one.
+fn port_number(digits: &[u8]) -> Option<u16>
+    ensures { result ≡ (if is_port digits.now then Some (digits_value 10 digits.now) else None) }
+{
+    if digits.is_empty() || digits.len() > 5 || !all_digits(digits) {
+        return None;
+    }
+    let port = number_of(digits);
+    if port == 0 || port > 65535 {
+        return None;
+    }
+    Some(port as u16)
+}
+
+/// The authority of a key's text.
+pub(crate) fn authority_of(key: &[u8]) -> &[u8]
+    requires { length http_prefix ≤ length key.now }
+    ensures { result.now ≡ key_authority key.now }
+{
+    let rest = &key[PREFIX_LEN..];
+    &rest[..authority_end(rest)]
+}
+
+/// What follows the authority of a key's text.
+pub(crate) fn path_of(key: &[u8]) -> &[u8]
+    requires { length http_prefix ≤ length key.now }
+    ensures { result.now ≡ key_path key.now }
+{
+    let rest = &key[PREFIX_LEN..];
+    &rest[authority_end(rest)..]
+}
+
+/// Where the authority at the front of the text ends.
+fn authority_end(text: &[u8]) -> usize
+    ensures value { result ≡ authority_len text.now }
+    ensures within { result ≤ length text.now }
+{
+    text.iter()
+        .take_while(|b| !matches!(**b, b'/' | b'?' | b'#'))
+        .count()
+}
+
+/// The text of the key that has these parts, in a `Vec` that has room for so many octets.
+pub(crate) fn canonical_text(
+    alloc: Global,
+    room: usize,
+    host: &[u8],
+    port: u16,
+    path: &str,
+    query: Option<&str>,
+) -> Result<Vec<u8>, AllocError>
+    ensures { IfOk result
+        (λ text. text.items ≡ text_of_key host.now port path.now (option_copied query.entry)) }
+{
+    let mut text = Vec::with_capacity(alloc, room)?;
+    text.extend_from_slice(b"http://")?;
+    text.extend_from_slice(host)?;
+    text.as_mut_slice().make_ascii_lowercase();
+    push_port(&mut text, port)?;
+    text.extend_from_slice(path.as_bytes())?;
+    push_query(&mut text, query)?;
+    Ok(text)
+}
+
+/// Writes a port behind a colon, where it is not 80.
+fn push_port(text: &mut Vec<u8>, port: u16) -> Result<(), AllocError>
+    ensures { OnOk result (text.new.items ≡ text.old.items ++ port_text port) }
+{
+    if port != HTTP_PORT {
+        let mut buffer = Buffer::new();
+        text.push(b':')?;
+        text.extend_from_slice(buffer.format(port).as_bytes())?;
+    }
+    Ok(())
+}
+
+/// Writes a query behind a question mark, where there is one.
+fn push_query(text: &mut Vec<u8>, query: Option<&str>) -> Result<(), AllocError>
+    ensures { OnOk result (text.new.items
+        ≡ text.old.items ++ framed_text (codes "?") (option_copied query.entry) []) }
+{
+    if let Some(query) = query {
+        text.push(b'?')?;
+        text.extend_from_slice(query.as_bytes())?;
+    }
+    Ok(())
+}

@@ -1,0 +1,6 @@
+-- Octets in network byte order (RFC 791, appendix B): the most significant octet of a number stands first.
+use Rattle.std.specs.Prelude.{ℕ, ◌<◌, List, slice_index}
+
+-- each item is an octet (what is read past the end counts as 0)
+abbrev pub IsOctets : List ℕ → Type 0
+IsOctets octets = (i : ℕ) → slice_index octets i < 256
