@@ -4,10 +4,9 @@ use crate::fault::RunFault;
 use crate::wire::{Codec, run_wire};
 use clap::{Arg, ArgMatches, Command, Error};
 use std::alloc::{AllocError, Global};
-use std::env;
-use std::io;
 use std::process::ExitCode;
 use std::rt::Env;
+use std::{env, io};
 
 /// The status where the command line is at fault.
 const BAD_COMMAND_LINE: u8 = 2;
@@ -81,8 +80,11 @@ fn asked_for(alloc: Global, words: &[String]) -> Result<Task, Error> {
 }
 
 /// The codec that `wire` names.
-fn codec_of(_matches: &ArgMatches<'_>) -> Codec {
-    Codec::Icp
+fn codec_of(matches: &ArgMatches<'_>) -> Codec {
+    match matches.get_str("CODEC") {
+        Some("htcp") => Codec::Htcp,
+        _ => Codec::Icp,
+    }
 }
 
 fn cache_command<'a>(alloc: Global) -> Result<Command<'a>, AllocError> {
@@ -95,15 +97,17 @@ fn cache_command<'a>(alloc: Global) -> Result<Command<'a>, AllocError> {
 }
 
 fn answer_command<'a>(alloc: Global) -> Command<'a> {
-    Command::new(alloc, "answer").about("Answers each line of standard input from a store").after_help(
-        "Lines:\n  store URL [STAMP]  put an empty copy: stored, Kept, or the URL's fault\n  icp HEX            a datagram: the reply in hex, nothing, or the datagram's fault\nAny other line is answered by: bad line",
-    )
+    Command::new(alloc, "answer")
+        .about("Answers each line of standard input from a store")
+        .after_help(
+            "Lines:\n  store URL [STAMP]  put an empty copy: stored, Kept, or the URL's fault\n  icp HEX            a datagram: the reply in hex, nothing, or the datagram's fault\nAny other line is answered by: bad line",
+        )
 }
 
 fn wire_command<'a>(alloc: Global) -> Result<Command<'a>, AllocError> {
     let codec = Arg::new(alloc, "CODEC")
         .required(true)
-        .value_parser(["icp"].as_slice())
+        .value_parser(["icp", "htcp"].as_slice())
         .help("The protocol of the datagrams");
     Command::new(alloc, "wire")
         .about("Shows each datagram of standard input, one in hex a line")

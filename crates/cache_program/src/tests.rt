@@ -8,6 +8,7 @@ use std::test::Fail;
 
 /// Twelve and sixteen zero octets, in hex.
 const Z12: &str = "000000000000000000000000";
+
 const Z16: &str = "00000000000000000000000000000000";
 
 /// `http://o/a` in hex.
@@ -20,10 +21,10 @@ fn answers(rt: &HostRuntime, input: &str) -> Result<String, Fail> {
     Ok(String::from_utf8(written)?)
 }
 
-/// What `cache wire icp` writes for an input.
-fn shown(rt: &HostRuntime, input: &str) -> Result<String, Fail> {
+/// What `cache wire` writes for an input.
+fn shown(rt: &HostRuntime, codec: Codec, input: &str) -> Result<String, Fail> {
     let mut written = Vec::new(rt.alloc());
-    run_wire(rt.alloc(), Codec::Icp, &mut input.as_bytes(), &mut written)?;
+    run_wire(rt.alloc(), codec, &mut input.as_bytes(), &mut written)?;
     Ok(String::from_utf8(written)?)
 }
 
@@ -38,7 +39,9 @@ fn queries_are_answered(rt: HostRuntime) -> Result<(), Fail> {
             format!(in alloc; "stored\n0202001f00000007{Z12}{U}00\n")?,
         ),
         (
-            format!(in alloc; "store http://o/a\nicp 0102002600000007{Z16}485454503a2f2f4f3a38302f6100\n")?,
+            format!(in alloc;
+                "store http://o/a\nicp 0102002600000007{Z16}485454503a2f2f4f3a38302f6100\n"
+            )?,
             format!(in alloc; "stored\n0202002200000007{Z12}485454503a2f2f4f3a38302f6100\n")?,
         ),
         (
@@ -62,7 +65,11 @@ fn queries_are_answered(rt: HostRuntime) -> Result<(), Fail> {
         (format!(in alloc; "")?, format!(in alloc; "")?),
     ];
     for (input, expected) in table.iter() {
-        assert_eq!(rt; answers(&rt, input.as_str())?.as_str(), expected.as_str(), "{input}");
+        assert_eq!(rt;
+            answers(&rt, input.as_str())?.as_str(),
+            expected.as_str(),
+            "{input}"
+        );
     }
     Ok(())
 }
@@ -75,21 +82,41 @@ fn faults_of_datagrams(rt: HostRuntime) -> Result<(), Fail> {
     let table = [
         (format!(in alloc; "{short}")?, "Short"),
         (format!(in alloc; "{long}")?, "TooLong"),
-        (format!(in alloc; "0103002400000007{Z16}{U}00")?, "BadVersion"),
-        (format!(in alloc; "0102002400000007{Z16}{U}00")?, "BadLength"),
+        (
+            format!(in alloc; "0103002400000007{Z16}{U}00")?,
+            "BadVersion",
+        ),
+        (
+            format!(in alloc; "0102002400000007{Z16}{U}00")?,
+            "BadLength",
+        ),
         (format!(in alloc; "0a02001400000007{Z12}")?, "BadOpcode"),
         (format!(in alloc; "0102001800000007{Z16}")?, "NoZero"),
-        (format!(in alloc; "0202001700000007{Z12}610062")?, "Trailing"),
-        (format!(in alloc; "1702001900000007{Z12}6100000278")?, "BadObject"),
+        (
+            format!(in alloc; "0202001700000007{Z12}610062")?,
+            "Trailing",
+        ),
+        (
+            format!(in alloc; "1702001900000007{Z12}6100000278")?,
+            "BadObject",
+        ),
         (format!(in alloc; "0g")?, "bad hex"),
         (format!(in alloc; "012")?, "bad hex"),
     ];
     for (hex, expected) in table.iter() {
         let expected = format!(in alloc; "{expected}\n")?;
         let input = format!(in alloc; "icp {hex}\n")?;
-        assert_eq!(rt; answers(&rt, input.as_str())?.as_str(), expected.as_str(), "{hex}");
+        assert_eq!(rt;
+            answers(&rt, input.as_str())?.as_str(),
+            expected.as_str(),
+            "{hex}"
+        );
         let input = format!(in alloc; "{hex}\n")?;
-        assert_eq!(rt; shown(&rt, input.as_str())?.as_str(), expected.as_str(), "{hex}");
+        assert_eq!(rt;
+            shown(&rt, Codec::Icp, input.as_str())?.as_str(),
+            expected.as_str(),
+            "{hex}"
+        );
     }
     Ok(())
 }
@@ -115,7 +142,10 @@ fn lines_of_answer(rt: HostRuntime) -> Result<(), Fail> {
         ("htcp 00\n", "bad line\n"),
         ("store http://o/ 0\n", "stored\n"),
         ("store http://o/ 4294967295\n", "stored\n"),
-        ("store http://o/ 3\nstore HTTP://O 2\nstore http://o:80 3\n", "stored\nKept\nstored\n"),
+        (
+            "store http://o/ 3\nstore HTTP://O 2\nstore http://o:80 3\n",
+            "stored\nKept\nstored\n",
+        ),
         ("store http://o/\r\n", "NotVisibleAscii\n"),
         ("store https://o/\n", "NotHttp\n"),
         ("store http://o/#a\n", "Fragment\n"),
@@ -178,7 +208,85 @@ fn datagrams_are_shown(rt: HostRuntime) -> Result<(), Fail> {
         ),
     ];
     for (input, expected) in table.iter() {
-        assert_eq!(rt; shown(&rt, input.as_str())?.as_str(), expected.as_str(), "{input}");
+        assert_eq!(rt;
+            shown(&rt, Codec::Icp, input.as_str())?.as_str(),
+            expected.as_str(),
+            "{input}"
+        );
+    }
+    Ok(())
+}
+
+#[test]
+fn htcp_datagrams_are_shown(rt: HostRuntime) -> Result<(), Fail> {
+    let alloc = rt.alloc();
+    // METHOD, URI and VERSION of a SPECIFIER for `http://o/a`.
+    let spec = format!(in alloc; "0003474554000a{U}0008485454502f312e31")?;
+    let shown_spec = format!(in alloc; "474554 {U} 485454502f312e31")?;
+    let number = "582d50757267652d4e756d6265723a20370d0a";
+    let stamp = "582d50757267652d5374616d703a20330d0a";
+    let table = [
+        (
+            format!(in alloc; "002b0000002510020000000 7{spec}00000002")?,
+            format!(in alloc; "bad line")?,
+        ),
+        (
+            format!(in alloc; "002b00000025100200000007{spec}00000002")?,
+            format!(in alloc; "TstAsk 7 1 {shown_spec} -")?,
+        ),
+        (
+            format!(in alloc; "00400000003a4002000000070000{spec}0013{number}0002")?,
+            format!(in alloc; "ClrAsk 7 1 0 {shown_spec} {number}")?,
+        ),
+        (
+            format!(in alloc; "002600000020100100000007000000000012{stamp}0002")?,
+            format!(in alloc; "TstHit 7 - - {stamp}")?,
+        ),
+        (
+            format!(in alloc; "00100000000a11010000000700000002")?,
+            format!(in alloc; "TstMiss 7 -")?,
+        ),
+    ];
+    for (hex, expected) in table.iter() {
+        let input = format!(in alloc; "{hex}\n")?;
+        let expected = format!(in alloc; "{expected}\n")?;
+        assert_eq!(rt;
+            shown(&rt, Codec::Htcp, input.as_str())?.as_str(),
+            expected.as_str(),
+            "{hex}"
+        );
+    }
+    Ok(())
+}
+
+#[test]
+fn short_htcp_datagrams(rt: HostRuntime) -> Result<(), Fail> {
+    for (hex, expected) in [
+        ("000e0000000842010000000 70002", "bad line\n"),
+        ("000e00000008420100000007000", "bad hex\n"),
+        ("000e0000000842010000000700 02", "bad line\n"),
+        ("000e000000084201000000070002", "ClrAnswer 7 2\n"),
+        ("000e000000084503000000070002", "Overall 7 4 5\n"),
+        ("000e000000080002000000070002", "NopAsk 7 1\n"),
+        ("000e000000080000000000070002", "NopAsk 7 0\n"),
+        ("000e000000080001000000070002", "NopAnswer 7\n"),
+        ("000f0000000920020000000705", "Short\n"),
+        ("000f000000092002000000070500 02", "bad line\n"),
+        ("000f00000009200200000007050002", "Other 7 2 1\n"),
+        ("000e000000084401000000070002", "OtherAnswer 7 4 4\n"),
+        ("000e0000000800020000000700", "Short\n"),
+        ("000f000000080002000000070002", "BadLength\n"),
+        ("000e010000080002000000070002", "BadMajor\n"),
+        ("000e000000070002000000070002", "BadData\n"),
+        ("000e000000081002000000070002", "BadString\n"),
+        ("000e000000080002000000070001", "BadAuth\n"),
+    ] {
+        let input = format!(in rt.alloc(); "{hex}\n")?;
+        assert_eq!(rt;
+            shown(&rt, Codec::Htcp, input.as_str())?.as_str(),
+            expected,
+            "{hex}"
+        );
     }
     Ok(())
 }
@@ -243,7 +351,10 @@ fn a_writer_that_fails(rt: HostRuntime) -> Result<(), Fail> {
         let mut input = b"store http://o/a\nicp\nicp 0\n".as_slice();
         let done = run_answer(rt.alloc(), &mut input, &mut writer);
         assert!(rt; done == Err(RunFault::Io));
-        assert_eq!(rt; writer.taken.as_slice(), &b"stored\nbad line\nbad hex\n".as_slice()[..room]);
+        assert_eq!(rt;
+            writer.taken.as_slice(),
+            &b"stored\nbad line\nbad hex\n".as_slice()[..room]
+        );
     }
     Ok(())
 }

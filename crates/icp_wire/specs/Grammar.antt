@@ -17,7 +17,7 @@ longest_message = 16384
 abbrev pub version : ℕ
 version = 2
 
--- the number of each opcode ("Opcode")
+-- the number of each opcode ("ICP Opcodes")
 abbrev pub opcode : IcpOp → ℕ
 opcode Query = 1
 opcode Hit = 2

@@ -16,7 +16,7 @@ pub(crate) const ADDRESS_LENGTH: usize = 4;
 /// The version of ICP that is read and written.
 pub(crate) const VERSION: u8 = 2;
 
-/// What a message asks or answers: the opcodes that are read (RFC 2186, "Opcodes"). SECHO and DECHO are not.
+/// What a message asks or answers: the opcodes that are read (RFC 2186, "ICP Opcodes"). SECHO and DECHO are not.
 #[derive(Clone, Copy, Debug, PartialEq, Eq, Hash)]
 pub enum IcpOp {
     /// ICP_OP_QUERY: does the receiver hold the URL?

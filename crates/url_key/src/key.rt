@@ -10,11 +10,11 @@ ghost use Rattle.url_key.specs.Fault.{UnlessNoMemory};
 ghost use Rattle.url_key.specs.Key.{HasKey, HasUriKey, IsKey, KeepsParts, is_http as has_http, early_fault as first_fault, key_of_uri as uri_outcome, key_of_authority as authority_outcome};
 ghost use Rattle.url_key.specs.Text.{key_authority, key_host, key_path, key_port};
 
+use crate::KeyFault;
 use crate::text::{
     HTTP_PORT, after_host, all_visible, authority_of, canonical_text, has, host_of, path_of,
     port_of,
 };
-use crate::KeyFault;
 use http_uri::{Uri, UriError};
 use std::alloc::{AllocError, Global};
 use std::cmp::Ordering;

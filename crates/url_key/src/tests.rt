@@ -11,7 +11,10 @@ const TEXTS: [(&[u8], &[u8]); 33] = [
     (b"http://o/%41", b"http://o/%41"),
     (b"http://o?q", b"http://o/?q"),
     (b"http://o/?", b"http://o/?"),
-    (b"http://Example.ORG:8080/A?B", b"http://example.org:8080/A?B"),
+    (
+        b"http://Example.ORG:8080/A?B",
+        b"http://example.org:8080/A?B",
+    ),
     (b"http://[FE80::1]:81/", b"http://[fe80::1]:81/"),
     (b"http://o:65535/", b"http://o:65535/"),
     (b"HtTp://O:80", b"http://o/"),
@@ -82,7 +85,13 @@ fn parts_of_a_key(rt: HostRuntime) -> Result<(), Fail> {
     let table: [(&[u8], &[u8], u16, &[u8], &[u8]); 4] = [
         (b"http://O", b"o", 80, b"o", b"/"),
         (b"http://O:8080/a?b", b"o", 8080, b"o:8080", b"/a?b"),
-        (b"http://[FE80::1]:81/x", b"[fe80::1]", 81, b"[fe80::1]:81", b"/x"),
+        (
+            b"http://[FE80::1]:81/x",
+            b"[fe80::1]",
+            81,
+            b"[fe80::1]:81",
+            b"/x",
+        ),
         (b"http://o.p:080?q=/r", b"o.p", 80, b"o.p", b"/?q=/r"),
     ];
     for (text, host, port, authority, path) in table {

@@ -1,0 +1,9 @@
+pub mod Texts
+pub mod Contents
+pub mod Offsets
+pub mod Readings
+pub mod Decided
+pub mod Writings
+pub mod Digits
+pub mod Lines
+pub mod Cuts

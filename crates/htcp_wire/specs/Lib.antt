@@ -1,0 +1,9 @@
+pub mod Names
+pub mod Grammar
+pub mod Reading
+pub mod Faults
+pub mod Written
+pub mod Laws
+pub mod Cut
+pub mod Numbers
+pub mod Lines

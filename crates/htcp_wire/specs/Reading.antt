@@ -1,0 +1,98 @@
+-- What stands at the offsets of a message (RFC 2756).
+use Rattle.std.specs.Prelude.{◌≡◌, ℕ, ◌+◌, ◌-◌, ◌/◌, ◌%◌, Bool, not, ◌&&◌, ◌==◌, nat_lt, nat_le, List, [], ◌∷◌, length, take, drop, slice_index, Option, Some, None, if◌then◌else◌}
+use Rattle.std.specs.Option.{option_map}
+use Rattle.byteorder.specs.Endian.{big_number}
+use Rattle.wire_octets.specs.Counted.{split_counted}
+use Rattle.htcp_wire.specs.declared.message.Specifier.{Specifier}
+use Rattle.htcp_wire.specs.declared.message.Detail.{Detail}
+use Rattle.htcp_wire.specs.declared.message.Content.{Content}
+use Rattle.htcp_wire.specs.declared.message.Content.TheVariants.{NopAsk, NopAnswer, TstAsk, TstHit, TstMiss, ClrAsk, ClrAnswer, Other, Overall, OtherAnswer}
+use Rattle.htcp_wire.specs.declared.message.Htcp.{Htcp}
+use Rattle.htcp_wire.specs.Grammar.{Data, nop, tst, clr}
+
+infixl 10 ◌>>=◌
+abbrev pub ◌>>=◌ : {A B : Type 0} → Option A → (A → Option B) → Option B
+None >>= f = None
+(Some x) >>= f = f x
+
+-- four counted texts at the front of OP-DATA
+unfoldable pub specifier_at : List ℕ → Option Specifier
+specifier_at op_data = do
+  method ← split_counted op_data
+  uri ← split_counted method.1
+  version ← split_counted uri.1
+  headers ← split_counted version.1
+  Some (record { method = method.0; uri = uri.0; version = version.0; request_headers = headers.0 })
+
+-- three counted texts at the front of OP-DATA
+unfoldable pub detail_at : List ℕ → Option Detail
+detail_at op_data = do
+  response ← split_counted op_data
+  entity ← split_counted response.1
+  cache ← split_counted entity.1
+  Some (record { response_headers = response.0; entity_headers = entity.0; cache_headers = cache.0 })
+
+-- CLR's OP-DATA
+abbrev pub clr_at : Bool → List ℕ → Option Content
+clr_at desired op_data =
+    if nat_lt (length op_data) 2 then None
+    else option_map (λ spec. ClrAsk desired (slice_index op_data 1 % 16) spec) (specifier_at (drop 2 op_data))
+
+-- the content of a request, if OP-DATA holds what it needs
+abbrev pub ask_at : ℕ → Bool → List ℕ → Option Content
+ask_at opcode desired op_data =
+    if opcode == nop then Some (NopAsk desired)
+    else (if opcode == tst then option_map (λ spec. TstAsk desired spec) (specifier_at op_data)
+    else (if opcode == clr then clr_at desired op_data
+    else Some (Other opcode desired)))
+
+-- the content of a response that does not speak of the overall message, if OP-DATA holds what it needs
+abbrev pub answer_at : ℕ → ℕ → List ℕ → Option Content
+answer_at opcode code op_data =
+    if (opcode == nop) && (code == 0) then Some NopAnswer
+    else (if (opcode == tst) && (code == 0) then option_map (λ known. TstHit known) (detail_at op_data)
+    else (if (opcode == tst) && (code == 1) then option_map (λ cut. TstMiss cut.0) (split_counted op_data)
+    else (if (opcode == clr) && (nat_le code 2) then Some (ClrAnswer code)
+    else Some (OtherAnswer opcode code))))
+
+-- the content of DATA, if OP-DATA holds what it needs
+unfoldable pub content_at : Data → Option Content
+content_at section =
+    if not section.rr then ask_at section.opcode section.f1 section.op_data
+    else (if section.f1 then Some (Overall section.opcode section.response)
+    else answer_at section.opcode section.response section.op_data)
+
+-- the fields by their offsets
+abbrev pub length_field : List ℕ → ℕ
+length_field octets = big_number 2 octets
+
+abbrev pub major_field : List ℕ → ℕ
+major_field octets = slice_index octets 2
+
+abbrev pub minor_field : List ℕ → ℕ
+minor_field octets = slice_index octets 3
+
+abbrev pub data_length_field : List ℕ → ℕ
+data_length_field octets = big_number 2 (drop 4 octets)
+
+abbrev pub trans_field : List ℕ → ℕ
+trans_field octets = big_number 4 (drop 8 octets)
+
+abbrev pub data_field : List ℕ → Data
+data_field octets = record {
+  opcode = slice_index octets 6 / 16;
+  response = slice_index octets 6 % 16;
+  f1 = slice_index octets 7 / 2 % 2 == 1;
+  rr = slice_index octets 7 % 2 == 1;
+  op_data = take (data_length_field octets - 8) (drop 12 octets);
+}
+
+-- AUTH and what follows it
+abbrev pub auth_field : List ℕ → List ℕ
+auth_field octets = drop (4 + data_length_field octets) octets
+
+-- the message has what stands at the offsets
+pub record Holds (octets : List ℕ) (message : Htcp) : Type 0 where
+  pub minor : message.minor ≡ minor_field octets
+  pub trans : message.trans ≡ trans_field octets
+  pub content : content_at (data_field octets) ≡ Some message.content
