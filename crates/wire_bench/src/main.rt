@@ -87,6 +87,7 @@ fn written_htcp(alloc: Global, message: &Htcp) -> io::Result<Vec<u8>> {
     }
 }
 
+/// Reads a datagram of ICP so often, and says how long its URLs were in all.
 fn decode_icp(alloc: Global, octets: &[u8], count: u32) -> io::Result<u64> {
     let mut sum = 0u64;
     for _ in 0..count {
@@ -98,6 +99,7 @@ fn decode_icp(alloc: Global, octets: &[u8], count: u32) -> io::Result<u64> {
     Ok(sum)
 }
 
+/// Reads a datagram of HTCP so often, and says what its TRANS-IDs were in all.
 fn decode_htcp(alloc: Global, octets: &[u8], count: u32) -> io::Result<u64> {
     let mut sum = 0u64;
     for _ in 0..count {
@@ -109,6 +111,7 @@ fn decode_htcp(alloc: Global, octets: &[u8], count: u32) -> io::Result<u64> {
     Ok(sum)
 }
 
+/// Writes a message of ICP so often, and says how many octets there were in all.
 fn encode_icp(alloc: Global, message: &Icp, count: u32) -> io::Result<u64> {
     let mut sum = 0u64;
     for _ in 0..count {
@@ -117,6 +120,7 @@ fn encode_icp(alloc: Global, message: &Icp, count: u32) -> io::Result<u64> {
     Ok(sum)
 }
 
+/// Writes a message of HTCP so often, and says how many octets there were in all.
 fn encode_htcp(alloc: Global, message: &Htcp, count: u32) -> io::Result<u64> {
     let mut sum = 0u64;
     for _ in 0..count {
@@ -126,54 +130,47 @@ fn encode_htcp(alloc: Global, message: &Htcp, count: u32) -> io::Result<u64> {
 }
 
 /// Prints how many microseconds a work took, and its sum, so that the work has to be done.
-fn show(rt: &HostRuntime, name: &str, octets: usize, micros: u128, sum: u64) -> io::Result<()> {
+fn show(rt: &HostRuntime, name: &str, octets: usize, start: Instant, sum: u64) -> io::Result<()> {
+    let micros = start.elapsed(rt)?.as_micros();
     println!(rt; "{name} {octets} {micros} {sum}")
+}
+
+fn time_decode_icp(rt: &HostRuntime, octets: &[u8], count: u32) -> io::Result<()> {
+    let start = Instant::now(rt)?;
+    let sum = decode_icp(rt.alloc(), octets, count)?;
+    show(rt, "icp-decode", octets.len(), start, sum)
+}
+
+fn time_decode_htcp(rt: &HostRuntime, octets: &[u8], count: u32) -> io::Result<()> {
+    let start = Instant::now(rt)?;
+    let sum = decode_htcp(rt.alloc(), octets, count)?;
+    show(rt, "htcp-decode", octets.len(), start, sum)
+}
+
+fn time_encode_icp(rt: &HostRuntime, message: &Icp, octets: usize, count: u32) -> io::Result<()> {
+    let start = Instant::now(rt)?;
+    let sum = encode_icp(rt.alloc(), message, count)?;
+    show(rt, "icp-encode", octets, start, sum)
+}
+
+fn time_encode_htcp(rt: &HostRuntime, message: &Htcp, octets: usize, count: u32) -> io::Result<()> {
+    let start = Instant::now(rt)?;
+    let sum = encode_htcp(rt.alloc(), message, count)?;
+    show(rt, "htcp-encode", octets, start, sum)
 }
 
 fn measure_icp(rt: &HostRuntime, octets: usize, count: u32) -> io::Result<()> {
     let message = hit_of(rt.alloc(), octets)?;
+    time_encode_icp(rt, &message, octets, count)?;
     let written = written_icp(rt.alloc(), &message)?;
-    let start = Instant::now(rt)?;
-    let sum = decode_icp(rt.alloc(), &written, count)?;
-    show(
-        rt,
-        "icp-decode",
-        octets,
-        start.elapsed(rt)?.as_micros(),
-        sum,
-    )?;
-    let start = Instant::now(rt)?;
-    let sum = encode_icp(rt.alloc(), &message, count)?;
-    show(
-        rt,
-        "icp-encode",
-        octets,
-        start.elapsed(rt)?.as_micros(),
-        sum,
-    )
+    time_decode_icp(rt, &written, count)
 }
 
 fn measure_htcp(rt: &HostRuntime, octets: usize, count: u32) -> io::Result<()> {
     let message = test_of(rt.alloc(), octets)?;
+    time_encode_htcp(rt, &message, octets, count)?;
     let written = written_htcp(rt.alloc(), &message)?;
-    let start = Instant::now(rt)?;
-    let sum = decode_htcp(rt.alloc(), &written, count)?;
-    show(
-        rt,
-        "htcp-decode",
-        octets,
-        start.elapsed(rt)?.as_micros(),
-        sum,
-    )?;
-    let start = Instant::now(rt)?;
-    let sum = encode_htcp(rt.alloc(), &message, count)?;
-    show(
-        rt,
-        "htcp-encode",
-        octets,
-        start.elapsed(rt)?.as_micros(),
-        sum,
-    )
+    time_decode_htcp(rt, &written, count)
 }
 
 /// Measures messages of both lengths, the long ones a tenth as often.
