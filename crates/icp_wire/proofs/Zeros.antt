@@ -1,10 +1,11 @@
 -- The first zero octet of a text ends its URL.
 use Rattle.std.proofs.Common.{◌≡◌, ℕ, zero, suc, ◌<◌, Bool, true, false, cond, eqb, ltb, List, [], ◌∷◌, ◌++◌, length, drop, get_or, Some, None, refl, sym, ap, ◌∙◌, arith}
-use Rattle.std.specs.Prelude.{Contains, is_none, position}
+use Rattle.std.specs.Prelude.{Contains, Option, is_none, position}
 use Rattle.std.specs.List.{before_first, after_first, position_or_len}
-use Rattle.std.proofs.lemmas.Bool.{eqb-true, eqb-false, ne_eqb, ltb-true, lt-ltb}
+use Rattle.std.proofs.lemmas.Bool.{eqb-true, eqb-false, ne_eqb, ltb-true, lt-ltb, le-ltb}
 use Rattle.std.proofs.lemmas.List.{get_or-take, length-append, length-take, take_at, drop_at, drop-drop}
-use Rattle.std.proofs.lemmas.List.Sums.{split_at_first, fails_before_first, passes_at_first}
+use Rattle.std.proofs.lemmas.List.Sums.{split_at_first, fails_before_first, passes_at_first, position_or_len_is}
+use Rattle.memchr.specs.Find.{IsFirstByte, is_byte}
 use Rattle.icp_wire.specs.Faults.{is_zero}
 
 found : (inside : Bool) (i : ℕ) → is_none (cond inside (Some i) None) ≡ false → inside ≡ true
@@ -56,3 +57,16 @@ position-append url rest none =
     let whole = url ++ 0 ∷ rest in
     let inside : ltb (position_or_len is_zero whole) (length whole) ≡ true = lt-ltb _ _ (omega (arith, zero_place url rest none, length-append url (0 ∷ rest))) in
     rw inside refl
+
+not_true : (test : Bool) → ¬ (test ≡ true) → test ≡ false
+not_true true never = absurd (never refl)
+not_true false never = refl
+
+-- a search for a zero octet finds the first
+pub found_first : (text : List ℕ) (r : Option ℕ) → IsFirstByte (is_byte 0) text r → r ≡ position is_zero text
+found_first text None nowhere =
+    let last = position_or_len_is is_zero text (length text) 0 (omega arith) (λ k before. not_true _ (nowhere k (omega arith) before)) (λ past. absurd (omega (arith, past))) in
+    rw (last, le-ltb (length text) (length text) (omega arith)) refl
+found_first text (Some place) (first, passes) =
+    let same = position_or_len_is is_zero text place 0 (omega (arith, first.high)) (λ k before. not_true _ (first.before k (omega arith) before)) (λ inside. passes) in
+    rw (same, lt-ltb place (length text) first.high) refl

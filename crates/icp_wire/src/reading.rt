@@ -7,6 +7,7 @@ ghost use Rattle.icp_wire.specs.Reading.{Holds, url_in, object_in, object_behind
 use crate::message::{ADDRESS_LENGTH, HEADER_LENGTH, LONGEST_MESSAGE, VERSION};
 use crate::{Icp, IcpFault, IcpOp};
 use byteorder::{BigEndian, ByteOrder};
+use memchr::memchr;
 use std::alloc::Global;
 use wire_octets::{Octets, split_counted};
 
@@ -138,7 +139,7 @@ fn split_url(text: &[u8]) -> Option<(&[u8], &[u8])>
 fn first_zero(text: &[u8]) -> Option<usize>
     ensures { result ≡ position is_zero text.now }
 {
-    text.iter().position(|octet| *octet == 0)
+    memchr(0, text)
 }
 
 /// The object behind the zero octet, which is empty but in a HIT_OBJ.
