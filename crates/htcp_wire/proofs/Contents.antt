@@ -1,9 +1,9 @@
 -- The content that DATA has, and the DATA that a content has.
-use Rattle.std.proofs.Common.{◌≡◌, ℕ, zero, suc, ◌+◌, ◌*◌, ◌/◌, ◌%◌, ◌^◌, ◌<◌, ◌≤◌, Bool, true, false, not, cond, eqb, ltb, leb, ◌&&◌, ◌||◌, List, [], ◌∷◌, ◌++◌, length, take, drop, Option, Some, None, refl, sym, ap, subst, ◌∙◌, arith, inl, inr}
+use Rattle.std.proofs.Common.{◌≡◌, ℕ, ◌+◌, ◌*◌, ◌/◌, ◌%◌, ◌^◌, ◌<◌, ◌≤◌, Bool, true, false, not, cond, eqb, ltb, leb, ◌&&◌, ◌||◌, List, [], ◌∷◌, ◌++◌, length, drop, Some, None, refl, sym, ap, subst, ◌∙◌, arith, inl, inr}
 use Rattle.std.specs.Prelude.{◌⊎◌, slice_index}
 use Rattle.std.specs.Option.{option_map}
 use Rattle.std.proofs.Math.Nat.{div-add-mod', mod-lt, mod-eq_of_lt, mul-add-mod_self_right}
-use Rattle.std.proofs.lemmas.Bool.{eqb-true, ltb-false, le-ltb, leb-true, le-leb, not-true, not-false, and_parts, or_parts, or_from, not_from_true, not_from_false}
+use Rattle.std.proofs.lemmas.Bool.{eqb-true, ltb-false, le-ltb, leb-true, le-leb, not-true, not-false, and_parts, or_parts, or_from}
 use Rattle.std.proofs.lemmas.List.{length-append}
 use Rattle.wire_octets.specs.Fields.{IsOctets}
 use Rattle.wire_octets.specs.Counted.{counted, split_counted}
@@ -11,7 +11,7 @@ use Rattle.wire_octets.specs.Laws.{IsOctets-drop, split_counted-counted}
 use Rattle.htcp_wire.specs.declared.message.Specifier.{Specifier}
 use Rattle.htcp_wire.specs.declared.message.Content.{Content}
 use Rattle.htcp_wire.specs.declared.message.Content.TheVariants.{NopAsk, NopAnswer, TstAsk, TstHit, TstMiss, ClrAsk, ClrAnswer, Other, Overall, OtherAnswer}
-use Rattle.htcp_wire.specs.Grammar.{Data, nop, tst, clr, specifier, detail, Begins, Asks, Answers, Clears, is_ask, is_answer, IsContent}
+use Rattle.htcp_wire.specs.Grammar.{Data, clr, specifier, detail, Begins, Asks, Answers, Clears, IsContent}
 use Rattle.htcp_wire.specs.Reading.{specifier_at, detail_at, clr_at, ask_at, answer_at, content_at}
 use Rattle.htcp_wire.proofs.Texts.{mapped, some_is, specifier_takes, specifier_again, detail_takes, detail_again, cache_takes}
 

@@ -1,10 +1,10 @@
 -- The lines of a text are the only ones that it has.
-use Rattle.std.proofs.Common.{◌≡◌, ℕ, zero, suc, ◌+◌, ◌-◌, ◌<◌, ◌≤◌, Bool, true, false, eqb, ltb, ◌&&◌, List, [], ◌∷◌, ◌++◌, length, take, get_or, refl, sym, ap, subst, ◌∙◌, append_assoc, arith, inl, inr}
+use Rattle.std.proofs.Common.{◌≡◌, ℕ, ◌+◌, ◌-◌, ◌<◌, true, false, eqb, ltb, ◌&&◌, List, [], ◌∷◌, ◌++◌, length, take, get_or, refl, sym, ap, subst, ◌∙◌, append_assoc, arith, inl, inr}
 use Rattle.std.specs.Prelude.{◌≢◌}
 use Rattle.std.specs.List.{AllByRecursion}
 use Rattle.std.proofs.Math.Seq.{get_or-append_seam}
-use Rattle.std.proofs.lemmas.Bool.{both_ways, cases_Bool, eqb-true, eq-eqb, ltb-true, lt-ltb, and_parts}
-use Rattle.std.proofs.lemmas.List.{append-nil, length-append, length-take, take_at, take_all, take_more}
+use Rattle.std.proofs.lemmas.Bool.{both_ways, cases_Bool, eqb-true, ltb-true, lt-ltb, and_parts}
+use Rattle.std.proofs.lemmas.List.{append-nil, length-append, take_at, take_all, take_more}
 use Rattle.htcp_wire.specs.Numbers.{ends_line, lines_behind, lines_of}
 use Rattle.htcp_wire.specs.Lines.{joined, IsLine, AreLines}
 use Rattle.htcp_wire.proofs.Lines.{within_line, at_end, one_line}

@@ -9,7 +9,7 @@ use Rattle.htcp_wire.specs.declared.fault.HtcpFault.TheVariants.{Short, BadLengt
 use Rattle.htcp_wire.specs.Grammar.{Spells}
 use Rattle.htcp_wire.specs.Faults.{first_fault}
 use Rattle.htcp_wire.specs.Reading.{minor_field, trans_field, data_field, content_at, Holds}
-use Rattle.htcp_wire.specs.Laws.{SpellsOnly, SpellsNone, IsDecided}
+use Rattle.htcp_wire.specs.Laws.{IsDecided}
 use Rattle.htcp_wire.proofs.Readings.{passes, spells_of, read_of}
 
 -- ---- one message

@@ -1,10 +1,9 @@
 -- Lines are cut one octet after the other, and trimmed from the end.
-use Rattle.std.proofs.Common.{◌≡◌, ℕ, zero, suc, ◌+◌, ◌-◌, ◌<◌, ◌≤◌, Bool, true, false, cond, List, [], ◌∷◌, ◌++◌, length, take, drop, get_or, Option, Some, None, Result, Ok, Err, refl, sym, ap, subst, ◌∙◌, append_assoc, add-one, arith}
+use Rattle.std.proofs.Common.{◌≡◌, ℕ, ◌+◌, ◌-◌, ◌<◌, ◌≤◌, true, false, List, [], ◌∷◌, ◌++◌, length, take, drop, get_or, Option, Some, None, Err, refl, sym, ap, subst, ◌∙◌, append_assoc, add-one, arith}
 use Rattle.std.specs.Prelude.{option_to_list}
 use Rattle.std.specs.List.{filter_map, cons_option, suffix_len}
 use Rattle.std.proofs.Math.Seq.{drop-cons, drop-length}
-use Rattle.std.proofs.lemmas.List.{append-nil, length-append, length-take, length-drop, get_or-drop, take_more, take-take}
-use Rattle.htcp_wire.specs.declared.fault.HtcpFault.{HtcpFault}
+use Rattle.std.proofs.lemmas.List.{append-nil, length-take, length-drop, get_or-drop, take_more, take-take}
 use Rattle.htcp_wire.specs.declared.fault.HtcpFault.TheVariants.{BadNumber}
 use Rattle.htcp_wire.specs.Numbers.{is_blank, ends_line, lines_behind, lines_of, number_of_values}
 

@@ -1,13 +1,13 @@
 -- Octets cut at the offsets of HEADER, DATA and AUTH.
-use Rattle.std.proofs.Common.{◌≡◌, ℕ, zero, suc, ◌+◌, ◌-◌, ◌*◌, ◌/◌, ◌%◌, ◌^◌, ◌<◌, ◌≤◌, Bool, true, false, eqb, List, [], ◌∷◌, ◌++◌, length, take, drop, get_or, refl, sym, ap, ◌∙◌, append_assoc, arith}
+use Rattle.std.proofs.Common.{◌≡◌, ℕ, zero, suc, ◌+◌, ◌-◌, ◌*◌, ◌/◌, ◌%◌, ◌^◌, ◌<◌, ◌≤◌, Bool, true, false, eqb, List, ◌∷◌, ◌++◌, length, take, drop, get_or, refl, sym, ap, ◌∙◌, append_assoc, arith}
 use Rattle.std.specs.Prelude.{slice_index}
 use Rattle.std.proofs.Math.Seq.{drop-cons}
-use Rattle.std.proofs.Math.Nat.{div-add-mod', mod-lt, mod-eq_of_lt, mul-add-mod_self_right}
+use Rattle.std.proofs.Math.Nat.{div-add-mod', mod-eq_of_lt, mul-add-mod_self_right}
 use Rattle.std.proofs.lemmas.Nat.{div-mul-add}
 use Rattle.std.proofs.lemmas.List.{drop_at, take_at, drop-drop, take-append-drop, length-append, length-take, length-drop}
 use Rattle.byteorder.specs.Endian.{big_bytes, big_number}
 use Rattle.wire_octets.specs.Fields.{IsOctets}
-use Rattle.wire_octets.specs.Laws.{IsOctets-drop, cut_number, big_number-big_bytes, length-big_bytes, drop-big_bytes}
+use Rattle.wire_octets.specs.Laws.{IsOctets-drop, cut_number, big_number-big_bytes}
 use Rattle.htcp_wire.specs.Grammar.{Data, bit, header, data_text, auth}
 use Rattle.htcp_wire.specs.Reading.{length_field, major_field, minor_field, data_length_field, trans_field, data_field, auth_field}
 

@@ -1,18 +1,17 @@
 -- What is read is spelled so, and what is spelled is read.
-use Rattle.std.proofs.Common.{◌≡◌, ℕ, ◌+◌, ◌^◌, ◌<◌, ◌≤◌, Bool, true, false, not, cond, eqb, ltb, List, ◌∷◌, ◌++◌, length, take, drop, Option, Some, None, refl, sym, ap, ◌∙◌, arith}
+use Rattle.std.proofs.Common.{◌≡◌, ℕ, ◌+◌, ◌^◌, ◌<◌, Bool, true, false, cond, ltb, List, ◌++◌, length, drop, Option, Some, None, refl, sym, ap, ◌∙◌, arith}
 use Rattle.std.specs.Prelude.{slice_index, is_none}
 use Rattle.std.proofs.Math.Nat.{mod-lt}
 use Rattle.std.proofs.lemmas.Bool.{eqb-true, eq-eqb, ltb-false, le-ltb, not-false, not_from_true, or_parts, or_from}
-use Rattle.std.proofs.lemmas.List.{length-append, length-drop}
+use Rattle.std.proofs.lemmas.List.{length-append}
 use Rattle.byteorder.specs.Endian.{big_number}
 use Rattle.wire_octets.specs.Fields.{IsOctets}
 use Rattle.wire_octets.specs.Laws.{IsOctets-drop, IsOctets-take, big_number-lt, big_number-big_bytes}
 use Rattle.htcp_wire.specs.declared.message.Htcp.{Htcp}
-use Rattle.htcp_wire.specs.declared.message.Content.{Content}
 use Rattle.htcp_wire.specs.declared.fault.HtcpFault.{HtcpFault}
-use Rattle.htcp_wire.specs.Grammar.{Data, auth, header, data_text, Spells}
-use Rattle.htcp_wire.specs.Faults.{is_bad_data, is_bad_auth, fault_behind, first_fault}
-use Rattle.htcp_wire.specs.Reading.{length_field, major_field, minor_field, data_length_field, trans_field, data_field, auth_field, content_at, Holds}
+use Rattle.htcp_wire.specs.Grammar.{auth, header, data_text, Spells}
+use Rattle.htcp_wire.specs.Faults.{is_bad_data, is_bad_auth, first_fault}
+use Rattle.htcp_wire.specs.Reading.{length_field, major_field, data_length_field, trans_field, data_field, auth_field, content_at, Holds}
 use Rattle.htcp_wire.proofs.Contents.{content_takes, content_again}
 use Rattle.htcp_wire.proofs.Offsets.{reserved_in, signature_in, behind_in, CanCut, octets_cut, parts_again}
 

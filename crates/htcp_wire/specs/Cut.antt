@@ -1,5 +1,4 @@
 -- Contents whose texts still lie in a datagram.
-use Rattle.std.specs.Prelude.{ℕ, List}
 use Rattle.htcp_wire.specs.declared.message.Specifier.{Specifier}
 use Rattle.htcp_wire.specs.declared.message.Detail.{Detail}
 use Rattle.htcp_wire.specs.declared.message.Content.{Content}

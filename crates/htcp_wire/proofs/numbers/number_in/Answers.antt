@@ -1,5 +1,5 @@
-use Rattle.std.proofs.Common.{◌≡◌, ◌-◌, List, length, refl, sym, ap, ◌∙◌, arith}
-use Rattle.std.specs.Prelude.{option_copied, option_to_list}
+use Rattle.std.proofs.Common.{◌-◌, length, sym, ap, ◌∙◌, arith}
+use Rattle.std.specs.Prelude.{option_to_list}
 use Rattle.std.proofs.lemmas.Result.{err_from_is_err_and}
 use Rattle.htcp_wire.specs.Numbers.{line_name, value_in, number_of_values}
 use Rattle.htcp_wire.proofs.Lines.{line_at, KeepsLines-within, line_added, second_value, all_values, last_second_value}

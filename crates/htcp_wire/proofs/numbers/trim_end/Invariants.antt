@@ -1,6 +1,3 @@
-use Rattle.std.proofs.Common.{◌≡◌, ◌+◌, ◌≤◌, length, take}
-use Rattle.std.specs.List.{suffix_len}
-use Rattle.htcp_wire.specs.Numbers.{is_blank}
 use Rattle.htcp_wire.proofs.Lines.{KeepsEnd}
 use Rattle.htcp_wire.proofs.numbers.trim_end.Given as goal
 
