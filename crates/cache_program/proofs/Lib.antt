@@ -1,5 +1,4 @@
 pub mod Digits
-pub mod WritingLemmas
 pub mod LineLemmas
 pub mod PlayLemmas
 pub mod ReplyLemmas

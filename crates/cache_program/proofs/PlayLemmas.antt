@@ -1,16 +1,16 @@
 -- Lines answered one after another.
-use Rattle.std.proofs.Common.{◌≡◌, ℕ, ◌||◌, true, false, Bool, cond, Option, Some, None, Result, Ok, Err, IfErr, List, [], ◌∷◌, ◌++◌, length, take, refl, sym, ap, ◌∙◌, subst, append_assoc, append-nil}
+use Rattle.std.proofs.Common.{◌≡◌, ℕ, ◌||◌, true, false, Bool, Option, Some, None, Result, Ok, Err, IfErr, List, [], ◌∷◌, ◌++◌, length, take, refl, sym, ap, ◌∙◌, subst, append_assoc, append-nil}
 use Rattle.std.proofs.lemmas.List.{take_at}
 use Rattle.std.proofs.lemmas.List.Folds.{list_any-append}
 use Rattle.std.specs.Io.KnownBytes.{Appends}
 use Rattle.std.proofs.KnownBytes.{Appends-nil, Appends-trans}
 use Rattle.cache_program.specs.declared.fault.RunFault.{RunFault}
-use Rattle.cache_program.specs.declared.fault.RunFault.TheVariants.{Io, LineTooLong, NoMemory}
+use Rattle.cache_program.specs.declared.fault.RunFault.TheVariants.{Io, LineTooLong}
 use Rattle.cache_program.specs.Lines.{newline, lines_of, is_long, has_long_line}
 use Rattle.cache_program.specs.Reading.{TakesLine, TakesNone, FailsToTake}
-use Rattle.cache_program.specs.Writing.{AppendsFront, Writes}
-use Rattle.cache_program.specs.Script.{Plays, PlaysAll, PlaysSome, HasPlayed}
-use Rattle.cache_program.specs.Playing.{PlaysOn, Playing}
+use Rattle.text_writer.specs.Writing.{AppendsFront, Writes}
+use Rattle.cache_program.specs.Script.{Plays, HasPlayed}
+use Rattle.cache_program.specs.Playing.{Playing}
 
 or_second : (a b : Bool) → b ≡ true → (a || b) ≡ true
 or_second true b e = refl

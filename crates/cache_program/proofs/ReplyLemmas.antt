@@ -1,5 +1,5 @@
 -- A reply to a message that was read can be written.
-use Rattle.std.proofs.Common.{◌≡◌, ◌≢◌, ℕ, ◌≤◌, ◌+◌, List, [], ◌∷◌, ◌++◌, length, Option, Some, None, Result, Ok, Err, Bool, true, false, cond, is_some, refl, sym, ap, ◌∙◌, subst, unwrap_or, arith, length-append}
+use Rattle.std.proofs.Common.{◌≡◌, ℕ, ◌≤◌, ◌+◌, List, [], ◌∷◌, ◌++◌, length, Some, Result, Ok, Err, Bool, true, false, cond, is_some, refl, sym, ap, ◌∙◌, subst, unwrap_or, arith, length-append}
 use Rattle.url_key.specs.declared.fault.KeyFault.{KeyFault}
 use Rattle.icp_wire.specs.declared.message.Icp.{Icp}
 use Rattle.icp_wire.specs.declared.message.IcpOp.{IcpOp}

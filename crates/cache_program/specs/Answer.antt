@@ -1,5 +1,5 @@
 -- What `cache answer` answers to a line.
-use Rattle.std.specs.Prelude.{◌≡◌, ℕ, ◌⊎◌, bytes_eq, List, [], ◌∷◌, length, nat_lt, codes, Option, Some, None, Result, Ok, Err, if◌then◌else◌}
+use Rattle.std.specs.Prelude.{◌≡◌, ℕ, ◌⊎◌, bytes_eq, List, [], codes, Option, Some, None, Result, Ok, Err, if◌then◌else◌}
 use Rattle.hex.specs.Hex.{decode_of, encode_lower}
 use Rattle.hex.specs.declared.error.FromHexError.{FromHexError}
 use Rattle.url_key.specs.declared.fault.KeyFault.{KeyFault}

@@ -1,6 +1,5 @@
 pub mod Lines
 pub mod Fault
-pub mod Writing
 pub mod Reading
 pub mod Script
 pub mod Playing

@@ -1,6 +1,6 @@
 -- What taking lines does to an input of which some octets are held and others not yet read.
-use Rattle.std.specs.Prelude.{◌≡◌, ◌≢◌, ℕ, ◌+◌, ◌-◌, ◌*◌, ◌<◌, ◌≤◌, List, [], ◌∷◌, ◌++◌, length, take, slice_index, Option, Some, None, true, false, ⊤}
-use Rattle.std.specs.Io.KnownBytes.{Consumes, IsAtEnd}
+use Rattle.std.specs.Prelude.{◌≡◌, ◌≢◌, ℕ, ◌+◌, ◌-◌, ◌*◌, ◌<◌, List, [], ◌∷◌, ◌++◌, length, slice_index, Option, Some, None, true, false, ⊤}
+use Rattle.std.specs.Io.KnownBytes.{Consumes}
 use Rattle.cache_program.specs.declared.fault.RunFault.{RunFault}
 use Rattle.cache_program.specs.declared.fault.RunFault.TheVariants.{LineTooLong}
 use Rattle.cache_program.specs.Lines.{newline, lines_of, is_long, has_long_line}

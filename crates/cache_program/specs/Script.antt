@@ -4,7 +4,7 @@ use Rattle.std.specs.Io.KnownBytes.{Appends}
 use Rattle.cache_program.specs.declared.fault.RunFault.{RunFault}
 use Rattle.cache_program.specs.declared.fault.RunFault.TheVariants.{LineTooLong}
 use Rattle.cache_program.specs.Lines.{newline, lines_of, has_long_line}
-use Rattle.cache_program.specs.Writing.{AppendsFront}
+use Rattle.text_writer.specs.Writing.{AppendsFront}
 
 -- From the first state the lines are answered one after another, and this is what is written: each answer, and LF.
 abbrev pub Plays : {S : Type 0} → (S → List ℕ → List ℕ → S → Type 0) → S → List (List ℕ) → List ℕ → S → Type 0

@@ -1,5 +1,5 @@
 -- What `cache wire` answers to a line: a datagram, read and shown.
-use Rattle.std.specs.Prelude.{◌≡◌, ℕ, Bool, ◌⊎◌, List, [], ◌∷◌, ◌++◌, codes, decimal, Option, Some, Result, Ok, Err, MatchBool, true, false, if◌then◌else◌}
+use Rattle.std.specs.Prelude.{◌≡◌, ℕ, Bool, ◌⊎◌, List, [], ◌++◌, codes, decimal, Some, Result, Ok, Err, MatchBool, true, false}
 use Rattle.hex.specs.Hex.{decode_of, encode_lower}
 use Rattle.hex.specs.declared.error.FromHexError.{FromHexError}
 use Rattle.icp_wire.specs.declared.message.Icp.{Icp as Message}

@@ -7,6 +7,7 @@
 mod answer;
 mod ask;
 mod body;
+mod fault;
 mod fields;
 #[cfg(test)]
 mod tests;
@@ -14,4 +15,5 @@ mod tests;
 pub use answer::Answer;
 pub use ask::Ask;
 pub use body::Body;
+pub use fault::FetchFault;
 pub use fields::{Field, Fields};

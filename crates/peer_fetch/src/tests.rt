@@ -1,7 +1,7 @@
-use crate::{Answer, Ask, Body, Field, Fields};
+use crate::{Answer, Ask, Body, FetchFault, Field, Fields};
 use http_header::{HeaderName, HeaderValue};
 use std::test::Fail;
-use url_key::Key;
+use url_key::{Key, KeyFault};
 
 fn fields_of(rt: &HostRuntime, lines: &[(&[u8], &[u8])]) -> Result<Fields, Fail> {
     let mut fields = Vec::new(rt.alloc());
@@ -148,4 +148,24 @@ fn a_copy_of_an_ask_is_equal(rt: HostRuntime) -> Result<(), Fail> {
     };
     assert!(rt; ask.copy(rt.alloc())? == ask);
     Ok(())
+}
+
+#[test]
+fn faults_have_names(rt: HostRuntime) {
+    let table: [(FetchFault, &str); 11] = [
+        (FetchFault::Io, "Io"),
+        (FetchFault::EndOfInput, "EndOfInput"),
+        (FetchFault::BadHead, "BadHead"),
+        (FetchFault::HeadTooLong, "HeadTooLong"),
+        (FetchFault::BadTarget(KeyFault::NotHttp), "BadTarget"),
+        (FetchFault::MethodNotServed, "MethodNotServed"),
+        (FetchFault::Credentials, "Credentials"),
+        (FetchFault::BadBody, "BadBody"),
+        (FetchFault::BodyTooLong, "BodyTooLong"),
+        (FetchFault::TooManyTurns, "TooManyTurns"),
+        (FetchFault::NoMemory, "NoMemory"),
+    ];
+    for (fault, expected) in table {
+        assert!(rt; fault.name() == expected);
+    }
 }

@@ -1,4 +1,4 @@
-use Rattle.std.proofs.Common.{◌-◌, drop}
+use Rattle.std.proofs.Common.{drop}
 use Rattle.cache_program.specs.Reading.{most_left}
 use Rattle.cache_program.specs.Playing.{Playing}
 use Rattle.cache_program.proofs.script.play.Given as goal

@@ -1,7 +1,7 @@
 use Rattle.std.proofs.Common.{sym, subst}
-use Rattle.cache_program.specs.Writing.{AppendsUpTo}
-use Rattle.cache_program.proofs.WritingLemmas.{up_to_more}
-use Rattle.cache_program.proofs.write.write_text.Goals as goal
+use Rattle.text_writer.specs.Writing.{AppendsUpTo}
+use Rattle.text_writer.proofs.Laws.{up_to_more}
+use Rattle.text_writer.proofs.write.write_text.Goals as goal
 
 pub loop-rest-preserved : goal.loop-rest-preserved
 loop-rest-preserved g c =

@@ -2,7 +2,7 @@
 use Rattle.std.proofs.Common.{◌≡◌, ℕ, List, [], ◌++◌, take, drop, Option, Result, Ok, Err, refl, sym, ap, ◌∙◌, subst, append_assoc, append-nil, take-append-drop}
 use Rattle.std.specs.Io.KnownBytes.{Appends}
 use Rattle.std.proofs.KnownBytes.{Appends-nil, Appends-trans}
-use Rattle.cache_program.specs.Writing.{AppendsFront, AppendsUpTo, Writes}
+use Rattle.text_writer.specs.Writing.{AppendsFront, AppendsUpTo, Writes}
 
 -- nothing is written yet
 pub up_to_start : (a : Option (List ℕ)) (text : List ℕ) → AppendsUpTo a a text text

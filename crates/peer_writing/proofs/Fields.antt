@@ -1,0 +1,14 @@
+-- The lines of fields, written one after another.
+use Rattle.std.proofs.Common.{◌≡◌, ℕ, ◌+◌, ◌<◌, List, ◌∷◌, ◌++◌, length, map, drop, get_or, sym, ap, ◌∙◌}
+use Rattle.std.proofs.lemmas.List.{drop_more}
+use Rattle.peer_fetch.specs.declared.fields.Field.{Field}
+use Rattle.peer_fetch.specs.Field.{field_text}
+use Rattle.peer_writing.specs.Answer.{kept_line, kept_lines}
+
+-- the lines of the fields from one on
+abbrev pub lines_from : List Field → ℕ → List ℕ
+lines_from fields i = kept_lines (map field_text (drop i fields))
+
+pub lines_from-next : (fields : List Field) (i : ℕ) (field : Field) → i < length fields → field ≡ get_or fields i field → lines_from fields i ≡ kept_line (field_text field) ++ lines_from fields (i + 1)
+lines_from-next fields i field within is =
+    ap (λ fs. kept_lines (map field_text fs)) (drop_more fields i field within ∙ ap (λ f. f ∷ drop (i + 1) fields) (sym is))

@@ -1,0 +1,4 @@
+pub mod Name
+pub mod Lines
+pub mod Ask
+pub mod Answer

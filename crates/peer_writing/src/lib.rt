@@ -1,0 +1,16 @@
+//! The texts of HTTP asks and answers, as they are written to peers, origins and clients (RFC 9112).
+//!
+//! `write_ask` writes `ask_text` of `specs/Ask`, `write_answer` writes `answer_text` of `specs/Answer`, and
+//! after a fault a front of it. Neither takes memory.
+#![tactic(auto)]
+
+mod answer;
+mod ask;
+mod lines;
+mod name;
+#[cfg(test)]
+mod tests;
+
+pub use answer::write_answer;
+pub use ask::{AskForm, write_ask};
+pub use name::is_name;
