@@ -2,6 +2,9 @@
 //!
 //! `write_ask` writes `ask_text` of `specs/Ask`, `write_answer` writes `answer_text` of `specs/Answer`, and
 //! after a fault a front of it. Neither takes memory.
+//!
+//! The trait of writing counts no failures, so a body that answers `Io` at once would meet both contracts. That `Io` comes only
+//! where the writer failed is shown by tests.
 #![tactic(auto)]
 
 mod answer;

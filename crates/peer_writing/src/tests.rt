@@ -12,7 +12,7 @@ fn names(rt: HostRuntime) {
         (b"", false),
         (b"abcdefghijklmnopqrstuvwxyz012345", true),
         (b"abcdefghijklmnopqrstuvwxyz0123456", false),
-        (b"N1", false),
+        (b"Cache", false),
         (b"n-1", false),
         (b"n 1", false),
         (b"n{", false),

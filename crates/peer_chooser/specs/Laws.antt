@@ -1,0 +1,26 @@
+-- What holds of every choice.
+use Rattle.std.specs.Prelude.{◌≡◌, ◌≢◌, ◌⊎◌, ℕ, Bool, true, List, Contains}
+use Rattle.roster.specs.Lookups.{is_sibling, is_parent}
+use Rattle.peer_chooser.specs.declared.said.Told.{Told}
+use Rattle.peer_chooser.specs.declared.said.Source.TheVariants as source
+use Rattle.peer_chooser.specs.Round.{RoundText, ended}
+use Rattle.peer_chooser.specs.Choice.{choice, is_open, is_hit, is_miss}
+
+-- the ask goes to a peer that answered, may be asked at the floor and was not tried: one that told of a copy that may be new enough, or a parent that has none; only what it holds is asked of it exactly if it is a sibling
+pub record FollowsAnswer (r : RoundText) (floor : ℕ) (tried : List ℕ) (id : ℕ) (only_if_cached : Bool) : Type 0 where
+  pub told : Told
+  pub answered : Contains r.told told
+  pub peer : told.peer.id ≡ id
+  pub sibling : is_sibling told.peer.role ≡ only_if_cached
+  pub untried : is_open floor tried told.peer ≡ true
+  pub useful : (is_hit floor told.said ≡ true) ⊎ ((is_parent told.peer.role ≡ true) × (is_miss told.said ≡ true))
+
+-- a choice of a peer follows its answer
+abbrev pub EachChoiceFollows : Type 0
+EachChoiceFollows =
+    (r : RoundText) (floor : ℕ) (tried : List ℕ) (id : ℕ) (only_if_cached : Bool)
+    → choice r floor tried ≡ source.Peer id only_if_cached → FollowsAnswer r floor tried id only_if_cached
+
+-- once the time for answers is over nothing is waited for
+abbrev pub NoneWaitsInTheEnd : Type 0
+NoneWaitsInTheEnd = (r : RoundText) (floor : ℕ) (tried : List ℕ) → choice (ended r) floor tried ≢ source.Wait

@@ -1,0 +1,4 @@
+pub mod Round
+pub mod Choice
+pub mod Room
+pub mod Laws

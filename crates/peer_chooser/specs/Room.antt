@@ -1,0 +1,15 @@
+-- The room that a round has for answers.
+use Rattle.std.specs.Prelude.{◌≡◌, ℕ, ◌+◌, ◌≤◌, not, List, length, count_by, take}
+use Rattle.roster_tables.specs.declared.plain.Peer.{Peer}
+use Rattle.peer_chooser.specs.declared.said.Told.{Told}
+use Rattle.peer_chooser.specs.Round.{has_told}
+
+-- how many of these peers have not answered
+abbrev pub awaited_count : List Peer → List Told → ℕ
+awaited_count asked told = count_by (λ p. not (has_told told p.id)) asked
+
+-- at most 23 peers are asked, of 23 places for answers, and there is one for the answer of each that has not answered
+pub record HasRoom (asked : List Peer) (asked_count : ℕ) (told : List Told) (told_count : ℕ) : Type 0 where
+  pub few : asked_count ≤ 23
+  pub places : length told ≡ 23
+  pub room : told_count + awaited_count (take asked_count asked) (take told_count told) ≤ asked_count

@@ -1,0 +1,157 @@
+//! The choice of a source, over slices.
+
+ghost use Rattle.std.specs.Prelude.{◌≡◌, ◌==◌, find, option_map};
+ghost use Rattle.std.specs.List.{list_all, list_any};
+ghost use Rattle.roster_tables.specs.Ranges.{is_foreign_id};
+ghost use Rattle.roster.specs.Lookups.{is_sibling as is_sibling_role, is_parent as is_parent_role};
+ghost use Rattle.peer_chooser.specs.Round.{RoundText, may_ask as may_be_asked, has_told as has_answered};
+ghost use Rattle.peer_chooser.specs.Choice as spec;
+
+use crate::{Said, Source, Told};
+use roster::{Peer, Role};
+
+/// Whether an id is a foreign cache's.
+fn is_foreign(id: u8) -> bool
+    ensures { result ≡ is_foreign_id id }
+{
+    (101..=108).contains(&id)
+}
+
+/// Whether a peer may be asked at this floor: a foreign cache only where nothing was purged.
+pub(crate) fn may_ask(floor: u32, peer: Peer) -> bool
+    ensures { result ≡ may_be_asked floor peer }
+{
+    floor == 0 || !is_foreign(peer.id)
+}
+
+fn is_sibling(role: Role) -> bool
+    ensures { result ≡ is_sibling_role role }
+{
+    match role {
+        Role::Sibling => true,
+        Role::Parent => false,
+    }
+}
+
+fn is_parent(role: Role) -> bool
+    ensures { result ≡ is_parent_role role }
+{
+    match role {
+        Role::Sibling => false,
+        Role::Parent => true,
+    }
+}
+
+/// Whether a peer may be asked at this floor, and was not tried.
+fn is_open(floor: u32, tried: &[u8], peer: Peer) -> bool
+    ensures { result ≡ spec.is_open floor tried.now peer }
+{
+    may_ask(floor, peer) && !has_id(peer.id, tried)
+}
+
+fn has_id(id: u8, ids: &[u8]) -> bool
+    ensures { result ≡ list_any (λ i. i == id) ids.now }
+{
+    ids.iter().any(|i| *i == id)
+}
+
+/// Whether an answer tells of a copy that may be new enough for the floor.
+fn is_hit(floor: u32, said: Said) -> bool
+    ensures { result ≡ spec.is_hit floor said }
+{
+    match said {
+        Said::Hit(None) => true,
+        Said::Hit(Some(stamp)) => floor <= stamp,
+        Said::Miss | Said::NoFetch => false,
+    }
+}
+
+fn is_miss(said: Said) -> bool
+    ensures { result ≡ spec.is_miss said }
+{
+    match said {
+        Said::Miss => true,
+        Said::Hit(_) | Said::NoFetch => false,
+    }
+}
+
+fn is_good_hit(floor: u32, tried: &[u8], told: Told) -> bool
+    ensures { result ≡ spec.is_good_hit floor tried.now told }
+{
+    is_open(floor, tried, told.peer) && is_hit(floor, told.said)
+}
+
+fn is_parent_miss(floor: u32, tried: &[u8], told: Told) -> bool
+    ensures { result ≡ spec.is_parent_miss floor tried.now told }
+{
+    is_open(floor, tried, told.peer) && (is_parent(told.peer.role) && is_miss(told.said))
+}
+
+/// Whether the peer of this id has answered.
+pub(crate) fn has_told(told: &[Told], id: u8) -> bool
+    ensures { result ≡ has_answered told.now id }
+{
+    told.iter().any(|t| t.peer.id == id)
+}
+
+/// Whether all that were asked have answered.
+fn have_all_told(asked: &[Peer], told: &[Told]) -> bool
+    ensures { result ≡ list_all (λ p. has_answered told.now p.id) asked.now }
+{
+    asked.iter().all(|peer| has_told(told, peer.id))
+}
+
+fn good_hit<'a>(told: &'a [Told], floor: u32, tried: &[u8]) -> Option<&'a Told>
+    ensures { option_map (λ t. t.now) result ≡ find (spec.is_good_hit floor tried.now) told.now }
+{
+    told.iter().find(|t| is_good_hit(floor, tried, **t))
+}
+
+fn parent_miss<'a>(told: &'a [Told], floor: u32, tried: &[u8]) -> Option<&'a Told>
+    ensures { option_map (λ t. t.now) result ≡ find (spec.is_parent_miss floor tried.now) told.now }
+{
+    told.iter().find(|t| is_parent_miss(floor, tried, **t))
+}
+
+fn source_from(peer: Peer) -> Source
+    ensures { result ≡ spec.from peer }
+{
+    Source::Peer {
+        id: peer.id,
+        only_if_cached: is_sibling(peer.role),
+    }
+}
+
+/// Where an ask goes once no answer is waited for and no hit is left.
+fn parent_or_origin(told: &[Told], floor: u32, tried: &[u8]) -> Source
+    ensures { result ≡ spec.from_parent (find (spec.is_parent_miss floor tried.now) told.now) }
+{
+    match parent_miss(told, floor, tried) {
+        Some(miss) => source_from(miss.peer),
+        None => Source::Origin,
+    }
+}
+
+/// Where an ask goes next.
+#[tactic(auto, unfolding(crate::specs::Choice::choice))]
+pub(crate) fn choose(
+    asked: &[Peer],
+    told: &[Told],
+    has_expired: bool,
+    floor: u32,
+    tried: &[u8],
+) -> Source
+    ensures { let round : RoundText = record {
+      asked = asked.now;
+      told = told.now;
+      expired = has_expired;
+    } in result ≡ spec.choice round floor tried.now }
+{
+    match good_hit(told, floor, tried) {
+        Some(hit) => source_from(hit.peer),
+        None if has_expired || have_all_told(asked, told) => {
+            parent_or_origin(told, floor, tried)
+        }
+        None => Source::Wait,
+    }
+}

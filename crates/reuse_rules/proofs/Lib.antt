@@ -1,0 +1,5 @@
+pub mod Cuts
+pub mod Grammar
+pub mod Digits
+pub mod Fields
+pub mod Trims

@@ -1,0 +1,72 @@
+-- The directives of an answer's `cache-control` fields (RFC 9111, section 5.2).
+use Rattle.std.specs.Prelude.{ℕ, ◌-◌, Bool, not, ◌&&◌, ◌||◌, ◌==◌, nat_le, min, bytes_eq, List, [], length, take, drop, slice_index, slice_range, codes, map, if◌then◌else◌}
+use Rattle.std.specs.List.{list_all, before_first, after_first, position_or_len, suffix_len, flat_map}
+use Rattle.std.specs.Char.{is_ascii_digit, to_ascii_lowercase}
+use Rattle.std.specs.Str.Parse.{digits_value}
+use Rattle.peer_fetch.specs.Field.{FieldText}
+use Rattle.peer_fetch.specs.Answer.{AnswerText}
+use Rattle.reuse_rules.specs.declared.directive.Directive.{Directive}
+use Rattle.reuse_rules.specs.Members.{members, double_quote}
+
+-- a directive's name, and its value as it came, which is empty where there is none
+pub record DirectiveText : Type 0 where
+  pub name : List ℕ
+  pub value : List ℕ
+
+-- what a clause sees of a directive
+abbrev pub directive_text : Directive → DirectiveText
+directive_text d = record { name = d.name.now; value = d.value.now }
+
+-- a space or a tab (RFC 9110, section 5.6.3)
+abbrev pub is_blank : ℕ → Bool
+is_blank octet = (octet == 32) || (octet == 9)
+
+-- without the blanks at the front
+abbrev pub trim_front : List ℕ → List ℕ
+trim_front text = drop (position_or_len (λ octet. not (is_blank octet)) text) text
+
+-- without the blanks at the end
+abbrev pub trim_end : List ℕ → List ℕ
+trim_end text = take (length text - suffix_len is_blank text) text
+
+abbrev pub trim : List ℕ → List ℕ
+trim text = trim_end (trim_front text)
+
+abbrev pub is_equals_sign : ℕ → Bool
+is_equals_sign octet = octet == 61
+
+-- a member is a name and, behind the first `=`, a value; blanks may stand round both
+abbrev pub directive_of : List ℕ → DirectiveText
+directive_of member = record { name = trim (before_first is_equals_sign member); value = trim (after_first is_equals_sign member) }
+
+-- the directives of a field: those of its members, if it is a `cache-control` field
+abbrev pub directives_of_field : FieldText → List DirectiveText
+directives_of_field f = if bytes_eq f.name (codes "cache-control") then map directive_of (members f.value) else []
+
+-- the directives of all `cache-control` fields, in order
+abbrev pub directives : AnswerText → List DirectiveText
+directives a = flat_map directives_of_field a.fields
+
+-- a directive is named in any case of letters
+abbrev pub is_called : List ℕ → DirectiveText → Bool
+is_called name d = bytes_eq (map to_ascii_lowercase d.name) (map to_ascii_lowercase name)
+
+-- two double quotes stand round the value
+abbrev pub is_quoted : List ℕ → Bool
+is_quoted value = nat_le 2 (length value) && (slice_index value 0 == double_quote) && (slice_index value (length value - 1) == double_quote)
+
+-- the value without the double quotes round it
+abbrev pub unquoted : List ℕ → List ℕ
+unquoted value = if is_quoted value then slice_range value 1 (length value - 1) else value
+
+-- the greatest number of seconds that is told apart, 2 ^ 31 (RFC 9111, section 1.2.2)
+abbrev pub most_seconds : ℕ
+most_seconds = 2147483648
+
+-- the seconds that a text of digits names; a text that is not all digits counts as 0
+abbrev pub seconds_of : List ℕ → ℕ
+seconds_of text = if list_all is_ascii_digit text then min (digits_value 10 text) most_seconds else 0
+
+-- the seconds that a directive's value names, which may stand in double quotes
+abbrev pub seconds : DirectiveText → ℕ
+seconds d = seconds_of (unquoted d.value)

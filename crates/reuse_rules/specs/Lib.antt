@@ -1,0 +1,6 @@
+pub mod Members
+pub mod Cut
+pub mod Directives
+pub mod Left
+pub mod Lifetime
+pub mod Freshness

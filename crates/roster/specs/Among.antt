@@ -1,0 +1,12 @@
+-- Ids that are left over, as members without a parent among them are taken away.
+use Rattle.std.specs.Prelude.{ℕ, Bool, ◌&&◌, ◌==◌, List}
+use Rattle.std.specs.List.{list_any}
+use Rattle.roster_tables.specs.declared.plain.Tables.{Tables}
+use Rattle.roster.specs.Lookups.{is_parent, peers_of}
+
+abbrev pub is_among : List ℕ → ℕ → Bool
+is_among ids id = list_any (λ other. other == id) ids
+
+-- the member has a parent among the ids
+abbrev pub climbs : Tables → List ℕ → ℕ → Bool
+climbs t ids id = list_any (λ p. is_parent p.role && is_among ids p.id) (peers_of t id)

@@ -1,0 +1,53 @@
+-- What each fault of a roster's text says, and its name.
+use Rattle.std.specs.Prelude.{◌≡◌, ℕ, true, false, List, Some, None, codes}
+use Rattle.roster_tables.specs.Reading.{tables_in}
+use Rattle.roster_tables.specs.declared.plain.Tables.{Tables}
+use Rattle.roster_tables.specs.declared.fault.TablesFault.{TablesFault}
+use Rattle.roster_tables.specs.declared.fault.TablesFault.TheVariants as tables
+use Rattle.roster.specs.declared.fault.RosterFault.{RosterFault}
+use Rattle.roster.specs.declared.fault.RosterFault.TheVariants as fault
+use Rattle.roster.specs.Judged.{has_too_many, has_double_address, has_unknown_peer, HasParentLoop}
+
+-- the fault of a text whose tables can't be read
+abbrev pub fault_of : TablesFault → RosterFault
+fault_of (tables.BadToml _) = fault.BadToml
+fault_of (tables.BadField _) = fault.BadField
+fault_of tables.NoMemory = fault.NoMemory
+
+-- what each fault says of tables, of which each is told only where none of those above it holds
+abbrev pub IsFirst : Tables → RosterFault → Type 0
+IsFirst t fault.BadToml = ⊥
+IsFirst t fault.BadField = ⊥
+IsFirst t fault.TooMany = has_too_many t ≡ true
+IsFirst t fault.DoubleAddress = (has_too_many t ≡ false) × (has_double_address t ≡ true)
+IsFirst t fault.UnknownPeer = (has_too_many t ≡ false) × (has_double_address t ≡ false) × (has_unknown_peer t ≡ true)
+IsFirst t fault.ParentLoop =
+    (has_too_many t ≡ false) × (has_double_address t ≡ false) × (has_unknown_peer t ≡ false) × HasParentLoop t
+IsFirst t fault.NoMemory = Unit {0}
+
+-- no fault holds of tables
+pub record FitTogether (t : Tables) : Type 0 where
+  pub few : has_too_many t ≡ false
+  pub apart : has_double_address t ≡ false
+  pub known : has_unknown_peer t ≡ false
+  pub no_loop : ¬ (HasParentLoop t)
+
+-- the first fault of a text
+abbrev pub IsFirstOf : List ℕ → RosterFault → Type 0
+IsFirstOf text fault.BadToml = tables_in text ≡ None
+IsFirstOf text fault.BadField = tables_in text ≡ Some None
+IsFirstOf text fault.TooMany = (t : Tables) × (tables_in text ≡ Some (Some t)) × IsFirst t fault.TooMany
+IsFirstOf text fault.DoubleAddress = (t : Tables) × (tables_in text ≡ Some (Some t)) × IsFirst t fault.DoubleAddress
+IsFirstOf text fault.UnknownPeer = (t : Tables) × (tables_in text ≡ Some (Some t)) × IsFirst t fault.UnknownPeer
+IsFirstOf text fault.ParentLoop = (t : Tables) × (tables_in text ≡ Some (Some t)) × IsFirst t fault.ParentLoop
+IsFirstOf text fault.NoMemory = Unit {0}
+
+-- a fault's name, as scripts print it
+abbrev pub fault_name : RosterFault → List ℕ
+fault_name fault.BadToml = codes "BadToml"
+fault_name fault.BadField = codes "BadField"
+fault_name fault.TooMany = codes "TooMany"
+fault_name fault.DoubleAddress = codes "DoubleAddress"
+fault_name fault.UnknownPeer = codes "UnknownPeer"
+fault_name fault.ParentLoop = codes "ParentLoop"
+fault_name fault.NoMemory = codes "NoMemory"

@@ -1,0 +1,4 @@
+pub mod Lookups
+pub mod Judged
+pub mod Faults
+pub mod Among

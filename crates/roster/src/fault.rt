@@ -1,0 +1,140 @@
+ghost use Rattle.std.specs.Prelude.{◌≡◌};
+ghost use Rattle.roster.specs.Faults.{fault_name};
+
+use crate::{Place, TableKind};
+use roster_tables::TablesFault;
+use std::alloc::AllocError;
+use std::error::Error;
+use std::fmt;
+
+/// Why a text has no roster. Each is told only where none of those above it holds; `NoMemory` may stand in the place of any.
+#[derive(Clone, Copy, Debug, PartialEq, Eq, Hash)]
+pub enum RosterFault {
+    /// The text is no TOML document.
+    BadToml,
+    /// A key is missing, unknown, of another type or out of its range, or there is no node.
+    BadField,
+    /// Over 16 nodes, 8 foreign caches, 23 peers of a node or 256 origins.
+    TooMany,
+    /// Two equal ids, names, addresses over UDP, addresses of HTTP, or origins of one host and port.
+    DoubleAddress,
+    /// A peer that no entry bears, the node itself, or one named twice.
+    UnknownPeer,
+    /// The members' parents form a cycle.
+    ParentLoop,
+    /// A growth was refused.
+    NoMemory,
+}
+
+impl RosterFault {
+    /// The name that scripts print.
+    pub const fn name(self) -> &'static str
+        ensures { result.now ≡ fault_name self }
+    {
+        match self {
+            RosterFault::BadToml => "BadToml",
+            RosterFault::BadField => "BadField",
+            RosterFault::TooMany => "TooMany",
+            RosterFault::DoubleAddress => "DoubleAddress",
+            RosterFault::UnknownPeer => "UnknownPeer",
+            RosterFault::ParentLoop => "ParentLoop",
+            RosterFault::NoMemory => "NoMemory",
+        }
+    }
+}
+
+impl RosterFault {
+    /// This fault at a place.
+    pub(crate) fn at(self, place: Place) -> RosterError
+        ensures { result.fault ≡ self }
+    {
+        RosterError { fault: self, place }
+    }
+}
+
+impl From<AllocError> for RosterError {
+    ghost use Rattle.roster.specs.declared.fault.RosterFault.TheVariants.{NoMemory};
+
+    ghost from_gives = { λ _ error. error.fault ≡ NoMemory };
+
+    fn from(_error: AllocError) -> RosterError {
+        RosterFault::NoMemory.at(place(TableKind::Top, 0, ""))
+    }
+}
+
+impl From<TablesFault> for RosterError {
+    ghost use Rattle.roster.specs.Faults.{fault_of};
+
+    ghost from_gives = { λ fault error. error.fault ≡ fault_of fault };
+
+    fn from(fault: TablesFault) -> RosterError {
+        match fault {
+            TablesFault::BadToml(at) => RosterFault::BadToml.at(at),
+            TablesFault::BadField(at) => RosterFault::BadField.at(at),
+            TablesFault::NoMemory => RosterFault::NoMemory.at(place(TableKind::Top, 0, "")),
+        }
+    }
+}
+
+/// The place of a table and a key.
+pub(crate) fn place(table: TableKind, entry: usize, key: &'static str) -> Place {
+    Place {
+        table,
+        entry,
+        peer: 0,
+        key,
+        line: None,
+    }
+}
+
+/// Why a text has no roster, and where it is wrong.
+#[derive(Clone, Copy, Debug, PartialEq, Eq)]
+pub struct RosterError {
+    /// The fault.
+    pub fault: RosterFault,
+    /// Where it is; it says nothing where there was no memory.
+    pub place: Place,
+}
+
+impl fmt::Display for RosterError {
+    fn fmt<W: fmt::Write>(&self, f: &mut fmt::Formatter<W>) -> fmt::Result {
+        write_table(f, self.place)?;
+        f.write_str(match self.fault {
+            RosterFault::BadToml => "the text is no TOML document",
+            RosterFault::BadField =>
+                "a key is missing, unknown, of another type or out of its range",
+            RosterFault::TooMany => "there are too many of these",
+            RosterFault::DoubleAddress => "this stands also in another table",
+            RosterFault::UnknownPeer => "no other entry has this id, or it is named twice",
+            RosterFault::ParentLoop => "its parents lead back to where they began",
+            RosterFault::NoMemory => "there was no memory",
+        })
+    }
+}
+
+impl Error for RosterError {}
+
+/// Writes where a fault is: the table, which of them, the key and the line.
+fn write_table<W: fmt::Write>(f: &mut fmt::Formatter<W>, place: Place) -> fmt::Result {
+    f.write_str(match place.table {
+        TableKind::Top => "roster",
+        TableKind::Master => "[master]",
+        TableKind::Node => "[[node]]",
+        TableKind::Peer => "[[node.peer]]",
+        TableKind::Foreign => "[[foreign]]",
+        TableKind::Origin => "[[origin]]",
+    })?;
+    if place.peer > 0 {
+        write!(f, " {} of node", place.peer)?;
+    }
+    if place.entry > 0 {
+        write!(f, " {}", place.entry)?;
+    }
+    if !place.key.is_empty() {
+        write!(f, ", key `{}`", place.key)?;
+    }
+    if let Some(line) = place.line {
+        write!(f, ", line {line}")?;
+    }
+    f.write_str(": ")
+}

@@ -1,0 +1,19 @@
+//! Rosters: who takes part in a hierarchy of caches, who asks whom, and at which addresses they are.
+//!
+//! `Roster::read` reads the tables of a text (`roster_tables`) and judges whether they fit together (`specs/Judged`); what holds of
+//! every roster is `IsRoster`. The place that an error names is a help for people: no contract speaks of it, and tests show it.
+#![tactic(auto)]
+
+mod doubles;
+mod fault;
+mod judge;
+mod loops;
+mod roster;
+#[cfg(test)]
+mod tests;
+
+pub use crate::fault::{RosterError, RosterFault};
+pub use crate::roster::Roster;
+pub use roster_tables::{
+    Address, Cache, Limits, Listed, Member, Origin, Peer, Place, Role, TableKind, Udp,
+};

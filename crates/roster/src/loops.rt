@@ -1,0 +1,98 @@
+//! Members whose parents form a cycle.
+ghost use Rattle.std.specs.Prelude.{◌≡◌, ◌==◌, ◌&&◌, map, filter, IfOk, MatchOption, slice_get, length};
+ghost use Rattle.std.specs.List.{list_any};
+ghost use Rattle.roster.specs.Judged.{HasParentLoop};
+ghost use Rattle.roster.specs.Lookups.{peers_of, is_parent as is_parent_role};
+ghost use Rattle.roster.specs.Among.{is_among as is_in, climbs as has_parent_in};
+
+use crate::roster::peers_in;
+use crate::{Member, Peer, Role};
+use roster_tables::Tables;
+use std::alloc::{AllocError, Global};
+
+/// The ids of the members.
+fn ids(alloc: Global, members: &[Member]) -> Result<Vec<u8>, AllocError>
+    ensures { IfOk result (λ ids. ids.items ≡ map (λ m. m.cache.id) members.now) }
+{
+    members.iter().map(|member| member.cache.id).collect(alloc)
+}
+
+/// Whether an id is among some.
+fn is_among(id: u8, ids: &[u8]) -> bool
+    ensures { result ≡ is_in ids.now id }
+{
+    ids.iter().any(|other| *other == id)
+}
+
+/// Whether the role is a parent's.
+fn is_parent(role: Role) -> bool
+    ensures { result ≡ is_parent_role role }
+{
+    match role {
+        Role::Sibling => false,
+        Role::Parent => true,
+    }
+}
+
+/// Whether one of the peers is a parent whose id is among some.
+fn has_parent(peers: &[Peer], ids: &[u8]) -> bool
+    ensures { result ≡ list_any (λ p. is_parent_role p.role && is_in ids.now p.id) peers.now }
+{
+    peers
+        .iter()
+        .any(|peer| is_parent(peer.role) && is_among(peer.id, ids))
+}
+
+/// Whether a member has a parent whose id is among some.
+fn climbs(tables: &Tables, ids: &[u8], id: u8) -> bool
+    ensures { result ≡ has_parent_in tables.now ids.now id }
+{
+    has_parent(peers_in(tables.members.as_slice(), id), ids)
+}
+
+/// Those of the ids whose members have a parent among them.
+fn climbing(alloc: Global, tables: &Tables, ids: &[u8]) -> Result<Vec<u8>, AllocError>
+    ensures { IfOk result (λ kept. kept.items ≡ filter (has_parent_in tables.now ids.now) ids.now) }
+{
+    let mut kept = Vec::new(alloc);
+    for id in ids {
+        if climbs(tables, ids, *id) {
+            kept.push(*id)?;
+        }
+    }
+    Ok(kept)
+}
+
+/// Whether there are as many of some ids as of others.
+fn is_as_long(ids: &[u8], others: &[u8]) -> bool
+    ensures { result ≡ (length ids.now == length others.now) }
+{
+    ids.len() == others.len()
+}
+
+/// The first of some ids.
+fn first_of(ids: &[u8]) -> Option<u8>
+    ensures { result ≡ slice_get ids.now 0 }
+{
+    match ids {
+        [] => None,
+        [first, ..] => Some(*first),
+    }
+}
+
+/// A member whose parents lead into a cycle.
+///
+/// Takes away the members without a parent among those that are left, until none of these is left or all have one.
+pub(crate) fn parent_loop(alloc: Global, tables: &Tables) -> Result<Option<u8>, AllocError>
+    ensures { IfOk result (λ found.
+        MatchOption found (¬ (HasParentLoop tables.now)) (λ _. HasParentLoop tables.now)) }
+{
+    let mut left = ids(alloc, tables.members.as_slice())?;
+    loop {
+        let kept = climbing(alloc, tables, left.as_slice())?;
+        if is_as_long(kept.as_slice(), left.as_slice()) {
+            return Ok(first_of(left.as_slice()));
+        }
+        left = kept;
+    }
+}

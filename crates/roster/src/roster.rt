@@ -1,0 +1,174 @@
+ghost use Rattle.std.specs.Prelude.{◌≡◌, ◌==◌, ◌&&◌, true, IfOk, IfErr, Some, option_map};
+ghost use Rattle.roster_tables.specs.Ranges.{are_tables};
+ghost use Rattle.roster_tables.specs.Reading.{tables_in};
+ghost use Rattle.roster.specs.Faults.{IsFirstOf};
+ghost use Rattle.roster.specs.Judged.{IsRoster};
+ghost use Rattle.roster.specs.Lookups.{is_member, peers_of, peers_in as peers_of_entry, origin_at, member_at as member_by_address, names_sibling as calls_sibling};
+ghost use Rattle.roster.specs.Lookups.{address_by as address_for, is_origin_of as is_origin_for, is_sibling as is_sibling_role};
+ghost use Rattle.std.specs.List.{find, list_any};
+
+use crate::judge::judge;
+use crate::{Address, Cache, Limits, Member, Origin, Peer, Role, RosterError, Udp};
+use roster_tables::Tables;
+use std::alloc::Global;
+use std::marker::Model;
+
+/// Who takes part in a hierarchy, whom each asks, and where all of them are.
+///
+/// A contract sees it as its tables. They are in their ranges, no two of them share an id, a name or an address, each
+/// peer is known, and no chain of parents leads back to where it began.
+#[derive(Debug, Drop)]
+pub struct Roster {
+    tables: Tables,
+}
+
+impl Model for Roster {
+    ghost use Rattle.roster_tables.specs.declared.plain.Tables.{Tables};
+    ghost use Rattle.roster.specs.Judged.{IsRoster};
+
+    ghost Value = { Tables };
+
+    ghost view = { λ r. r.tables };
+
+    ghost invariant = { λ r. IsRoster r.tables };
+}
+
+impl Roster {
+    /// The roster that a text says, or the first reason why it says none.
+    pub fn read(alloc: Global, text: &str) -> Result<Roster, RosterError>
+        ensures ok { IfOk result (λ roster. tables_in text.now ≡ Some (Some roster)) }
+        ensures valid { IfOk result IsRoster }
+        ensures err { IfErr result (λ error. IsFirstOf text.now error.fault) }
+    {
+        let tables = Tables::read(alloc, text)?;
+        match judge(alloc, &tables) {
+            Ok(()) => Ok(Roster { tables }),
+            Err(error) => Err(error),
+        }
+    }
+
+    /// The members, of which there are 1 to 16, in the text's order.
+    pub fn members(&self) -> &[Member]
+        ensures value { result.now ≡ self.now.members }
+        ensures valid { IsRoster self.now }
+    {
+        self.tables.members.as_slice()
+    }
+
+    /// The peers of the member of this id, at most 23, in the order in which it asks them.
+    pub fn peers(&self, id: u8) -> &[Peer]
+        requires { is_member self.now id ≡ true }
+        ensures { result.now ≡ peers_of self.now id }
+    {
+        peers_in(self.members(), id)
+    }
+
+    /// The foreign caches, at most 8, in the text's order.
+    pub fn foreign(&self) -> &[Cache]
+        ensures { result.now ≡ self.now.foreign }
+    {
+        self.tables.foreign.as_slice()
+    }
+
+    /// Where the origin of this host, in lower case, and this port is reached.
+    pub fn origin(&self, host: &[u8], port: u16) -> Option<Address>
+        ensures { result ≡ origin_at self.now host.now port }
+    {
+        let origins = self.tables.origins.as_slice();
+        match origins
+            .iter()
+            .find(|origin| is_origin_of(host, port, *origin))
+        {
+            Some(origin) => Some(origin.connect),
+            None => None,
+        }
+    }
+
+    /// Where the purge master is, over UDP.
+    pub fn master(&self) -> Address
+        ensures { result ≡ self.now.master }
+    {
+        self.tables.master
+    }
+
+    /// The id of the member that is reached at this address by this protocol.
+    pub fn member_at(&self, address: Address, by: Udp) -> Option<u8>
+        ensures { result ≡ member_by_address self.now address by }
+    {
+        match self
+            .members()
+            .iter()
+            .find(|member| address_by(by, &member.cache) == address)
+        {
+            Some(member) => Some(member.cache.id),
+            None => None,
+        }
+    }
+
+    /// Whether the entry of the member of one id names another cache a sibling.
+    pub fn names_sibling(&self, of: u8, whom: u8) -> bool
+        ensures { result ≡ calls_sibling self.now of whom }
+    {
+        has_sibling(peers_in(self.members(), of), whom)
+    }
+
+    /// What every node keeps to.
+    pub fn limits(&self) -> Limits
+        ensures { result ≡ self.now.limits }
+    {
+        self.tables.limits
+    }
+}
+
+/// Where a cache answers a protocol.
+fn address_by(by: Udp, cache: &Cache) -> Address
+    ensures { result ≡ address_for by cache.now }
+{
+    match by {
+        Udp::Icp => cache.icp,
+        Udp::Htcp => cache.htcp,
+    }
+}
+
+/// Whether this is the origin of a host and a port.
+fn is_origin_of(host: &[u8], port: u16, origin: &Origin) -> bool
+    ensures { result ≡ is_origin_for host.now port origin.now }
+{
+    origin.host.as_slice() == host && origin.port == port
+}
+
+/// The member of this id.
+pub(crate) fn member_of(members: &[Member], id: u8) -> Option<&Member>
+    ensures { option_map (λ m. m.now) result ≡ find (λ m. m.cache.id == id) members.now }
+{
+    members.iter().find(|member| member.cache.id == id)
+}
+
+/// The peers of the member of this id; none where there is no such member.
+pub(crate) fn peers_in(members: &[Member], id: u8) -> &[Peer]
+    ensures { result.now ≡ peers_of_entry (find (λ m. m.cache.id == id) members.now) }
+{
+    match member_of(members, id) {
+        Some(member) => member.peers.as_slice(),
+        None => &[],
+    }
+}
+
+/// Whether the role is a sibling's.
+fn is_sibling(role: Role) -> bool
+    ensures { result ≡ is_sibling_role role }
+{
+    match role {
+        Role::Sibling => true,
+        Role::Parent => false,
+    }
+}
+
+/// Whether a cache is among the peers as a sibling.
+fn has_sibling(peers: &[Peer], whom: u8) -> bool
+    ensures { result ≡ list_any (λ p. (p.id == whom) && is_sibling_role p.role) peers.now }
+{
+    peers
+        .iter()
+        .any(|peer| peer.id == whom && is_sibling(peer.role))
+}

@@ -1,0 +1,2 @@
+pub mod Ips
+pub mod Lists

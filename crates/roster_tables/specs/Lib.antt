@@ -1,0 +1,4 @@
+pub mod Ranges
+pub mod Keys
+pub mod Reading
+pub mod Fault

@@ -1,0 +1,25 @@
+ghost use Rattle.std.specs.Prelude.{◌≡◌};
+
+use crate::Place;
+use std::alloc::AllocError;
+
+/// Why a text has no tables of a roster.
+#[derive(Clone, Copy, Debug, PartialEq, Eq)]
+pub enum TablesFault {
+    /// The text is no TOML document.
+    BadToml(Place),
+    /// A key is missing, unknown, of another type or out of its range, or there is no node.
+    BadField(Place),
+    /// A growth was refused.
+    NoMemory,
+}
+
+impl From<AllocError> for TablesFault {
+    ghost use Rattle.roster_tables.specs.declared.fault.TablesFault.TheVariants.{NoMemory};
+
+    ghost from_gives = { λ _ fault. fault ≡ NoMemory };
+
+    fn from(_error: AllocError) -> TablesFault {
+        TablesFault::NoMemory
+    }
+}
