@@ -1,0 +1,9 @@
+use Rattle.std.proofs.Common.{drop}
+use Rattle.std.specs.FinMap.{empty}
+use Rattle.purge_numbers.specs.Floors.{FloorMap}
+use Rattle.purge_numbers.specs.Rows.{Adds}
+use Rattle.purge_numbers.proofs.rows.floors_of.Given as goal
+
+-- what is left to add makes of these floors just what all rows make of none
+abbrev pub invariant-loop-row : goal.invariant-loop-row
+invariant-loop-row l = ((all : FloorMap) → Adds l.floors (drop l.row-index l.rows) all → Adds empty l.rows all) × ((all : FloorMap) → Adds empty l.rows all → Adds l.floors (drop l.row-index l.rows) all)

@@ -1,0 +1,6 @@
+pub mod Floors
+pub mod Store
+pub mod Tables
+pub mod Put
+pub mod Rows
+pub mod Making

@@ -1,0 +1,36 @@
+-- How a file gets its tables.
+use Rattle.std.specs.Prelude.{◌≡◌, ◌⊎◌, [], IsTrue}
+use Rattle.std.specs.FinMap.{empty}
+use Rattle.std.specs.List.{AllByRecursion}
+use Rattle.sqlite.specs.Effect.{Database}
+use Rattle.sqlite.specs.State.{State, HasCleanDisk}
+use Rattle.purge_numbers.specs.Floors.{FloorMap}
+use Rattle.purge_numbers.specs.Rows.{HasVersionOne, IsFloor}
+use Rattle.purge_numbers.specs.Store.{MayFind, committed_floors}
+use Rattle.purge_numbers.specs.Tables.{empty_schema, form_schema, node_schema}
+
+-- nothing stands in it
+abbrev pub IsBlank : Database → Type 0
+IsBlank db = db.schema ≡ empty_schema
+
+-- it has the table of versions
+abbrev pub IsFormed : Database → Type 0
+IsFormed db = db.schema ≡ form_schema
+
+-- it has the tables of a node, and no floor
+abbrev pub IsUnused : Database → Type 0
+IsUnused db = (db.schema ≡ node_schema) × (db.trees 1 ≡ [])
+
+-- a step of a transaction from such a database to such a one
+abbrev pub Makes : (Database → Type 0) → (Database → Type 0) → State → State → Type 0
+Makes From To old new = IsTrue old.in_transaction → From old.now → IsTrue new.in_transaction × To new.now
+
+-- a file with nothing in it has no floors, and a node's file in version 1, whose rows are all floors, has those that were committed
+abbrev pub OpensWith : State → FloorMap → Type 0
+OpensWith file floors =
+    (IsBlank file.now × (floors ≡ empty))
+    ⊎ ((file.now.schema ≡ node_schema) × HasVersionOne (file.now.trees 0) × AllByRecursion IsFloor (file.now.trees 1) × (floors ≡ committed_floors file))
+
+-- a crash leaves what it may have left before, or no floors where the file had nothing in it
+abbrev pub LeavesNoOther : State → State → Type 0
+LeavesNoOther old new = HasCleanDisk new → (left : FloorMap) → MayFind new left → MayFind old left ⊎ (IsBlank old.now × (left ≡ empty))

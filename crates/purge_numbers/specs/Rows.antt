@@ -1,0 +1,46 @@
+-- The rows of a node's file, and what reading them gives.
+use Rattle.std.specs.Prelude.{◌≡◌, ◌≤◌, ◌<◌, ◌^◌, ◌⊎◌, ℕ, ℤ, pos, Result, IfErr, List, [], ◌∷◌, map, None}
+use Rattle.std.specs.FinMap.{get, insert}
+use Rattle.sqlite.specs.declared.types.Value.TheVariants.{Int, Text as Words}
+use Rattle.sqlite_value.specs.Order.{Row, column}
+use Rattle.sqlite_trees.specs.Tree.{rowid}
+use Rattle.url_key.specs.Key.{IsKey}
+use Rattle.purge_numbers.specs.Floors.{FloorMap}
+use Rattle.purge_numbers.specs.declared.fault.FloorFault.{FloorFault}
+use Rattle.purge_numbers.specs.declared.fault.FloorFault.TheVariants.{BadTable, NoMemory}
+use Rattle.purge_numbers.specs.Tables.{floor_entry}
+
+-- a text that is its own key
+abbrev pub IsUrl : Row → Type 0
+IsUrl row = (column row 1 ≡ Words (floor_entry row).0) × IsKey (floor_entry row).0
+
+-- a number of 1 to 4294967295
+abbrev pub IsNumber : Row → Type 0
+IsNumber row = (column row 2 ≡ Int (pos (floor_entry row).1)) × (1 ≤ (floor_entry row).1) × ((floor_entry row).1 < 2 ^ 32)
+
+-- a row that a floor may be: a rowid, a url and a number
+pub record IsFloor (row : Row) : Type 0 where
+  pub id : (id : ℤ) × (rowid row ≡ Int id)
+  pub url : IsUrl row
+  pub number : IsNumber row
+
+-- each row is a floor of a url that was not there before, and is put in turn
+abbrev pub Adds : FloorMap → List Row → FloorMap → Type 0
+Adds floors [] all = all ≡ floors
+Adds floors (row ∷ rows) all = IsFloor row × (get floors (floor_entry row).0 ≡ None) × Adds (insert floors (floor_entry row).0 (floor_entry row).1) rows all
+
+-- rows are refused for what they are, or for want of memory
+abbrev pub IsReadFault : {A : Type 0} → Result A FloorFault → Type 0
+IsReadFault result = IfErr result (λ fault. (fault ≡ BadTable) ⊎ (fault ≡ NoMemory))
+
+-- what a query shows of a row: its rowid, its url and its number
+abbrev pub shown_row : Row → Row
+shown_row row = rowid row ∷ column row 1 ∷ column row 2 ∷ []
+
+-- and of a row of `form`: its version
+abbrev pub shown_version : Row → Row
+shown_version row = rowid row ∷ []
+
+-- the one version that stands there is 1
+abbrev pub HasVersionOne : List Row → Type 0
+HasVersionOne rows = map shown_version rows ≡ (Int (pos 1) ∷ []) ∷ []

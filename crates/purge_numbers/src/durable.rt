@@ -1,0 +1,126 @@
+//! Floors in a file of SQLite.
+ghost use Rattle.std.specs.Prelude.{◌≡◌, IsTrue, IfOk, IfErr};
+ghost use Rattle.sqlite.specs.State.{HasCleanDisk};
+ghost use Rattle.sqlite.specs.Held.{state};
+ghost use Rattle.purge_numbers.specs.Put.{FailsToPut};
+ghost use Rattle.purge_numbers.specs.Making.{LeavesNoOther, OpensWith};
+ghost use Rattle.purge_numbers.specs.Store.{MayFind, committed_floors};
+
+use crate::fault::FloorFault;
+use crate::floors::Floors;
+use crate::opening::open_file;
+use crate::store::FloorStore;
+use crate::writing::raise;
+use sqlite::{Alter, Connection};
+use std::alloc::Global;
+use std::marker::Model;
+use url_key::Key;
+
+/// Floors in the tables of a connection, with a copy in memory that look-ups take.
+///
+/// A contract sees the connection, that copy, whether no call has failed, and how many calls were answered with `StoreFault`.
+#[derive(Drop)]
+pub struct SqliteFloors<S: Alter> {
+    conn: Connection<S>,
+    floors: Floors,
+    is_usable: bool,
+    failures: u64,
+}
+
+impl<S: Alter> Model for SqliteFloors<S> {
+    ghost use Rattle.purge_numbers.specs.Store.{Durable, durable_code, IsKept};
+
+    ghost Value = { Durable S };
+
+    ghost coded = { durable_code S.code };
+
+    ghost view = { λ it. record { conn = it.conn; floors = it.floors; is_usable = it.is_usable; failures = it.failures } };
+
+    ghost invariant = { λ it. IsKept S.Store it.conn it.floors it.is_usable };
+}
+
+impl<S: Alter> SqliteFloors<S> {
+    /// Opens a node's file: makes the tables where there are none, and reads the floors.
+    ///
+    /// `BadTable` comes where the connection has an open transaction, where the tables are not those of a node, where the
+    /// version is not 1, where a row is no floor (a text that is its own key, a number of 1 to 4294967295), and
+    /// where there are more than 65,536 rows. `StoreFault` and `NoMemory` come where the connection fails so.
+    pub fn open(
+        alloc: Global,
+        mut conn: Connection<S>,
+    ) -> Result<SqliteFloors<S>, (Connection<S>, FloorFault)>
+        ensures found { IfOk result (λ it. HasCleanDisk (state S.Store it.conn) → OpensWith (state S.Store conn) (committed_floors (state S.Store it.conn))) }
+        ensures usable { IfOk result (λ it. IsTrue it.is_usable × (it.failures ≡ 0)) }
+        ensures crash { IfOk result (λ it. LeavesNoOther (state S.Store conn) (state S.Store it.conn)) }
+        ensures fails { IfErr result (λ e. LeavesNoOther (state S.Store conn) (state S.Store e.0)) }
+    {
+        match open_file(&mut conn, alloc) {
+            Ok(floors) => Ok(SqliteFloors {
+                conn,
+                floors,
+                is_usable: true,
+                failures: 0,
+            }),
+            Err(fault) => Err((conn, fault)),
+        }
+    }
+
+    /// The connection, which can be closed or opened again.
+    pub fn into_connection(self) -> Connection<S>
+        ensures { result ≡ self.conn }
+    {
+        let SqliteFloors {
+            conn,
+            floors: _,
+            is_usable: _,
+            failures: _,
+        } = self;
+        conn
+    }
+}
+
+impl<S: Alter> FloorStore for SqliteFloors<S> {
+    ghost content = { λ it. committed_floors (state S.Store it.conn) };
+
+    ghost may_find = { λ it. MayFind (state S.Store it.conn) };
+
+    ghost is_honest = { λ it. HasCleanDisk (state S.Store it.conn) };
+
+    ghost is_usable = { λ it. it.is_usable };
+
+    ghost failed = { λ it. it.failures };
+
+    ghost has_cause = { λ old new key number. FailsToPut (state S.Store old.conn) (state S.Store new.conn) key number };
+
+    fn load(&mut self, _alloc: Global) -> Result<Floors, FloorFault> {
+        if !self.is_usable {
+            self.failures = self.failures.saturating_add(1);
+            return Err(FloorFault::StoreFault);
+        }
+        Ok(self.floors.copy()?)
+    }
+
+    fn raise(&mut self, alloc: Global, key: &Key, number: u32) -> Result<(), FloorFault> {
+        if !self.is_usable {
+            self.failures = self.failures.saturating_add(1);
+            return Err(FloorFault::StoreFault);
+        }
+        match raise(&mut self.conn, &mut self.floors, alloc, key, number) {
+            Ok(()) => Ok(()),
+            Err(FloorFault::FloorsFull) => Err(FloorFault::FloorsFull),
+            Err(FloorFault::StoreFault) => {
+                self.is_usable = false;
+                self.failures = self.failures.saturating_add(1);
+                Err(FloorFault::StoreFault)
+            }
+            Err(_) => {
+                self.is_usable = false;
+                Err(FloorFault::NoMemory)
+            }
+        }
+    }
+
+    fn failures(&self) -> u64 {
+        self.failures
+    }
+}

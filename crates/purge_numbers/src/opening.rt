@@ -1,0 +1,198 @@
+//! Opening a node's file.
+ghost use Rattle.std.specs.Prelude.{◌≡◌, ◌⊎◌, ◌∷◌, [], pos, map, IsPermutation, IsTrue, IfOk, OnOk};
+ghost use Rattle.std.specs.List.{AllByRecursion};
+ghost use Rattle.sqlite.specs.State.{HasCleanDisk, Survives, IsUnchanged};
+ghost use Rattle.sqlite.specs.Held.{state};
+ghost use Rattle.sqlite.specs.declared.types.Value.TheVariants.{Int};
+ghost use Rattle.purge_numbers.specs.Making.{IsBlank, IsFormed, IsUnused, LeavesNoOther, Makes, OpensWith};
+ghost use Rattle.purge_numbers.specs.Rows.{HasVersionOne, IsFloor, shown_row, shown_version};
+ghost use Rattle.purge_numbers.specs.Store.{AreIn, committed_floors};
+ghost use Rattle.purge_numbers.specs.Tables.{node_schema, empty_schema};
+
+use crate::fault::{FloorFault, fault_of};
+use crate::floors::{Floors, MOST_ROWS};
+use crate::rows::floors_of;
+use crate::tables::is_node_schema;
+use sqlite::{Alter, Connection, Error, Row, Transaction};
+use sqlite_schema::schema::Schema;
+use sqlite_value::value::ValueRef;
+use std::alloc::Global;
+
+/// All rows of the table of versions.
+fn version_rows<S: Alter>(conn: &mut Connection<S>) -> Result<Vec<Row>, Error>
+    requires { (state S.Store conn.old).now.schema ≡ node_schema }
+    ensures rows { IfOk result (λ rows. HasCleanDisk (state S.Store conn.new) → IsPermutation (map shown_version ((state S.Store conn.old).now.trees 0)) rows.items) }
+    ensures same { OnOk result (HasCleanDisk (state S.Store conn.new) → IsUnchanged (state S.Store conn.old) (state S.Store conn.new)) }
+    ensures survives { Survives (state S.Store conn.old) (state S.Store conn.new) (λ _. ⊥) }
+{
+    conn.query_all("SELECT version FROM form", &[])
+}
+
+/// All rows of the table of floors.
+fn floor_rows<S: Alter>(conn: &mut Connection<S>) -> Result<Vec<Row>, Error>
+    requires { (state S.Store conn.old).now.schema ≡ node_schema }
+    ensures rows { IfOk result (λ rows. HasCleanDisk (state S.Store conn.new) → IsPermutation (map shown_row ((state S.Store conn.old).now.trees 1)) rows.items) }
+    ensures same { OnOk result (HasCleanDisk (state S.Store conn.new) → IsUnchanged (state S.Store conn.old) (state S.Store conn.new)) }
+    ensures survives { Survives (state S.Store conn.old) (state S.Store conn.new) (λ _. ⊥) }
+{
+    conn.query_all("SELECT rowid, url, number FROM floors", &[])
+}
+
+/// The one version that stands there is 1.
+fn is_version_one(rows: &[Row]) -> bool
+    ensures { IsTrue result → rows.now ≡ (Int (pos 1) ∷ []) ∷ [] }
+{
+    let [row] = rows else {
+        return false;
+    };
+    if row.column_count() != 1 {
+        return false;
+    }
+    match row.get_ref(0) {
+        Ok(ValueRef::Int(version)) => version == 1,
+        _ => false,
+    }
+}
+
+/// Refuses a file whose version is another, or that has none.
+fn check_version<S: Alter>(conn: &mut Connection<S>) -> Result<(), FloorFault>
+    requires { (state S.Store conn.old).now.schema ≡ node_schema }
+    ensures version { OnOk result (HasCleanDisk (state S.Store conn.new) → HasVersionOne ((state S.Store conn.old).now.trees 0)) }
+    ensures same { OnOk result (HasCleanDisk (state S.Store conn.new) → IsUnchanged (state S.Store conn.old) (state S.Store conn.new)) }
+    ensures survives { Survives (state S.Store conn.old) (state S.Store conn.new) (λ _. ⊥) }
+{
+    match version_rows(conn) {
+        Ok(rows) if is_version_one(&rows) => Ok(()),
+        Ok(_) => Err(FloorFault::BadTable),
+        Err(error) => Err(fault_of(error)),
+    }
+}
+
+/// Reads the floors of a file that has the tables of a node.
+fn read_floors<S: Alter>(conn: &mut Connection<S>, alloc: Global) -> Result<Floors, FloorFault>
+    ensures kept { IfOk result (λ floors. HasCleanDisk (state S.Store conn.new) → AreIn (state S.Store conn.new) floors) }
+    ensures same { OnOk result (HasCleanDisk (state S.Store conn.new) → committed_floors (state S.Store conn.new) ≡ committed_floors (state S.Store conn.old)) }
+    ensures rows { OnOk result (HasCleanDisk (state S.Store conn.new) → AllByRecursion IsFloor ((state S.Store conn.old).now.trees 1)) }
+    ensures survives { Survives (state S.Store conn.old) (state S.Store conn.new) (λ _. ⊥) }
+{
+    if !conn.is_autocommit() {
+        return Err(FloorFault::BadTable);
+    }
+    if !is_node_schema(conn.schema()) {
+        return Err(FloorFault::BadTable);
+    }
+    match floor_rows(conn) {
+        Ok(rows) if rows.len() <= MOST_ROWS => floors_of(alloc, &rows),
+        Ok(_) => Err(FloorFault::BadTable),
+        Err(error) => Err(fault_of(error)),
+    }
+}
+
+fn create_form<S: Alter>(tx: &mut Transaction<'_, S>) -> Result<usize, Error>
+    ensures same_reference { tx.new.conn.ghost_name ≡ tx.old.conn.ghost_name }
+    ensures made { OnOk result (HasCleanDisk (state S.Store tx.new.conn.now) → Makes IsBlank IsFormed (state S.Store tx.old.conn.now) (state S.Store tx.new.conn.now)) }
+    ensures survives { Survives (state S.Store tx.old.conn.now) (state S.Store tx.new.conn.now) (λ _. ⊥) }
+{
+    tx.execute(
+        "CREATE TABLE form (version INTEGER PRIMARY KEY) STRICT",
+        &[],
+    )
+}
+
+fn create_floors<S: Alter>(tx: &mut Transaction<'_, S>) -> Result<usize, Error>
+    ensures same_reference { tx.new.conn.ghost_name ≡ tx.old.conn.ghost_name }
+    ensures made { OnOk result (HasCleanDisk (state S.Store tx.new.conn.now) → Makes IsFormed IsUnused (state S.Store tx.old.conn.now) (state S.Store tx.new.conn.now)) }
+    ensures survives { Survives (state S.Store tx.old.conn.now) (state S.Store tx.new.conn.now) (λ _. ⊥) }
+{
+    tx.execute(
+        "CREATE TABLE floors (url TEXT PRIMARY KEY NOT NULL, number INTEGER NOT NULL CHECK (number >= 1 AND number <= 4294967295)) STRICT",
+        &[],
+    )
+}
+
+fn name_version<S: Alter>(tx: &mut Transaction<'_, S>) -> Result<usize, Error>
+    ensures same_reference { tx.new.conn.ghost_name ≡ tx.old.conn.ghost_name }
+    ensures made { OnOk result (HasCleanDisk (state S.Store tx.new.conn.now) → Makes IsUnused IsUnused (state S.Store tx.old.conn.now) (state S.Store tx.new.conn.now)) }
+    ensures survives { Survives (state S.Store tx.old.conn.now) (state S.Store tx.new.conn.now) (λ _. ⊥) }
+{
+    tx.execute("INSERT INTO form (version) VALUES (1)", &[])
+}
+
+/// Makes the tables of a node, with the version and no floor.
+fn fill<S: Alter>(tx: &mut Transaction<'_, S>) -> Result<(), Error>
+    ensures same_reference { tx.new.conn.ghost_name ≡ tx.old.conn.ghost_name }
+    ensures made { OnOk result (HasCleanDisk (state S.Store tx.new.conn.now) → Makes IsBlank IsUnused (state S.Store tx.old.conn.now) (state S.Store tx.new.conn.now)) }
+    ensures survives { Survives (state S.Store tx.old.conn.now) (state S.Store tx.new.conn.now) (λ _. ⊥) }
+{
+    create_form(tx)?;
+    create_floors(tx)?;
+    name_version(tx)?;
+    Ok(())
+}
+
+/// Makes the tables, in one transaction.
+fn make_tables<S: Alter>(conn: &mut Connection<S>) -> Result<(), Error>
+    ensures made { OnOk result (HasCleanDisk (state S.Store conn.new) → IsBlank (state S.Store conn.old).now → IsUnused (state S.Store conn.new).committed) }
+    ensures survives { Survives (state S.Store conn.old) (state S.Store conn.new) (λ trees. (state S.Store conn.old).now.schema ≡ empty_schema → trees 1 ≡ []) }
+{
+    if !conn.is_autocommit() {
+        return Err(Error::InvalidQuery);
+    }
+    let mut tx = conn.transaction();
+    fill(&mut tx)?;
+    tx.commit()
+}
+
+/// There is no table, no index and no view.
+fn is_blank(schema: &Schema) -> bool
+    ensures { IsTrue result → schema.now ≡ empty_schema }
+{
+    schema.tables.is_empty() && schema.indexes.is_empty() && schema.views.is_empty()
+}
+
+/// Makes the tables in a file that has none.
+fn make_where_blank<S: Alter>(conn: &mut Connection<S>) -> Result<(), FloorFault>
+    ensures done { OnOk result ((IsBlank (state S.Store conn.old).now × (HasCleanDisk (state S.Store conn.new) → IsUnused (state S.Store conn.new).committed)) ⊎ (conn.new ≡ conn.old)) }
+    ensures crash { LeavesNoOther (state S.Store conn.old) (state S.Store conn.new) }
+{
+    if !is_blank(conn.schema()) {
+        return Ok(());
+    }
+    match make_tables(conn) {
+        Ok(()) => Ok(()),
+        Err(error) => Err(fault_of(error)),
+    }
+}
+
+/// Reads the floors of a file that has the tables of a node, in their one version.
+fn read_file<S: Alter>(conn: &mut Connection<S>, alloc: Global) -> Result<Floors, FloorFault>
+    ensures kept { IfOk result (λ floors. HasCleanDisk (state S.Store conn.new) → AreIn (state S.Store conn.new) floors) }
+    ensures version { OnOk result (HasCleanDisk (state S.Store conn.new) → HasVersionOne ((state S.Store conn.old).now.trees 0)) }
+    ensures same { OnOk result (HasCleanDisk (state S.Store conn.new) → committed_floors (state S.Store conn.new) ≡ committed_floors (state S.Store conn.old)) }
+    ensures schema { OnOk result ((state S.Store conn.old).now.schema ≡ node_schema) }
+    ensures rows { OnOk result (HasCleanDisk (state S.Store conn.new) → AllByRecursion IsFloor ((state S.Store conn.old).now.trees 1)) }
+    ensures survives { Survives (state S.Store conn.old) (state S.Store conn.new) (λ _. ⊥) }
+{
+    if !is_node_schema(conn.schema()) {
+        return Err(FloorFault::BadTable);
+    }
+    check_version(conn)?;
+    read_floors(conn, alloc)
+}
+
+/// Makes the tables where there are none, and reads the floors.
+pub(crate) fn open_file<S: Alter>(
+    conn: &mut Connection<S>,
+    alloc: Global,
+) -> Result<Floors, FloorFault>
+    ensures kept { IfOk result (λ floors. HasCleanDisk (state S.Store conn.new) → AreIn (state S.Store conn.new) floors) }
+    ensures found { OnOk result (HasCleanDisk (state S.Store conn.new) → OpensWith (state S.Store conn.old) (committed_floors (state S.Store conn.new))) }
+    ensures crash { LeavesNoOther (state S.Store conn.old) (state S.Store conn.new) }
+{
+    conn.set_step_limit(None);
+    if !conn.is_autocommit() {
+        return Err(FloorFault::BadTable);
+    }
+    make_where_blank(conn)?;
+    read_file(conn, alloc)
+}

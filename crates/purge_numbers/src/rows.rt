@@ -1,0 +1,95 @@
+//! Reading the rows of a node's file.
+ghost use Rattle.std.specs.Prelude.{◌≡◌, ◌≢◌, ℤ, false, None, Err, IsTrue, IfOk, OnOk};
+ghost use Rattle.std.specs.FinMap.{empty, get, insert};
+ghost use Rattle.sqlite.specs.declared.types.Value.TheVariants.{Int, Text as Words};
+ghost use Rattle.sqlite_value.specs.Order.{column};
+ghost use Rattle.sqlite_trees.specs.Tree.{rowid};
+ghost use Rattle.url_key.specs.Key.{IsKey};
+ghost use Rattle.purge_numbers.specs.Tables.{floor_entry};
+ghost use Rattle.purge_numbers.specs.Rows.{IsUrl, IsNumber, IsFloor, IsReadFault, Adds};
+ghost use Rattle.purge_numbers.specs.Floors.{FloorMap};
+
+use crate::fault::FloorFault;
+use crate::floors::Floors;
+use sqlite::Row;
+use sqlite_value::value::ValueRef;
+use std::alloc::Global;
+use url_key::{Key, KeyFault};
+
+/// The key of a text that is its own key.
+fn own_key(alloc: Global, text: &[u8]) -> Result<Key, FloorFault>
+    ensures ok { IfOk result (λ key. (key ≡ text.now) × IsKey text.now) }
+    ensures bad { result ≡ Err FloorFault.BadTable → ¬ IsKey text.now }
+    ensures named { IsReadFault result }
+{
+    match Key::read(alloc, text) {
+        Ok(key) if key.text() == text => Ok(key),
+        Err(KeyFault::NoMemory) => Err(FloorFault::NoMemory),
+        _ => Err(FloorFault::BadTable),
+    }
+}
+
+/// The key in the row.
+fn key_in(alloc: Global, row: &Row) -> Result<Key, FloorFault>
+    ensures ok { IfOk result (λ key. IsUrl row.now × ((floor_entry row.now).0 ≡ key)) }
+    ensures bad { result ≡ Err FloorFault.BadTable → ¬ IsUrl row.now }
+    ensures named { IsReadFault result }
+{
+    match row.get_ref(1) {
+        Ok(ValueRef::Text(text)) => own_key(alloc, text),
+        _ => Err(FloorFault::BadTable),
+    }
+}
+
+/// The number in the row.
+fn number_in(row: &Row) -> Result<u32, FloorFault>
+    ensures ok { IfOk result (λ number. IsNumber row.now × ((floor_entry row.now).1 ≡ number)) }
+    ensures bad { result ≡ Err FloorFault.BadTable → ¬ IsNumber row.now }
+    ensures named { IsReadFault result }
+{
+    let Ok(ValueRef::Int(number)) = row.get_ref(2) else {
+        return Err(FloorFault::BadTable);
+    };
+    match u32::try_from(number) {
+        Ok(number) if number > 0 => Ok(number),
+        _ => Err(FloorFault::BadTable),
+    }
+}
+
+fn has_rowid(row: &Row) -> bool
+    ensures yes { IsTrue result → (id : ℤ) × (rowid row.now ≡ Int id) }
+    ensures no { result ≡ false → ¬ ((id : ℤ) × (rowid row.now ≡ Int id)) }
+{
+    matches!(row.get_ref(0), Ok(ValueRef::Int(_)))
+}
+
+/// Adds one row. A row that is no floor, and a url that comes twice, are refused.
+fn add_row(floors: &mut Floors, alloc: Global, row: &Row) -> Result<(), FloorFault>
+    ensures ok { OnOk result (IsFloor row.now × (get floors.old (floor_entry row.now).0 ≡ None) × (floors.new ≡ insert floors.old (floor_entry row.now).0 (floor_entry row.now).1)) }
+    ensures bad { result ≡ Err FloorFault.BadTable → IsFloor row.now → get floors.old (floor_entry row.now).0 ≢ None }
+    ensures named { IsReadFault result }
+{
+    if !has_rowid(row) {
+        return Err(FloorFault::BadTable);
+    }
+    let key = key_in(alloc, row)?;
+    let number = number_in(row)?;
+    if floors.has(&key) {
+        return Err(FloorFault::BadTable);
+    }
+    floors.set(alloc, &key, number)?;
+    Ok(())
+}
+
+/// The floors of all rows.
+pub(crate) fn floors_of(alloc: Global, rows: &[Row]) -> Result<Floors, FloorFault>
+    ensures ok { IfOk result (λ floors. Adds empty rows.now floors) }
+    ensures bad { result ≡ Err FloorFault.BadTable → (all : FloorMap) → ¬ Adds empty rows.now all }
+    ensures named { IsReadFault result }
+{
+    let mut floors = Floors::new(alloc);
+    for row in rows {
+        add_row(&mut floors, alloc, row)?;
+    }
+    Ok(floors)
+}
