@@ -1,0 +1,421 @@
+-- Each rule of the step has one of the five effects, and keeps what each keeps.
+use Rattle.std.proofs.Common.{◌≡◌, ℕ, ◌*◌, ◌≤◌, Bool, true, false, cond, not, ◌&&◌, ◌||◌, max, List, [], ◌∷◌, ◌++◌, option_map, find, map, filter, Option, Some, None, Result, Ok, Err, refl, sym, ◌∙◌, ap, inr, nat_le, nat_eq, subst, arith, rules}
+use Rattle.std.specs.List.{AllByRecursion, Contains, cons_option, filter_map}
+use Rattle.std.specs.Prelude.{bytes_eq}
+use Rattle.node_rules.specs.declared.message.Outgoing.{Outgoing}
+use Rattle.roster_tables.specs.declared.plain.Cache.{Cache}
+use Rattle.node_rules.specs.declared.reply.Reply.{Reply}
+use Rattle.node_rules.specs.declared.reply.StepFault.{StepFault}
+use Rattle.roster_tables.specs.declared.plain.Address.{Address}
+use Rattle.roster_tables.specs.declared.plain.Udp.{Udp}
+use Rattle.icp_wire.specs.declared.message.IcpOp.{IcpOp}
+use Rattle.icp_wire.specs.declared.message.IcpOp.TheVariants as op
+use Rattle.icp_wire.specs.declared.message.Icp.{Icp}
+use Rattle.htcp_wire.specs.declared.message.Content.{Content}
+use Rattle.htcp_wire.specs.declared.message.Content.TheVariants as content
+use Rattle.node_rules.specs.declared.message.Message.{Message}
+use Rattle.node_rules.specs.declared.message.Message.TheVariants as message
+use Rattle.purge_numbers.specs.Floors.{FloorMap}
+use Rattle.object_store.specs.declared.copy.WebCopy.{WebCopy}
+use Rattle.peer_fetch.specs.declared.ask.Ask.{Ask}
+use Rattle.peer_fetch.specs.Answer.{AnswerText}
+use Rattle.roster_tables.specs.declared.plain.Peer.{Peer}
+use Rattle.peer_chooser.specs.declared.said.Said.{Said}
+use Rattle.peer_chooser.specs.Round.{RoundText}
+use Rattle.peer_chooser.specs.declared.said.Source.{Source}
+use Rattle.peer_chooser.specs.declared.said.Source.TheVariants as source
+use Rattle.node_rules.specs.declared.state.Fetch.{Fetch}
+use Rattle.node_rules.specs.declared.state.Fetch.TheVariants.{Nowhere, AtPeer, AtOrigin}
+use Rattle.node_rules.specs.declared.state.Pending.{Pending}
+use Rattle.node_rules.specs.declared.state.NodeState.{NodeState}
+use Rattle.node_rules.specs.declared.event.Event.{Event}
+use Rattle.node_rules.specs.declared.event.Event.TheVariants as event
+use Rattle.purge_numbers.specs.Floors.{floor, raised}
+use Rattle.node_rules.specs.Messages.{htcp, to, query, overall}
+use Rattle.node_rules.specs.Relation.{purge_in, purge_in_content, purge_in_message, purge_by_line}
+use Rattle.roster_tables.specs.Ranges.{is_foreign_id}
+use Rattle.roster.specs.Lookups.{is_master, address_by}
+use Rattle.node_rules.specs.Known.{has_origin, is_known, cache_of}
+use Rattle.peer_chooser.specs.Round.{has_told, answered, ended}
+use Rattle.object_store.specs.Listed.{copy_of}
+use Rattle.reuse_rules.specs.Lifetime.{lifetime}
+use Rattle.htcp_wire.specs.declared.fault.HtcpFault.{HtcpFault}
+use Rattle.roster_tables.specs.declared.plain.Udp.TheVariants as udp
+use Rattle.node_rules.specs.Effect.{copy_served, sent, IsOwnFault, ServesBareStatus, ComesFrom, HasRaised, IsObedient, IsUnderWay, IsReadOf, IsAt, IsFromOrigin, IsFromPeer, IsAnswerTo, IsAnswerOf, Effect, Stays, Serves, Brings, Purges, Drops, IsHeldAbove, state_of}
+use Rattle.node_rules.specs.State.{Setting, Stepped, replies, refuses, quiet, fetch_serial, is_idle, is_of_block, age_of, is_good, if_good, good_copy}
+use Rattle.reuse_rules.specs.Freshness.{is_fresh}
+use Rattle.node_rules.specs.Fetching.{ask_peer, begin_read, read_origin, go_to, go_on}
+use Rattle.node_rules.specs.Asks.{new_ask, query_to, is_cached_only, is_busy, begin_round, ask_around, begin_ask, not_held, by_copy, copy_for, ask_comes}
+use Rattle.node_rules.specs.Arrivals.{new_copy, is_fetch, with_round, use_answer, try_on, is_gateway_fault, peer_gave, origin_gave, from_peer, peer_answer_to, peer_answer, foreign_answer, from_origin, origin_answer_to, origin_answer, fails, failure_of, fetch_failed, round_moves, expires, expiry_of, round_expired}
+use Rattle.node_rules.specs.Datagrams.{is_full, sends_back, tst_answer, copy_meant, purged, purge_of, if_desired, icp_query, htcp_tst, hears, told_by, told_to, icp_told, htcp_told, clr_done, purge, numbered_clr, dropped, plain_clr, clr_by_line, htcp_clr, icp_comes, tst_refused, htcp_comes, datagram}
+use Rattle.node_rules.specs.Step.{open_step, step_if, step}
+use Rattle.node_rules.proofs.Cases.{branches, both_true, test_le, unless_refused, same_Some, true_not_false}
+use Rattle.node_rules.proofs.FloorLaws.{floor-raise, same_text, text_same}
+use Rattle.node_rules.proofs.Pendings.{all_mapped, all_joined, all_contained, found, found_passes, all_changed, all_left, under_way, all_under_way, read_of}
+use Rattle.std.proofs.lemmas.Option.{cond_some, none-some}
+
+-- Small facts
+
+both_true_not : (a b : Bool) → (a && not b) ≡ true → b ≡ false
+both_true_not a b h = grind rules
+
+same_number : (m n : ℕ) → nat_eq m n ≡ true → m ≡ n
+same_number m n h = search rules
+
+and_parts : (a b : Bool) → (a && b) ≡ true → (a ≡ true) × (b ≡ true)
+and_parts true b h = (refl, h)
+and_parts false b h = absurd (true_not_false (sym h))
+
+is_at : {X : Type 0} (serial : ℕ) (key : List ℕ) (p : Pending X) → is_fetch serial key p ≡ true → IsAt serial key p
+is_at serial key p h =
+    let parts = and_parts (nat_eq (fetch_serial p) serial) (bytes_eq p.ask.key key) h in
+    record { serial_same = same_number (fetch_serial p) serial parts.0; key_same = same_text p.ask.key key parts.1 }
+
+other_round : {X : Type 0} {s : NodeState X} (p : Pending X) (r : RoundText) → IsUnderWay s p → IsUnderWay s (with_round p r)
+other_round p r h = record { was = h.was; waits = h.waits; fetch = h.fetch; ask = h.ask; serial = h.serial }
+
+query_obeys : {X : Type 0} (g : Setting) (e : Event X) (rows : FloorMap) (serial : ℕ) (key : List ℕ) (by : Udp) (address : Address) → IsObedient g e rows (to address (query by serial key))
+query_obeys g e rows serial key udp.Icp address = tt
+query_obeys g e rows serial key udp.Htcp address = tt
+
+-- what holds of the first, if there is one, and of the rest
+query_first : {P : Outgoing → Type 0} (o : Option Outgoing) (rest : List Outgoing) → ((x : Outgoing) → o ≡ Some x → P x) → AllByRecursion P rest → AllByRecursion P (cons_option o rest)
+query_first None rest h all = all
+query_first (Some x) rest h all = (h x refl, all)
+
+raised_to : (rows : FloorMap) (key : List ℕ) (n m : ℕ) → n ≡ m → m ≤ floor (raised rows key n) key
+raised_to rows key n m same =
+    subst (λ k. m ≤ k) (sym (floor-raise rows key key n)) (subst (λ b. m ≤ cond b (max (floor rows key) n) (floor rows key)) (sym (text_same key key refl)) (omega (arith, same)))
+
+purge_number_is : (g : Setting) (from : Address) (trans : ℕ) (key : Option (List ℕ)) (n : ℕ) (x : List ℕ × ℕ) → purge_of g from trans key n ≡ Some x → x.1 ≡ trans
+purge_number_is g from trans None n x e = absurd (none-some x e)
+purge_number_is g from trans (Some key) n x e =
+    let (good, same) = cond_some ((is_master g.roster from && nat_eq n trans) && nat_le 1 n) (key, n) x e in
+    ap (λ (y : List ℕ × ℕ). y.1) (sym same) ∙ same_number n trans (and_parts (is_master g.roster from) (nat_eq n trans) (and_parts _ (nat_le 1 n) good).0).1
+
+-- a copy that is chosen for a key is held, and not below its floor
+good_is_held : {X : Type 0} (rows : FloorMap) (copies : List (WebCopy X)) (key : List ℕ) (now : ℕ) (o : Option (WebCopy X)) (c : WebCopy X) → copy_of key copies ≡ o → if_good (floor rows key) now o ≡ Some c → IsHeldAbove rows copies key c
+good_is_held rows copies key now None c is e = absurd (none-some c e)
+good_is_held {X} rows copies key now (Some d) c is e =
+    let (good, same) = cond_some (is_good (floor rows key) now d) d c e in
+    subst (λ (x : WebCopy X). IsHeldAbove rows copies key x) same (is, both_true (floor rows key) d.stamp (is_fresh (age_of d) d.asked now d.lifetime) good)
+
+copy_for_held : {X : Type 0} (s : NodeState X) (ask : Ask) (now : ℕ) (c : WebCopy X) → copy_for s ask now ≡ Some c → IsHeldAbove s.floors s.copies ask.key c
+copy_for_held s ask now c e = good_is_held s.floors s.copies ask.key now _ c refl (unless_refused ask.no_cache (good_copy s ask.key now) c e)
+
+module _ {X : Type 0} (g : Setting) (s : NodeState X) (e : Event X) (mark : X) where
+  abbrev pub Does : Stepped X → Type 0
+  Does r = Effect g s e mark r
+
+  -- the state as it is while rules only change the pending asks
+  abbrev pub at : List (Pending X) → ℕ → NodeState X
+  at pending next = state_of s.floors s.copies s.closed pending next
+
+  abbrev pub Outcome : Type 0
+  Outcome = Result (Reply X) StepFault
+
+  -- an ask may stay as it is: it is not fetching, or it fetches as it did
+  abbrev pub MayStay : Pending X → Type 0
+  MayStay p = (outcome : Outcome) → IsReadOf s mark outcome p
+
+  all_stay : AllByRecursion MayStay s.pending
+  all_stay = all_mapped (IsUnderWay s) MayStay (λ p h outcome. read_of s mark outcome p h) s.pending (all_under_way s)
+
+  reads_of : (pending : List (Pending X)) (outcome : Outcome) → AllByRecursion MayStay pending → AllByRecursion (IsReadOf s mark outcome) pending
+  reads_of pending outcome all = all_mapped MayStay (IsReadOf s mark outcome) (λ p h. h outcome) pending all
+
+  -- asks go on waiting, and at most a bare status is served
+  stays : (pending : List (Pending X)) (next : ℕ) (outcome : Outcome) → copy_served outcome ≡ None → AllByRecursion MayStay pending → ServesBareStatus outcome → AllByRecursion (IsObedient g e s.floors) (sent outcome) → IsOwnFault outcome → Does record { state = at pending next; outcome = outcome }
+  stays pending next outcome none all bare obeys plain = Stays pending next outcome none (record { reads = reads_of pending outcome all; statuses = bare; acknowledges = obeys; faults = plain })
+
+  -- one of them ends
+  ends : (pending : List (Pending X)) (next : ℕ) (block : ℕ) (outcome : Outcome) → copy_served outcome ≡ None → AllByRecursion MayStay pending → ServesBareStatus outcome → AllByRecursion (IsObedient g e s.floors) (sent outcome) → IsOwnFault outcome → Does record { state = at (filter (λ q. not (is_of_block block q)) pending) next; outcome = outcome }
+  ends pending next block outcome none all bare obeys plain = stays (filter (λ q. not (is_of_block block q)) pending) next outcome none (all_left MayStay _ pending all) bare obeys plain
+
+  -- one of them becomes this one
+  changes : (pending : List (Pending X)) (next : ℕ) (p : Pending X) (outcome : Outcome) → copy_served outcome ≡ None → AllByRecursion MayStay pending → IsReadOf s mark outcome p → ServesBareStatus outcome → AllByRecursion (IsObedient g e s.floors) (sent outcome) → IsOwnFault outcome → Does record { state = at (map (λ q. cond (is_of_block p.block q) p q) pending) next; outcome = outcome }
+  changes pending next p outcome none all read bare obeys plain =
+      Stays (map (λ q. cond (is_of_block p.block q) p q) pending) next outcome none
+      (record { reads = all_changed (IsReadOf s mark outcome) (is_of_block p.block) p pending read (reads_of pending outcome all); statuses = bare; acknowledges = obeys; faults = plain })
+
+  -- nothing changes
+  refused : (f : StepFault) → IsOwnFault {X = X} (Err f) → Does (refuses s f)
+  refused f plain = stays s.pending s.next (Err f) refl all_stay tt tt plain
+
+  silent : Does (replies s quiet)
+  silent = stays s.pending s.next (Ok quiet) refl all_stay tt tt tt
+
+  -- Going on
+
+  read_origin_does : (pending : List (Pending X)) (next : ℕ) → AllByRecursion MayStay pending → (p : Pending X) (waiter : Option ℕ) (now : ℕ) → Does (read_origin g (at pending next) p waiter now mark)
+  unfolding read_origin begin_read
+  read_origin_does pending next all p waiter now =
+      branches Does (nat_le 3 p.reads) _ _ (λ _. ends pending next p.block _ refl all refl tt tt)
+      (λ _. branches Does (has_origin g.roster p.ask.key) _ _
+      (λ _. changes pending next _ _ refl all (inr record { stamp_seen = refl; mark_same = refl; begins = refl }) tt tt tt)
+      (λ _. ends pending next p.block _ refl all refl tt tt))
+
+  go_to_does : (pending : List (Pending X)) (next : ℕ) → AllByRecursion MayStay pending → (p : Pending X) → MayStay p → (now : ℕ) (to : Source) → Does (go_to g (at pending next) p now mark to)
+  unfolding go_to ask_peer
+  go_to_does pending next all p may now source.Wait = changes pending next p _ refl all (may _) tt tt tt
+  go_to_does pending next all p may now (source.Peer peer cached) = changes pending next _ _ refl all tt tt tt tt
+  go_to_does pending next all p may now source.Origin = read_origin_does pending next all p (Some p.block) now
+
+  go_on_does : (pending : List (Pending X)) (next : ℕ) → AllByRecursion MayStay pending → (p : Pending X) → MayStay p → (now : ℕ) → Does (go_on g (at pending next) p now mark)
+  unfolding go_on
+  go_on_does pending next all p may now = go_to_does pending next all p may now _
+
+  -- Asks
+
+  query_to_obeys : (serial : ℕ) (key : List ℕ) (p : Peer) (c : Option Cache) (o : Outgoing) → option_map (λ (c : Cache). to (address_by p.by c) (query p.by serial key)) c ≡ Some o → IsObedient g e s.floors o
+  query_to_obeys serial key p None o is = absurd (none-some o is)
+  query_to_obeys serial key p (Some c) o is = subst (IsObedient g e s.floors) (same_Some _ o is) (query_obeys g e s.floors serial key p.by (address_by p.by c))
+
+  queries_obey : (serial : ℕ) (key : List ℕ) (asked : List Peer) → AllByRecursion (IsObedient g e s.floors) (filter_map (query_to g serial key) asked)
+  queries_obey serial key [] = tt
+  queries_obey serial key (p ∷ asked) = query_first (query_to g serial key p) _ (query_to_obeys serial key p (cache_of g.roster p.id)) (queries_obey serial key asked)
+
+  -- a new ask, which is not fetching, comes behind the others
+  one_more : (block : ℕ) (asker : Option ℕ) (ask : Ask) (round : Option RoundText) → AllByRecursion MayStay (s.pending ++ new_ask block asker ask round ∷ [])
+  one_more block asker ask round = all_joined MayStay s.pending (new_ask block asker ask round ∷ []) all_stay ((λ outcome. tt), tt)
+
+  ask_around_does : (next : ℕ) (asker : Option ℕ) (ask : Ask) (block now : ℕ) (round : RoundText) (peers : List Peer) → Does (ask_around g (at s.pending next) asker ask block now mark round peers)
+  unfolding ask_around begin_round
+  ask_around_does next asker ask block now round [] = read_origin_does (s.pending ++ new_ask block asker ask None ∷ []) next (one_more block asker ask None) _ None now
+  ask_around_does next asker ask block now round (p ∷ peers) = stays (s.pending ++ new_ask block asker ask (Some round) ∷ []) next _ refl (one_more block asker ask (Some round)) tt (queries_obey (32 * block) ask.key round.asked) tt
+
+  not_held_does : (asker : Option ℕ) (ask : Ask) (now : ℕ) → Does (not_held g s asker ask now mark)
+  unfolding not_held begin_ask
+  not_held_does asker ask now =
+      branches Does (is_cached_only g asker ask) _ _ (λ _. stays s.pending s.next _ refl all_stay refl tt tt)
+      (λ _. branches Does (is_busy s) _ _ (λ _. refused _ tt) (λ _. ask_around_does _ asker ask s.next now _ _))
+
+  by_copy_does : s.closed ≡ false → (asker : Option ℕ) (ask : Ask) (now : ℕ) (o : Option (WebCopy X)) → ((c : WebCopy X) → o ≡ Some c → IsHeldAbove s.floors s.copies ask.key c) → Does (by_copy g s asker ask now mark o)
+  unfolding by_copy
+  by_copy_does is_open asker ask now None h = not_held_does asker ask now
+  by_copy_does is_open asker ask now (Some c) h = Serves ask.key c s.pending s.next _ is_open (h c refl) refl (record { reads = reads_of s.pending _ all_stay; statuses = tt; acknowledges = tt; faults = tt })
+
+  ask_comes_does : s.closed ≡ false → (asker : Option ℕ) (ask : Ask) (now : ℕ) → Does (ask_comes g s asker ask now mark)
+  unfolding ask_comes
+  ask_comes_does is_open asker ask now = by_copy_does is_open asker ask now _ (copy_for_held s ask now)
+
+  -- Arrivals
+
+  -- what is found waits
+  waiting : (test : Pending X → Bool) (p : Pending X) → find test s.pending ≡ Some p → Contains s.pending p
+  waiting test p waits = found (Contains s.pending) test s.pending p (all_contained s.pending) waits
+
+  waits_under_way : (test : Pending X → Bool) (p : Pending X) → find test s.pending ≡ Some p → IsUnderWay s p
+  waits_under_way test p waits = under_way s p (waiting test p waits)
+
+  module _ (is_open : s.closed ≡ false) where
+    use_answer_does : (pending : List (Pending X)) (next : ℕ) → AllByRecursion MayStay pending → (p : Pending X) (stamp asked : ℕ) (answer : AnswerText) (tag : X) (now : ℕ) → ((life : Option ℕ) → IsAnswerOf s e (new_copy p.ask.key stamp asked life answer tag)) → floor s.floors p.ask.key ≤ stamp → Does (use_answer g (at pending next) p stamp asked answer tag now)
+    unfolding use_answer
+    use_answer_does pending next all p stamp asked answer tag now is h =
+        let life : Option ℕ = lifetime answer g.roster.limits.default_lifetime in
+        let others : List (Pending X) = filter (λ q. not (is_of_block p.block q)) pending in
+        Brings (new_copy p.ask.key stamp asked life answer tag) life others next _ is_open (is life) h refl (record { reads = reads_of others _ (all_left MayStay _ pending all); statuses = tt; acknowledges = tt; faults = tt })
+
+    peer_gave_does : (pending : List (Pending X)) (next : ℕ) → AllByRecursion MayStay pending → (p : Pending X) (peer asked stamp : ℕ) (answer : AnswerText) (tag : X) (now : ℕ) → (is_gateway_fault answer.status ≡ false → (life : Option ℕ) → IsAnswerOf s e (new_copy p.ask.key stamp asked life answer tag)) → Does (peer_gave g (at pending next) p peer asked stamp answer tag now mark)
+    unfolding peer_gave try_on
+    peer_gave_does pending next all p peer asked stamp answer tag now is =
+        branches Does (nat_le (floor s.floors p.ask.key) stamp && not (is_gateway_fault answer.status)) _ _
+        (λ h. use_answer_does pending next all p stamp asked answer tag now (is (both_true_not _ _ h)) (both_true _ stamp _ h))
+        (λ _. go_on_does pending next all _ (λ outcome. tt) now)
+
+    origin_gave_does : (pending : List (Pending X)) (next : ℕ) → AllByRecursion MayStay pending → (p : Pending X) (stamp asked : ℕ) (read_mark : X) (answer : AnswerText) (now : ℕ) → ((life : Option ℕ) → IsAnswerOf s e (new_copy p.ask.key stamp asked life answer read_mark)) → Does (origin_gave g (at pending next) p stamp asked read_mark answer now mark)
+    unfolding origin_gave
+    origin_gave_does pending next all p stamp asked read_mark answer now is =
+        branches Does (nat_le (floor s.floors p.ask.key) stamp) _ _
+        (λ h. use_answer_does pending next all p stamp asked answer read_mark now is (test_le _ stamp h))
+        (λ _. go_on_does pending next all _ (λ outcome. tt) now)
+
+    from_peer_does : (p : Pending X) (peer stamp : ℕ) (answer : AnswerText) (tag : X) (now : ℕ) (fetch : Fetch X) → ((asked : ℕ) → fetch ≡ AtPeer peer asked → is_gateway_fault answer.status ≡ false → (life : Option ℕ) → IsAnswerOf s e (new_copy p.ask.key stamp asked life answer tag)) → Does (from_peer g s p peer stamp answer tag now mark fetch)
+    unfolding from_peer
+    from_peer_does p peer stamp answer tag now (AtPeer at_peer asked) is =
+        branches Does (nat_eq at_peer peer) _ _ (λ same. peer_gave_does s.pending s.next all_stay p peer asked stamp answer tag now (is asked (ap (λ (n : ℕ). AtPeer n asked) (same_number at_peer peer same)))) (λ _. refused _ tt)
+    from_peer_does p peer stamp answer tag now (AtOrigin read asked read_mark) is = refused _ tt
+    from_peer_does p peer stamp answer tag now Nowhere is = refused _ tt
+
+    peer_answer_to_does : (serial : ℕ) (key : List ℕ) (peer stamp : ℕ) (answer : AnswerText) (tag : X) (now : ℕ) → ((p : Pending X) (c : WebCopy X) → IsFromPeer serial peer key stamp answer tag p c → IsAnswerTo e p c) → (o : Option (Pending X)) → find (is_fetch serial key) s.pending ≡ o → Does (peer_answer_to g s peer stamp answer tag now mark o)
+    unfolding peer_answer_to
+    peer_answer_to_does serial key peer stamp answer tag now is None waits = refused _ tt
+    peer_answer_to_does serial key peer stamp answer tag now is (Some p) waits =
+        from_peer_does p peer stamp answer tag now p.fetch
+        (λ asked at_peer usable life. (p, waiting (is_fetch serial key) p waits, is p _ record { waits = is_at serial key p (found_passes (is_fetch serial key) s.pending p waits); fetches = at_peer; key_same = refl; stamp_same = refl; answer_same = refl; tag_same = refl; status = usable }))
+
+    from_origin_does : (p : Pending X) (answer : AnswerText) (now : ℕ) (fetch : Fetch X) → ((stamp asked : ℕ) (read_mark : X) → fetch ≡ AtOrigin stamp asked read_mark → (life : Option ℕ) → IsAnswerOf s e (new_copy p.ask.key stamp asked life answer read_mark)) → Does (from_origin g s p answer now mark fetch)
+    unfolding from_origin
+    from_origin_does p answer now (AtOrigin stamp asked read_mark) is = origin_gave_does s.pending s.next all_stay p stamp asked read_mark answer now (is stamp asked read_mark refl)
+    from_origin_does p answer now (AtPeer peer asked) is = refused _ tt
+    from_origin_does p answer now Nowhere is = refused _ tt
+
+    origin_answer_to_does : (serial : ℕ) (key : List ℕ) (answer : AnswerText) (now : ℕ) → ((p : Pending X) (c : WebCopy X) → IsFromOrigin serial key answer p c → IsAnswerTo e p c) → (o : Option (Pending X)) → find (is_fetch serial key) s.pending ≡ o → Does (origin_answer_to g s answer now mark o)
+    unfolding origin_answer_to
+    origin_answer_to_does serial key answer now is None waits = refused _ tt
+    origin_answer_to_does serial key answer now is (Some p) waits =
+        from_origin_does p answer now p.fetch
+        (λ stamp asked read_mark reads life. (p, waiting (is_fetch serial key) p waits, is p _ record { waits = is_at serial key p (found_passes (is_fetch serial key) s.pending p waits); reads = reads; key_same = refl; answer_same = refl }))
+
+  fails_does : (p : Pending X) (now : ℕ) (fetch : Fetch X) → Does (fails g s p now mark fetch)
+  unfolding fails try_on
+  fails_does p now (AtPeer peer asked) = go_on_does s.pending s.next all_stay _ (λ outcome. tt) now
+  fails_does p now (AtOrigin stamp asked read_mark) = ends s.pending s.next p.block _ refl all_stay refl tt tt
+  fails_does p now Nowhere = refused _ tt
+
+  failure_of_does : (now : ℕ) (o : Option (Pending X)) → Does (failure_of g s now mark o)
+  unfolding failure_of
+  failure_of_does now None = refused _ tt
+  failure_of_does now (Some p) = fails_does p now p.fetch
+
+  round_moves_does : (p : Pending X) → IsUnderWay s p → (now : ℕ) → Does (round_moves g s p now mark)
+  unfolding round_moves
+  round_moves_does p h now =
+      branches Does (is_idle p.fetch) _ _ (λ _. go_on_does s.pending s.next all_stay p (λ outcome. read_of s mark outcome p h) now)
+      (λ _. changes s.pending s.next p _ refl all_stay (read_of s mark _ p h) tt tt tt)
+
+  expires_does : (p : Pending X) → IsUnderWay s p → (now : ℕ) (o : Option RoundText) → Does (expires g s p now mark o)
+  unfolding expires
+  expires_does p h now None = refused _ tt
+  expires_does p h now (Some r) = round_moves_does (with_round p (ended r)) (other_round p (ended r) h) now
+
+  expiry_of_does : (test : Pending X → Bool) (now : ℕ) (o : Option (Pending X)) → find test s.pending ≡ o → Does (expiry_of g s now mark o)
+  unfolding expiry_of
+  expiry_of_does test now None waits = refused _ tt
+  expiry_of_does test now (Some p) waits = expires_does p (waits_under_way test p waits) now p.round
+
+  -- Datagrams
+
+  -- a message that acknowledges nothing may be sent anywhere
+  sends_does : (to : Address) (m : Message) → IsObedient g e s.floors record { to = to; message = m } → Does (sends_back s to m)
+  sends_does to m obeys = stays s.pending s.next _ refl all_stay tt (obeys, tt) tt
+
+  if_desired_does : (desired : Bool) (from : Address) (m : Message) → IsObedient g e s.floors record { to = from; message = m } → Does (if_desired s desired from m)
+  if_desired_does true from m obeys = sends_does from m obeys
+  if_desired_does false from m obeys = silent
+
+  hears_does : (p : Pending X) → IsUnderWay s p → (peer : Peer) (said : Said) (now : ℕ) (o : Option RoundText) → Does (hears g s p peer said now mark o)
+  unfolding hears
+  hears_does p h peer said now None = silent
+  hears_does p h peer said now (Some r) =
+      branches Does (has_told r.told peer.id) _ _ (λ _. silent)
+      (λ _. round_moves_does (with_round p (answered r peer.id said)) (other_round p (answered r peer.id said) h) now)
+
+  told_by_does : (p : Pending X) → IsUnderWay s p → (said : Peer → Said) (now : ℕ) (o : Option Peer) → Does (told_by g s p said now mark o)
+  unfolding told_by
+  told_by_does p h said now None = silent
+  told_by_does p h said now (Some peer) = hears_does p h peer (said peer) now p.round
+
+  told_to_does : (by : Udp) (from : Address) (said : Peer → Said) (now : ℕ) (test : Pending X → Bool) (o : Option (Pending X)) → find test s.pending ≡ o → Does (told_to g s by from said now mark o)
+  unfolding told_to
+  told_to_does by from said now test None waits = silent
+  told_to_does by from said now test (Some p) waits = told_by_does p (waits_under_way test p waits) said now _
+
+  icp_told_does : (from : Address) (m : Icp) (now : ℕ) → Does (icp_told g s from m now mark)
+  unfolding icp_told
+  icp_told_does from m now = told_to_does _ from _ now _ _ refl
+
+  htcp_told_does : (from : Address) (trans : ℕ) (said : Peer → Said) (now : ℕ) → Does (htcp_told g s from trans said now mark)
+  unfolding htcp_told
+  htcp_told_does from trans said now = told_to_does _ from said now _ _ refl
+
+  -- what is answered to a CLR that was followed is an acknowledgement
+  done_does : (next : NodeState X) (from : Address) (trans : ℕ) (desired gone : Bool) → ComesFrom e from → HasRaised next.floors (purge_in g e) trans →
+      ((outcome : Outcome) → copy_served outcome ≡ None → ServesBareStatus outcome → AllByRecursion (IsObedient g e next.floors) (sent outcome) → IsOwnFault outcome → Does record { state = next; outcome = outcome }) → Does (clr_done next from trans desired gone)
+  done_does next from trans true true comes raised h = h _ refl tt ((comes, raised), tt) tt
+  done_does next from trans true false comes raised h = h _ refl tt ((comes, raised), tt) tt
+  done_does next from trans false gone comes raised h = h _ refl tt tt tt
+
+  purge_does : (from : Address) (trans : ℕ) (desired : Bool) (key : List ℕ) (n : ℕ) → ComesFrom e from → n ≡ trans → purge_in g e ≡ Some (key, n) → Does (purge s from trans desired key n)
+  unfolding purge
+  purge_does from trans desired key n comes same is =
+      branches Does (is_full s.floors key) _ _ (λ _. if_desired_does desired from _ tt)
+      (λ _. done_does (purged s key n) from trans desired _ comes (subst (λ o. HasRaised (raised s.floors key n) o trans) (sym is) (same, raised_to s.floors key n trans same))
+      (λ outcome none bare obeys plain. Purges key n s.pending s.next outcome is none (record { reads = reads_of s.pending outcome all_stay; statuses = bare; acknowledges = obeys; faults = plain })))
+
+  numbered_clr_does : (from : Address) (trans : ℕ) (desired : Bool) (o : Option (List ℕ × ℕ)) → ComesFrom e from → purge_in g e ≡ o → ((x : List ℕ × ℕ) → o ≡ Some x → x.1 ≡ trans) → Does (numbered_clr s from trans desired o)
+  unfolding numbered_clr
+  numbered_clr_does from trans desired None comes is same = if_desired_does desired from _ tt
+  numbered_clr_does from trans desired (Some x) comes is same = purge_does from trans desired x.0 x.1 comes (same x refl) is
+
+  dropped_does : (key : Option (List ℕ)) (outcome : Outcome) → copy_served outcome ≡ None → ServesBareStatus outcome → AllByRecursion (IsObedient g e s.floors) (sent outcome) → IsOwnFault outcome → Does record { state = dropped s key; outcome = outcome }
+  dropped_does None outcome none bare obeys plain = stays s.pending s.next outcome none all_stay bare obeys plain
+  dropped_does (Some key) outcome none bare obeys plain = Drops key s.pending s.next outcome none (record { reads = reads_of s.pending outcome all_stay; statuses = bare; acknowledges = obeys; faults = plain })
+
+  dropped_floors : (key : Option (List ℕ)) → (dropped s key).floors ≡ s.floors
+  dropped_floors None = refl
+  dropped_floors (Some key) = refl
+
+  plain_clr_does : (from : Address) (trans : ℕ) (desired : Bool) (key : Option (List ℕ)) → ComesFrom e from → purge_in g e ≡ None → Does (plain_clr g s from trans desired key)
+  unfolding plain_clr
+  plain_clr_does from trans desired key comes is =
+      branches Does (is_known g.roster g.id udp.Htcp from || is_master g.roster from) _ _
+      (λ _. done_does (dropped s key) from trans desired _ comes (subst (λ o. HasRaised (dropped s key).floors o trans) (sym is) tt)
+      (λ outcome none bare obeys plain. dropped_does key outcome none bare (subst (λ rows. AllByRecursion (IsObedient g e rows) (sent outcome)) (dropped_floors key) obeys) plain))
+      (λ _. if_desired_does desired from _ tt)
+
+  clr_by_line_does : (from : Address) (trans : ℕ) (desired : Bool) (key : Option (List ℕ)) (line : Result (Option ℕ) HtcpFault) → ComesFrom e from → purge_in g e ≡ purge_by_line g from trans key line → Does (clr_by_line g s from trans desired key line)
+  unfolding clr_by_line
+  clr_by_line_does from trans desired key (Ok None) comes is = plain_clr_does from trans desired key comes is
+  clr_by_line_does from trans desired key (Ok (Some n)) comes is = numbered_clr_does from trans desired _ comes is (purge_number_is g from trans key n)
+  clr_by_line_does from trans desired key (Err fault) comes is = if_desired_does desired from _ tt
+
+  icp_comes_does : (from : Address) (m : Icp) (now : ℕ) (o : IcpOp) → Does (icp_comes g s from m now mark o)
+  unfolding icp_comes icp_query
+  icp_comes_does from m now op.Query = sends_does from _ tt
+  icp_comes_does from m now _ = icp_told_does from m now
+
+  tst_refused_does : (from : Address) (trans opcode now : ℕ) → Does (tst_refused g s from trans opcode now mark)
+  unfolding tst_refused
+  tst_refused_does from trans opcode now =
+      branches Does (nat_eq opcode 1) _ _ (λ _. htcp_told_does from trans _ now) (λ _. silent)
+
+  tst_obeys : (from : Address) (trans : ℕ) (known : Bool) (c : Option (WebCopy X)) → IsObedient g e s.floors record { to = from; message = cond known (htcp trans (tst_answer c)) (overall trans 1 5) }
+  tst_obeys from trans true None = tt
+  tst_obeys from trans true (Some c) = tt
+  tst_obeys from trans false c = tt
+
+  htcp_comes_does : (from : Address) (trans now : ℕ) (content : Content) → ComesFrom e from → purge_in g e ≡ purge_in_content g from trans content → Does (htcp_comes g s from trans now mark content)
+  unfolding htcp_comes htcp_tst htcp_clr
+  htcp_comes_does from trans now (content.NopAsk desired) comes is = if_desired_does desired from _ tt
+  htcp_comes_does from trans now content.NopAnswer comes is = silent
+  htcp_comes_does from trans now (content.TstAsk desired spec) comes is = if_desired_does desired from _ (tst_obeys from trans (is_known g.roster g.id udp.Htcp from) (copy_meant g s spec now))
+  htcp_comes_does from trans now (content.TstHit detail) comes is = htcp_told_does from trans _ now
+  htcp_comes_does from trans now (content.TstMiss cache) comes is = htcp_told_does from trans _ now
+  htcp_comes_does from trans now (content.ClrAsk desired reason spec) comes is = clr_by_line_does from trans desired _ _ comes is
+  htcp_comes_does from trans now (content.ClrAnswer code) comes is = silent
+  htcp_comes_does from trans now (content.Other opcode desired) comes is = if_desired_does desired from _ tt
+  htcp_comes_does from trans now (content.Overall opcode code) comes is = tst_refused_does from trans opcode now
+  htcp_comes_does from trans now (content.OtherAnswer opcode code) comes is = tst_refused_does from trans opcode now
+
+  datagram_does : (from : Address) (now : ℕ) (m : Message) → ComesFrom e from → purge_in g e ≡ purge_in_message g from m → Does (datagram g s from now mark m)
+  unfolding datagram
+  datagram_does from now (message.Icp m) comes is = icp_comes_does from m now m.op
+  datagram_does from now (message.Htcp m) comes is = htcp_comes_does from m.trans now m.content comes is
+
+-- The whole step
+
+module _ {X : Type 0} (g : Setting) (s : NodeState X) (mark : X) where
+  open_step_does : s.closed ≡ false → (e : Event X) → Effect g s e mark (open_step g s mark e)
+  unfolding open_step peer_answer foreign_answer origin_answer fetch_failed round_expired
+  open_step_does is_open (event.Client ask now) = ask_comes_does g s _ mark is_open None ask now
+  open_step_does is_open (event.Datagram from message now) = datagram_does g s _ mark from now message refl refl
+  open_step_does is_open (event.PeerAsk asker ask now) = ask_comes_does g s _ mark is_open (Some asker) ask now
+  open_step_does is_open (event.PeerAnswer serial peer key answer tag now) =
+      branches (Effect g s _ mark) (is_foreign_id peer) _ _ (λ _. refused g s _ mark _ tt)
+      (λ _. peer_answer_to_does g s _ mark is_open serial key peer _ answer tag now (λ p c h. h) _ refl)
+  open_step_does is_open (event.OriginAnswer serial key answer now) = origin_answer_to_does g s _ mark is_open serial key answer now (λ p c h. h) _ refl
+  open_step_does is_open (event.ForeignAnswer serial peer key answer tag now) =
+      branches (Effect g s _ mark) (is_foreign_id peer) _ _
+      (λ _. peer_answer_to_does g s _ mark is_open serial key peer 0 answer tag now (λ p c h. h) _ refl) (λ _. refused g s _ mark _ tt)
+  open_step_does is_open (event.FetchFailed serial now) = failure_of_does g s _ mark now _
+  open_step_does is_open (event.Expired serial now) = expiry_of_does g s _ mark _ now _ refl
+
+  step_if_does : (e : Event X) (closed : Bool) → s.closed ≡ closed → Effect g s e mark (step_if g s e mark closed)
+  unfolding step_if
+  step_if_does e true is = refused g s e mark _ tt
+  step_if_does e false is = open_step_does is e
+
+  pub step_does : (e : Event X) → Effect g s e mark (step g s e mark)
+  unfolding step
+  step_does e = step_if_does e s.closed refl

@@ -1,0 +1,124 @@
+-- The steps of a node are lawful: from the five effects, and for a fault from the floors that it leaves.
+use Rattle.std.proofs.Common.{◌≡◌, ℕ, ◌≤◌, max, false, List, [], Option, Some, None, Result, Ok, Err, refl, sym, ◌∙◌, ap, subst, inl, inr, arith}
+use Rattle.std.specs.List.{AllByRecursion, Contains}
+use Rattle.std.proofs.lemmas.Option.{none-some}
+use Rattle.object_store.specs.declared.copy.WebCopy.{WebCopy}
+use Rattle.node_rules.specs.declared.state.NodeState.{NodeState}
+use Rattle.node_rules.specs.declared.event.Event.{Event}
+use Rattle.node_rules.specs.declared.reply.Reply.{Reply}
+use Rattle.node_rules.specs.declared.reply.StepFault.{StepFault}
+use Rattle.node_rules.specs.declared.reply.StepFault.TheVariants as fault
+use Rattle.purge_numbers.specs.Floors.{floor, seen, raised}
+use Rattle.object_store.specs.Copy.{is_of}
+use Rattle.object_store.specs.Listed.{copy_of}
+use Rattle.node_rules.specs.State.{Setting, Stepped}
+use Rattle.node_rules.specs.Step.{step}
+use Rattle.node_rules.specs.Relation.{Steps, Closes, ClosesOn, purge_in}
+use Rattle.node_rules.specs.Effect.{copy_served, ServesBareStatus, IsOwnFault, sent, IsObedient, IsReadOf, Keeps, Effect, Stays, Serves, Brings, Purges, Drops}
+use Rattle.node_rules.specs.Lawful.{number_of_purge, HasOrGets, Lawful}
+use Rattle.node_rules.proofs.Cases.{same_Some}
+use Rattle.node_rules.proofs.Pendings.{all_mapped, all_contained, all_under_way, still_reads, found_passes}
+use Rattle.node_rules.proofs.Stores.{found, all_kept, all_to_front, all_stored}
+use Rattle.node_rules.proofs.FloorLaws.{same_text, seen-raise}
+use Rattle.node_rules.proofs.Effects.{step_does}
+use Rattle.node_rules.proofs.Stepping.{steps_case, floors_never_fall, closing_closes}
+use Rattle.node_rules.proofs.Questions.{sibling_begins_nothing}
+
+-- A copy that is found
+
+copy_key : {X : Type 0} (key : List ℕ) (copies : List (WebCopy X)) (c : WebCopy X) → copy_of key copies ≡ Some c → c.key ≡ key
+copy_key key copies c e = same_text c.key key (found_passes (is_of key) copies c e)
+
+-- The facts, effect by effect
+
+module _ {X : Type 0} (g : Setting) (s : NodeState X) (e : Event X) (mark : X) where
+  has_held : s.closed ≡ false → AllByRecursion (HasOrGets s e) s.copies
+  has_held is_open = all_mapped (Contains s.copies) (HasOrGets s e) (λ c has. (is_open, inl has)) s.copies (all_contained s.copies)
+
+  effect_keeps : (r : Stepped X) → Effect g s e mark r → Keeps g s e mark r
+  effect_keeps r (Stays pending next outcome none keeps) = keeps
+  effect_keeps r (Serves key c pending next outcome is_open h is keeps) = keeps
+  effect_keeps r (Brings c life pending next outcome is_open came h is keeps) = keeps
+  effect_keeps r (Purges key n pending next outcome purge none keeps) = keeps
+  effect_keeps r (Drops key pending next outcome none keeps) = keeps
+
+  effect_seen : (r : Stepped X) → Effect g s e mark r → seen r.state.floors ≤ max (seen s.floors) (number_of_purge (purge_in g e))
+  effect_seen r (Stays pending next outcome none keeps) = omega arith
+  effect_seen r (Serves key c pending next outcome is_open h is keeps) = omega arith
+  effect_seen r (Brings c life pending next outcome is_open came h is keeps) = omega arith
+  effect_seen r (Purges key n pending next outcome purge none keeps) = subst (λ o. seen (raised s.floors key n) ≤ max (seen s.floors) (number_of_purge o)) (sym purge) (seen-raise s.floors key n)
+  effect_seen r (Drops key pending next outcome none keeps) = omega arith
+
+  effect_held : (r : Stepped X) → Effect g s e mark r → r.state.closed ≡ false → AllByRecursion (HasOrGets s e) r.state.copies
+  effect_held r (Stays pending next outcome none keeps) is_open = has_held is_open
+  effect_held r (Serves key c pending next outcome was_open h is keeps) is_open = all_to_front (HasOrGets s e) key s.copies (has_held is_open)
+  effect_held r (Brings c life pending next outcome was_open came h is keeps) is_open = all_stored (HasOrGets s e) g.roster.limits c life s.copies (is_open, inr came) (has_held is_open)
+  effect_held r (Purges key n pending next outcome purge none keeps) is_open = all_kept (HasOrGets s e) _ s.copies (has_held is_open)
+  effect_held r (Drops key pending next outcome none keeps) is_open = all_kept (HasOrGets s e) _ s.copies (has_held is_open)
+
+  effect_serves : (r : Stepped X) → Effect g s e mark r → (c : WebCopy X) → copy_served r.outcome ≡ Some c → HasOrGets s e c
+  effect_serves r (Stays pending next outcome none keeps) c is = absurd (none-some c (sym none ∙ is))
+  effect_serves r (Serves key d pending next outcome is_open h e keeps) c is = subst (HasOrGets s _) (same_Some d c (sym e ∙ is)) (found (HasOrGets s _) (is_of key) s.copies d (has_held is_open) h.0)
+  effect_serves r (Brings d life pending next outcome is_open came h e keeps) c is = subst (HasOrGets s _) (same_Some d c (sym e ∙ is)) (is_open, inr came)
+  effect_serves r (Purges key n pending next outcome purge none keeps) c is = absurd (none-some c (sym none ∙ is))
+  effect_serves r (Drops key pending next outcome none keeps) c is = absurd (none-some c (sym none ∙ is))
+
+  effect_current : (r : Stepped X) → Effect g s e mark r → (c : WebCopy X) → copy_served r.outcome ≡ Some c → floor r.state.floors c.key ≤ c.stamp
+  effect_current r (Stays pending next outcome none keeps) c is = absurd (none-some c (sym none ∙ is))
+  effect_current r (Serves key d pending next outcome is_open h e keeps) c is =
+      subst (λ (d : WebCopy X). floor s.floors d.key ≤ d.stamp) (same_Some d c (sym e ∙ is)) (subst (λ u. floor s.floors u ≤ d.stamp) (sym (copy_key key s.copies d h.0)) h.1)
+  effect_current r (Brings d life pending next outcome is_open came h e keeps) c is = subst (λ (d : WebCopy X). floor s.floors d.key ≤ d.stamp) (same_Some d c (sym e ∙ is)) h
+  effect_current r (Purges key n pending next outcome purge none keeps) c is = absurd (none-some c (sym none ∙ is))
+  effect_current r (Drops key pending next outcome none keeps) c is = absurd (none-some c (sym none ∙ is))
+
+  -- Closing faults
+
+  closed_on_seen : (o : Option (List ℕ × ℕ)) (next : NodeState X) → ClosesOn s o next → seen next.floors ≤ max (seen s.floors) (number_of_purge o)
+  closed_on_seen None next h = absurd h
+  closed_on_seen (Some x) next h = elim h.floors [
+    | inl same ↦ subst (λ rows. seen rows ≤ max (seen s.floors) x.1) (sym same) (omega arith)
+    | inr raised ↦ subst (λ rows. seen rows ≤ max (seen s.floors) x.1) (sym raised) (seen-raise s.floors x.0 x.1)
+  ]
+
+  closed_on_pending : (o : Option (List ℕ × ℕ)) (next : NodeState X) → ClosesOn s o next → next.pending ≡ []
+  closed_on_pending None next h = absurd h
+  closed_on_pending (Some x) next h = h.pending
+
+  closes_reads : (next : NodeState X) (f : StepFault) → Closes g s e next → AllByRecursion (IsReadOf s mark (Err f)) next.pending
+  closes_reads next f h = subst (λ pending. AllByRecursion (IsReadOf s mark (Err f)) pending) (sym (closed_on_pending (purge_in g e) next h.1)) tt
+
+  -- The whole relation
+
+  module _ (outcome : Result (Reply X) StepFault) (next : NodeState X) (steps : Steps g s e mark outcome next) where
+    keeps : Keeps g s e mark (step g s e mark)
+    keeps = effect_keeps (step g s e mark) (step_does g s mark e)
+
+    pub steps_are_lawful : Lawful g s e mark outcome next
+    steps_are_lawful = record {
+      floors = λ key. floors_never_fall g s e mark outcome next key steps;
+      seen_bound = steps_case g s e mark (λ r. seen r.state.floors ≤ max (seen s.floors) (number_of_purge (purge_in g e)))
+          (effect_seen _ (step_does g s mark e)) (omega arith) (λ n f h. closed_on_seen (purge_in g e) n h.1) outcome next steps;
+      held = steps_case g s e mark (λ r. r.state.closed ≡ false → AllByRecursion (HasOrGets s e) r.state.copies)
+          (effect_held _ (step_does g s mark e)) has_held (λ n f h is_open. absurd (closing_closes g s e mark (purge_in g e) n h.1 is_open)) outcome next steps;
+      reads = steps_case g s e mark (λ r. AllByRecursion (IsReadOf s mark r.outcome) r.state.pending) keeps.reads (still_reads s mark _ s.pending (all_under_way s)) closes_reads outcome next steps;
+      serves = steps_case g s e mark (λ r. (c : WebCopy X) → copy_served r.outcome ≡ Some c → HasOrGets s e c)
+          (effect_serves _ (step_does g s mark e)) (λ c is. absurd (none-some c is)) (λ n f h c is. absurd (none-some c is)) outcome next steps;
+      current = steps_case g s e mark (λ r. (c : WebCopy X) → copy_served r.outcome ≡ Some c → floor r.state.floors c.key ≤ c.stamp)
+          (effect_current _ (step_does g s mark e)) (λ c is. absurd (none-some c is)) (λ n f h c is. absurd (none-some c is)) outcome next steps;
+      statuses = steps_case g s e mark (λ r. ServesBareStatus r.outcome) keeps.statuses tt (λ n f h. tt) outcome next steps;
+      acknowledges = steps_case g s e mark (λ r. AllByRecursion (IsObedient g e r.state.floors) (sent r.outcome)) keeps.acknowledges tt (λ n f h. tt) outcome next steps;
+      siblings = λ asks. sibling_begins_nothing g s e mark outcome next asks steps;
+    }
+
+-- The function is one way to step
+
+own_steps : {X : Type 0} (g : Setting) (s : NodeState X) (e : Event X) (mark : X) (outcome : Result (Reply X) StepFault) → (step g s e mark).outcome ≡ outcome → IsOwnFault outcome → Steps g s e mark outcome (step g s e mark).state
+own_steps g s e mark (Ok reply) same plain = ap (λ o. record { state = (step g s e mark).state; outcome = o }) same
+own_steps g s e mark (Err fault.Closed) same plain = ap (λ o. record { state = (step g s e mark).state; outcome = o }) same
+own_steps g s e mark (Err fault.UnknownSerial) same plain = ap (λ o. record { state = (step g s e mark).state; outcome = o }) same
+own_steps g s e mark (Err fault.Busy) same plain = ap (λ o. record { state = (step g s e mark).state; outcome = o }) same
+own_steps g s e mark (Err fault.StoreFault) same plain = absurd plain
+own_steps g s e mark (Err fault.NoMemory) same plain = absurd plain
+
+pub step_steps : {X : Type 0} (g : Setting) (s : NodeState X) (e : Event X) (mark : X) → Steps g s e mark (step g s e mark).outcome (step g s e mark).state
+step_steps g s e mark = own_steps g s e mark (step g s e mark).outcome refl (effect_keeps g s e mark (step g s e mark) (step_does g s mark e)).faults

@@ -1,0 +1,12 @@
+pub mod Cases
+pub mod FloorLaws
+pub mod Stores
+pub mod Pendings
+pub mod Effects
+pub mod Kept
+pub mod Stepping
+pub mod Questions
+pub mod Lawful
+pub mod TagLists
+pub mod TagSteps
+pub mod TagRelation

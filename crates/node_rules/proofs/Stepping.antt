@@ -1,0 +1,63 @@
+-- What holds of the function, of an unchanged state and of a closed one holds of the relation.
+use Rattle.std.proofs.Common.{◌≡◌, ℕ, ◌≤◌, false, List, Option, Some, None, Result, Ok, Err, sym, ◌∙◌, subst, inl, inr, arith}
+use Rattle.object_store.specs.declared.copy.WebCopy.{WebCopy}
+use Rattle.node_rules.specs.declared.state.NodeState.{NodeState}
+use Rattle.node_rules.specs.declared.event.Event.{Event}
+use Rattle.node_rules.specs.declared.reply.Reply.{Reply}
+use Rattle.node_rules.specs.declared.reply.StepFault.{StepFault}
+use Rattle.node_rules.specs.declared.reply.StepFault.TheVariants as fault
+use Rattle.purge_numbers.specs.Floors.{floor}
+use Rattle.node_rules.specs.State.{Setting, Stepped}
+use Rattle.node_rules.specs.Step.{step}
+use Rattle.node_rules.specs.Effect.{copy_served}
+use Rattle.node_rules.specs.Good.{AllAbove, IsAbove, AreStored}
+use Rattle.node_rules.specs.Relation.{Steps, Closes, ClosesOn, purge_in}
+use Rattle.node_rules.proofs.FloorLaws.{raise_rises}
+use Rattle.node_rules.proofs.Effects.{step_does}
+use Rattle.node_rules.proofs.Kept.{floors_rise, above_kept, served_above, store_kept}
+use Rattle.std.proofs.lemmas.Option.{none-some}
+use Rattle.node_rules.proofs.Cases.{true_not_false}
+
+module _ {X : Type 0} (g : Setting) (s : NodeState X) (e : Event X) (mark : X) where
+  pub steps_case : (P : Stepped X → Type 0) → P (step g s e mark) → P record { state = s; outcome = Err fault.NoMemory } → ((next : NodeState X) (f : StepFault) → Closes g s e next → P record { state = next; outcome = Err f }) → (outcome : Result (Reply X) StepFault) (next : NodeState X) → Steps g s e mark outcome next → P record { state = next; outcome = outcome }
+  steps_case P stepped same closes (Ok reply) next is = subst P is stepped
+  steps_case P stepped same closes (Err fault.Closed) next is = subst P is stepped
+  steps_case P stepped same closes (Err fault.UnknownSerial) next is = subst P is stepped
+  steps_case P stepped same closes (Err fault.Busy) next is = subst P is stepped
+  steps_case P stepped same closes (Err fault.StoreFault) next is = closes next fault.StoreFault is
+  steps_case P stepped same closes (Err fault.NoMemory) next is = elim is [
+    | inl h ↦ subst (λ n. P record { state = n; outcome = Err fault.NoMemory }) (sym h.1) same
+    | inr h ↦ closes next fault.NoMemory h
+  ]
+
+  closed_on_rises : (o : Option (List ℕ × ℕ)) (next : NodeState X) (u : List ℕ) → ClosesOn s o next → floor s.floors u ≤ floor next.floors u
+  closed_on_rises None next u h = absurd h
+  closed_on_rises (Some x) next u h = elim h.floors [
+    | inl same ↦ subst (λ rows. floor s.floors u ≤ floor rows u) (sym same) (omega arith)
+    | inr raised ↦ subst (λ rows. floor s.floors u ≤ floor rows u) (sym raised) (raise_rises s.floors x.0 u x.1)
+  ]
+
+  pub floors_never_fall : (outcome : Result (Reply X) StepFault) (next : NodeState X) (u : List ℕ) → Steps g s e mark outcome next → floor s.floors u ≤ floor next.floors u
+  floors_never_fall outcome next u =
+      steps_case (λ r. floor s.floors u ≤ floor r.state.floors u)
+      (floors_rise g s e mark _ (step_does g s mark e) u) (omega arith) (λ n f h. closed_on_rises (purge_in g e) n u h.1) outcome next
+
+  -- a node that closes is closed
+  pub closing_closes : (o : Option (List ℕ × ℕ)) (next : NodeState X) → ClosesOn s o next → next.closed ≡ false → ⊥
+  closing_closes None next h is_open = h
+  closing_closes (Some x) next h is_open = true_not_false (sym h.closed ∙ is_open)
+
+  pub stays_above : (outcome : Result (Reply X) StepFault) (next : NodeState X) → AllAbove s → Steps g s e mark outcome next → next.closed ≡ false → AllAbove next
+  stays_above outcome next all =
+      steps_case (λ r. r.state.closed ≡ false → AllAbove r.state)
+      (λ _. above_kept g s e mark _ (step_does g s mark e) all) (λ _. all) (λ n f h is_open. absurd (closing_closes (purge_in g e) n h.1 is_open)) outcome next
+
+  pub serves_above : (outcome : Result (Reply X) StepFault) (next : NodeState X) → AllAbove s → Steps g s e mark outcome next → (c : WebCopy X) → copy_served outcome ≡ Some c → IsAbove next.floors c
+  serves_above outcome next all =
+      steps_case (λ r. (c : WebCopy X) → copy_served r.outcome ≡ Some c → IsAbove r.state.floors c)
+      (served_above g s e mark _ (step_does g s mark e) all) (λ c is. absurd (none-some c is)) (λ n f h c is. absurd (none-some c is)) outcome next
+
+  pub stays_store : (outcome : Result (Reply X) StepFault) (next : NodeState X) → AreStored g.roster.limits s.copies → Steps g s e mark outcome next → next.closed ≡ false → AreStored g.roster.limits next.copies
+  stays_store outcome next is =
+      steps_case (λ r. r.state.closed ≡ false → AreStored g.roster.limits r.state.copies)
+      (λ _. store_kept g s e mark _ (step_does g s mark e) is) (λ _. is) (λ n f h is_open. absurd (closing_closes (purge_in g e) n h.1 is_open)) outcome next

@@ -1,0 +1,35 @@
+-- The relation too never looks at tags.
+use Rattle.std.proofs.Common.{◌≡◌, ℕ, List, map, Option, Some, None, Result, Ok, Err, refl, sym, ◌∙◌, ap, subst, inl, inr}
+use Rattle.node_rules.specs.declared.state.NodeState.{NodeState}
+use Rattle.node_rules.specs.declared.event.Event.{Event}
+use Rattle.node_rules.specs.declared.event.Event.TheVariants as event
+use Rattle.node_rules.specs.declared.reply.Reply.{Reply}
+use Rattle.node_rules.specs.declared.reply.StepFault.{StepFault}
+use Rattle.node_rules.specs.declared.reply.StepFault.TheVariants as fault
+use Rattle.node_rules.specs.State.{Setting}
+use Rattle.node_rules.specs.Relation.{Steps, Closes, ClosesOn, purge_in}
+use Rattle.node_rules.specs.Tags.{retag_pending, retag_state, retag_event, retag_outcome, retag_stepped}
+use Rattle.node_rules.proofs.TagSteps.{step-retag}
+
+module _ {X Y : Type 0} (f : X → Y) (g : Setting) (s : NodeState X) where
+  purge_in-retag : (e : Event X) → purge_in g (retag_event f e) ≡ purge_in g e
+  purge_in-retag (event.Datagram from message now) = refl
+  purge_in-retag _ = refl
+
+  closes_on-retag : (o : Option (List ℕ × ℕ)) (next : NodeState X) → ClosesOn s o next → ClosesOn (retag_state f s) o (retag_state f next)
+  closes_on-retag None next h = h
+  closes_on-retag (Some x) next h = record { closed = h.closed; pending = ap (map (retag_pending f)) h.pending; floors = h.floors }
+
+  closes-retag : (e : Event X) (next : NodeState X) → Closes g s e next → Closes g (retag_state f s) (retag_event f e) (retag_state f next)
+  closes-retag e next h = (h.0, subst (λ o. ClosesOn (retag_state f s) o (retag_state f next)) (sym (purge_in-retag e)) (closes_on-retag (purge_in g e) next h.1))
+
+  pub steps-retag : (e : Event X) (mark : X) (outcome : Result (Reply X) StepFault) (next : NodeState X) → Steps g s e mark outcome next → Steps g (retag_state f s) (retag_event f e) (f mark) (retag_outcome f outcome) (retag_state f next)
+  steps-retag e mark (Ok reply) next is = step-retag f g s e mark ∙ ap (retag_stepped f) is
+  steps-retag e mark (Err fault.Closed) next is = step-retag f g s e mark ∙ ap (retag_stepped f) is
+  steps-retag e mark (Err fault.UnknownSerial) next is = step-retag f g s e mark ∙ ap (retag_stepped f) is
+  steps-retag e mark (Err fault.Busy) next is = step-retag f g s e mark ∙ ap (retag_stepped f) is
+  steps-retag e mark (Err fault.StoreFault) next is = closes-retag e next is
+  steps-retag e mark (Err fault.NoMemory) next is = elim is [
+    | inl h ↦ inl (h.0, ap (retag_state f) h.1)
+    | inr h ↦ inr (closes-retag e next h)
+  ]

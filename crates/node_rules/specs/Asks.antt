@@ -1,0 +1,82 @@
+-- A client's or a member's ask comes.
+use Rattle.std.specs.Prelude.{ℕ, ◌+◌, ◌*◌, Bool, false, ◌||◌, nat_le, nat_lt, List, [], ◌∷◌, length, Option, Some, None, option_map, if◌then◌else◌}
+use Rattle.std.specs.List.{filter_map}
+use Rattle.peer_fetch.specs.declared.ask.Ask.{Ask}
+use Rattle.object_store.specs.declared.copy.WebCopy.{WebCopy}
+use Rattle.object_store.specs.Listed.{to_front}
+use Rattle.purge_numbers.specs.Floors.{floor}
+use Rattle.roster_tables.specs.declared.plain.Peer.{Peer}
+use Rattle.roster.specs.Lookups.{peers_of, names_sibling, address_by}
+use Rattle.peer_chooser.specs.Round.{RoundText, started}
+use Rattle.node_rules.specs.declared.message.Outgoing.{Outgoing}
+use Rattle.node_rules.specs.declared.state.Fetch.TheVariants.{Nowhere}
+use Rattle.node_rules.specs.declared.state.Pending.{Pending}
+use Rattle.node_rules.specs.declared.state.NodeState.{NodeState}
+use Rattle.node_rules.specs.declared.reply.Served.TheVariants.{Copy, Status}
+use Rattle.node_rules.specs.declared.reply.Begin.TheVariants as begin
+use Rattle.node_rules.specs.declared.reply.StepFault.TheVariants.{Busy}
+use Rattle.node_rules.specs.Messages.{to, query}
+use Rattle.node_rules.specs.Known.{cache_of}
+use Rattle.node_rules.specs.State.{Setting, Stepped, replies, refuses, serving, with_copies, adding, good_copy, served_age}
+use Rattle.node_rules.specs.Fetching.{read_origin}
+
+abbrev pub is_siblings_ask : Setting → Option ℕ → Bool
+is_siblings_ask g None = false
+is_siblings_ask g (Some asker) = names_sibling g.roster asker g.id
+
+-- an ask that may be answered from the store alone: it says so (RFC 9111, section 5.2.1.7), or its asker's entry names this node a sibling (RFC 2187, section 1)
+abbrev pub is_cached_only : Setting → Option ℕ → Ask → Bool
+is_cached_only g asker ask = ask.only_if_cached || is_siblings_ask g asker
+
+-- 1,024 asks wait, or no block of serials is left
+abbrev pub is_busy : {X : Type 0} → NodeState X → Bool
+is_busy s = nat_le 1024 (length s.pending) || nat_lt 134217727 s.next
+
+abbrev pub takes_block : {X : Type 0} → NodeState X → NodeState X
+takes_block s = record { floors = s.floors; copies = s.copies; pending = s.pending; next = s.next + 1; closed = s.closed }
+
+abbrev pub new_ask : {X : Type 0} → ℕ → Option ℕ → Ask → Option RoundText → Pending X
+new_ask block asker ask round = record { block = block; asker = asker; ask = ask; round = round; tried = []; fetches = 0; reads = 0; fetch = Nowhere }
+
+abbrev pub query_to : Setting → ℕ → List ℕ → Peer → Option Outgoing
+query_to g serial key p = option_map (λ c. to (address_by p.by c) (query p.by serial key)) (cache_of g.roster p.id)
+
+-- the peers are asked in the roster's order
+unfoldable pub begin_round : {X : Type 0} → Setting → NodeState X → Option ℕ → Ask → ℕ → RoundText → Stepped X
+begin_round g s asker ask block round =
+    replies (adding s (new_ask block asker ask (Some round)))
+    record { serve = None; send = filter_map (query_to g (32 * block) ask.key) round.asked; begin = Some (begin.Round (32 * block)) }
+
+-- without anybody to ask the origin is read
+unfoldable pub ask_around : {X : Type 0} → Setting → NodeState X → Option ℕ → Ask → ℕ → ℕ → X → RoundText → List Peer → Stepped X
+ask_around g s asker ask block now mark round [] =
+    let p = new_ask block asker ask None in read_origin g (adding s p) p None now mark
+ask_around g s asker ask block now mark round (peer ∷ peers) = begin_round g s asker ask block round
+
+-- nobody is asked for a stored answer where the ask wants none
+abbrev pub peers_to_ask : Setting → Ask → List Peer
+peers_to_ask g ask = if ask.no_cache then [] else peers_of g.roster g.id
+
+unfoldable pub begin_ask : {X : Type 0} → Setting → NodeState X → Option ℕ → Ask → ℕ → X → Stepped X
+begin_ask g s asker ask now mark =
+    let round = started (peers_to_ask g ask) (floor s.floors ask.key) in
+    ask_around g (takes_block s) asker ask s.next now mark round round.asked
+
+unfoldable pub not_held : {X : Type 0} → Setting → NodeState X → Option ℕ → Ask → ℕ → X → Stepped X
+not_held g s asker ask now mark =
+    if is_cached_only g asker ask
+    then replies s (serving None asker (Status 504))
+    else (if is_busy s then refuses s Busy else begin_ask g s asker ask now mark)
+
+unfoldable pub by_copy : {X : Type 0} → Setting → NodeState X → Option ℕ → Ask → ℕ → X → Option (WebCopy X) → Stepped X
+by_copy g s asker ask now mark (Some c) =
+    replies (with_copies s (to_front ask.key s.copies)) (serving None asker (Copy c (served_age c now)))
+by_copy g s asker ask now mark None = not_held g s asker ask now mark
+
+-- the copy that answers an ask, which may want no stored answer (RFC 9111, section 5.2.1.4)
+abbrev pub copy_for : {X : Type 0} → NodeState X → Ask → ℕ → Option (WebCopy X)
+copy_for s ask now = if ask.no_cache then None else good_copy s ask.key now
+
+-- A held copy is served; else a cached-only ask gets 504 (RFC 9111, section 5.2.1.7); else Busy; else a read or a round begins.
+unfoldable pub ask_comes : {X : Type 0} → Setting → NodeState X → Option ℕ → Ask → ℕ → X → Stepped X
+ask_comes g s asker ask now mark = by_copy g s asker ask now mark (copy_for s ask now)

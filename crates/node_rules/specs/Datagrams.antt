@@ -1,0 +1,223 @@
+-- A datagram comes.
+use Rattle.std.specs.Prelude.{ℕ, Bool, true, false, not, ◌&&◌, ◌||◌, ◌==◌, nat_le, bytes_eq, List, [], ◌∷◌, find, is_some, Option, Some, None, Result, Ok, Err, codes, if◌then◌else◌}
+use Rattle.std.specs.FinMap.{get, len}
+use Rattle.icp_wire.specs.declared.message.Icp.{Icp}
+use Rattle.icp_wire.specs.declared.message.IcpOp.{IcpOp}
+use Rattle.icp_wire.specs.declared.message.IcpOp.TheVariants as op
+use Rattle.htcp_wire.specs.declared.message.Specifier.{Specifier}
+use Rattle.htcp_wire.specs.declared.message.Content.{Content}
+use Rattle.htcp_wire.specs.declared.message.Content.TheVariants as content
+use Rattle.htcp_wire.specs.declared.fault.HtcpFault.{HtcpFault}
+use Rattle.htcp_wire.specs.declared.numbers.HeaderKind.TheVariants.{PurgeNumber, PurgeStamp}
+use Rattle.htcp_wire.specs.Numbers.{number_in_text}
+use Rattle.object_store.specs.declared.copy.WebCopy.{WebCopy}
+use Rattle.object_store.specs.Listed.{copy_of, without, without_below}
+use Rattle.object_store.specs.Held.{is_older_than}
+use Rattle.purge_numbers.specs.Floors.{FloorMap, raised}
+use Rattle.roster_tables.specs.Ranges.{is_foreign_id}
+use Rattle.roster_tables.specs.declared.plain.Address.{Address}
+use Rattle.roster_tables.specs.declared.plain.Udp.{Udp}
+use Rattle.roster_tables.specs.declared.plain.Udp.TheVariants as udp
+use Rattle.roster_tables.specs.declared.plain.Peer.{Peer}
+use Rattle.roster.specs.Lookups.{is_master}
+use Rattle.peer_chooser.specs.declared.said.Said.{Said}
+use Rattle.peer_chooser.specs.declared.said.Said.TheVariants as said
+use Rattle.peer_chooser.specs.Round.{RoundText, has_told, answered}
+use Rattle.node_rules.specs.declared.message.Message.{Message}
+use Rattle.node_rules.specs.declared.message.Message.TheVariants as message
+use Rattle.node_rules.specs.declared.state.Pending.{Pending}
+use Rattle.node_rules.specs.declared.state.NodeState.{NodeState}
+use Rattle.node_rules.specs.Messages.{icp, htcp, to, stamp_line, overall}
+use Rattle.node_rules.specs.Known.{is_peer_at, is_known}
+use Rattle.node_rules.specs.State.{Setting, Stepped, replies, quiet, sending, with_copies, good_copy, round_serial}
+use Rattle.node_rules.specs.Arrivals.{with_round, round_moves}
+
+abbrev pub sends_back : {X : Type 0} → NodeState X → Address → Message → Stepped X
+sends_back s from m = replies s (sending (to from m ∷ []))
+
+-- what is answered only where a response is desired (RFC 2756, "RD")
+abbrev pub if_desired : {X : Type 0} → NodeState X → Bool → Address → Message → Stepped X
+if_desired s true from m = sends_back s from m
+if_desired s false from m = replies s quiet
+
+-- Questions: an ICP QUERY (RFC 2186, "ICP_OP_QUERY"), an HTCP TST (RFC 2756, "TST")
+
+abbrev pub hit_or_miss : {X : Type 0} → Option (WebCopy X) → IcpOp
+hit_or_miss None = op.Miss
+hit_or_miss (Some c) = op.Hit
+
+abbrev pub icp_answer : {X : Type 0} → Bool → NodeState X → ℕ → Option (List ℕ) → IcpOp
+icp_answer false s now key = op.Denied
+icp_answer true s now None = op.Error
+icp_answer true s now (Some key) = hit_or_miss (good_copy s key now)
+
+-- The answer repeats number and URL, and the store keeps its order.
+unfoldable pub icp_query : {X : Type 0} → Setting → NodeState X → Address → Icp → ℕ → Stepped X
+icp_query g s from m now =
+    sends_back s from (icp (icp_answer (is_known g.roster g.id udp.Icp from) s now (g.key_of m.url)) m.number m.url)
+
+abbrev pub tst_hit : ℕ → Content
+tst_hit stamp = content.TstHit record { response_headers = []; entity_headers = []; cache_headers = stamp_line stamp }
+
+abbrev pub tst_answer : {X : Type 0} → Option (WebCopy X) → Content
+tst_answer None = content.TstMiss []
+tst_answer (Some c) = tst_hit c.stamp
+
+abbrev pub copy_at : {X : Type 0} → NodeState X → ℕ → Option (List ℕ) → Option (WebCopy X)
+copy_at s now None = None
+copy_at s now (Some key) = good_copy s key now
+
+-- the copy that a SPECIFIER means, if it may be served: only GET has one
+abbrev pub copy_meant : {X : Type 0} → Setting → NodeState X → Specifier → ℕ → Option (WebCopy X)
+copy_meant g s spec now = if bytes_eq spec.method (codes "GET") then copy_at s now (g.key_of spec.uri) else None
+
+unfoldable pub htcp_tst : {X : Type 0} → Setting → NodeState X → Address → ℕ → Bool → Specifier → ℕ → Stepped X
+htcp_tst g s from trans desired spec now =
+    if_desired s desired from
+    (if is_known g.roster g.id udp.Htcp from then htcp trans (tst_answer (copy_meant g s spec now)) else overall trans 1 5)
+
+-- Answers of peers to a round
+
+-- the peer of a round that is asked by this protocol at this address
+abbrev pub peer_at : Setting → Udp → Address → Option RoundText → Option Peer
+peer_at g by from None = None
+peer_at g by from (Some r) = find (is_peer_at g.roster by from) r.asked
+
+-- a peer's later answers change nothing
+unfoldable pub hears : {X : Type 0} → Setting → NodeState X → Pending X → Peer → Said → ℕ → X → Option RoundText → Stepped X
+hears g s p peer said now mark None = replies s quiet
+hears g s p peer said now mark (Some r) =
+    if has_told r.told peer.id
+    then replies s quiet
+    else round_moves g s (with_round p (answered r peer.id said)) now mark
+
+unfoldable pub told_by : {X : Type 0} → Setting → NodeState X → Pending X → (Peer → Said) → ℕ → X → Option Peer → Stepped X
+told_by g s p said now mark None = replies s quiet
+told_by g s p said now mark (Some peer) = hears g s p peer (said peer) now mark p.round
+
+unfoldable pub told_to : {X : Type 0} → Setting → NodeState X → Udp → Address → (Peer → Said) → ℕ → X → Option (Pending X) → Stepped X
+told_to g s by from said now mark None = replies s quiet
+told_to g s by from said now mark (Some p) = told_by g s p said now mark (peer_at g by from p.round)
+
+abbrev pub is_key : Option (List ℕ) → List ℕ → Bool
+is_key None key = false
+is_key (Some read) key = bytes_eq read key
+
+-- an object that comes with a hit is not used
+abbrev pub icp_said : IcpOp → Said
+icp_said op.Hit = said.Hit None
+icp_said op.HitObj = said.Hit None
+icp_said op.Miss = said.Miss
+icp_said op.Query = said.NoFetch
+icp_said op.Error = said.NoFetch
+icp_said op.MissNoFetch = said.NoFetch
+icp_said op.Denied = said.NoFetch
+
+-- It counts for a pending round of its number whose ask has its key.
+unfoldable pub icp_told : {X : Type 0} → Setting → NodeState X → Address → Icp → ℕ → X → Stepped X
+icp_told g s from m now mark =
+    told_to g s udp.Icp from (λ p. icp_said m.op) now mark
+    (find (λ p. (round_serial p == m.number) && is_key (g.key_of m.url) p.ask.key) s.pending)
+
+-- a bad stamp line tells no stamp
+abbrev pub stamp_in : Result (Option ℕ) HtcpFault → Option ℕ
+stamp_in (Ok stamp) = stamp
+stamp_in (Err fault) = None
+
+-- only a member's stamp line is trusted
+abbrev pub tst_hit_said : List ℕ → Peer → Said
+tst_hit_said headers p = said.Hit (if is_foreign_id p.id then None else stamp_in (number_in_text headers PurgeStamp))
+
+unfoldable pub htcp_told : {X : Type 0} → Setting → NodeState X → Address → ℕ → (Peer → Said) → ℕ → X → Stepped X
+htcp_told g s from trans said now mark =
+    told_to g s udp.Htcp from said now mark (find (λ p. round_serial p == trans) s.pending)
+
+-- Purges: an HTCP CLR (RFC 2756, "CLR")
+
+-- 0: it was held and is gone; 2: it was not held
+abbrev pub clr_code : Bool → ℕ
+clr_code true = 0
+clr_code false = 2
+
+-- a CLR that is not allowed
+abbrev pub clr_refused : {X : Type 0} → NodeState X → Address → ℕ → Bool → Stepped X
+clr_refused s from trans desired = if_desired s desired from (overall trans 4 5)
+
+abbrev pub clr_done : {X : Type 0} → NodeState X → Address → ℕ → Bool → Bool → Stepped X
+clr_done s from trans desired dropped = if_desired s desired from (htcp trans (content.ClrAnswer (clr_code dropped)))
+
+-- 65,536 keys have floors, and this one has none
+abbrev pub is_full : FloorMap → List ℕ → Bool
+is_full floors key = nat_le 65536 (len floors) && not (is_some (get floors key))
+
+-- a purge leaves no copy of its key below it
+abbrev pub purged : {X : Type 0} → NodeState X → List ℕ → ℕ → NodeState X
+purged s key n = record { floors = raised s.floors key n; copies = without_below key n s.copies; pending = s.pending; next = s.next; closed = s.closed }
+
+-- the floor is raised and committed before the copy goes and the answer is sent
+unfoldable pub purge : {X : Type 0} → NodeState X → Address → ℕ → Bool → List ℕ → ℕ → Stepped X
+purge s from trans desired key n =
+    if is_full s.floors key
+    then clr_refused s from trans desired
+    else clr_done (purged s key n) from trans desired (is_older_than n (copy_of key s.copies))
+
+-- a good numbered CLR, the key and the number that it purges: it comes from the master, its URI is a key, and its number is its TRANS-ID and at least 1
+abbrev pub purge_of : Setting → Address → ℕ → Option (List ℕ) → ℕ → Option (List ℕ × ℕ)
+purge_of g from trans None n = None
+purge_of g from trans (Some key) n =
+    if is_master g.roster from && (n == trans) && nat_le 1 n then Some (key, n) else None
+
+unfoldable pub numbered_clr : {X : Type 0} → NodeState X → Address → ℕ → Bool → Option (List ℕ × ℕ) → Stepped X
+numbered_clr s from trans desired None = clr_refused s from trans desired
+numbered_clr s from trans desired (Some x) = purge s from trans desired x.0 x.1
+
+abbrev pub held : {X : Type 0} → NodeState X → Option (List ℕ) → Bool
+held s None = false
+held s (Some key) = is_some (copy_of key s.copies)
+
+abbrev pub dropped : {X : Type 0} → NodeState X → Option (List ℕ) → NodeState X
+dropped s None = s
+dropped s (Some key) = with_copies s (without key s.copies)
+
+-- without a number line the copy goes whatever its stamp, and floors stay
+unfoldable pub plain_clr : {X : Type 0} → Setting → NodeState X → Address → ℕ → Bool → Option (List ℕ) → Stepped X
+plain_clr g s from trans desired key =
+    if is_known g.roster g.id udp.Htcp from || is_master g.roster from
+    then clr_done (dropped s key) from trans desired (held s key)
+    else clr_refused s from trans desired
+
+unfoldable pub clr_by_line : {X : Type 0} → Setting → NodeState X → Address → ℕ → Bool → Option (List ℕ) → Result (Option ℕ) HtcpFault → Stepped X
+clr_by_line g s from trans desired key (Ok None) = plain_clr g s from trans desired key
+clr_by_line g s from trans desired key (Ok (Some n)) = numbered_clr s from trans desired (purge_of g from trans key n)
+clr_by_line g s from trans desired key (Err fault) = clr_refused s from trans desired
+
+unfoldable pub htcp_clr : {X : Type 0} → Setting → NodeState X → Address → ℕ → Bool → Specifier → Stepped X
+htcp_clr g s from trans desired spec =
+    clr_by_line g s from trans desired (g.key_of spec.uri) (number_in_text spec.request_headers PurgeNumber)
+
+-- All messages
+
+unfoldable pub icp_comes : {X : Type 0} → Setting → NodeState X → Address → Icp → ℕ → X → IcpOp → Stepped X
+icp_comes g s from m now mark op.Query = icp_query g s from m now
+icp_comes g s from m now mark _ = icp_told g s from m now mark
+
+-- an answer to a TST that was not answered as TST says
+unfoldable pub tst_refused : {X : Type 0} → Setting → NodeState X → Address → ℕ → ℕ → ℕ → X → Stepped X
+tst_refused g s from trans opcode now mark =
+    if opcode == 1 then htcp_told g s from trans (λ p. said.NoFetch) now mark else replies s quiet
+
+unfoldable pub htcp_comes : {X : Type 0} → Setting → NodeState X → Address → ℕ → ℕ → X → Content → Stepped X
+htcp_comes g s from trans now mark (content.NopAsk desired) = if_desired s desired from (htcp trans content.NopAnswer)
+htcp_comes g s from trans now mark content.NopAnswer = replies s quiet
+htcp_comes g s from trans now mark (content.TstAsk desired spec) = htcp_tst g s from trans desired spec now
+htcp_comes g s from trans now mark (content.TstHit detail) = htcp_told g s from trans (tst_hit_said detail.cache_headers) now mark
+htcp_comes g s from trans now mark (content.TstMiss cache) = htcp_told g s from trans (λ p. said.Miss) now mark
+htcp_comes g s from trans now mark (content.ClrAsk desired reason spec) = htcp_clr g s from trans desired spec
+htcp_comes g s from trans now mark (content.ClrAnswer code) = replies s quiet
+htcp_comes g s from trans now mark (content.Other opcode desired) = if_desired s desired from (overall trans opcode 2)
+htcp_comes g s from trans now mark (content.Overall opcode code) = tst_refused g s from trans opcode now mark
+htcp_comes g s from trans now mark (content.OtherAnswer opcode code) = tst_refused g s from trans opcode now mark
+
+unfoldable pub datagram : {X : Type 0} → Setting → NodeState X → Address → ℕ → X → Message → Stepped X
+datagram g s from now mark (message.Icp m) = icp_comes g s from m now mark m.op
+datagram g s from now mark (message.Htcp m) = htcp_comes g s from m.trans now mark m.content

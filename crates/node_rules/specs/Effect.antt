@@ -1,0 +1,195 @@
+-- What a step does to floors and copies: one of five things. And what it keeps to in each of them.
+use Rattle.std.specs.Prelude.{◌≡◌, ℕ, ◌≤◌, Bool, true, false, ◌==◌, ◌||◌, List, [], Option, Some, None, Result, Ok, Err, ◌⊎◌, unwrap_or, if◌then◌else◌}
+use Rattle.std.specs.List.{AllByRecursion, Contains}
+use Rattle.roster_tables.specs.declared.plain.Address.{Address}
+use Rattle.htcp_wire.specs.declared.message.Content.{Content}
+use Rattle.htcp_wire.specs.declared.message.Content.TheVariants as content
+use Rattle.node_rules.specs.declared.message.Message.{Message}
+use Rattle.node_rules.specs.declared.message.Message.TheVariants as message
+use Rattle.node_rules.specs.declared.message.Outgoing.{Outgoing}
+use Rattle.peer_fetch.specs.Answer.{AnswerText}
+use Rattle.purge_numbers.specs.Floors.{FloorMap}
+use Rattle.object_store.specs.declared.copy.WebCopy.{WebCopy}
+use Rattle.node_rules.specs.declared.state.Fetch.{Fetch}
+use Rattle.node_rules.specs.declared.state.Fetch.TheVariants.{Nowhere, AtPeer, AtOrigin}
+use Rattle.node_rules.specs.declared.state.Pending.{Pending}
+use Rattle.node_rules.specs.declared.state.NodeState.{NodeState}
+use Rattle.node_rules.specs.declared.event.Event.{Event}
+use Rattle.node_rules.specs.declared.event.Event.TheVariants as event
+use Rattle.node_rules.specs.declared.reply.Served.{Served}
+use Rattle.node_rules.specs.declared.reply.Served.TheVariants.{Copy, Status}
+use Rattle.node_rules.specs.declared.reply.Serve.{Serve}
+use Rattle.node_rules.specs.declared.reply.Begin.TheVariants as begin
+use Rattle.node_rules.specs.declared.reply.Reply.{Reply}
+use Rattle.node_rules.specs.declared.reply.StepFault.{StepFault}
+use Rattle.node_rules.specs.declared.reply.StepFault.TheVariants as fault
+use Rattle.purge_numbers.specs.Floors.{floor, seen, raised}
+use Rattle.object_store.specs.Listed.{copy_of, to_front, without, without_below}
+use Rattle.node_rules.specs.State.{Setting, Stepped, fetch_serial}
+use Rattle.node_rules.specs.Fetching.{origin_ask}
+use Rattle.node_rules.specs.Arrivals.{stored, is_gateway_fault}
+use Rattle.node_rules.specs.Relation.{purge_in}
+use Rattle.node_rules.specs.Questions.{begun}
+
+-- What an outcome serves and sends
+
+abbrev pub copy_in : {X : Type 0} → Served X → Option (WebCopy X)
+copy_in (Copy c age) = Some c
+copy_in (Status status) = None
+
+abbrev pub copy_in_serve : {X : Type 0} → Option (Serve X) → Option (WebCopy X)
+copy_in_serve None = None
+copy_in_serve (Some serve) = copy_in serve.served
+
+-- the copy that an outcome serves
+abbrev pub copy_served : {X : Type 0} → Result (Reply X) StepFault → Option (WebCopy X)
+copy_served (Ok reply) = copy_in_serve reply.serve
+copy_served (Err f) = None
+
+-- a bare status is a gateway's fault, 502, 503 or 504 (RFC 9110, section 15.6): a peer does not use it
+abbrev pub IsBareStatus : {X : Type 0} → Served X → Type 0
+IsBareStatus (Copy c age) = Unit {0}
+IsBareStatus (Status status) = is_gateway_fault status ≡ true
+
+abbrev pub IsBareInServe : {X : Type 0} → Option (Serve X) → Type 0
+IsBareInServe None = Unit {0}
+IsBareInServe (Some serve) = IsBareStatus serve.served
+
+abbrev pub ServesBareStatus : {X : Type 0} → Result (Reply X) StepFault → Type 0
+ServesBareStatus (Ok reply) = IsBareInServe reply.serve
+ServesBareStatus (Err f) = Unit {0}
+
+abbrev pub sent : {X : Type 0} → Result (Reply X) StepFault → List Outgoing
+sent (Ok reply) = reply.send
+sent (Err f) = []
+
+-- a fault of the function's own, not of memory or of a store
+abbrev pub IsOwnFault : {X : Type 0} → Result (Reply X) StepFault → Type 0
+IsOwnFault (Ok reply) = Unit {0}
+IsOwnFault (Err fault.Closed) = Unit {0}
+IsOwnFault (Err fault.UnknownSerial) = Unit {0}
+IsOwnFault (Err fault.Busy) = Unit {0}
+IsOwnFault (Err fault.StoreFault) = ⊥
+IsOwnFault (Err fault.NoMemory) = ⊥
+
+-- Acknowledgements
+
+-- the codes of a CLR answer that acknowledge: the copy is gone, or there was none (RFC 2756, section 6.5)
+abbrev pub is_acknowledging : ℕ → Bool
+is_acknowledging code = (code == 0) || (code == 2)
+
+abbrev pub acknowledged_in : ℕ → Content → Option ℕ
+acknowledged_in trans (content.ClrAnswer code) = if is_acknowledging code then Some trans else None
+acknowledged_in trans _ = None
+
+-- the transaction of a CLR that a message acknowledges
+abbrev pub acknowledged : Message → Option ℕ
+acknowledged (message.Icp m) = None
+acknowledged (message.Htcp m) = acknowledged_in m.trans m.content
+
+-- the event is a datagram from this address
+abbrev pub ComesFrom : {X : Type 0} → Event X → Address → Type 0
+ComesFrom (event.Datagram from m now) address = from ≡ address
+ComesFrom _ address = ⊥
+
+-- a purge that the event brings has this number, and the floor of its key is at least the number
+abbrev pub HasRaised : FloorMap → Option (List ℕ × ℕ) → ℕ → Type 0
+HasRaised rows None n = Unit {0}
+HasRaised rows (Some x) n = (x.1 ≡ n) × (n ≤ floor rows x.0)
+
+abbrev pub Acknowledges : {X : Type 0} → Setting → Event X → FloorMap → Address → Option ℕ → Type 0
+Acknowledges g e rows to None = Unit {0}
+Acknowledges g e rows to (Some n) = ComesFrom e to × HasRaised rows (purge_in g e) n
+
+-- an acknowledgement goes to where the event came from, and if that was a numbered CLR of the master, its floor is raised
+abbrev pub IsObedient : {X : Type 0} → Setting → Event X → FloorMap → Outgoing → Type 0
+IsObedient g e rows o = Acknowledges g e rows o.to (acknowledged o.message)
+
+-- Reads
+
+-- the state has an ask with the same fetch, for the same key, under the same serial
+pub record IsUnderWay {X : Type 0} (s : NodeState X) (p : Pending X) : Type 0 where
+  pub was : Pending X
+  pub waits : Contains s.pending was
+  pub fetch : was.fetch ≡ p.fetch
+  pub ask : was.ask ≡ p.ask
+  pub serial : fetch_serial was ≡ fetch_serial p
+
+-- the outcome begins this ask's read, with the greatest number seen as its stamp and the step's mark
+pub record BeginsHere {X : Type 0} (s : NodeState X) (mark : X) (outcome : Result (Reply X) StepFault) (p : Pending X) (stamp : ℕ) (read_mark : X) : Type 0 where
+  pub stamp_seen : stamp ≡ seen s.floors
+  pub mark_same : read_mark ≡ mark
+  pub begins : begun outcome ≡ Some (begin.Read (fetch_serial p) (origin_ask p.ask))
+
+abbrev pub IsReadFrom : {X : Type 0} → NodeState X → X → Result (Reply X) StepFault → Pending X → Fetch X → Type 0
+IsReadFrom s mark outcome p (AtOrigin stamp asked read_mark) = IsUnderWay s p ⊎ BeginsHere s mark outcome p stamp read_mark
+IsReadFrom s mark outcome p (AtPeer peer asked) = Unit {0}
+IsReadFrom s mark outcome p Nowhere = Unit {0}
+
+-- an ask that reads the origin read it before, or begins to with this step
+abbrev pub IsReadOf : {X : Type 0} → NodeState X → X → Result (Reply X) StepFault → Pending X → Type 0
+IsReadOf s mark outcome p = IsReadFrom s mark outcome p p.fetch
+
+-- Where a new copy comes from
+
+-- the ask is fetching under this serial, and for this key
+pub record IsAt {X : Type 0} (serial : ℕ) (key : List ℕ) (p : Pending X) : Type 0 where
+  pub serial_same : fetch_serial p ≡ serial
+  pub key_same : p.ask.key ≡ key
+
+-- an origin's answer has the stamp, the moment and the mark of its read
+pub record IsFromOrigin {X : Type 0} (serial : ℕ) (key : List ℕ) (answer : AnswerText) (p : Pending X) (c : WebCopy X) : Type 0 where
+  pub waits : IsAt serial key p
+  pub reads : p.fetch ≡ AtOrigin c.stamp c.asked c.tag
+  pub key_same : c.key ≡ p.ask.key
+  pub answer_same : c.answer ≡ answer
+
+-- a peer's answer has the moment of its fetch, and comes with its stamp and its tag
+pub record IsFromPeer {X : Type 0} (serial peer : ℕ) (key : List ℕ) (stamp : ℕ) (answer : AnswerText) (tag : X) (p : Pending X) (c : WebCopy X) : Type 0 where
+  pub waits : IsAt serial key p
+  pub fetches : p.fetch ≡ AtPeer peer c.asked
+  pub key_same : c.key ≡ p.ask.key
+  pub stamp_same : c.stamp ≡ stamp
+  pub answer_same : c.answer ≡ answer
+  pub tag_same : c.tag ≡ tag
+  pub status : is_gateway_fault answer.status ≡ false
+
+-- the event answers the ask with this copy: a member's stamp counts, or 0 where it has none; a foreign peer's is 0
+abbrev pub IsAnswerTo : {X : Type 0} → Event X → Pending X → WebCopy X → Type 0
+IsAnswerTo (event.OriginAnswer serial key answer now) p c = IsFromOrigin serial key answer p c
+IsAnswerTo (event.PeerAnswer serial peer key answer tag now) p c = IsFromPeer serial peer key (unwrap_or answer.stamp 0) answer tag p c
+IsAnswerTo (event.ForeignAnswer serial peer key answer tag now) p c = IsFromPeer serial peer key 0 answer tag p c
+IsAnswerTo _ p c = ⊥
+
+-- some ask that waits gets this copy by the event
+abbrev pub IsAnswerOf : {X : Type 0} → NodeState X → Event X → WebCopy X → Type 0
+IsAnswerOf s e c = (p : Pending _) × Contains s.pending p × IsAnswerTo e p c
+
+-- The effects
+
+abbrev pub state_of : {X : Type 0} → FloorMap → List (WebCopy X) → Bool → List (Pending X) → ℕ → NodeState X
+state_of rows copies closed pending next = record { floors = rows; copies = copies; pending = pending; next = next; closed = closed }
+
+-- a good copy of the key is held
+abbrev pub IsHeldAbove : {X : Type 0} → FloorMap → List (WebCopy X) → List ℕ → WebCopy X → Type 0
+IsHeldAbove rows copies key c = (copy_of key copies ≡ Some c) × (floor rows key ≤ c.stamp)
+
+-- what a step keeps to whatever its effect
+pub record Keeps {X : Type 0} (g : Setting) (s : NodeState X) (e : Event X) (mark : X) (r : Stepped X) : Type 0 where
+  pub reads : AllByRecursion (IsReadOf s mark r.outcome) r.state.pending
+  pub statuses : ServesBareStatus r.outcome
+  pub acknowledges : AllByRecursion (IsObedient g e r.state.floors) (sent r.outcome)
+  pub faults : IsOwnFault r.outcome
+
+-- From this state and by this event, a step may lead here.
+pub data Effect {X : Type 0} (g : Setting) (s : NodeState X) (e : Event X) (mark : X) : Stepped X → Type 0 where
+  -- floors and copies stay, and no copy is served
+  Stays : (pending : List (Pending X)) (next : ℕ) (outcome : Result (Reply X) StepFault) → copy_served outcome ≡ None → Keeps g s e mark record { state = state_of s.floors s.copies s.closed pending next; outcome = outcome } → Effect g s e mark record { state = state_of s.floors s.copies s.closed pending next; outcome = outcome }
+  -- a held copy is served by an open node, and comes to the front
+  Serves : (key : List ℕ) (c : WebCopy X) (pending : List (Pending X)) (next : ℕ) (outcome : Result (Reply X) StepFault) → s.closed ≡ false → IsHeldAbove s.floors s.copies key c → copy_served outcome ≡ Some c → Keeps g s e mark record { state = state_of s.floors (to_front key s.copies) s.closed pending next; outcome = outcome } → Effect g s e mark record { state = state_of s.floors (to_front key s.copies) s.closed pending next; outcome = outcome }
+  -- the event brings an open node a copy that is not below its floor: it is served, and stored if it has a lifetime
+  Brings : (c : WebCopy X) (life : Option ℕ) (pending : List (Pending X)) (next : ℕ) (outcome : Result (Reply X) StepFault) → s.closed ≡ false → IsAnswerOf s e c → floor s.floors c.key ≤ c.stamp → copy_served outcome ≡ Some c → Keeps g s e mark record { state = state_of s.floors (stored g.roster.limits c life s.copies) s.closed pending next; outcome = outcome } → Effect g s e mark record { state = state_of s.floors (stored g.roster.limits c life s.copies) s.closed pending next; outcome = outcome }
+  -- the purge that the event brings raises its floor, and no copy stays below it
+  Purges : (key : List ℕ) (n : ℕ) (pending : List (Pending X)) (next : ℕ) (outcome : Result (Reply X) StepFault) → purge_in g e ≡ Some (key, n) → copy_served outcome ≡ None → Keeps g s e mark record { state = state_of (raised s.floors key n) (without_below key n s.copies) s.closed pending next; outcome = outcome } → Effect g s e mark record { state = state_of (raised s.floors key n) (without_below key n s.copies) s.closed pending next; outcome = outcome }
+  -- a copy is dropped
+  Drops : (key : List ℕ) (pending : List (Pending X)) (next : ℕ) (outcome : Result (Reply X) StepFault) → copy_served outcome ≡ None → Keeps g s e mark record { state = state_of s.floors (without key s.copies) s.closed pending next; outcome = outcome } → Effect g s e mark record { state = state_of s.floors (without key s.copies) s.closed pending next; outcome = outcome }

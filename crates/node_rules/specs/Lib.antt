@@ -1,0 +1,17 @@
+-- Reading order: each file stands on those above it.
+pub mod Names
+pub mod Texts
+pub mod Messages
+pub mod Known
+pub mod State
+pub mod Fetching
+pub mod Asks
+pub mod Arrivals
+pub mod Datagrams
+pub mod Step
+pub mod Relation
+pub mod Questions
+pub mod Effect
+pub mod Lawful
+pub mod Good
+pub mod Tags

@@ -1,0 +1,62 @@
+//! Laws of the definitions. Each function does nothing: its clauses are the law.
+ghost use Rattle.std.specs.Prelude.{◌≡◌, ◌≤◌, ℕ, List, Result, Some, true, false};
+ghost use Rattle.object_store.specs.declared.copy.WebCopy.{WebCopy};
+ghost use Rattle.purge_numbers.specs.Floors.{floor};
+ghost use Rattle.node_rules.specs.declared.state.NodeState.{NodeState};
+ghost use Rattle.node_rules.specs.declared.event.Event.{Event};
+ghost use Rattle.node_rules.specs.declared.reply.Reply.{Reply};
+ghost use Rattle.node_rules.specs.declared.reply.StepFault.{StepFault};
+ghost use Rattle.node_rules.specs.State.{Setting};
+ghost use Rattle.node_rules.specs.Step.{step};
+ghost use Rattle.node_rules.specs.Relation.{Steps};
+ghost use Rattle.node_rules.specs.Questions.{is_from_sibling, BeginsNothing};
+ghost use Rattle.node_rules.specs.Effect.{copy_served};
+ghost use Rattle.node_rules.specs.Lawful.{Lawful};
+ghost use Rattle.node_rules.specs.Tags.{retag_state, retag_event, retag_outcome, retag_stepped};
+ghost use Rattle.node_rules.specs.Good.{AllAbove, IsAbove, AreStored};
+
+/// The function is one way to step.
+pub fn the_function_is_a_step<T>()
+    ensures { (g : Setting) (s : NodeState T) (e : Event T) (mark : T) →
+        Steps g s e mark (step g s e mark).outcome (step g s e mark).state }
+{}
+
+/// The floors of a node never fall.
+pub fn floors_never_fall<T>()
+    ensures { (g : Setting) (s : NodeState T) (e : Event T) (mark : T) (outcome : Result (Reply T) StepFault) (next : NodeState T) (key : List ℕ) →
+        Steps g s e mark outcome next → floor s.floors key ≤ floor next.floors key }
+{}
+
+/// Where no copy is below the floor of its key, a step leaves none below it, and serves none below it.
+pub fn copies_stay_above_their_floors<T>()
+    ensures stored { (g : Setting) (s : NodeState T) (e : Event T) (mark : T) (outcome : Result (Reply T) StepFault) (next : NodeState T) →
+        AllAbove s → Steps g s e mark outcome next → next.closed ≡ false → AllAbove next }
+    ensures served { (g : Setting) (s : NodeState T) (e : Event T) (mark : T) (outcome : Result (Reply T) StepFault) (next : NodeState T) →
+        AllAbove s → Steps g s e mark outcome next → (c : WebCopy T) → copy_served outcome ≡ Some c → IsAbove next.floors c }
+{}
+
+/// A step keeps the store within its limits, with one copy for each key.
+pub fn the_store_keeps_its_limits<T>()
+    ensures { (g : Setting) (s : NodeState T) (e : Event T) (mark : T) (outcome : Result (Reply T) StepFault) (next : NodeState T) →
+        AreStored g.roster.limits s.copies → Steps g s e mark outcome next → next.closed ≡ false → AreStored g.roster.limits next.copies }
+{}
+
+/// No QUERY, no TST and no ask of a member that takes this node for a sibling begins anything or is left waiting.
+pub fn siblings_begin_nothing<T>()
+    ensures { (g : Setting) (s : NodeState T) (e : Event T) (mark : T) (outcome : Result (Reply T) StepFault) (next : NodeState T) →
+        is_from_sibling g e ≡ true → Steps g s e mark outcome next → BeginsNothing s outcome next }
+{}
+
+/// Each step of a node keeps to the laws that the safety of purges rests on.
+pub fn steps_are_lawful<T>()
+    ensures { (g : Setting) (s : NodeState T) (e : Event T) (mark : T) (outcome : Result (Reply T) StepFault) (next : NodeState T) →
+        Steps g s e mark outcome next → Lawful g s e mark outcome next }
+{}
+
+/// A node carries tags and never looks at them: with another tag in the place of each, it takes the same steps.
+pub fn nodes_never_look_at_tags<T, U>()
+    ensures function { (f : T → U) (g : Setting) (s : NodeState T) (e : Event T) (mark : T) →
+        step g (retag_state f s) (retag_event f e) (f mark) ≡ retag_stepped f (step g s e mark) }
+    ensures relation { (f : T → U) (g : Setting) (s : NodeState T) (e : Event T) (mark : T) (outcome : Result (Reply T) StepFault) (next : NodeState T) →
+        Steps g s e mark outcome next → Steps g (retag_state f s) (retag_event f e) (f mark) (retag_outcome f outcome) (retag_state f next) }
+{}
