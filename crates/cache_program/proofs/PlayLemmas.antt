@@ -1,13 +1,14 @@
 -- Lines answered one after another.
-use Rattle.std.proofs.Common.{◌≡◌, ℕ, ◌||◌, true, false, Bool, Option, Some, None, Result, Ok, Err, IfErr, List, [], ◌∷◌, ◌++◌, length, take, refl, sym, ap, ◌∙◌, subst, append_assoc, append-nil}
+use Rattle.std.proofs.Common.{◌≡◌, ◌≤◌, arith, ℕ, ◌||◌, true, false, Bool, Option, Some, None, Result, Ok, Err, IfErr, List, [], ◌∷◌, ◌++◌, length, take, refl, sym, ap, ◌∙◌, subst, append_assoc, append-nil}
+use Rattle.std.specs.Prelude.{⊤}
 use Rattle.std.proofs.lemmas.List.{take_at}
 use Rattle.std.proofs.lemmas.List.Folds.{list_any-append}
 use Rattle.std.specs.Io.KnownBytes.{Appends}
 use Rattle.std.proofs.KnownBytes.{Appends-nil, Appends-trans}
 use Rattle.cache_program.specs.declared.fault.RunFault.{RunFault}
-use Rattle.cache_program.specs.declared.fault.RunFault.TheVariants.{Io, LineTooLong}
+use Rattle.cache_program.specs.declared.fault.RunFault.TheVariants.{Io, TooManyTurns, LineTooLong}
 use Rattle.cache_program.specs.Lines.{newline, lines_of, is_long, has_long_line}
-use Rattle.cache_program.specs.Reading.{TakesLine, TakesNone, FailsToTake}
+use Rattle.cache_program.specs.Reading.{TakesLine, TakesNone, FailsToTake, IsCounted}
 use Rattle.text_writer.specs.Writing.{AppendsFront, Writes}
 use Rattle.cache_program.specs.Script.{Plays, HasPlayed}
 use Rattle.cache_program.specs.Playing.{Playing}
@@ -15,6 +16,20 @@ use Rattle.cache_program.specs.Playing.{Playing}
 or_second : (a b : Bool) → b ≡ true → (a || b) ≡ true
 or_second true b e = refl
 or_second false b e = e
+
+-- the reads that a fault names were made
+abbrev pub HasTurns : Option (List ℕ) → RunFault → Type 0
+HasTurns None fault = ⊤
+HasTurns (Some input) fault = fault ≡ TooManyTurns → 70000 ≤ length input
+
+pub spent_all : (turns : ℕ) (input rest : Option (List ℕ)) (fault : RunFault) → IsCounted 0 input turns rest → (fault ≡ TooManyTurns → turns ≡ 70000) → HasTurns input fault
+spent_all turns None rest fault counted spent = tt
+spent_all turns (Some input) None fault counted spent = absurd counted
+spent_all turns (Some input) (Some rest) fault counted spent = λ e. omega (arith, counted, spent e)
+
+pub not_spent : (input : Option (List ℕ)) (fault : RunFault) → (fault ≡ TooManyTurns → ⊥) → HasTurns input fault
+not_spent None fault other = tt
+not_spent (Some input) fault other = λ e. absurd (other e)
 
 module _ {S : Type 0} (answers : S → List ℕ → List ℕ → S → Type 0) where
   -- one more line is answered
@@ -65,16 +80,17 @@ module _ {S : Type 0} (answers : S → List ℕ → List ℕ → S → Type 0) w
     }
 
     -- the run stops with a fault, after a front of what was not yet written
-    pub playing_stops : (now : S) (input : Option (List ℕ)) (held : List ℕ) (rest writer_old writer writer_new : Option (List ℕ)) (text : List ℕ) (fault : RunFault) (end : S) → Playing answers start now input held rest writer_old writer text → AppendsFront writer writer_new text → FailsToTake held rest fault → HasPlayed answers start input writer_old writer_new (Err fault) end
-    playing_stops now None held rest writer_old writer writer_new text fault end on wrote fails = tt
-    playing_stops now (Some input) held None writer_old writer writer_new text fault end on wrote fails = absurd on
-    playing_stops now (Some input) held (Some xs) writer_old writer writer_new text fault end on (front, back, is, wrote) fails = record {
+    pub playing_stops : (now : S) (input : Option (List ℕ)) (held : List ℕ) (rest writer_old writer writer_new : Option (List ℕ)) (text : List ℕ) (fault : RunFault) (end : S) → Playing answers start now input held rest writer_old writer text → AppendsFront writer writer_new text → FailsToTake held rest fault → HasTurns input fault → HasPlayed answers start input writer_old writer_new (Err fault) end
+    playing_stops now None held rest writer_old writer writer_new text fault end on wrote fails spent = tt
+    playing_stops now (Some input) held None writer_old writer writer_new text fault end on wrote fails spent = absurd on
+    playing_stops now (Some input) held (Some xs) writer_old writer writer_new text fault end on (front, back, is, wrote) fails spent = record {
       count = length on.taken;
       text = on.done ++ text;
       end = now;
       plays = subst (λ ls. Plays answers start ls (on.done ++ text) now) (sym (ap (take (length on.taken)) on.lines ∙ take_at on.taken _ (length on.taken) refl)) on.plays;
       written = (on.done ++ front, back, ap (λ t. on.done ++ t) is ∙ sym (append_assoc on.done front back), Appends-trans writer_old writer writer_new on.done front on.written wrote);
       cause = λ e. ap has_long_line on.lines ∙ list_any-append is_long on.taken (lines_of (held ++ xs)) ∙ or_second (has_long_line on.taken) _ (fails e);
+      turns = spent;
     }
 
     -- nothing more is written where the run stops
@@ -91,7 +107,7 @@ module _ {S : Type 0} (answers : S → List ℕ → List ℕ → S → Type 0) w
     playing_ends now None held rest writer_old writer writer_new text r on none wrote io = tt
     playing_ends now (Some input) held None writer_old writer writer_new text r on none wrote io = absurd on
     playing_ends now (Some input) held (Some xs) writer_old writer writer_new text (Err fault) on none wrote io =
-        playing_stops now (Some input) held (Some xs) writer_old writer writer_new text fault now on wrote (other_fault held (Some xs) fault (λ e. let bad : Io ≡ LineTooLong = sym io ∙ e in cc))
+        playing_stops now (Some input) held (Some xs) writer_old writer writer_new text fault now on wrote (other_fault held (Some xs) fault (λ e. let bad : Io ≡ LineTooLong = sym io ∙ e in cc)) (λ e. let bad : Io ≡ TooManyTurns = sym io ∙ e in absurd cc)
     playing_ends now (Some input) held (Some xs) writer_old writer writer_new text (Ok done) on none wrote io =
         let all : lines_of input ≡ on.taken = on.lines ∙ ap (λ t. on.taken ++ t) none ∙ append-nil on.taken in record {
           text = on.done ++ text;

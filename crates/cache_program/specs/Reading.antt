@@ -1,5 +1,5 @@
 -- What taking lines does to an input of which some octets are held and others not yet read.
-use Rattle.std.specs.Prelude.{◌≡◌, ◌≢◌, ℕ, ◌+◌, ◌-◌, ◌*◌, ◌<◌, List, [], ◌∷◌, ◌++◌, length, slice_index, Option, Some, None, true, false, ⊤}
+use Rattle.std.specs.Prelude.{◌≡◌, ◌≢◌, ℕ, ◌+◌, ◌-◌, ◌*◌, ◌<◌, ◌≤◌, List, [], ◌∷◌, ◌++◌, length, slice_index, Option, Some, None, true, false, ⊤}
 use Rattle.std.specs.Io.KnownBytes.{Consumes}
 use Rattle.cache_program.specs.declared.fault.RunFault.{RunFault}
 use Rattle.cache_program.specs.declared.fault.RunFault.TheVariants.{LineTooLong}
@@ -32,6 +32,12 @@ TakesNone old (Some xs) = lines_of (old ++ xs) ≡ []
 abbrev pub FailsToTake : List ℕ → Option (List ℕ) → RunFault → Type 0
 FailsToTake old None fault = ⊤
 FailsToTake old (Some xs) fault = fault ≡ LineTooLong → has_long_line (lines_of (old ++ xs)) ≡ true
+
+-- reads made and octets to come are together no more than before: each read that counts took an octet at least
+abbrev pub IsCounted : ℕ → Option (List ℕ) → ℕ → Option (List ℕ) → Type 0
+IsCounted old None new after = ⊤
+IsCounted old (Some xs) new None = ⊥
+IsCounted old (Some xs) new (Some ys) = new + length ys ≤ old + length xs
 
 -- no more lines than this can still be taken: each has an octet, and so many reads of so many octets are left
 abbrev pub most_left : ℕ → List ℕ → ℕ

@@ -1,8 +1,8 @@
 -- Scripts: inputs whose lines are answered one after another.
-use Rattle.std.specs.Prelude.{◌≡◌, ℕ, true, false, List, [], ◌∷◌, ◌++◌, take, Option, Some, None, Result, MatchResult, ⊤}
+use Rattle.std.specs.Prelude.{◌≡◌, ℕ, ◌≤◌, true, false, List, [], ◌∷◌, ◌++◌, length, take, Option, Some, None, Result, MatchResult, ⊤}
 use Rattle.std.specs.Io.KnownBytes.{Appends}
 use Rattle.cache_program.specs.declared.fault.RunFault.{RunFault}
-use Rattle.cache_program.specs.declared.fault.RunFault.TheVariants.{LineTooLong}
+use Rattle.cache_program.specs.declared.fault.RunFault.TheVariants.{TooManyTurns, LineTooLong}
 use Rattle.cache_program.specs.Lines.{newline, lines_of, has_long_line}
 use Rattle.text_writer.specs.Writing.{AppendsFront}
 
@@ -27,6 +27,8 @@ pub record PlaysSome {S : Type 0} (answers : S → List ℕ → List ℕ → S �
   pub plays : Plays answers start (take count (lines_of input)) text end
   pub written : AppendsFront old new text
   pub cause : fault ≡ LineTooLong → has_long_line (lines_of input) ≡ true
+  -- 70,000 reads were made, each of which gave an octet at least
+  pub turns : fault ≡ TooManyTurns → 70000 ≤ length input
 
 -- what a run leaves in its writer, where the octets of its reader are known
 abbrev pub HasPlayed : {S : Type 0} → (S → List ℕ → List ℕ → S → Type 0) → S → Option (List ℕ) → Option (List ℕ) → Option (List ℕ) → Result (Unit {0}) RunFault → S → Type 0

@@ -1,7 +1,7 @@
 //! Lines of an input, taken one after another from any reader.
-ghost use Rattle.std.specs.Prelude.{◌≡◌, ◌+◌, ◌<◌, ◌≤◌, ◌≢◌, ℕ, vec_len, vec_capacity, [], drop, take, length, OnOk, IfOk, IfErr, IsTrue, MatchOption, MatchBool, Some, None, true, false};
+ghost use Rattle.std.specs.Prelude.{◌≡◌, ◌+◌, ◌<◌, ◌≤◌, ◌≢◌, ℕ, vec_len, vec_capacity, [], drop, take, length, OnOk, IfOk, IfErr, IsTrue, MatchOption, MatchBool, Some, None, Err, true, false};
 ghost use Rattle.std.specs.Io.KnownBytes.{IsAtEnd};
-ghost use Rattle.cache_program.specs.Reading.{Takes, HasNoEnd, EndsAt, TakesLine, TakesNone, FailsToTake, most_left};
+ghost use Rattle.cache_program.specs.Reading.{Takes, HasNoEnd, EndsAt, TakesLine, TakesNone, FailsToTake, IsCounted, most_left};
 
 use crate::fault::RunFault;
 use memchr::memchr;
@@ -32,7 +32,7 @@ pub(crate) struct LineReader {
 impl LineReader {
     /// Nothing is read yet.
     pub(crate) fn new(alloc: Global) -> Result<LineReader, AllocError>
-        ensures { IfOk result (λ made. (made.next ≡ 0) × (made.held.items ≡ [])) }
+        ensures { IfOk result (λ made. (made.next ≡ 0) × (made.held.items ≡ []) × (made.turns ≡ 0)) }
     {
         Ok(LineReader {
             held: Vec::new(alloc),
@@ -71,6 +71,8 @@ impl LineReader {
         ensures err { IfErr result (FailsToTake (drop self.old.next self.old.held.items) (R.remaining reader.old)) }
         ensures fewer { IfOk result (λ found. IsTrue found → most_left self.new.turns (drop self.new.next self.new.held.items)
             < most_left self.old.turns (drop self.old.next self.old.held.items)) }
+        ensures counted { IsCounted self.old.turns (R.remaining reader.old) self.new.turns (R.remaining reader.new) }
+        ensures spent { result ≡ Err RunFault.TooManyTurns → self.new.turns ≡ 70000 }
     {
         'pieces: loop {
             match self.end_of_line() {
@@ -96,6 +98,7 @@ impl LineReader {
             × (drop self.new.next self.new.held.items ≡ drop (length + 1) (drop self.old.next self.old.held.items))) }
         ensures turns { self.new.turns ≡ self.old.turns }
         ensures err { IfErr result (λ fault. (fault ≡ RunFault.LineTooLong → 140000 < length)) }
+        ensures faults { result ≢ Err RunFault.TooManyTurns }
     {
         if length > LONGEST_LINE {
             return Err(RunFault::LineTooLong);
@@ -132,6 +135,8 @@ impl LineReader {
             (IsAtEnd (R.remaining reader.new) × (drop self.new.next self.new.held.items ≡ drop self.old.next self.old.held.items))) }
         ensures fewer { most_left self.new.turns (drop self.new.next self.new.held.items)
             ≤ most_left self.old.turns (drop self.old.next self.old.held.items) }
+        ensures counted { IsCounted self.old.turns (R.remaining reader.old) self.new.turns (R.remaining reader.new) }
+        ensures spent { result ≡ Err RunFault.TooManyTurns → self.new.turns ≡ 70000 }
         ensures faults { IfErr result (λ fault. fault ≢ RunFault.LineTooLong) }
     {
         if self.turns >= MOST_TURNS {

@@ -1,9 +1,8 @@
 //! The command `cache`.
 //!
-//! Three kinds of wrong bodies pass the contracts here. `LineReader::read_more` that answers `TooManyTurns` at once, and
-//! `write_text` that answers `Io` at once: no clause counts the calls of a reader, and none knows whether a writer failed; tests show
-//! that both come only then. Those of `commands`, which has no clauses: it carries out a command line over the terminal's
-//! streams. `LineReader::holds_line`, which decides when answers are written, and not which.
+//! Three kinds of wrong bodies pass the contracts here. `write_text` that answers `Io` at once: no clause knows whether a writer
+//! failed; tests show that `Io` comes only then. Those of `commands`, which has no clauses: it carries out a command line over the
+//! terminal's streams. `LineReader::holds_line`, which decides when answers are written, and not which.
 #![tactic(auto)]
 
 mod answer;

@@ -1,4 +1,6 @@
-use Rattle.std.proofs.Common.{drop, arith, length-drop}
+use Rattle.std.proofs.Common.{drop, arith, length-drop, sym, subst}
+use Rattle.cache_program.specs.Reading.{IsCounted}
+use Rattle.cache_program.proofs.Counting.{counted_then}
 use Rattle.cache_program.proofs.LineLemmas.{line_taken, line_fails, rest_taken, takes_then, open_fails}
 use Rattle.cache_program.proofs.lines.LineReader.next_line.Goals as goal
 
@@ -26,3 +28,22 @@ returns-in-Ok-false-clause-ok g c =
     let ended = rw c.in-Ok-false.field-0-test at c.in-Ok-false.ensures.more in
     let took = takes_then old before held (g.R.Read.remaining c.pieces.reader) now after c.pieces.invariant.taken c.in-Ok-false.ensures.taken in
     rest_taken old before held now after c.take_rest.new.line.items (drop c.take_rest.new.self.next c.take_rest.new.self.held.items) c.take_rest.result took ended.0 ended.1 c.in-None.ensures (omega (arith, size, c.pieces.self.held.ok.0)) c.take_rest.ensures.ok
+
+pub returns-in-Some-clause-counted : goal.returns-in-Some-clause-counted
+returns-in-Some-clause-counted g c =
+    subst (λ turns. IsCounted c.args.self.now.turns (g.R.Read.remaining c.args.reader.now) turns (g.R.Read.remaining c.pieces.reader)) (sym c.take_line.ensures.turns) c.pieces.invariant.counted
+
+pub returns-in-Some-clause-spent : goal.returns-in-Some-clause-spent
+returns-in-Some-clause-spent g c = λ is. absurd (c.take_line.ensures.faults is)
+
+pub returns-then-len-self-gt-LONGEST_LINE-clause-counted : goal.returns-then-len-self-gt-LONGEST_LINE-clause-counted
+returns-then-len-self-gt-LONGEST_LINE-clause-counted g c = c.pieces.invariant.counted
+
+pub returns-in-Ok-false-clause-counted : goal.returns-in-Ok-false-clause-counted
+returns-in-Ok-false-clause-counted g c =
+    subst (λ turns. IsCounted c.args.self.now.turns (g.R.Read.remaining c.args.reader.now) turns (g.R.Read.remaining c.read_more.new.reader)) (sym c.take_rest.ensures.turns)
+    (counted_then c.args.self.now.turns c.pieces.self.turns c.read_more.new.self.turns (g.R.Read.remaining c.args.reader.now) (g.R.Read.remaining c.pieces.reader) (g.R.Read.remaining c.read_more.new.reader) c.pieces.invariant.counted c.read_more.ensures.counted)
+
+pub returns-in-Err-clause-counted : goal.returns-in-Err-clause-counted
+returns-in-Err-clause-counted g c =
+    counted_then c.args.self.now.turns c.pieces.self.turns c.read_more.new.self.turns (g.R.Read.remaining c.args.reader.now) (g.R.Read.remaining c.pieces.reader) (g.R.Read.remaining c.read_more.new.reader) c.pieces.invariant.counted c.read_more.ensures.counted
