@@ -1,5 +1,5 @@
 -- What adding rows in turn makes, in whatever order a query shows them.
-use Rattle.std.proofs.Common.{◌≡◌, ◌≢◌, ◌⊎◌, inl, inr, ℕ, ◌+◌, ◌≤◌, Bool, true, false, not, cond, ◌||◌, List, [], ◌∷◌, map, length, Some, None, Option, is_some, refl, sym, ap, subst, ◌∙◌, arith, sum_by}
+use Rattle.std.proofs.Common.{◌≡◌, inl, inr, ℕ, ◌+◌, ◌≤◌, Bool, true, false, cond, List, [], ◌∷◌, map, Some, None, Option, is_some, refl, sym, ap, ◌∙◌, arith, sum_by}
 use Rattle.std.specs.List.{AllByRecursion, list_any}
 use Rattle.std.specs.List.Sorted.{IsPermutation}
 use Rattle.std.specs.Ordering.{nat_cmp}
@@ -185,3 +185,47 @@ reads_floors table rows all same h =
 pub floor_rows : (table : List Row) → AllByRecursion IsFloor table → AllByRecursion IsFloorRow table
 floor_rows [] h = tt
 floor_rows (r ∷ rows) h = ((h.0.id, ((floor_entry r).0, h.0.url.0)), floor_rows rows h.1)
+
+other_url : (u v : List ℕ) → same_url u v ≡ false → same_url v u ≡ false
+other_url u v other = false_from_ne_true _ (λ same. absurd (let own : same_url u v ≡ true = rw (equal_urls v u same) (own_url u) in let bad : false ≡ true = sym other ∙ own in cc))
+
+abbrev IsNew : FloorMap → Row → Type 0
+IsNew m r = get m (url_of r) ≡ None
+
+still_none : (b : Bool) (v : ℕ) (o : Option ℕ) → b ≡ false → o ≡ None → cond b (Some v) o ≡ None
+still_none true v o off h = absurd (cc)
+still_none false v o off h = h
+
+still_new : (m : FloorMap) (r : Row) (n : ℕ) (rows : List Row) → AllByRecursion (Apart r) rows → AllByRecursion (IsNew m) rows → AllByRecursion (IsNew (insert m (url_of r) n)) rows
+still_new m r n [] apart new = tt
+still_new m r n (x ∷ rows) apart new = (
+  get-insert nat_list_cmp_total m (url_of r) n (url_of x) ∙ still_none (same_url (url_of x) (url_of r)) n (get m (url_of x)) (other_url (url_of r) (url_of x) apart.0) new.0,
+  still_new m r n rows apart.1 new.1,
+)
+
+can_add : (m : FloorMap) (rows : List Row) → AllByRecursion IsFloor rows → IsAscending Apart rows → AllByRecursion (IsNew m) rows → (all : FloorMap) × Adds m rows all
+can_add m [] floors apart new = (m, refl)
+can_add m (r ∷ rows) floors apart new =
+    let more = can_add (insert m (url_of r) (floor_entry r).1) rows floors.1 apart.1 (still_new m r (floor_entry r).1 rows apart.0 new.1) in
+    (more.0, (floors.0, new.0, more.1))
+
+none_in_empty : (rows : List Row) → AllByRecursion (IsNew empty) rows
+none_in_empty [] = tt
+none_in_empty (r ∷ rows) = (get-empty (slice_cmp nat_cmp) (url_of r), none_in_empty rows)
+
+to_shown_floors : (rows : List Row) → AllByRecursion IsFloor rows → AllByRecursion IsFloor (map shown_row rows)
+to_shown_floors [] h = tt
+to_shown_floors (r ∷ rows) h = (record { id = h.0.id; url = h.0.url; number = h.0.number }, to_shown_floors rows h.1)
+
+to_shown_all : (a : Row) (rows : List Row) → AllByRecursion (Apart a) rows → AllByRecursion (Apart (shown_row a)) (map shown_row rows)
+to_shown_all a [] h = tt
+to_shown_all a (r ∷ rows) h = (h.0, to_shown_all a rows h.1)
+
+to_shown_apart : (rows : List Row) → IsAscending Apart rows → IsAscending Apart (map shown_row rows)
+to_shown_apart [] h = tt
+to_shown_apart (r ∷ rows) h = (to_shown_all r rows h.0, to_shown_apart rows h.1)
+
+-- rows that are floors of different urls can all be added, in whatever order a query shows them
+pub shown_add : (table rows : List Row) → IsPermutation (map shown_row table) rows → AllByRecursion IsFloor table → IsFloorTable table → (all : FloorMap) × Adds empty rows all
+shown_add table rows same floors once =
+    can_add empty rows (permuted_all IsFloor (map shown_row table) rows same (to_shown_floors table floors)) (permuted_apart (map shown_row table) rows same (to_shown_apart table once.1)) (none_in_empty rows)

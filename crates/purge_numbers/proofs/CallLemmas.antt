@@ -1,23 +1,21 @@
 -- What a call with the statement that puts a floor does to a connection.
-use Rattle.std.proofs.Common.{◌≡◌, ◌⊎◌, inl, inr, ℕ, pos, false, List, [], ◌∷◌, Some, None, Ok, Err, Result, IsTrue, refl, sym, ap, subst, ◌∙◌, append-nil, OnOk, OnErr, arith}
+use Rattle.std.proofs.Common.{◌≡◌, ◌⊎◌, inl, inr, ℕ, List, None, Ok, Err, Result, IsTrue, sym, ap, subst, ◌∙◌, append-nil, OnOk, OnErr, arith}
 use Rattle.std.specs.FinMap.{insert}
-use Rattle.sqlite.specs.declared.types.Value.TheVariants.{Int, Text}
 use Rattle.sqlite_trees.specs.Tree.{Trees}
-use Rattle.sqlite_value.specs.Order.{Row}
 use Rattle.sqlite.specs.Listing.{understood}
 use Rattle.sqlite.specs.Effect.{Database}
 use Rattle.sqlite.specs.Does.{Does}
-use Rattle.sqlite.specs.State.{State, HasCleanDisk, Survives, Executes, CommitsBy, Writes, mode_of, text_of}
+use Rattle.sqlite.specs.State.{State, HasCleanDisk, Survives, Executes, CommitsBy, mode_of, text_of}
 use Rattle.sqlite.proofs.Callers.{IsPlain, command_of, statement_of, runs_as}
 use Rattle.sqlite_trees.specs.declared.store.Store.{Ghosts}
 use Rattle.sqlite.specs.Held.{Held, state}
 use Rattle.sqlite.specs.declared.error.Error.{Error}
 use Rattle.purge_numbers.specs.Floors.{FloorMap}
-use Rattle.purge_numbers.specs.Tables.{node_schema, floors_in, IsFloorTable}
+use Rattle.purge_numbers.specs.Tables.{node_schema, floors_in}
 use Rattle.purge_numbers.specs.Store.{IsReady, committed_floors, MayFind}
 use Rattle.purge_numbers.proofs.Texts.{put_command, put_is, put_plain}
 use Rattle.purge_numbers.specs.Put.{put_text, put_params, FailsToPut}
-use Rattle.purge_numbers.proofs.PutLemmas.{IsPut, does_put}
+use Rattle.purge_numbers.proofs.PutLemmas.{does_put}
 
 pub put_runs : (old new : State) (u : List ℕ) (n count : ℕ) → IsReady old → Executes put_text (put_params u n) old new (Ok count)
     → IsReady new × (committed_floors new ≡ insert (committed_floors old) u n)

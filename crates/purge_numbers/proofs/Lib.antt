@@ -1,3 +1,4 @@
+pub mod CheckLemmas
 pub mod Texts
 pub mod LookLemmas
 pub mod PutLemmas

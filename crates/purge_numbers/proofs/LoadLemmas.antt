@@ -5,7 +5,7 @@ use Rattle.std.specs.List.{flat_map}
 use Rattle.std.proofs.lemmas.List.Sorted.{IsPermutation-map}
 use Rattle.sqlite.specs.declared.types.Value.TheVariants.{Null}
 use Rattle.sqlite_value.specs.Order.{Row}
-use Rattle.sqlite.specs.Query.{IsAnswer, output, Output, page}
+use Rattle.sqlite.specs.Query.{IsAnswer, output, Output}
 use Rattle.sqlite.specs.Program.{overlay}
 use Rattle.sqlite_trees.specs.Tree.{Trees}
 use Rattle.sqlite.specs.State.{State, HasCleanDisk, Survives, CommitsShowing, Shown, ShowsRows, IsUnchanged}

@@ -1,17 +1,16 @@
 -- What the rows of the floors table say of a url.
-use Rattle.std.proofs.Common.{◌≡◌, ℕ, ℤ, pos, Bool, true, false, not, cond, List, [], ◌∷◌, ◌++◌, map, filter, codes, Some, None, Option, refl, sym, ap, subst, ◌∙◌, inl, inr, ◌⊎◌}
-use Rattle.std.specs.List.{AllByRecursion, list_any}
+use Rattle.std.proofs.Common.{◌≡◌, ℕ, Bool, true, false, cond, List, [], ◌∷◌, map, filter, Some, Option, refl, sym, ap, ◌∙◌, inl, inr}
+use Rattle.std.specs.List.{AllByRecursion}
 use Rattle.std.specs.declared.cmp.Ordering.{Ordering}
 use Rattle.std.specs.declared.cmp.Ordering.TheVariants.{Less, Equal, Greater}
 use Rattle.std.specs.Ordering.{nat_cmp, is_eq, match_ordering}
 use Rattle.std.specs.Cmp.Lexicographic.{slice_cmp, nat_list_cmp_total}
-use Rattle.std.specs.Cmp.{IsTotalOrder, eq_by_cmp_equiv}
-use Rattle.std.specs.FinMap.{FinMap, get, insert, from_entries, find, get-from_entries, get-insert, same_map, IsAntisymmetric, nat_cmp-IsAntisymmetric, slice_cmp-IsAntisymmetric}
+use Rattle.std.specs.Cmp.{eq_by_cmp_equiv}
+use Rattle.std.specs.FinMap.{get, insert, from_entries, find, get-from_entries, get-insert, same_map, nat_cmp-IsAntisymmetric, slice_cmp-IsAntisymmetric}
 use Rattle.std.proofs.lemmas.Bool.{cases_Bool}
-use Rattle.sqlite_value.specs.Order.{Row, column, bytes, value_cmp}
-use Rattle.sqlite_trees.specs.Tree.{rowid, put_row, without_rowid, has_rowid, IsAscending}
+use Rattle.sqlite_value.specs.Order.{Row, value_cmp}
+use Rattle.sqlite_trees.specs.Tree.{rowid, put_row}
 use Rattle.sqlite_rules.specs.Edit.{is_taken}
-use Rattle.purge_numbers.specs.Floors.{FloorMap}
 use Rattle.purge_numbers.specs.Tables.{floor_entry}
 
 abbrev pub same_url : List ℕ → List ℕ → Bool

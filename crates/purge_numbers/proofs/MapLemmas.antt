@@ -1,5 +1,5 @@
 -- A tree of texts and numbers as a finite map.
-use Rattle.std.proofs.Common.{◌≡◌, inl, ℕ, ◌+◌, Bool, true, false, cond, List, [], ◌∷◌, map, length, Some, None, Option, refl, sym, ap, ◌∙◌, bytes_eq, is_some, add-one, max, unwrap_or, ◌≤◌, ◌<◌, arith}
+use Rattle.std.proofs.Common.{◌≡◌, inl, ℕ, ◌+◌, Bool, true, false, cond, List, [], ◌∷◌, map, length, Some, None, Option, refl, sym, ap, ◌∙◌, is_some, add-one, max, unwrap_or, ◌≤◌, ◌<◌, arith}
 use Rattle.std.specs.List.{AllByRecursion, AllZip}
 use Rattle.std.specs.List.Sorted.{IsStrictlySortedBy}
 use Rattle.std.specs.declared.alloc.Global.{Global}
@@ -11,10 +11,8 @@ use Rattle.std.specs.Vec.{vec_len}
 use Rattle.std.specs.Ordering.{nat_cmp, is_eq, match_ordering}
 use Rattle.std.specs.declared.cmp.Ordering.{Ordering}
 use Rattle.std.specs.FinMap.Entries.{put, by_order}
-use Rattle.std.specs.Cmp.{eq_by_cmp_equiv}
 use Rattle.std.specs.Cmp.Lexicographic.{slice_cmp, nat_list_cmp_total}
-use Rattle.std.specs.FinMap.{FinMap, empty, get, insert, len, len-entries, entries, from_entries, find, get-from_entries, get-insert, get-entries, entries-insert, len-insert, len-empty, same_map, nat_cmp-IsAntisymmetric, slice_cmp-IsAntisymmetric}
-use Rattle.std.proofs.lemmas.Map.Text.{is_eq-slice_cmp}
+use Rattle.std.specs.FinMap.{empty, get, insert, len, len-entries, entries, from_entries, find, get-from_entries, get-insert, get-entries, entries-insert, len-insert, len-empty, same_map, nat_cmp-IsAntisymmetric, slice_cmp-IsAntisymmetric}
 use Rattle.std.proofs.lemmas.Map.Keys.{sorted_head, sorted_tail}
 use Rattle.purge_numbers.specs.Floors.{FloorMap, HasRoom, floor, raised, seen, greatest}
 use Rattle.purge_numbers.proofs.LookLemmas.{same_url, equal_urls, own_url, swapped}

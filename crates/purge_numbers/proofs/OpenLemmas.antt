@@ -1,23 +1,25 @@
 -- A file that was read is ready.
-use Rattle.std.proofs.Common.{◌≡◌, ◌⊎◌, inl, inr, subst, arith, ℕ, List, [], ◌∷◌, map, false, IsTrue, Ok, Err, Result, IfOk, OnOk, sym, ap, ◌∙◌}
+use Rattle.std.proofs.Common.{◌≡◌, ◌≢◌, ◌<◌, ◌⊎◌, length, pos, inl, inr, subst, arith, List, [], ◌∷◌, map, false, IsTrue, Ok, Err, Result, IfOk, OnOk, sym, ap, ◌∙◌}
 use Rattle.std.specs.List.{AllByRecursion}
 use Rattle.std.specs.List.Sorted.{IsPermutation}
 use Rattle.std.specs.FinMap.{empty, from_entries}
 use Rattle.std.specs.Ordering.{nat_cmp}
 use Rattle.std.specs.Cmp.Lexicographic.{slice_cmp}
+use Rattle.sqlite.specs.declared.types.Value.TheVariants.{Int}
 use Rattle.sqlite_trees.specs.Tree.{Trees}
 use Rattle.sqlite_value.specs.Order.{Row}
 use Rattle.sqlite.specs.Effect.{Database}
 use Rattle.sqlite.specs.State.{State, HasCleanDisk, IsUnchanged, Survives}
 use Rattle.sqlite.proofs.Callers.{one_permutation}
-use Rattle.std.proofs.lemmas.List.Sorted.{IsPermutation-sym}
+use Rattle.std.proofs.lemmas.List.Sorted.{IsPermutation-sym, length_permutation}
+use Rattle.std.proofs.lemmas.List.{length-map}
 use Rattle.purge_numbers.specs.declared.fault.FloorFault.{FloorFault}
 use Rattle.purge_numbers.specs.Floors.{FloorMap}
-use Rattle.purge_numbers.specs.Tables.{empty_schema, node_schema, floor_entry, floors_in, IsFloorTable}
-use Rattle.purge_numbers.specs.Making.{IsBlank, IsUnused, LeavesNoOther, OpensWith}
+use Rattle.purge_numbers.specs.Tables.{empty_schema, node_schema, floor_entry, floors_in}
+use Rattle.purge_numbers.specs.Making.{IsBlank, IsNodeFile, IsUnused, LeavesNoOther, OpensWith}
 use Rattle.purge_numbers.specs.Rows.{Adds, IsFloor, shown_row, shown_version, HasVersionOne}
-use Rattle.purge_numbers.specs.Store.{IsReady, AreIn, committed_floors}
-use Rattle.purge_numbers.proofs.AddLemmas.{reads_floors, floor_rows}
+use Rattle.purge_numbers.specs.Store.{AreIn, committed_floors}
+use Rattle.purge_numbers.proofs.AddLemmas.{reads_floors, floor_rows, shown_add}
 
 module _ (old new : State) (rows : List Row) (all : FloorMap) (autocommit : old.in_transaction ≡ false) (settled : IsTrue old.is_open → old.now ≡ old.committed) (has : old.now.schema ≡ node_schema)
     (same : IsUnchanged old new) (shown : IsPermutation (map shown_row (old.now.trees 1)) rows) (adds : Adds empty rows all) where
@@ -50,6 +52,20 @@ module _ (old new : State) (rows : List Row) (autocommit : old.in_transaction �
   pub read_kept : (r : Result FloorMap FloorFault) → IfOk r (λ all. Adds empty rows all) → IfOk r (λ all. HasCleanDisk new → AreIn new all)
   read_kept (Err fault) adds = tt
   read_kept (Ok all) adds = λ clean. read_ready old new rows all autocommit settled has (same clean) (shown clean) adds
+
+-- a version that was not found is not there
+pub no_version : (table rows : List Row) → IsPermutation (map shown_version table) rows → rows ≢ (Int (pos 1) ∷ []) ∷ [] → ¬ HasVersionOne table
+no_version table rows same other one = other (one_permutation (Int (pos 1) ∷ []) rows (subst (λ xs. IsPermutation xs rows) one same))
+
+-- rows that cannot be added are not those of a node's file
+pub not_added : (old : State) (rows : List Row) → IsPermutation (map shown_row (old.now.trees 1)) rows → ((all : FloorMap) → ¬ Adds empty rows all) → ¬ IsNodeFile old
+not_added old rows shown none file =
+    let adds = shown_add (old.now.trees 1) rows shown file.floors file.once in
+    none adds.0 adds.1
+
+pub too_many : (old : State) (rows : List Row) → IsPermutation (map shown_row (old.now.trees 1)) rows → 65536 < length rows → ¬ IsNodeFile old
+too_many old rows shown many file =
+    omega (arith, many, file.few, length_permutation (map shown_row (old.now.trees 1)) rows shown, length-map (old.now.trees 1) shown_row)
 
 -- the empty tree has no floors
 none_left : (old new : State) → IsBlank old.now → (HasCleanDisk new → (db : Trees) → new.may_leave db → old.may_leave db ⊎ (old.now.schema ≡ empty_schema → db 1 ≡ [])) → LeavesNoOther old new

@@ -1,26 +1,24 @@
 -- What the statement that puts a floor does.
-use Rattle.std.proofs.Common.{◌≡◌, ◌⊎◌, ℕ, ℤ, pos, Bool, true, false, not, cond, List, [], ◌∷◌, ◌++◌, map, filter, Some, None, Option, Ok, Err, Result, OnOk, length, arith, refl, sym, ap, subst, ◌∙◌, inl, inr, drop, ◌&&◌, ◌||◌, unwrap_or, if◌then◌else◌}
-use Rattle.std.specs.List.{AllByRecursion, list_any, list_all, flat_map}
-use Rattle.sqlite.specs.Query.{IsAnswer, output, Output, page}
+use Rattle.std.proofs.Common.{◌≡◌, ◌⊎◌, ℕ, ℤ, pos, Bool, true, false, not, cond, List, [], ◌∷◌, map, filter, Some, None, Option, Ok, Err, Result, arith, refl, sym, ap, subst, ◌∙◌, inl, inr, drop, ◌&&◌, ◌||◌, unwrap_or, if◌then◌else◌}
+use Rattle.std.specs.List.{AllByRecursion, list_all, flat_map}
+use Rattle.sqlite.specs.Query.{IsAnswer, output, Output}
 use Rattle.sqlite.specs.Term.{holds}
 use Rattle.sqlite.specs.Program.{overlay}
-use Rattle.std.specs.Ordering.{nat_cmp, is_eq, match_ordering, int_cmp}
-use Rattle.std.specs.Cmp.Lexicographic.{slice_cmp}
+use Rattle.std.specs.Ordering.{is_eq, match_ordering, int_cmp}
 use Rattle.std.specs.FinMap.{insert}
 use Rattle.std.proofs.lemmas.Bool.{cases_Bool}
 use Rattle.sqlite.specs.declared.types.Value.{Value}
 use Rattle.sqlite.specs.declared.types.Value.TheVariants.{Null, Int, Text}
 use Rattle.sqlite_value.specs.Order.{Row, column, bytes, value_cmp}
-use Rattle.sqlite_value.specs.Keys.{plain, first_key, collated}
 use Rattle.sqlite_value.proofs.OrderLemmas.{value_cmp-Text, value_cmp-Int}
 use Rattle.sqlite_value.proofs.KeyLemmas.{first_key-plain}
 use Rattle.sqlite.specs.Collation.TheVariants.{Binary}
-use Rattle.sqlite_sql.specs.Ops.{unary, binary, fits_i64, truth, from_truth}
-use Rattle.sqlite_schema.specs.Rules.{equal, agree}
-use Rattle.sqlite_trees.specs.Tree.{Trees, rowid, put_row, without_rowid, has_rowid, IsAscending}
+use Rattle.sqlite_sql.specs.Ops.{unary, binary, truth, from_truth}
+use Rattle.sqlite_schema.specs.Rules.{equal}
+use Rattle.sqlite_trees.specs.Tree.{Trees, rowid, put_row, has_rowid, IsAscending}
 use Rattle.sqlite_rules.specs.Lists.{Has}
 use Rattle.sqlite_rules.specs.Keys.{AreConflicts, conflicts}
-use Rattle.sqlite_rules.specs.Edit.{Edit, edit_of, edited, left_by, next_rowid, with_rowid, is_taken, put_all, without_all, are_fresh, numbered, Applies}
+use Rattle.sqlite_rules.specs.Edit.{edit_of, next_rowid, with_rowid, is_taken, are_fresh, numbered, Applies}
 use Rattle.sqlite_rules.specs.Cast.{cast, cast_row}
 use Rattle.sqlite.specs.Rowids.TheVariants.{Chosen, Given}
 use Rattle.sqlite.specs.Kind.TheVariants.{Integer}
@@ -47,8 +45,8 @@ use Rattle.std.specs.declared.cmp.Ordering.{Ordering}
 use Rattle.sqlite_value.proofs.OrderLemmas.{value_cmp_total}
 use Rattle.sqlite_catalog.proofs.LayoutLemmas.{ascending_filter}
 use Rattle.sqlite_rules.specs.Calls.{ids_of}
-use Rattle.purge_numbers.specs.Tables.{node_schema, floors_table, floor_entry, floors_in, IsFloorRow, IsFloorTable, url_index}
-use Rattle.purge_numbers.proofs.Texts.{put_command, first_terms, update_query}
+use Rattle.purge_numbers.specs.Tables.{node_schema, floors_table, floors_in, IsFloorRow, IsFloorTable, url_index}
+use Rattle.purge_numbers.proofs.Texts.{put_command, update_query}
 use Rattle.purge_numbers.proofs.LookLemmas.{same_url, url_of, look, look_put, look_kept, one_put, equal_urls, own_url}
 
 -- a part that gave a value did not stop on the way

@@ -1,3 +1,4 @@
+pub mod Fault
 pub mod Floors
 pub mod Store
 pub mod Tables

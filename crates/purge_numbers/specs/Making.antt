@@ -1,5 +1,5 @@
 -- How a file gets its tables.
-use Rattle.std.specs.Prelude.{◌≡◌, ◌⊎◌, [], IsTrue}
+use Rattle.std.specs.Prelude.{◌≡◌, ◌≤◌, ◌⊎◌, [], false, length, IsTrue}
 use Rattle.std.specs.FinMap.{empty}
 use Rattle.std.specs.List.{AllByRecursion}
 use Rattle.sqlite.specs.Effect.{Database}
@@ -7,7 +7,7 @@ use Rattle.sqlite.specs.State.{State, HasCleanDisk}
 use Rattle.purge_numbers.specs.Floors.{FloorMap}
 use Rattle.purge_numbers.specs.Rows.{HasVersionOne, IsFloor}
 use Rattle.purge_numbers.specs.Store.{MayFind, committed_floors}
-use Rattle.purge_numbers.specs.Tables.{empty_schema, form_schema, node_schema}
+use Rattle.purge_numbers.specs.Tables.{empty_schema, form_schema, node_schema, IsFloorTable}
 
 -- nothing stands in it
 abbrev pub IsBlank : Database → Type 0
@@ -24,6 +24,15 @@ IsUnused db = (db.schema ≡ node_schema) × (db.trees 1 ≡ [])
 -- a step of a transaction from such a database to such a one
 abbrev pub Makes : (Database → Type 0) → (Database → Type 0) → State → State → Type 0
 Makes From To old new = IsTrue old.in_transaction → From old.now → IsTrue new.in_transaction × To new.now
+
+-- it has just the tables of a node, the one version 1, and at most 65,536 rows that are all floors, of different urls; no transaction is open
+pub record IsNodeFile (file : State) : Type 0 where
+  pub autocommit : file.in_transaction ≡ false
+  pub schema : file.now.schema ≡ node_schema
+  pub version : HasVersionOne (file.now.trees 0)
+  pub floors : AllByRecursion IsFloor (file.now.trees 1)
+  pub once : IsFloorTable (file.now.trees 1)
+  pub few : length (file.now.trees 1) ≤ 65536
 
 -- a file with nothing in it has no floors, and a node's file in version 1, whose rows are all floors, has those that were committed
 abbrev pub OpensWith : State → FloorMap → Type 0

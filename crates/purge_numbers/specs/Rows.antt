@@ -1,5 +1,5 @@
 -- The rows of a node's file, and what reading them gives.
-use Rattle.std.specs.Prelude.{◌≡◌, ◌≤◌, ◌<◌, ◌^◌, ◌⊎◌, ℕ, ℤ, pos, Result, IfErr, List, [], ◌∷◌, map, None}
+use Rattle.std.specs.Prelude.{◌≡◌, ◌≤◌, ◌<◌, ◌^◌, ◌⊎◌, ℤ, pos, Result, IfErr, List, [], ◌∷◌, map, None}
 use Rattle.std.specs.FinMap.{get, insert}
 use Rattle.sqlite.specs.declared.types.Value.TheVariants.{Int, Text as Words}
 use Rattle.sqlite_value.specs.Order.{Row, column}

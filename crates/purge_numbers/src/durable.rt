@@ -3,7 +3,7 @@ ghost use Rattle.std.specs.Prelude.{◌≡◌, IsTrue, IfOk, IfErr};
 ghost use Rattle.sqlite.specs.State.{HasCleanDisk};
 ghost use Rattle.sqlite.specs.Held.{state};
 ghost use Rattle.purge_numbers.specs.Put.{FailsToPut};
-ghost use Rattle.purge_numbers.specs.Making.{LeavesNoOther, OpensWith};
+ghost use Rattle.purge_numbers.specs.Making.{IsNodeFile, LeavesNoOther, OpensWith};
 ghost use Rattle.purge_numbers.specs.Store.{MayFind, committed_floors};
 
 use crate::fault::FloorFault;
@@ -52,6 +52,7 @@ impl<S: Alter> SqliteFloors<S> {
         ensures found { IfOk result (λ it. HasCleanDisk (state S.Store it.conn) → OpensWith (state S.Store conn) (committed_floors (state S.Store it.conn))) }
         ensures usable { IfOk result (λ it. IsTrue it.is_usable × (it.failures ≡ 0)) }
         ensures crash { IfOk result (λ it. LeavesNoOther (state S.Store conn) (state S.Store it.conn)) }
+        ensures bad { IfErr result (λ e. e.1 ≡ FloorFault.BadTable → HasCleanDisk (state S.Store e.0) → ¬ IsNodeFile (state S.Store conn)) }
         ensures fails { IfErr result (λ e. LeavesNoOther (state S.Store conn) (state S.Store e.0)) }
     {
         match open_file(&mut conn, alloc) {

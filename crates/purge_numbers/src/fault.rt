@@ -1,4 +1,5 @@
 ghost use Rattle.std.specs.Prelude.{◌≡◌, ◌⊎◌};
+ghost use Rattle.purge_numbers.specs.Fault.{floor_fault_name};
 
 use sqlite::{Error, ErrorCode};
 use std::alloc::AllocError;
@@ -19,6 +20,20 @@ pub enum FloorFault {
     /// A growth was refused. Where a raise or an open answers so, the store is to be opened again.
     #[error("there was no memory")]
     NoMemory,
+}
+
+impl FloorFault {
+    /// The name that scripts print.
+    pub const fn name(self) -> &'static str
+        ensures { result.now ≡ floor_fault_name self }
+    {
+        match self {
+            FloorFault::FloorsFull => "FloorsFull",
+            FloorFault::StoreFault => "StoreFault",
+            FloorFault::BadTable => "BadTable",
+            FloorFault::NoMemory => "NoMemory",
+        }
+    }
 }
 
 impl From<AllocError> for FloorFault {

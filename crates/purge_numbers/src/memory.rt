@@ -6,18 +6,31 @@ use crate::fault::FloorFault;
 use crate::floors::Floors;
 use crate::store::FloorStore;
 use std::alloc::Global;
+use std::marker::Model;
 use url_key::Key;
 
-/// Floors in memory, which no crash touches. They never fail.
+/// Floors in memory, which no crash touches. They never fail. A contract sees them as a finite map.
 #[derive(Debug, Drop)]
 pub struct MemoryFloors {
     floors: Floors,
 }
 
+impl Model for MemoryFloors {
+    ghost use Rattle.std.specs.Coded.{coded_list, coded_ℕ};
+    ghost use Rattle.std.specs.FinMap.{code};
+    ghost use Rattle.purge_numbers.specs.Floors.{FloorMap};
+
+    ghost Value = { FloorMap };
+
+    ghost coded = { code (coded_list coded_ℕ) coded_ℕ };
+
+    ghost view = { λ store. store.floors };
+}
+
 impl MemoryFloors {
     /// No URL has a number.
     pub fn new(alloc: Global) -> MemoryFloors
-        ensures { result.floors ≡ empty }
+        ensures { result ≡ empty }
     {
         MemoryFloors {
             floors: Floors::new(alloc),
@@ -26,9 +39,9 @@ impl MemoryFloors {
 }
 
 impl FloorStore for MemoryFloors {
-    ghost content = { λ store. store.floors };
+    ghost content = { λ floors. floors };
 
-    ghost may_find = { λ store found. found ≡ store.floors };
+    ghost may_find = { λ floors found. found ≡ floors };
 
     ghost is_honest = { λ _. Unit {0} };
 

@@ -1,10 +1,10 @@
 //! Opening a node's file.
-ghost use Rattle.std.specs.Prelude.{◌≡◌, ◌⊎◌, ◌∷◌, [], pos, map, IsPermutation, IsTrue, IfOk, OnOk};
+ghost use Rattle.std.specs.Prelude.{◌≡◌, ◌≢◌, ◌⊎◌, ◌∷◌, [], false, pos, map, IsPermutation, IsTrue, IfOk, OnOk, Err};
 ghost use Rattle.std.specs.List.{AllByRecursion};
 ghost use Rattle.sqlite.specs.State.{HasCleanDisk, Survives, IsUnchanged};
 ghost use Rattle.sqlite.specs.Held.{state};
 ghost use Rattle.sqlite.specs.declared.types.Value.TheVariants.{Int};
-ghost use Rattle.purge_numbers.specs.Making.{IsBlank, IsFormed, IsUnused, LeavesNoOther, Makes, OpensWith};
+ghost use Rattle.purge_numbers.specs.Making.{IsBlank, IsFormed, IsNodeFile, IsUnused, LeavesNoOther, Makes, OpensWith};
 ghost use Rattle.purge_numbers.specs.Rows.{HasVersionOne, IsFloor, shown_row, shown_version};
 ghost use Rattle.purge_numbers.specs.Store.{AreIn, committed_floors};
 ghost use Rattle.purge_numbers.specs.Tables.{node_schema, empty_schema};
@@ -40,7 +40,8 @@ fn floor_rows<S: Alter>(conn: &mut Connection<S>) -> Result<Vec<Row>, Error>
 
 /// The one version that stands there is 1.
 fn is_version_one(rows: &[Row]) -> bool
-    ensures { IsTrue result → rows.now ≡ (Int (pos 1) ∷ []) ∷ [] }
+    ensures yes { IsTrue result → rows.now ≡ (Int (pos 1) ∷ []) ∷ [] }
+    ensures no { result ≡ false → rows.now ≢ (Int (pos 1) ∷ []) ∷ [] }
 {
     let [row] = rows else {
         return false;
@@ -58,6 +59,7 @@ fn is_version_one(rows: &[Row]) -> bool
 fn check_version<S: Alter>(conn: &mut Connection<S>) -> Result<(), FloorFault>
     requires { (state S.Store conn.old).now.schema ≡ node_schema }
     ensures version { OnOk result (HasCleanDisk (state S.Store conn.new) → HasVersionOne ((state S.Store conn.old).now.trees 0)) }
+    ensures bad { result ≡ Err FloorFault.BadTable → HasCleanDisk (state S.Store conn.new) → ¬ HasVersionOne ((state S.Store conn.old).now.trees 0) }
     ensures same { OnOk result (HasCleanDisk (state S.Store conn.new) → IsUnchanged (state S.Store conn.old) (state S.Store conn.new)) }
     ensures survives { Survives (state S.Store conn.old) (state S.Store conn.new) (λ _. ⊥) }
 {
@@ -73,6 +75,7 @@ fn read_floors<S: Alter>(conn: &mut Connection<S>, alloc: Global) -> Result<Floo
     ensures kept { IfOk result (λ floors. HasCleanDisk (state S.Store conn.new) → AreIn (state S.Store conn.new) floors) }
     ensures same { OnOk result (HasCleanDisk (state S.Store conn.new) → committed_floors (state S.Store conn.new) ≡ committed_floors (state S.Store conn.old)) }
     ensures rows { OnOk result (HasCleanDisk (state S.Store conn.new) → AllByRecursion IsFloor ((state S.Store conn.old).now.trees 1)) }
+    ensures bad { result ≡ Err FloorFault.BadTable → HasCleanDisk (state S.Store conn.new) → ¬ IsNodeFile (state S.Store conn.old) }
     ensures survives { Survives (state S.Store conn.old) (state S.Store conn.new) (λ _. ⊥) }
 {
     if !conn.is_autocommit() {
@@ -153,6 +156,7 @@ fn is_blank(schema: &Schema) -> bool
 /// Makes the tables in a file that has none.
 fn make_where_blank<S: Alter>(conn: &mut Connection<S>) -> Result<(), FloorFault>
     ensures done { OnOk result ((IsBlank (state S.Store conn.old).now × (HasCleanDisk (state S.Store conn.new) → IsUnused (state S.Store conn.new).committed)) ⊎ (conn.new ≡ conn.old)) }
+    ensures named { result ≢ Err FloorFault.BadTable }
     ensures crash { LeavesNoOther (state S.Store conn.old) (state S.Store conn.new) }
 {
     if !is_blank(conn.schema()) {
@@ -171,6 +175,7 @@ fn read_file<S: Alter>(conn: &mut Connection<S>, alloc: Global) -> Result<Floors
     ensures same { OnOk result (HasCleanDisk (state S.Store conn.new) → committed_floors (state S.Store conn.new) ≡ committed_floors (state S.Store conn.old)) }
     ensures schema { OnOk result ((state S.Store conn.old).now.schema ≡ node_schema) }
     ensures rows { OnOk result (HasCleanDisk (state S.Store conn.new) → AllByRecursion IsFloor ((state S.Store conn.old).now.trees 1)) }
+    ensures bad { result ≡ Err FloorFault.BadTable → HasCleanDisk (state S.Store conn.new) → ¬ IsNodeFile (state S.Store conn.old) }
     ensures survives { Survives (state S.Store conn.old) (state S.Store conn.new) (λ _. ⊥) }
 {
     if !is_node_schema(conn.schema()) {
@@ -187,6 +192,7 @@ pub(crate) fn open_file<S: Alter>(
 ) -> Result<Floors, FloorFault>
     ensures kept { IfOk result (λ floors. HasCleanDisk (state S.Store conn.new) → AreIn (state S.Store conn.new) floors) }
     ensures found { OnOk result (HasCleanDisk (state S.Store conn.new) → OpensWith (state S.Store conn.old) (committed_floors (state S.Store conn.new))) }
+    ensures bad { result ≡ Err FloorFault.BadTable → HasCleanDisk (state S.Store conn.new) → ¬ IsNodeFile (state S.Store conn.old) }
     ensures crash { LeavesNoOther (state S.Store conn.old) (state S.Store conn.new) }
 {
     conn.set_step_limit(None);

@@ -1,8 +1,10 @@
 //! The tables of a node's file, as the schema of a connection has them.
-ghost use Rattle.std.specs.Prelude.{◌≡◌, ◌∷◌, [], true, not, Some, None, IsTrue};
+ghost use Rattle.std.specs.Prelude.{◌≡◌, ◌≢◌, ℕ, suc, ◌∷◌, [], true, false, not, Some, None, IsTrue, IfSome, slice_index_or};
 ghost use Rattle.sqlite.specs.declared.types.Value.TheVariants.{Null, Int};
 ghost use Rattle.sqlite.specs.Collation.TheVariants.{Binary};
-ghost use Rattle.sqlite_sql.specs.Term.{col, lit};
+ghost use Rattle.sqlite_sql.specs.Term.{col, lit, op2};
+ghost use Rattle.sqlite_sql.specs.declared.ops.BinaryOp.TheVariants.{Compare};
+ghost use Rattle.sqlite_schema.specs.Code.{term_in, term_to};
 ghost use Rattle.sqlite_schema.specs.declared.code.Op.TheVariants as op;
 ghost use Rattle.purge_numbers.specs.Tables.{form_table, floors_table, url_index, node_schema, number_check};
 
@@ -14,21 +16,24 @@ use sqlite_value::keys::{Collation, Order};
 use sqlite_value::value::{Bytes, Value};
 
 fn is_named(name: &Bytes, wanted: &[u8]) -> bool
-    ensures { IsTrue result → name.now ≡ wanted.now }
+    ensures yes { IsTrue result → name.now ≡ wanted.now }
+    ensures no { result ≡ false → ¬ (name.now ≡ wanted.now) }
 {
     name.as_slice() == wanted
 }
 
 /// The one place is this.
 fn is_place(places: &Items<usize>, wanted: usize) -> bool
-    ensures { IsTrue result → places.now ≡ wanted ∷ [] }
+    ensures yes { IsTrue result → places.now ≡ wanted ∷ [] }
+    ensures no { result ≡ false → ¬ (places.now ≡ wanted ∷ []) }
 {
     places.as_slice() == [wanted].as_slice()
 }
 
 /// A column of a STRICT table with no default.
 fn is_column(column: &Column, name: &[u8], kind: Kind, not_null: bool) -> bool
-    ensures { IsTrue result → column.now ≡ record { name = name.now; kind = kind; is_strict = true; not_null = not_null; default = Null; collation = Binary } }
+    ensures yes { IsTrue result → column.now ≡ record { name = name.now; kind = kind; is_strict = true; not_null = not_null; default = Null; collation = Binary } }
+    ensures no { result ≡ false → ¬ (column.now ≡ record { name = name.now; kind = kind; is_strict = true; not_null = not_null; default = Null; collation = Binary }) }
 {
     let has_no_default = matches!(column.default, Value::Null);
     is_named(&column.name, name)
@@ -41,7 +46,8 @@ fn is_column(column: &Column, name: &[u8], kind: Kind, not_null: bool) -> bool
 
 /// A table with no foreign key, no computed default and no AUTOINCREMENT.
 fn is_plain(table: &Table) -> bool
-    ensures { IsTrue result → (table.now.references ≡ []) × (table.now.computed ≡ []) × (table.now.stamps ≡ record { places = []; terms = []; formats = [] }) × IsTrue (not table.now.is_counted) }
+    ensures yes { IsTrue result → (table.now.references ≡ []) × (table.now.computed ≡ []) × (table.now.stamps ≡ record { places = []; terms = []; formats = [] }) × IsTrue (not table.now.is_counted) }
+    ensures no { result ≡ false → ¬ ((table.now.references ≡ []) × (table.now.computed ≡ []) × (table.now.stamps ≡ record { places = []; terms = []; formats = [] }) × IsTrue (not table.now.is_counted)) }
 {
     table.references.is_empty()
         && table.computed.is_empty()
@@ -52,28 +58,32 @@ fn is_plain(table: &Table) -> bool
 }
 
 fn has_no_terms(terms: &Terms) -> bool
-    ensures { IsTrue result → terms.now ≡ [] }
+    ensures yes { IsTrue result → terms.now ≡ [] }
+    ensures no { result ≡ false → ¬ (terms.now ≡ []) }
 {
-    terms.nodes.is_empty() && terms.roots.is_empty()
+    terms.roots.is_empty()
 }
 
 /// A table with no UNIQUE and no CHECK.
 fn has_no_rules(table: &Table) -> bool
-    ensures { IsTrue result → (table.now.uniques ≡ []) × (table.now.orders ≡ []) × (table.now.checks ≡ []) }
+    ensures yes { IsTrue result → (table.now.uniques ≡ []) × (table.now.orders ≡ []) × (table.now.checks ≡ []) }
+    ensures no { result ≡ false → ¬ ((table.now.uniques ≡ []) × (table.now.orders ≡ []) × (table.now.checks ≡ [])) }
 {
     table.uniques.is_empty() && table.orders.is_empty() && has_no_terms(&table.checks)
 }
 
 /// The first column is the rowid.
 fn is_rowid(key: Option<usize>) -> bool
-    ensures { IsTrue result → key ≡ Some 0 }
+    ensures yes { IsTrue result → key ≡ Some 0 }
+    ensures no { result ≡ false → ¬ (key ≡ Some 0) }
 {
     matches!(key, Some(0))
 }
 
 /// The only order is that of plain octets.
 fn is_plain_order(orders: &Items<Order>) -> bool
-    ensures { IsTrue result → orders.now ≡ record { digits = 0 } ∷ [] }
+    ensures yes { IsTrue result → orders.now ≡ record { digits = 0 } ∷ [] }
+    ensures no { result ≡ false → ¬ (orders.now ≡ record { digits = 0 } ∷ []) }
 {
     let [order] = orders.as_slice() else {
         return false;
@@ -83,7 +93,8 @@ fn is_plain_order(orders: &Items<Order>) -> bool
 
 /// The only one is of this place.
 fn is_unique_place(uniques: &Items<Items<usize>>, wanted: usize) -> bool
-    ensures { IsTrue result → uniques.now ≡ (wanted ∷ []) ∷ [] }
+    ensures yes { IsTrue result → uniques.now ≡ (wanted ∷ []) ∷ [] }
+    ensures no { result ≡ false → ¬ (uniques.now ≡ (wanted ∷ []) ∷ []) }
 {
     let [places] = uniques.as_slice() else {
         return false;
@@ -92,7 +103,8 @@ fn is_unique_place(uniques: &Items<Items<usize>>, wanted: usize) -> bool
 }
 
 fn is_number(node: &Op) -> bool
-    ensures { IsTrue result → node.now ≡ op.Column 1 2 }
+    ensures yes { IsTrue result → node.now ≡ op.Column 1 2 }
+    ensures no { result ≡ false → ¬ (node.now ≡ op.Column 1 2) }
 {
     match node {
         Op::Column(slot, at) => *slot == 1 && *at == 2,
@@ -101,7 +113,8 @@ fn is_number(node: &Op) -> bool
 }
 
 fn is_literal(node: &Op, number: i64) -> bool
-    ensures { IsTrue result → node.now ≡ op.Literal (Int number) }
+    ensures yes { IsTrue result → node.now ≡ op.Literal (Int number) }
+    ensures no { result ≡ false → ¬ (node.now ≡ op.Literal (Int number)) }
 {
     match node {
         Op::Literal(Value::Int(found)) => *found == number,
@@ -109,48 +122,82 @@ fn is_literal(node: &Op, number: i64) -> bool
     }
 }
 
-fn is_both(node: &Op, by: BinaryOp, left: usize, right: usize) -> bool
-    ensures { IsTrue result → node.now ≡ op.Binary by left right }
+fn is_number_at(nodes: &[Op], at: usize) -> bool
+    ensures yes { IsTrue result → slice_index_or nodes.now at (op.Literal Null) ≡ op.Column 1 2 }
+    ensures no { result ≡ false → slice_index_or nodes.now at (op.Literal Null) ≢ op.Column 1 2 }
+{
+    at < nodes.len() && is_number(&nodes[at])
+}
+
+fn is_literal_at(nodes: &[Op], at: usize, number: i64) -> bool
+    ensures yes { IsTrue result → slice_index_or nodes.now at (op.Literal Null) ≡ op.Literal (Int number) }
+    ensures no { result ≡ false → slice_index_or nodes.now at (op.Literal Null) ≢ op.Literal (Int number) }
+{
+    at < nodes.len() && is_literal(&nodes[at], number)
+}
+
+/// The places of the two operands, where this is the operator.
+fn operands(node: &Op, by: BinaryOp) -> Option<(usize, usize)>
+    ensures some { IfSome result (λ places. node.now ≡ op.Binary by places.0 places.1) }
+    ensures none { result ≡ None → (left right : ℕ) → node.now ≢ op.Binary by left right }
 {
     match node {
-        Op::Binary(found, a, b) => *found == by && *a == left && *b == right,
-        _ => false,
+        Op::Binary(found, left, right) if *found == by => Some((*left, *right)),
+        _ => None,
     }
 }
 
-/// The test that a number is one of 1 to 4294967295.
-fn is_number_check(terms: &Terms) -> bool
-    ensures { IsTrue result → terms.now ≡ number_check ∷ [] }
+fn operands_at(nodes: &[Op], at: usize, by: BinaryOp) -> Option<(usize, usize)>
+    ensures some { IfSome result (λ places. slice_index_or nodes.now at (op.Literal Null) ≡ op.Binary by places.0 places.1) }
+    ensures none { result ≡ None → (left right : ℕ) → slice_index_or nodes.now at (op.Literal Null) ≢ op.Binary by left right }
 {
-    let [low_number, low, at_least, high_number, high, at_most, both] = terms.nodes.as_slice()
+    if at < nodes.len() {
+        operands(&nodes[at], by)
+    } else {
+        None
+    }
+}
+
+/// The comparison of the number with a bound.
+fn is_bound_at(nodes: &[Op], at: usize, by: CompareOp, bound: i64) -> bool
+    ensures yes { IsTrue result → (depth : ℕ) → term_to nodes.now (suc (suc depth)) at ≡ op2 (Compare by Binary) (col 1 2) (lit (Int bound)) }
+    ensures no { result ≡ false → (depth : ℕ) → term_to nodes.now (suc (suc depth)) at ≢ op2 (Compare by Binary) (col 1 2) (lit (Int bound)) }
+{
+    let Some((left, right)) = operands_at(nodes, at, BinaryOp::Compare(by, Collation::Binary))
     else {
         return false;
     };
+    is_number_at(nodes, left) && is_literal_at(nodes, right, bound)
+}
+
+/// The test at this place that a number is one of 1 to 4294967295.
+fn is_number_check_at(nodes: &[Op], at: usize) -> bool
+    ensures yes { IsTrue result → term_in nodes.now at ≡ number_check }
+    ensures no { result ≡ false → term_in nodes.now at ≢ number_check }
+{
+    if nodes.len() < 3 {
+        return false;
+    }
+    let Some((low, high)) = operands_at(nodes, at, BinaryOp::And) else {
+        return false;
+    };
+    is_bound_at(nodes, low, CompareOp::Ge, 1) && is_bound_at(nodes, high, CompareOp::Le, 4294967295)
+}
+
+/// The only one is the test that a number is one of 1 to 4294967295.
+fn is_number_check(terms: &Terms) -> bool
+    ensures yes { IsTrue result → terms.now ≡ number_check ∷ [] }
+    ensures no { result ≡ false → terms.now ≢ number_check ∷ [] }
+{
     let [root] = terms.roots.as_slice() else {
         return false;
     };
-    *root == 6
-        && is_number(low_number)
-        && is_literal(low, 1)
-        && is_both(
-            at_least,
-            BinaryOp::Compare(CompareOp::Ge, Collation::Binary),
-            0,
-            1,
-        )
-        && is_number(high_number)
-        && is_literal(high, 4294967295)
-        && is_both(
-            at_most,
-            BinaryOp::Compare(CompareOp::Le, Collation::Binary),
-            3,
-            4,
-        )
-        && is_both(both, BinaryOp::And, 2, 5)
+    is_number_check_at(terms.nodes.as_slice(), *root)
 }
 
 fn is_form(table: &Table) -> bool
-    ensures { IsTrue result → table.now ≡ form_table }
+    ensures yes { IsTrue result → table.now ≡ form_table }
+    ensures no { result ≡ false → ¬ (table.now ≡ form_table) }
 {
     if !is_named(&table.name, b"form".as_slice()) || table.tree != 0 {
         return false;
@@ -162,7 +209,8 @@ fn is_form(table: &Table) -> bool
 }
 
 fn has_floor_columns(columns: &Items<Column>) -> bool
-    ensures { IsTrue result → columns.now ≡ floors_table.columns }
+    ensures yes { IsTrue result → columns.now ≡ floors_table.columns }
+    ensures no { result ≡ false → ¬ (columns.now ≡ floors_table.columns) }
 {
     let [url, number] = columns.as_slice() else {
         return false;
@@ -172,7 +220,8 @@ fn has_floor_columns(columns: &Items<Column>) -> bool
 }
 
 fn has_version_column(columns: &Items<Column>) -> bool
-    ensures { IsTrue result → columns.now ≡ form_table.columns }
+    ensures yes { IsTrue result → columns.now ≡ form_table.columns }
+    ensures no { result ≡ false → ¬ (columns.now ≡ form_table.columns) }
 {
     let [version] = columns.as_slice() else {
         return false;
@@ -182,7 +231,8 @@ fn has_version_column(columns: &Items<Column>) -> bool
 
 /// A table whose rows have a rowid of their own, and one text that no other row has.
 fn has_url_key(table: &Table) -> bool
-    ensures { IsTrue result → (table.now.key ≡ None) × (table.now.primary ≡ 1 ∷ []) × (table.now.uniques ≡ (1 ∷ []) ∷ []) × (table.now.orders ≡ record { digits = 0 } ∷ []) }
+    ensures yes { IsTrue result → (table.now.key ≡ None) × (table.now.primary ≡ 1 ∷ []) × (table.now.uniques ≡ (1 ∷ []) ∷ []) × (table.now.orders ≡ record { digits = 0 } ∷ []) }
+    ensures no { result ≡ false → ¬ ((table.now.key ≡ None) × (table.now.primary ≡ 1 ∷ []) × (table.now.uniques ≡ (1 ∷ []) ∷ []) × (table.now.orders ≡ record { digits = 0 } ∷ [])) }
 {
     table.key.is_none()
         && is_place(&table.primary, 1)
@@ -191,7 +241,8 @@ fn has_url_key(table: &Table) -> bool
 }
 
 fn is_floors(table: &Table) -> bool
-    ensures { IsTrue result → table.now ≡ floors_table }
+    ensures yes { IsTrue result → table.now ≡ floors_table }
+    ensures no { result ≡ false → ¬ (table.now ≡ floors_table) }
 {
     if !is_named(&table.name, b"floors".as_slice()) || table.tree != 1 {
         return false;
@@ -203,7 +254,8 @@ fn is_floors(table: &Table) -> bool
 }
 
 fn is_url_index(index: &Index) -> bool
-    ensures { IsTrue result → index.now ≡ url_index }
+    ensures yes { IsTrue result → index.now ≡ url_index }
+    ensures no { result ≡ false → ¬ (index.now ≡ url_index) }
 {
     if !is_named(&index.name, b"sqlite_autoindex_floors_1".as_slice()) {
         return false;
@@ -219,7 +271,8 @@ fn is_url_index(index: &Index) -> bool
 
 /// Whether these are the tables of a node's file, and there are no others.
 pub(crate) fn is_node_schema(schema: &Schema) -> bool
-    ensures { IsTrue result → schema.now ≡ node_schema }
+    ensures yes { IsTrue result → schema.now ≡ node_schema }
+    ensures no { result ≡ false → ¬ (schema.now ≡ node_schema) }
 {
     let [form, floors] = schema.tables.as_slice() else {
         return false;

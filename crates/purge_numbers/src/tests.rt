@@ -89,6 +89,21 @@ fn opened_again_a_file_has_its_floors(rt: HostRuntime) -> Result<(), Fail> {
     Ok(())
 }
 
+const FAULTS: [(FloorFault, &str); 4] = [
+    (FloorFault::FloorsFull, "FloorsFull"),
+    (FloorFault::StoreFault, "StoreFault"),
+    (FloorFault::BadTable, "BadTable"),
+    (FloorFault::NoMemory, "NoMemory"),
+];
+
+#[test]
+fn faults_are_told_by_name(rt: HostRuntime) -> Result<(), Fail> {
+    for (fault, wanted) in FAULTS {
+        assert!(rt; fault.name() == wanted);
+    }
+    Ok(())
+}
+
 const FORM: &str = "CREATE TABLE form (version INTEGER PRIMARY KEY) STRICT";
 
 const VERSION: &str = "INSERT INTO form VALUES (1)";
@@ -97,7 +112,7 @@ const FLOORS: &str =
     "CREATE TABLE floors (url TEXT PRIMARY KEY NOT NULL, number INTEGER NOT NULL CHECK (number >= 1 AND number <= 4294967295)) STRICT";
 
 /// What a file holds, and how an open of it is answered.
-const FILES: [(&[&str], Result<u32, FloorFault>); 12] = [
+const FILES: [(&[&str], Result<u32, FloorFault>); 16] = [
     (&[], Ok(0)),
     (&[FORM, FLOORS, VERSION], Ok(0)),
     (
@@ -155,6 +170,34 @@ const FILES: [(&[&str], Result<u32, FloorFault>); 12] = [
         Err(FloorFault::BadTable),
     ),
     (&[FORM, FLOORS, VERSION, "BEGIN"], Err(FloorFault::BadTable)),
+    (&[FLOORS], Err(FloorFault::BadTable)),
+    (
+        &[
+            FORM,
+            VERSION,
+            "CREATE TABLE floors (url TEXT PRIMARY KEY NOT NULL, number INTEGER NOT NULL) STRICT",
+            "INSERT INTO floors VALUES ('http://a/', 4294967296)",
+        ],
+        Err(FloorFault::BadTable),
+    ),
+    (
+        &[
+            FORM,
+            FLOORS,
+            VERSION,
+            "CREATE TABLE more (number INTEGER) STRICT",
+        ],
+        Err(FloorFault::BadTable),
+    ),
+    (
+        &[
+            FORM,
+            FLOORS,
+            VERSION,
+            "CREATE INDEX more ON floors (number)",
+        ],
+        Err(FloorFault::BadTable),
+    ),
 ];
 
 /// Opens a file that the statements made, and answers the greatest number.

@@ -1,6 +1,4 @@
-use Rattle.std.proofs.Common.{◌≡◌, sym}
 use Rattle.sqlite.specs.Held.{state}
-use Rattle.purge_numbers.specs.Making.{LeavesNoOther}
 use Rattle.purge_numbers.proofs.OpenLemmas.{kept_crash}
 use Rattle.purge_numbers.proofs.opening.open_file.Goals as goal
 

@@ -1,9 +1,9 @@
-use Rattle.std.proofs.Common.{◌≡◌, Ok, Err, Result, OnOk, subst, arith}
+use Rattle.std.proofs.Common.{Ok, Err, Result, OnOk, subst, arith}
 use Rattle.sqlite.specs.State.{State, HasCleanDisk, IsUnchanged}
 use Rattle.sqlite.specs.Effect.{Database}
 use Rattle.std.specs.List.{AllByRecursion}
 use Rattle.sqlite.specs.Held.{state}
-use Rattle.purge_numbers.specs.Rows.{HasVersionOne, IsFloor}
+use Rattle.purge_numbers.specs.Rows.{IsFloor}
 use Rattle.purge_numbers.proofs.opening.read_file.Goals as goal
 
 rows_then : {A E : Type 0} (r : Result A E) (old mid new : State) → (HasCleanDisk new → HasCleanDisk mid) → (HasCleanDisk mid → IsUnchanged old mid)

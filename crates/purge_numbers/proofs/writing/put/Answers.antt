@@ -1,5 +1,4 @@
 use Rattle.std.proofs.Common.{arith}
-use Rattle.sqlite.specs.State.{HasCleanDisk}
 use Rattle.sqlite.specs.Held.{state}
 use Rattle.purge_numbers.proofs.CallLemmas.{put_ready, put_crash, put_fails}
 use Rattle.purge_numbers.proofs.writing.put.Goals as goal

@@ -1,7 +1,6 @@
-use Rattle.std.proofs.Common.{arith, ◌≡◌, sym, ap, ◌∙◌, inl, inr, ◌<◌, ◌≤◌}
-use Rattle.sqlite.specs.State.{HasCleanDisk}
+use Rattle.std.proofs.Common.{arith, sym, ◌∙◌, inl, inr, ◌<◌, ◌≤◌}
 use Rattle.sqlite.specs.Held.{state}
-use Rattle.purge_numbers.specs.Floors.{floor, raised}
+use Rattle.purge_numbers.specs.Floors.{floor}
 use Rattle.purge_numbers.specs.Store.{committed_floors}
 use Rattle.purge_numbers.proofs.MapLemmas.{raised_same, raised_higher}
 use Rattle.purge_numbers.proofs.writing.raise.Goals as goal

@@ -1,4 +1,4 @@
-use Rattle.std.proofs.Common.{◌≡◌, sym, ap, ◌∙◌}
+use Rattle.std.proofs.Common.{sym, ap, ◌∙◌}
 use Rattle.purge_numbers.specs.Floors.{seen}
 use Rattle.purge_numbers.proofs.MapLemmas.{cloned}
 use Rattle.purge_numbers.proofs.floors.Floors.copy.Goals as goal

@@ -1,4 +1,4 @@
-use Rattle.std.proofs.Common.{◌≡◌, ℕ, Some, None, unwrap_or, sym, ap, ◌∙◌}
+use Rattle.std.proofs.Common.{◌≡◌, Some, None, unwrap_or, sym, ap, ◌∙◌}
 use Rattle.std.specs.FinMap.{get}
 use Rattle.purge_numbers.proofs.MapLemmas.{got}
 use Rattle.purge_numbers.proofs.floors.Floors.floor.Goals as goal

@@ -1,4 +1,4 @@
-use Rattle.std.proofs.Common.{◌≡◌, is_some, sym, ap, ◌∙◌}
+use Rattle.std.proofs.Common.{is_some, sym, ap, ◌∙◌}
 use Rattle.purge_numbers.proofs.MapLemmas.{got}
 use Rattle.purge_numbers.proofs.floors.Floors.has.Goals as goal
 

@@ -1,8 +1,8 @@
-use Rattle.std.proofs.Common.{◌≡◌, ◌≤◌, ℕ, List, map, max, arith, sym, ap, ◌∙◌}
+use Rattle.std.proofs.Common.{◌≡◌, ◌≤◌, map, arith, ap, ◌∙◌}
 use Rattle.std.specs.FinMap.{insert, from_entries}
 use Rattle.std.specs.Ordering.{nat_cmp}
 use Rattle.std.specs.Cmp.Lexicographic.{slice_cmp}
-use Rattle.purge_numbers.specs.Floors.{FloorMap, floor, seen}
+use Rattle.purge_numbers.specs.Floors.{floor, seen}
 use Rattle.purge_numbers.proofs.MapLemmas.{was_set, map_of, seen_set, url_entry}
 use Rattle.purge_numbers.proofs.floors.Floors.set.Goals as goal
 

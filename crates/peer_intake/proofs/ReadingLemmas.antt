@@ -1,0 +1,14 @@
+-- What one call after another takes from a reader, and what the window shows of the octets.
+use Rattle.std.proofs.Common.{◌≡◌, ℕ, ◌<◌, List, ◌++◌, length, drop, Option, ap, ◌∙◌, arith, append_assoc, length-take, take_all}
+use Rattle.std.proofs.KnownBytes.{Consumes-trans}
+use Rattle.peer_intake.specs.Reading.{Takes}
+use Rattle.peer_intake.specs.Heads.{head_window}
+
+pub takes_then : (a b c : Option (List ℕ)) (old mid new : List ℕ) → Takes a b old mid → Takes b c mid new → Takes a c old new
+takes_then a b c old mid new (first, is, took) (second, then_is, then_took) =
+    (first ++ second, then_is ∙ ap (λ t. t ++ second) is ∙ append_assoc old first second, Consumes-trans a b c first second took then_took)
+
+-- a window that is not full is all of the octets from start on
+pub whole_window : (start : ℕ) (octets window : List ℕ) → window ≡ head_window start octets → length window < 16384 → window ≡ drop start octets
+whole_window start octets window is short =
+    is ∙ take_all 16384 (drop start octets) (omega (arith, ap length is, length-take 16384 (drop start octets)))

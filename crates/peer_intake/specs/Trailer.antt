@@ -1,0 +1,50 @@
+-- The trailer behind the last chunk, and the whole of a body in chunks (RFC 9112, sections 7.1 and 7.1.2).
+use Rattle.std.specs.Prelude.{ℕ, ◌+◌, ◌≤◌, ◌⊎◌, ⊤, List, length, drop, Option}
+use Rattle.std.specs.Io.KnownBytes.{IsAtEnd}
+use Rattle.httparse.specs.Grammar.{Field, LineEnd, ReadsSection, HasNoSection, NeverHasSection}
+use Rattle.httparse.specs.Spans.{SectionExceeds}
+use Rattle.peer_fetch.specs.declared.fault.FetchFault.{FetchFault}
+use Rattle.peer_fetch.specs.declared.fault.FetchFault.TheVariants.{Io, EndOfInput, HeadTooLong, BadBody, TooManyTurns, NoMemory}
+use Rattle.peer_intake.specs.Reading.{most_turns}
+use Rattle.peer_intake.specs.Heads.{longest_head, most_fields, head_window}
+use Rattle.peer_intake.specs.Chunks.{HoldsChunks, StopsInChunks}
+
+-- the octets from start to end are field lines and an empty line, within the limits of a head
+pub record HoldsTrailer (octets : List ℕ) (start end : ℕ) : Type 0 where
+  pub fields : List Field
+  pub last : LineEnd
+  pub reads : ReadsSection (drop start octets) fields last (drop end octets)
+  pub few : length fields ≤ most_fields
+  pub short : end ≤ start + longest_head
+  pub forward : start ≤ end
+  pub within : end ≤ length octets
+
+-- no trailer ends within the octets that it may have, or it has too many fields
+abbrev pub IsLongTrailer : List ℕ → Type 0
+IsLongTrailer window = ((longest_head ≤ length window) × HasNoSection window) ⊎ SectionExceeds most_fields window
+
+-- why the octets in which a trailer may stand were refused
+abbrev pub RefusesTrailer : List ℕ → FetchFault → Type 0
+RefusesTrailer window BadBody = NeverHasSection window
+RefusesTrailer window HeadTooLong = IsLongTrailer window
+RefusesTrailer window fault = ⊥
+
+-- why reading stopped in the trailer that begins at start
+abbrev pub StopsInTrailer : Option (List ℕ) → List ℕ → ℕ → FetchFault → Type 0
+StopsInTrailer reader octets start Io = ⊤
+StopsInTrailer reader octets start NoMemory = ⊤
+StopsInTrailer reader octets start EndOfInput = HasNoSection (drop start octets) × IsAtEnd reader
+StopsInTrailer reader octets start TooManyTurns = HasNoSection (drop start octets) × (most_turns ≤ length octets)
+StopsInTrailer reader octets start fault = RefusesTrailer (head_window start octets) fault
+
+-- the octets from start to end are chunks, the line of the last one and a trailer
+pub record HoldsChunkedBody (octets : List ℕ) (start end : ℕ) (body : List ℕ) : Type 0 where
+  pub trailer : ℕ
+  pub chunks : HoldsChunks octets start trailer body
+  pub section : HoldsTrailer octets trailer end
+
+-- why reading stopped in a body in chunks: at a chunk, or in the trailer behind all of them
+abbrev pub StopsInChunkedBody : Option (List ℕ) → List ℕ → ℕ → FetchFault → Type 0
+StopsInChunkedBody reader octets start fault =
+    StopsInChunks reader octets start fault
+    ⊎ ((trailer : ℕ) × (body : List ℕ) × HoldsChunks octets start trailer body × StopsInTrailer reader octets trailer fault)

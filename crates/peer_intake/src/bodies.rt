@@ -1,0 +1,114 @@
+//! Bodies whose length is told, and bodies up to the end of the input (RFC 9112, section 6.3).
+ghost use Rattle.std.specs.Prelude.{◌≡◌, ◌≤◌, length, take, vec_len, IsTrue, OnOk, IfOk, IfErr};
+ghost use Rattle.peer_intake.specs.Bodies.{longest_body, ReadsBodyOf, CutsBodyOf, ReadsToEnd, StopsBeforeEnd, is_end_fault};
+ghost use Rattle.peer_intake.specs.Reading.{IsReadFault};
+
+use crate::Intake;
+use crate::fill::fill;
+use crate::piece::read_piece;
+use peer_fetch::FetchFault;
+use std::alloc::{AllocError, Global};
+use std::io::Read;
+
+/// The most octets that a body may have.
+pub(crate) const LONGEST_BODY: usize = 65536;
+
+impl Intake {
+    /// The body of this many octets that begins at `start`, behind a head that told its length. The octets that came
+    /// with the head are copied, and the rest is read to where it stays: no octet behind the body is taken. The message
+    /// ends with its body, so nothing more is read of it.
+    ///
+    /// Errors: `BodyTooLong` over 65,536 octets, before any is read; `EndOfInput` where the input ended before the body
+    /// did, `TooManyTurns` where a call more than 70,000 would be needed, `Io` where a call failed, `NoMemory` where a
+    /// growth was refused.
+    pub fn read_body_of<R: Read>(
+        self,
+        alloc: Global,
+        reader: &mut R,
+        start: usize,
+        len: u64,
+    ) -> Result<Vec<u8>, FetchFault>
+        requires { start ≤ length self }
+        ensures body { IfOk result (λ body. ReadsBodyOf (R.remaining reader.old) (R.remaining reader.new)
+            self start len body.items) }
+        ensures short { IfOk result (λ body. vec_len body ≤ longest_body) }
+        ensures cut { IfErr result
+            (CutsBodyOf (R.remaining reader.old) (R.remaining reader.new) self start len) }
+    {
+        if len > LONGEST_BODY as u64 {
+            return Err(FetchFault::BodyTooLong);
+        }
+        let (octets, turns) = self.into_parts();
+        let (_, behind) = octets.as_slice().split_at(start);
+        let came = behind.len().min(len as usize);
+        let mut body = match begin_body(alloc, &behind[..came], len as usize) {
+            Ok(body) => body,
+            Err(_) => return Err(FetchFault::NoMemory),
+        };
+        match fill(&mut body, came, turns, reader) {
+            Ok(()) => Ok(body),
+            Err(fault) => Err(fault),
+        }
+    }
+
+    /// The body that begins at `start` and goes up to the end of the input. The octets that came with the head are
+    /// copied, and the rest is read behind them. The message ends with its body, so nothing more is read of it.
+    ///
+    /// Errors: `BodyTooLong` once it has more than 65,536 octets, `TooManyTurns` where a call more than 70,000 would be
+    /// needed, `Io` where a call failed, `NoMemory` where a growth was refused.
+    pub fn read_to_end<R: Read>(
+        self,
+        alloc: Global,
+        reader: &mut R,
+        start: usize,
+    ) -> Result<Vec<u8>, FetchFault>
+        requires { start ≤ length self }
+        ensures body { IfOk result (λ body. ReadsToEnd (R.remaining reader.old) (R.remaining reader.new)
+            self start body.items) }
+        ensures stopped { IfErr result
+            (StopsBeforeEnd (R.remaining reader.old) (R.remaining reader.new) self start) }
+    {
+        let (octets, mut turns) = self.into_parts();
+        let (_, behind) = octets.as_slice().split_at(start);
+        let mut body = match Vec::from_slice(alloc, behind) {
+            Ok(body) => body,
+            Err(_) => return Err(FetchFault::NoMemory),
+        };
+        'pieces: loop {
+            if body.len() > LONGEST_BODY {
+                return Err(FetchFault::BodyTooLong);
+            }
+            match read_piece(&mut body, &mut turns, reader) {
+                Ok(()) => {}
+                Err(fault) => match unless_ended(fault) {
+                    Ok(()) => return Ok(body),
+                    Err(other) => return Err(other),
+                },
+            }
+        }
+    }
+}
+
+/// The fault, unless it is that the input ended.
+fn unless_ended(fault: FetchFault) -> Result<(), FetchFault>
+    requires { IsReadFault fault }
+    ensures ended { OnOk result (fault ≡ FetchFault.EndOfInput) }
+    ensures other { IfErr result (λ other. (other ≡ fault) × IsTrue (is_end_fault other)) }
+{
+    match fault {
+        FetchFault::EndOfInput => Ok(()),
+        other => Err(other),
+    }
+}
+
+/// Memory of this length that begins with these octets.
+fn begin_body(alloc: Global, front: &[u8], len: usize) -> Result<Vec<u8>, AllocError>
+    requires { length front.now ≤ len }
+    ensures front { IfOk result (λ body. take (length front.now) body.items ≡ front.now) }
+    ensures len { IfOk result (λ body. vec_len body ≡ len) }
+{
+    let mut body = Vec::with_capacity(alloc, len)?;
+    body.extend_from_slice(front)?;
+    body.resize(len, 0)?;
+    Ok(body)
+}

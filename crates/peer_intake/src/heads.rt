@@ -1,0 +1,57 @@
+//! What a parser says of the octets in which a head may stand.
+ghost use Rattle.std.specs.Prelude.{◌≡◌, ◌<◌, ◌≤◌, length, IfErr, IsErrOf};
+ghost use Rattle.httparse.specs.Grammar.{HasNoRequest, HasNoResponse, NeverHasRequest, NeverHasResponse};
+ghost use Rattle.httparse.specs.Outcome.{IfComplete, OnPartial};
+ghost use Rattle.httparse.specs.Spans.{IsRequestOf, IsRequestWithin, IsResponseOf, IsResponseWithin};
+ghost use Rattle.peer_intake.specs.Heads.{most_fields, longest_head, IsLongRequest, IsLongResponse, IsHeadRefusal};
+
+use crate::head_watch::LONGEST_HEAD;
+use httparse::spans::{HeaderSpan, RequestSpans, ResponseSpans, parse_request, parse_response};
+use httparse::{Error, Status};
+use peer_fetch::FetchFault;
+
+/// Whether a request's head stands in the window. `Partial` leaves room for more octets.
+pub(crate) fn judge_request(
+    window: &[u8],
+    headers: &mut [HeaderSpan],
+) -> Result<Status<RequestSpans>, FetchFault>
+    requires room { length headers.old ≡ most_fields }
+    requires window { length window.now ≤ longest_head }
+    ensures head { IfComplete result (IsRequestOf window.now headers.new) }
+    ensures within { IfComplete result (IsRequestWithin window.now headers.new) }
+    ensures unfinished { OnPartial result (HasNoRequest window.now) }
+    ensures open { OnPartial result (length window.now < longest_head) }
+    ensures bad { IsErrOf result FetchFault.BadHead → NeverHasRequest window.now }
+    ensures long { IsErrOf result FetchFault.HeadTooLong → IsLongRequest window.now }
+    ensures faults { IfErr result IsHeadRefusal }
+{
+    match parse_request(window, headers) {
+        Ok(Status::Complete(head)) => Ok(Status::Complete(head)),
+        Ok(Status::Partial) if window.len() < LONGEST_HEAD => Ok(Status::Partial),
+        Ok(Status::Partial) | Err(Error::TooManyHeaders) => Err(FetchFault::HeadTooLong),
+        Err(_) => Err(FetchFault::BadHead),
+    }
+}
+
+/// Whether a response's head stands in the window. `Partial` leaves room for more octets.
+pub(crate) fn judge_response(
+    window: &[u8],
+    headers: &mut [HeaderSpan],
+) -> Result<Status<ResponseSpans>, FetchFault>
+    requires room { length headers.old ≡ most_fields }
+    requires window { length window.now ≤ longest_head }
+    ensures head { IfComplete result (IsResponseOf window.now headers.new) }
+    ensures within { IfComplete result (IsResponseWithin window.now headers.new) }
+    ensures unfinished { OnPartial result (HasNoResponse window.now) }
+    ensures open { OnPartial result (length window.now < longest_head) }
+    ensures bad { IsErrOf result FetchFault.BadHead → NeverHasResponse window.now }
+    ensures long { IsErrOf result FetchFault.HeadTooLong → IsLongResponse window.now }
+    ensures faults { IfErr result IsHeadRefusal }
+{
+    match parse_response(window, headers) {
+        Ok(Status::Complete(head)) => Ok(Status::Complete(head)),
+        Ok(Status::Partial) if window.len() < LONGEST_HEAD => Ok(Status::Partial),
+        Ok(Status::Partial) | Err(Error::TooManyHeaders) => Err(FetchFault::HeadTooLong),
+        Err(_) => Err(FetchFault::BadHead),
+    }
+}

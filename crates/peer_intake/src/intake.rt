@@ -1,0 +1,259 @@
+//! The octets of one message that were read so far.
+ghost use Rattle.std.specs.Prelude.{◌≡◌, ◌+◌, ◌*◌, ◌<◌, ◌≤◌, List, ℕ, [], length, drop, vec_len, OnOk, OnErr, IfOk, IfErr, IsErrOf};
+ghost use Rattle.std.specs.Io.KnownBytes.{IsAtEnd};
+ghost use Rattle.httparse.specs.Grammar.{HasNoRequest, HasNoResponse, NeverHasRequest, NeverHasResponse};
+ghost use Rattle.httparse.specs.Spans.{IsRequestOf, IsRequestWithin, IsResponseOf, IsResponseWithin};
+ghost use Rattle.peer_intake.specs.Reading.{Takes, most_turns, IsReadFault};
+ghost use Rattle.peer_intake.specs.Heads.{head_window, longest_head, most_fields, IsLongRequest, IsLongResponse, EndsBeforeRequest, EndsBeforeResponse, IsHeadFault};
+
+use crate::head_watch::{HeadWatch, LONGEST_HEAD};
+use crate::heads::{judge_request, judge_response};
+use crate::piece::read_piece;
+use httparse::Status;
+use httparse::spans::{HeaderSpan, RequestSpans, ResponseSpans};
+use peer_fetch::FetchFault;
+use std::alloc::Global;
+use std::io::Read;
+use std::marker::Model;
+
+/// The octets of one message that were read so far. A contract sees it as the list of these octets.
+///
+/// It also counts the calls of the reader that gave them: at most 70,000, each of at least one octet.
+#[derive(Drop)]
+pub struct Intake {
+    octets: Vec<u8>,
+    turns: u32,
+}
+
+impl Model for Intake {
+    ghost Value = { List ℕ };
+
+    ghost view = { λ i. i.octets.items };
+
+    ghost invariant = { λ i. (i.turns ≤ 70000) × (i.turns ≤ vec_len i.octets) × (vec_len i.octets ≤ 4096 * i.turns) };
+}
+
+impl Intake {
+    /// For a message of which nothing was read. This takes no memory.
+    pub fn new(alloc: Global) -> Intake
+        ensures { result ≡ [] }
+    {
+        Intake {
+            octets: Vec::new(alloc),
+            turns: 0,
+        }
+    }
+
+    /// The octets that were read so far: at most 4,096 a call.
+    pub fn octets(&self) -> &[u8]
+        ensures value { result.now ≡ self.now }
+
+        // 70,000 calls of at most 4,096 octets.
+        ensures short { length result.now ≤ 286720000 }
+    {
+        self.octets.as_slice()
+    }
+
+    /// The octets, and how often the reader was called.
+    pub(crate) fn into_parts(self) -> (Vec<u8>, u32)
+        ensures octets { result.0.items ≡ self }
+        ensures len { vec_len result.0 ≡ length self }
+        ensures turns { result.1 ≤ 70000 }
+        ensures counted { result.1 ≤ length self }
+    {
+        (self.octets, self.turns)
+    }
+
+    /// The octets from `start` on in which a head may stand: at most 16,384.
+    pub(crate) fn window(&self, start: usize) -> &[u8]
+        requires { start ≤ length self.now }
+        ensures value { result.now ≡ head_window start self.now }
+        ensures short { length result.now ≤ longest_head }
+        ensures inside { start + length result.now ≤ length self.now }
+        ensures room { length self.now ≤ 286720000 }
+    {
+        let (_, rest) = self.octets().split_at(start);
+        if rest.len() <= LONGEST_HEAD {
+            rest
+        } else {
+            &rest[..LONGEST_HEAD]
+        }
+    }
+
+    /// Calls the reader once, and keeps what it gave.
+    pub(crate) fn read_more<R: Read>(&mut self, reader: &mut R) -> Result<(), FetchFault>
+        ensures taken { Takes (R.remaining reader.old) (R.remaining reader.new) self.old self.new }
+        ensures kept { OnErr result (self.new ≡ self.old) }
+        ensures grown { OnOk result (length self.old < length self.new) }
+        ensures short { length self.new ≤ 286720000 }
+        ensures spent { IsErrOf result FetchFault.TooManyTurns → most_turns ≤ length self.new }
+        ensures ended { IsErrOf result FetchFault.EndOfInput → IsAtEnd (R.remaining reader.new) }
+        ensures faults { IfErr result IsReadFault }
+    {
+        read_piece(&mut self.octets, &mut self.turns, reader)
+    }
+
+    /// Reads until a parse of the octets from `start` on is due.
+    pub(crate) fn read_until_due<R: Read>(
+        &mut self,
+        reader: &mut R,
+        start: usize,
+        watch: &mut HeadWatch,
+    ) -> Result<(), FetchFault>
+        requires { start ≤ length self.old }
+        ensures taken { Takes (R.remaining reader.old) (R.remaining reader.new) self.old self.new }
+        ensures grown { OnOk result (length self.old < length self.new) }
+        ensures short { length self.new ≤ 286720000 }
+        ensures spent { IsErrOf result FetchFault.TooManyTurns → most_turns ≤ length self.new }
+        ensures ended { IsErrOf result FetchFault.EndOfInput → IsAtEnd (R.remaining reader.new) }
+        ensures faults { IfErr result IsReadFault }
+    {
+        'pieces: loop {
+            match self.read_more(reader) {
+                Ok(()) => {}
+                Err(fault) => return Err(fault),
+            }
+            if watch.is_due(self.window(start)) {
+                return Ok(());
+            }
+        }
+    }
+
+    /// Reads until the head of a request stands from `start` on, and says where its parts are. The places count from
+    /// `start`. A head has at most 16,384 octets and 64 fields. The octets that were read stay, whatever the answer.
+    ///
+    /// Errors: `BadHead` where no octets can follow that make it a head, `HeadTooLong` where it goes beyond either
+    /// limit, `EndOfInput` where the input ended before the head did, `TooManyTurns` where a call more than 70,000
+    /// would be needed, `Io` where a call failed, `NoMemory` where a growth was refused. `BadHead` and `HeadTooLong` go
+    /// before the others.
+    pub fn read_request_head<R: Read>(
+        &mut self,
+        reader: &mut R,
+        start: usize,
+        headers: &mut [HeaderSpan],
+    ) -> Result<RequestSpans, FetchFault>
+        requires start { start ≤ length self.old }
+        requires room { length headers.old ≡ most_fields }
+        ensures taken { Takes (R.remaining reader.old) (R.remaining reader.new) self.old self.new }
+        ensures head { IfOk result (IsRequestOf (head_window start self.new) headers.new) }
+        ensures within { IfOk result (IsRequestWithin (head_window start self.new) headers.new) }
+        ensures inside { IfOk result (λ head. start + head.len ≤ length self.new) }
+        ensures bad { IsErrOf result FetchFault.BadHead
+            → NeverHasRequest (head_window start self.new) }
+        ensures long { IsErrOf result FetchFault.HeadTooLong
+            → IsLongRequest (head_window start self.new) }
+        ensures ended { IsErrOf result FetchFault.EndOfInput
+            → EndsBeforeRequest (R.remaining reader.new) start self.new }
+        ensures spent { IsErrOf result FetchFault.TooManyTurns → most_turns ≤ length self.new }
+        ensures faults { IfErr result IsHeadFault }
+    {
+        let mut watch = HeadWatch::new(self.window(start).len(), true);
+        'parses: loop {
+            match judge_request(self.window(start), headers) {
+                Ok(Status::Complete(head)) => return Ok(head),
+                Ok(Status::Partial) => {}
+                Err(fault) => return Err(fault),
+            }
+            match self.read_until_due(reader, start, &mut watch) {
+                Ok(()) => {}
+                Err(fault) => return self.judge_cut_request(start, headers, fault),
+            }
+        }
+    }
+
+    /// What is answered of a request's head where no more can be read.
+    fn judge_cut_request(
+        &self,
+        start: usize,
+        headers: &mut [HeaderSpan],
+        fault: FetchFault,
+    ) -> Result<RequestSpans, FetchFault>
+        requires start { start ≤ length self.now }
+        requires room { length headers.old ≡ most_fields }
+        requires fault { IsReadFault fault }
+        ensures head { IfOk result (IsRequestOf (head_window start self.now) headers.new) }
+        ensures within { IfOk result (IsRequestWithin (head_window start self.now) headers.new) }
+        ensures inside { IfOk result (λ head. start + head.len ≤ length self.now) }
+        ensures bad { IsErrOf result FetchFault.BadHead
+            → NeverHasRequest (head_window start self.now) }
+        ensures long { IsErrOf result FetchFault.HeadTooLong
+            → IsLongRequest (head_window start self.now) }
+        ensures cut { IfErr result (λ e. IsReadFault e → (e ≡ fault) × HasNoRequest (drop start self.now)) }
+        ensures faults { IfErr result IsHeadFault }
+    {
+        match judge_request(self.window(start), headers) {
+            Ok(Status::Complete(head)) => Ok(head),
+            Ok(Status::Partial) => Err(fault),
+            Err(refusal) => Err(refusal),
+        }
+    }
+
+    /// Reads until the head of a response stands from `start` on, and says where its parts are. The places count from
+    /// `start`. A head has at most 16,384 octets and 64 fields. The octets that were read stay, whatever the answer.
+    ///
+    /// Errors: `BadHead` where no octets can follow that make it a head, `HeadTooLong` where it goes beyond either
+    /// limit, `EndOfInput` where the input ended before the head did, `TooManyTurns` where a call more than 70,000
+    /// would be needed, `Io` where a call failed, `NoMemory` where a growth was refused. `BadHead` and `HeadTooLong` go
+    /// before the others.
+    pub fn read_response_head<R: Read>(
+        &mut self,
+        reader: &mut R,
+        start: usize,
+        headers: &mut [HeaderSpan],
+    ) -> Result<ResponseSpans, FetchFault>
+        requires start { start ≤ length self.old }
+        requires room { length headers.old ≡ most_fields }
+        ensures taken { Takes (R.remaining reader.old) (R.remaining reader.new) self.old self.new }
+        ensures head { IfOk result (IsResponseOf (head_window start self.new) headers.new) }
+        ensures within { IfOk result (IsResponseWithin (head_window start self.new) headers.new) }
+        ensures inside { IfOk result (λ head. start + head.len ≤ length self.new) }
+        ensures bad { IsErrOf result FetchFault.BadHead
+            → NeverHasResponse (head_window start self.new) }
+        ensures long { IsErrOf result FetchFault.HeadTooLong
+            → IsLongResponse (head_window start self.new) }
+        ensures ended { IsErrOf result FetchFault.EndOfInput
+            → EndsBeforeResponse (R.remaining reader.new) start self.new }
+        ensures spent { IsErrOf result FetchFault.TooManyTurns → most_turns ≤ length self.new }
+        ensures faults { IfErr result IsHeadFault }
+    {
+        let mut watch = HeadWatch::new(self.window(start).len(), true);
+        'parses: loop {
+            match judge_response(self.window(start), headers) {
+                Ok(Status::Complete(head)) => return Ok(head),
+                Ok(Status::Partial) => {}
+                Err(fault) => return Err(fault),
+            }
+            match self.read_until_due(reader, start, &mut watch) {
+                Ok(()) => {}
+                Err(fault) => return self.judge_cut_response(start, headers, fault),
+            }
+        }
+    }
+
+    /// What is answered of a response's head where no more can be read.
+    fn judge_cut_response(
+        &self,
+        start: usize,
+        headers: &mut [HeaderSpan],
+        fault: FetchFault,
+    ) -> Result<ResponseSpans, FetchFault>
+        requires start { start ≤ length self.now }
+        requires room { length headers.old ≡ most_fields }
+        requires fault { IsReadFault fault }
+        ensures head { IfOk result (IsResponseOf (head_window start self.now) headers.new) }
+        ensures within { IfOk result (IsResponseWithin (head_window start self.now) headers.new) }
+        ensures inside { IfOk result (λ head. start + head.len ≤ length self.now) }
+        ensures bad { IsErrOf result FetchFault.BadHead
+            → NeverHasResponse (head_window start self.now) }
+        ensures long { IsErrOf result FetchFault.HeadTooLong
+            → IsLongResponse (head_window start self.now) }
+        ensures cut { IfErr result (λ e. IsReadFault e → (e ≡ fault) × HasNoResponse (drop start self.now)) }
+        ensures faults { IfErr result IsHeadFault }
+    {
+        match judge_response(self.window(start), headers) {
+            Ok(Status::Complete(head)) => Ok(head),
+            Ok(Status::Partial) => Err(fault),
+            Err(refusal) => Err(refusal),
+        }
+    }
+}

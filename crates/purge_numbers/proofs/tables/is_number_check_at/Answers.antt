@@ -1,0 +1,18 @@
+use Rattle.std.proofs.Common.{arith}
+use Rattle.purge_numbers.proofs.CheckLemmas.{check_holds, left_differs, right_differs, shallow}
+use Rattle.purge_numbers.proofs.tables.is_number_check_at.Goals as goal
+
+pub returns-then-nodes-lt3-clause-no : goal.returns-then-nodes-lt3-clause-no
+returns-then-nodes-lt3-clause-no c refused = shallow c.args.nodes.now c.args.at _ _ _ _ _ _ (omega (arith, c.if-nodes-lt3.true))
+
+pub returns-then-is_bound_at-clause-yes : goal.returns-then-is_bound_at-clause-yes
+returns-then-is_bound_at-clause-yes c held =
+    check_holds c.args.nodes.now c.args.at c.in-Some.low c.in-Some.high _ _ c.in-Some.ensures.some (omega (arith, c.if-nodes-lt3.false)) (c.is_bound_at.ensures.yes c.if-is_bound_at.true) (c.is_bound_at-then-is_bound_at.ensures.yes held)
+
+pub returns-then-is_bound_at-clause-no : goal.returns-then-is_bound_at-clause-no
+returns-then-is_bound_at-clause-no c refused =
+    right_differs c.args.nodes.now c.args.at c.in-Some.low c.in-Some.high _ _ c.in-Some.ensures.some (omega (arith, c.if-nodes-lt3.false)) (c.is_bound_at-then-is_bound_at.ensures.no refused)
+
+pub returns-else-is_bound_at-clause-no : goal.returns-else-is_bound_at-clause-no
+returns-else-is_bound_at-clause-no c refused =
+    left_differs c.args.nodes.now c.args.at c.in-Some.low c.in-Some.high _ _ c.in-Some.ensures.some (omega (arith, c.if-nodes-lt3.false)) (c.is_bound_at.ensures.no c.if-is_bound_at.false)
