@@ -3,7 +3,7 @@ use Rattle.std.proofs.Common.{◌≡◌, ℕ, Bool, true, false, cond, bytes_eq,
 use Rattle.std.specs.List.{list_any, flat_map}
 use Rattle.peer_fetch.specs.declared.fields.Field.{Field}
 use Rattle.peer_fetch.specs.Field.{FieldText, field_text}
-use Rattle.reuse_rules.specs.Members.{members}
+use Rattle.list_values.specs.Members.{members}
 use Rattle.reuse_rules.specs.Directives.{DirectiveText, directive_of, directives_of_field}
 use Rattle.reuse_rules.specs.Left.{directives_in}
 

@@ -1,5 +1,2 @@
-pub mod Cuts
-pub mod Grammar
 pub mod Digits
 pub mod Fields
-pub mod Trims

@@ -1,12 +1,13 @@
 -- The directives of an answer's `cache-control` fields (RFC 9111, section 5.2).
-use Rattle.std.specs.Prelude.{ℕ, ◌-◌, Bool, not, ◌&&◌, ◌||◌, ◌==◌, nat_le, min, bytes_eq, List, [], length, take, drop, slice_index, slice_range, codes, map, if◌then◌else◌}
-use Rattle.std.specs.List.{list_all, before_first, after_first, position_or_len, suffix_len, flat_map}
+use Rattle.std.specs.Prelude.{ℕ, ◌-◌, Bool, ◌&&◌, ◌==◌, nat_le, min, bytes_eq, List, [], length, slice_index, slice_range, codes, map, if◌then◌else◌}
+use Rattle.std.specs.List.{list_all, before_first, after_first, flat_map}
 use Rattle.std.specs.Char.{is_ascii_digit, to_ascii_lowercase}
 use Rattle.std.specs.Str.Parse.{digits_value}
 use Rattle.peer_fetch.specs.Field.{FieldText}
 use Rattle.peer_fetch.specs.Answer.{AnswerText}
 use Rattle.reuse_rules.specs.declared.directive.Directive.{Directive}
-use Rattle.reuse_rules.specs.Members.{members, double_quote}
+use Rattle.list_values.specs.Members.{members, double_quote}
+use Rattle.list_values.specs.Blanks.{trim}
 
 -- a directive's name, and its value as it came, which is empty where there is none
 pub record DirectiveText : Type 0 where
@@ -16,21 +17,6 @@ pub record DirectiveText : Type 0 where
 -- what a clause sees of a directive
 abbrev pub directive_text : Directive → DirectiveText
 directive_text d = record { name = d.name.now; value = d.value.now }
-
--- a space or a tab (RFC 9110, section 5.6.3)
-abbrev pub is_blank : ℕ → Bool
-is_blank octet = (octet == 32) || (octet == 9)
-
--- without the blanks at the front
-abbrev pub trim_front : List ℕ → List ℕ
-trim_front text = drop (position_or_len (λ octet. not (is_blank octet)) text) text
-
--- without the blanks at the end
-abbrev pub trim_end : List ℕ → List ℕ
-trim_end text = take (length text - suffix_len is_blank text) text
-
-abbrev pub trim : List ℕ → List ℕ
-trim text = trim_end (trim_front text)
 
 abbrev pub is_equals_sign : ℕ → Bool
 is_equals_sign octet = octet == 61

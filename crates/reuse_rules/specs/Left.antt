@@ -3,7 +3,7 @@ use Rattle.std.specs.Prelude.{ℕ, List, [], ◌++◌, map, Option, Some, None, 
 use Rattle.std.specs.List.{flat_map}
 use Rattle.peer_fetch.specs.Field.{field_text}
 use Rattle.reuse_rules.specs.declared.directive.Directives.{Directives}
-use Rattle.reuse_rules.specs.Members.{members}
+use Rattle.list_values.specs.Members.{members}
 use Rattle.reuse_rules.specs.Directives.{DirectiveText, directive_of, directives_of_field}
 
 -- the directives of what is left of a field's value

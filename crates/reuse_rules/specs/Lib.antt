@@ -1,5 +1,3 @@
-pub mod Members
-pub mod Cut
 pub mod Directives
 pub mod Left
 pub mod Lifetime

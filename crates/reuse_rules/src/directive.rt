@@ -1,11 +1,11 @@
 //! The directives of `cache-control` fields (RFC 9111, section 5.2).
 
-ghost use Rattle.std.specs.Prelude.{◌≡◌, not, [], position, bytes_eq, codes, Some, None, MatchOption, option_copied, if◌then◌else◌};
+ghost use Rattle.std.specs.Prelude.{◌≡◌, [], position, bytes_eq, codes, Some, None, MatchOption, option_copied, if◌then◌else◌};
 ghost use Rattle.reuse_rules.specs.Directives as spec;
 ghost use Rattle.reuse_rules.specs.Directives.{directive_text};
 ghost use Rattle.reuse_rules.specs.Left.{directives_left};
 
-use crate::members::member_length;
+use list_values::{member_length, trim};
 use peer_fetch::{Answer, Field};
 
 /// The most seconds that a directive can name, 2 ^ 31 (RFC 9111, section 1.2.2).
@@ -56,44 +56,6 @@ fn first_equals_sign(member: &[u8]) -> Option<usize>
     ensures { result ≡ position spec.is_equals_sign member.now }
 {
     member.iter().position(|octet| *octet == b'=')
-}
-
-fn is_blank(octet: u8) -> bool
-    ensures { result ≡ spec.is_blank octet }
-{
-    octet == b' ' || octet == b'\t'
-}
-
-fn trim(text: &[u8]) -> &[u8]
-    ensures { result.now ≡ spec.trim text.now }
-{
-    trim_end(trim_front(text))
-}
-
-fn trim_front(text: &[u8]) -> &[u8]
-    ensures { result.now ≡ spec.trim_front text.now }
-{
-    match first_text(text) {
-        Some(start) => &text[start..],
-        None => &text[text.len()..],
-    }
-}
-
-/// The place of the first octet that is no blank.
-fn first_text(text: &[u8]) -> Option<usize>
-    ensures { result ≡ position (λ octet. not (spec.is_blank octet)) text.now }
-{
-    text.iter().position(|octet| !is_blank(*octet))
-}
-
-fn trim_end(text: &[u8]) -> &[u8]
-    ensures { result.now ≡ spec.trim_end text.now }
-{
-    let mut end = text.len();
-    while end > 0 && is_blank(text[end - 1]) {
-        end -= 1;
-    }
-    &text[..end]
 }
 
 /// A value without the double quotes round it.

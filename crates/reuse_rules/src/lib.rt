@@ -2,17 +2,16 @@
 //!
 //! `lifetime` reads the status and the fields of an answer (`lifetime` of `specs/Lifetime`), `is_fresh` compares a
 //! copy's age with its lifetime (`is_fresh` of `specs/Freshness`). Neither takes memory. `members_are_exact` is the
-//! law that fields' values are cut as the grammar of lists and quoted strings has it (`HasMembers` of `specs/Cut`).
+//! law that fields' values are cut as the grammar of lists and quoted strings has it (`HasMembers` of `specs/Cut` of
+//! `list_values`).
 #![tactic(auto)]
 
 mod directive;
 mod freshness;
-mod laws;
 mod lifetimes;
-mod members;
 #[cfg(test)]
 mod tests;
 
 pub use freshness::is_fresh;
-pub use laws::members_are_exact;
 pub use lifetimes::lifetime;
+pub use list_values::members_are_exact;

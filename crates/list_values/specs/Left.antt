@@ -1,0 +1,12 @@
+-- What an iterator over the members of a value has left.
+use Rattle.std.specs.Prelude.{ℕ, List, [], Option, Some, None, option_copied}
+use Rattle.list_values.specs.declared.members.Members.{Members}
+use Rattle.list_values.specs.Members.{members}
+
+-- the members of what is left of a value
+abbrev pub members_in : Option (List ℕ) → List (List ℕ)
+members_in None = []
+members_in (Some text) = members text
+
+abbrev pub members_left : Members → List (List ℕ)
+members_left it = members_in (option_copied it.text)

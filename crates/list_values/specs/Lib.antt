@@ -1,0 +1,4 @@
+pub mod Members
+pub mod Cut
+pub mod Blanks
+pub mod Left

@@ -1,0 +1,4 @@
+pub mod Digits
+pub mod Named
+pub mod Keeping
+pub mod HeadFields

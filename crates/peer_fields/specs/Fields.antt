@@ -1,0 +1,32 @@
+-- The fields of a head: names and values, as they stand in its octets (RFC 9110, sections 5.1 and 5.2).
+use Rattle.std.specs.Prelude.{ℕ, Bool, List, map, filter, Option, Some, None, [], ◌∷◌}
+use Rattle.std.specs.Str.{str_eq_ignore_ascii_case}
+use Rattle.httparse.specs.Spans.{header_bytes}
+use Rattle.httparse.specs.declared.spans.HeaderSpan.{HeaderSpan}
+
+-- the names and values at these places of the octets, in order; a value is without the spaces and tabs round it, where the places are those that the parser found
+abbrev pub fields_of : List ℕ → List HeaderSpan → List (List ℕ × List ℕ)
+fields_of window headers = map (header_bytes window) headers
+
+-- the field has this name, in any case of letters
+abbrev pub is_named : List ℕ → List ℕ × List ℕ → Bool
+is_named name field = str_eq_ignore_ascii_case field.0 name
+
+-- a field's value
+abbrev pub value_of : List ℕ × List ℕ → List ℕ
+value_of field = field.1
+
+-- the values of the fields of a name, in order
+abbrev pub values_named : List ℕ → List (List ℕ × List ℕ) → List (List ℕ)
+values_named name fields = map value_of (filter (is_named name) fields)
+
+-- the first value, if there is one
+abbrev pub first_of : List (List ℕ) → Option (List ℕ)
+first_of [] = None
+first_of (value ∷ others) = Some value
+
+-- the value, if there is exactly one
+abbrev pub only_of : List (List ℕ) → Option (List ℕ)
+only_of [] = None
+only_of (value ∷ []) = Some value
+only_of (value ∷ other ∷ others) = None

@@ -1,0 +1,32 @@
+//! What the fields of an answer say of it, beside those that are kept.
+
+ghost use Rattle.std.specs.Prelude.{◌≡◌};
+ghost use Rattle.peer_fields.specs.Answer as spec;
+ghost use Rattle.peer_fields.specs.Fields.{fields_of};
+
+use crate::decimal::{number_up_to, plain_number};
+use crate::fields::{first_named, only_named};
+use httparse::spans::HeaderSpan;
+
+/// The greatest age, in seconds, 2 ^ 31 (RFC 9111, section 1.2.2).
+const GREATEST_AGE: u64 = 2_147_483_648;
+
+/// The age that an answer came with, in seconds (RFC 9111, section 5.1): the number of its first `age` field. One over
+/// 2,147,483,648 counts as that (RFC 9111, section 1.2.2). `None`: there is no such field, or the first is not one or
+/// more digits and nothing else.
+pub fn age(window: &[u8], headers: &[HeaderSpan]) -> Option<u32>
+    ensures { result ≡ spec.age (fields_of window.now headers.now) }
+{
+    let value = first_named(window, headers, b"age")?;
+    let seconds = number_up_to(GREATEST_AGE, value)?;
+    Some(seconds as u32)
+}
+
+/// The purge stamp that an answer came with: the number of its one `x-purge-stamp` field, which is 0 to 4,294,967,295
+/// in decimal without leading zeros. `None`: there is no such field, there are several, or it is anything else.
+pub fn stamp(window: &[u8], headers: &[HeaderSpan]) -> Option<u32>
+    ensures { result ≡ spec.stamp (fields_of window.now headers.now) }
+{
+    let value = only_named(window, headers, b"x-purge-stamp")?;
+    plain_number(0, u32::MAX, value)
+}

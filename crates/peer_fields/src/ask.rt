@@ -1,0 +1,51 @@
+//! What the fields of an ask say of it.
+
+ghost use Rattle.std.specs.Prelude.{◌≡◌};
+ghost use Rattle.peer_fields.specs.Ask as spec;
+ghost use Rattle.peer_fields.specs.Fields.{fields_of};
+
+use crate::decimal::plain_number;
+use crate::fields::{all_named, count_named, only_named};
+use httparse::spans::HeaderSpan;
+
+/// The `host` fields of an ask (RFC 9112, section 3.2).
+#[derive(Clone, Copy, Debug, PartialEq, Eq)]
+pub enum Host<'w> {
+    /// There is no such field.
+    Absent,
+    /// There is one, with this value, which may be empty.
+    One(&'w [u8]),
+    /// There are several.
+    Several,
+}
+
+/// The `host` fields of an ask (RFC 9112, section 3.2).
+pub fn host_of<'w>(window: &'w [u8], headers: &[HeaderSpan]) -> Host<'w>
+    ensures { spec.host_text result ≡ spec.host (fields_of window.now headers.now) }
+{
+    let mut values = all_named(window, headers, b"host");
+    match (values.next(), values.next()) {
+        (None, _) => Host::Absent,
+        (Some(value), None) => Host::One(value),
+        (Some(_), Some(_)) => Host::Several,
+    }
+}
+
+/// Whether an ask bears credentials: an `authorization` or a `proxy-authorization` field, whatever its value
+/// (RFC 9110, sections 11.6.2 and 11.7.2).
+pub fn has_credentials(window: &[u8], headers: &[HeaderSpan]) -> bool
+    ensures { result ≡ spec.has_credentials (fields_of window.now headers.now) }
+{
+    count_named(window, headers, b"authorization") > 0
+        || count_named(window, headers, b"proxy-authorization") > 0
+}
+
+/// The member of the hierarchy that asks: the number of the one `x-purge-member` field, which is 1 to 16 in decimal
+/// without leading zeros. `None`: there is no such field, there are several, or it is anything else.
+pub fn member(window: &[u8], headers: &[HeaderSpan]) -> Option<u8>
+    ensures { result ≡ spec.member (fields_of window.now headers.now) }
+{
+    let value = only_named(window, headers, b"x-purge-member")?;
+    let number = plain_number(1, 16, value)?;
+    Some(number as u8)
+}

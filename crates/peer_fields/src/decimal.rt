@@ -1,0 +1,44 @@
+//! Numbers in decimal.
+
+ghost use Rattle.std.specs.Prelude.{◌≡◌};
+ghost use Rattle.peer_fields.specs.Decimal as spec;
+
+/// The number that a text of digits writes, or the cap where it is greater; `None`: the text is not one or more digits.
+pub(crate) fn number_up_to(cap: u64, text: &[u8]) -> Option<u64>
+    ensures { result ≡ spec.number_up_to cap text.now }
+{
+    if text.is_empty() {
+        return None;
+    }
+    let mut number = 0_u64;
+    for octet in text {
+        if !octet.is_ascii_digit() {
+            return None;
+        }
+        let digit = u64::from(*octet - b'0');
+        number = cap.min(number.saturating_mul(10).saturating_add(digit));
+    }
+    Some(number)
+}
+
+/// The number from `least` to `most` that a text of digits without a leading zero writes.
+pub(crate) fn plain_number(least: u32, most: u32, text: &[u8]) -> Option<u32>
+    ensures { result ≡ spec.plain_number least most text.now }
+{
+    if has_leading_zero(text) {
+        return None;
+    }
+    let number = number_up_to(1 << 32, text)?;
+    if u64::from(least) <= number && number <= u64::from(most) {
+        Some(number as u32)
+    } else {
+        None
+    }
+}
+
+/// Whether a zero stands first, and other octets behind it.
+fn has_leading_zero(text: &[u8]) -> bool
+    ensures { result ≡ spec.has_leading_zero text.now }
+{
+    text.len() > 1 && text[0] == b'0'
+}

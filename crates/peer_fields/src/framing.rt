@@ -1,0 +1,132 @@
+//! How the body behind a head is framed.
+
+ghost use Rattle.std.specs.Prelude.{◌≡◌, ◌&&◌, not, bytes_eq, codes, IsTrue, Some};
+ghost use Rattle.std.specs.List.{list_all, list_any};
+ghost use Rattle.std.specs.Str.Parse.{digits_value};
+ghost use Rattle.peer_fields.specs.Fields.{fields_of, values_named};
+ghost use Rattle.peer_fields.specs.Left.{values_left};
+ghost use Rattle.peer_fields.specs.Framing as spec;
+
+use crate::decimal::number_up_to;
+use crate::fields::{Values, all_named, count_named};
+use httparse::spans::HeaderSpan;
+use peer_fetch::FetchFault;
+use thiserror::Error;
+
+/// The most octets of a body that is read.
+const LONGEST_BODY: u64 = 65_536;
+
+/// The most digits of a `content-length`, whose number 64 bits hold.
+const MOST_DIGITS: usize = 19;
+
+/// How the body of an answer ends (RFC 9112, section 6.3).
+#[derive(Clone, Copy, Debug, PartialEq, Eq)]
+pub enum Framing {
+    /// After so many octets, at most 65,536.
+    Length(u64),
+    /// After the last chunk.
+    Chunked,
+    /// Where the connection is closed.
+    ToEnd,
+}
+
+/// The `content-length` fields do not tell one length (RFC 9112, section 6.3).
+#[derive(Clone, Copy, Debug, PartialEq, Eq, Error)]
+#[error("the content-length fields do not tell one length")]
+pub struct BadLength;
+
+/// The `transfer-encoding` fields are not one that is `chunked` (RFC 9112, section 6.1).
+#[derive(Clone, Copy, Debug, PartialEq, Eq, Error)]
+#[error("the transfer-encoding fields are not one that is chunked")]
+pub struct BadCoding;
+
+/// The length that the `content-length` fields tell (RFC 9110, section 8.6); `None`: there is no such field.
+///
+/// All of them must have the same text of 1 to 19 digits, else it is `BadLength`: `03` and `3` differ, and so do
+/// `3` and `3, 3`.
+pub fn content_length(window: &[u8], headers: &[HeaderSpan]) -> Result<Option<u64>, BadLength>
+    ensures { result ≡ spec.content_length (fields_of window.now headers.now) }
+{
+    let mut values = all_named(window, headers, b"content-length");
+    let Some(value) = values.next() else {
+        return Ok(None);
+    };
+    let length = length_of(value).ok_or(BadLength)?;
+    if are_all(values, value) {
+        Ok(Some(length))
+    } else {
+        Err(BadLength)
+    }
+}
+
+/// The number that 1 to 19 digits write.
+fn length_of(value: &[u8]) -> Option<u64>
+    ensures { result ≡ spec.length_of value.now }
+{
+    if value.len() > MOST_DIGITS {
+        return None;
+    }
+    number_up_to(u64::MAX, value)
+}
+
+/// Whether each value that is left is the same.
+fn are_all(mut values: Values<'_, '_>, same: &[u8]) -> bool
+    ensures { result ≡ list_all (λ other. bytes_eq other same.now) (values_left values.entry) }
+{
+    values.all(|value| value == same)
+}
+
+/// Whether the body is in chunks (RFC 9112, section 7.1); `false`: there is no `transfer-encoding` field.
+///
+/// There must be one such field at most, and it must be `chunked`, in any case of letters, else it is `BadCoding`.
+pub fn is_chunked(window: &[u8], headers: &[HeaderSpan]) -> Result<bool, BadCoding>
+    ensures { result ≡ spec.is_chunked (fields_of window.now headers.now) }
+{
+    let mut values = all_named(window, headers, b"transfer-encoding");
+    match (values.next(), values.next()) {
+        (None, _) => Ok(false),
+        (Some(value), None) if value.eq_ignore_ascii_case(b"chunked") => Ok(true),
+        _ => Err(BadCoding),
+    }
+}
+
+/// How the body of an answer ends (RFC 9112, section 6.3).
+///
+/// `BadBody`: the `transfer-encoding` or the `content-length` fields are bad, or both stand, as in requests that are
+/// smuggled (RFC 9112, section 6.1). `BodyTooLong`: else, a length over 65,536.
+pub fn framing_of(window: &[u8], headers: &[HeaderSpan]) -> Result<Framing, FetchFault>
+    ensures { result ≡ spec.framing (fields_of window.now headers.now) }
+{
+    let chunked = is_chunked(window, headers);
+    let length = content_length(window, headers);
+    match (chunked, length) {
+        (Ok(false), Ok(Some(length))) if length > LONGEST_BODY => Err(FetchFault::BodyTooLong),
+        (Ok(false), Ok(Some(length))) => Ok(Framing::Length(length)),
+        (Ok(false), Ok(None)) => Ok(Framing::ToEnd),
+        (Ok(true), Ok(None)) => Ok(Framing::Chunked),
+        _ => Err(FetchFault::BadBody),
+    }
+}
+
+/// Whether an ask has a body: a `transfer-encoding` field, or a `content-length` field that is not 0, written in one
+/// digit or more (RFC 9112, section 6).
+pub fn ask_has_body(window: &[u8], headers: &[HeaderSpan]) -> bool
+    ensures { result ≡ spec.ask_has_body (fields_of window.now headers.now) }
+{
+    count_named(window, headers, b"transfer-encoding") > 0 || has_length(window, headers)
+}
+
+/// Whether a `content-length` field is not 0.
+fn has_length(window: &[u8], headers: &[HeaderSpan]) -> bool
+    ensures { result ≡ list_any (λ value. not (spec.is_zero value))
+        (values_named (codes "content-length") (fields_of window.now headers.now)) }
+{
+    all_named(window, headers, b"content-length").any(|value| !is_zero(value))
+}
+
+/// Whether it is digits that write 0.
+fn is_zero(value: &[u8]) -> bool
+    ensures { result ≡ spec.is_zero value.now }
+{
+    number_up_to(1, value) == Some(0)
+}

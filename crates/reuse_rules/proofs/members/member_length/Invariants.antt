@@ -1,5 +1,0 @@
-use Rattle.reuse_rules.proofs.Cuts.{IsCutTo}
-use Rattle.reuse_rules.proofs.members.member_length.Given as goal
-
-abbrev pub invariant-loop-index : goal.invariant-loop-index
-invariant-loop-index l = IsCutTo l.text l.index l.quoting
