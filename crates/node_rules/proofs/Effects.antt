@@ -17,8 +17,8 @@ use Rattle.node_rules.specs.declared.message.Message.{Message}
 use Rattle.node_rules.specs.declared.message.Message.TheVariants as message
 use Rattle.purge_numbers.specs.Floors.{FloorMap}
 use Rattle.object_store.specs.declared.copy.WebCopy.{WebCopy}
-use Rattle.peer_fetch.specs.declared.ask.Ask.{Ask}
-use Rattle.peer_fetch.specs.Answer.{AnswerText}
+use Rattle.fetch_messages.specs.declared.ask.Ask.{Ask}
+use Rattle.fetch_messages.specs.Answer.{AnswerText}
 use Rattle.roster_tables.specs.declared.plain.Peer.{Peer}
 use Rattle.peer_chooser.specs.declared.said.Said.{Said}
 use Rattle.peer_chooser.specs.Round.{RoundText}

@@ -9,7 +9,7 @@ use Rattle.htcp_wire.specs.declared.message.Content.TheVariants as content
 use Rattle.node_rules.specs.declared.message.Message.{Message}
 use Rattle.node_rules.specs.declared.message.Message.TheVariants as message
 use Rattle.object_store.specs.declared.copy.WebCopy.{WebCopy}
-use Rattle.peer_fetch.specs.declared.ask.Ask.{Ask}
+use Rattle.fetch_messages.specs.declared.ask.Ask.{Ask}
 use Rattle.node_rules.specs.declared.state.NodeState.{NodeState}
 use Rattle.node_rules.specs.declared.event.Event.{Event}
 use Rattle.node_rules.specs.declared.event.Event.TheVariants as event

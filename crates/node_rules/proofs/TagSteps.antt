@@ -12,8 +12,8 @@ use Rattle.htcp_wire.specs.declared.message.Content.TheVariants as content
 use Rattle.node_rules.specs.declared.message.Message.{Message}
 use Rattle.node_rules.specs.declared.message.Message.TheVariants as message
 use Rattle.object_store.specs.declared.copy.WebCopy.{WebCopy}
-use Rattle.peer_fetch.specs.declared.ask.Ask.{Ask}
-use Rattle.peer_fetch.specs.Answer.{AnswerText}
+use Rattle.fetch_messages.specs.declared.ask.Ask.{Ask}
+use Rattle.fetch_messages.specs.Answer.{AnswerText}
 use Rattle.roster_tables.specs.declared.plain.Peer.{Peer}
 use Rattle.peer_chooser.specs.declared.said.Said.{Said}
 use Rattle.peer_chooser.specs.Round.{RoundText}

@@ -1,7 +1,7 @@
 -- An answer comes to a fetch, a fetch fails, or a round's time is over.
 use Rattle.std.specs.Prelude.{ℕ, Bool, not, ◌&&◌, ◌==◌, nat_le, bytes_eq, List, [], ◌∷◌, ◌++◌, find, unwrap_or, Option, Some, None, if◌then◌else◌}
 use Rattle.std.specs.List.{list_any}
-use Rattle.peer_fetch.specs.Answer.{AnswerText}
+use Rattle.fetch_messages.specs.Answer.{AnswerText}
 use Rattle.object_store.specs.declared.copy.WebCopy.{WebCopy}
 use Rattle.object_store.specs.Held.{Held, after_put}
 use Rattle.purge_numbers.specs.Floors.{floor}

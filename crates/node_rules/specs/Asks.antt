@@ -1,7 +1,7 @@
 -- A client's or a member's ask comes.
 use Rattle.std.specs.Prelude.{ℕ, ◌+◌, ◌*◌, Bool, false, ◌||◌, nat_le, nat_lt, List, [], ◌∷◌, length, Option, Some, None, option_map, if◌then◌else◌}
 use Rattle.std.specs.List.{filter_map}
-use Rattle.peer_fetch.specs.declared.ask.Ask.{Ask}
+use Rattle.fetch_messages.specs.declared.ask.Ask.{Ask}
 use Rattle.object_store.specs.declared.copy.WebCopy.{WebCopy}
 use Rattle.object_store.specs.Listed.{to_front}
 use Rattle.purge_numbers.specs.Floors.{floor}

@@ -7,7 +7,7 @@ use Rattle.htcp_wire.specs.declared.message.Content.TheVariants as content
 use Rattle.node_rules.specs.declared.message.Message.{Message}
 use Rattle.node_rules.specs.declared.message.Message.TheVariants as message
 use Rattle.node_rules.specs.declared.message.Outgoing.{Outgoing}
-use Rattle.peer_fetch.specs.Answer.{AnswerText}
+use Rattle.fetch_messages.specs.Answer.{AnswerText}
 use Rattle.purge_numbers.specs.Floors.{FloorMap}
 use Rattle.object_store.specs.declared.copy.WebCopy.{WebCopy}
 use Rattle.node_rules.specs.declared.state.Fetch.{Fetch}

@@ -1,5 +1,5 @@
 use crate::Received;
-use peer_fetch::{Answer, Ask};
+use fetch_messages::{Answer, Ask};
 use roster::Address;
 use url_key::Key;
 

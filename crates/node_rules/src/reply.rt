@@ -2,9 +2,10 @@ ghost use Rattle.std.specs.Prelude.{◌≡◌};
 ghost use Rattle.node_rules.specs.Names.{step_fault_name};
 
 use crate::Outgoing;
+use fetch_messages::Ask;
 use object_store::WebCopy;
-use peer_fetch::Ask;
 use roster::Listed;
+use std::alloc::AllocError;
 use thiserror::Error;
 
 /// What is served.
@@ -87,6 +88,17 @@ pub enum StepFault {
     /// A growth was refused. Nothing changed, unless the floor store answered so: then the node is closed.
     #[error("there was no memory")]
     NoMemory,
+}
+
+impl From<AllocError> for StepFault {
+    ghost use Rattle.std.specs.Prelude.{◌≡◌};
+    ghost use Rattle.node_rules.specs.declared.reply.StepFault.TheVariants.{NoMemory};
+
+    ghost from_gives = { λ _ fault. fault ≡ NoMemory };
+
+    fn from(_: AllocError) -> StepFault {
+        StepFault::NoMemory
+    }
 }
 
 impl StepFault {

@@ -1,6 +1,6 @@
+use fetch_messages::Ask;
 use object_store::WebCopy;
 use peer_chooser::Round;
-use peer_fetch::Ask;
 use purge_numbers::Floors;
 use roster::Listed;
 

@@ -92,5 +92,6 @@ fn names_of_faults(rt: HostRuntime) -> Result<(), Fail> {
     ] {
         assert!(rt; fault.name() == name);
     }
+    assert!(rt; StepFault::from(AllocError) == StepFault::NoMemory);
     Ok(())
 }

@@ -1,5 +1,5 @@
 -- Going over the copies of a store to a key's copy.
-use Rattle.std.proofs.Common.{◌≡◌, ℕ, ◌+◌, ◌-◌, ◌<◌, ◌≤◌, Bool, true, false, cond, not, ◌&&◌, nat_lt, nat_le, ◌⊎◌, inl, inr, List, [], ◌∷◌, ◌++◌, take, drop, length, get_or, sum_by, filter, find, Option, Some, None, refl, sym, ◌∙◌, ap, subst, append_assoc, add-one, arith, suc, zero}
+use Rattle.std.proofs.Common.{◌≡◌, ℕ, ◌+◌, ◌-◌, ◌<◌, ◌≤◌, Bool, true, false, cond, not, ◌&&◌, nat_lt, nat_le, ◌⊎◌, inl, inr, List, [], ◌∷◌, ◌++◌, take, drop, length, get_or, Option, Some, None, refl, sym, ◌∙◌, ap, subst, append_assoc, arith, suc, zero}
 use Rattle.std.proofs.lemmas.List.{drop_more, take_more}
 use Rattle.std.proofs.lemmas.List.Sums.{sum_by-cons}
 use Rattle.std.proofs.lemmas.Option.{none-some}
@@ -10,7 +10,7 @@ use Rattle.object_store.specs.Copy.{size, is_of}
 use Rattle.object_store.specs.Listed.{copy_of, without, in_front, to_front, fitting, octets, OneEach, without_below}
 use Rattle.object_store.specs.Held.{is_older_than}
 use Rattle.object_store.specs.Counted.{IsCounted}
-use Rattle.object_store.proofs.Cases.{branches, second_true, true_not_false, same_Some, same_text, text_same}
+use Rattle.object_store.proofs.Cases.{second_true, same_Some, same_text}
 use Rattle.object_store.proofs.Stores.{store, IsStoreOf, store_to_front, store_filtered, store_put, all_kept_by, found_passes}
 
 abbrev pub IsCountedOf : {X : Type 0} → ℕ → ℕ → List (WebCopy X) → ℕ → Type 0

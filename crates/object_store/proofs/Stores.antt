@@ -2,7 +2,6 @@
 use Rattle.std.proofs.Common.{◌≡◌, ℕ, ◌+◌, ◌-◌, ◌≤◌, Bool, true, false, cond, not, ◌&&◌, List, [], ◌∷◌, zero, suc, ◌<◌, take, length, sum_by, count_by, filter, find, Option, Some, None, refl, sym, ◌∙◌, ap, subst, nat_lt, nat_le, arith}
 use Rattle.std.specs.List.{AllByRecursion}
 use Rattle.std.proofs.lemmas.Option.{none-some}
-use Rattle.std.proofs.lemmas.Slice.Eq.{bytes_eq-Decides}
 use Rattle.std.proofs.lemmas.List.Sums.{sum_by-cons, length-filter}
 use Rattle.object_store.specs.declared.copy.WebCopy.{WebCopy}
 use Rattle.object_store.specs.declared.store.Put.{Put}

@@ -1,6 +1,6 @@
 -- Copies of answers, and what they count in a store.
 use Rattle.std.specs.Prelude.{ℕ, ◌+◌, Bool, bytes_eq, List, length}
-use Rattle.peer_fetch.specs.Answer.{answer_size}
+use Rattle.fetch_messages.specs.Answer.{answer_size}
 use Rattle.object_store.specs.declared.copy.WebCopy.{WebCopy}
 
 -- the octets that a copy counts: its key, and its answer's field lines and body

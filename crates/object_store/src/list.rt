@@ -1,9 +1,10 @@
 //! Lists of copies, the most recent first: the parts of the store's calls.
-ghost use Rattle.std.specs.Prelude.{◌≡◌, ◌≤◌, ◌+◌, ◌<◌, ◌^◌, [], ◌∷◌, vec_len, vec_capacity, MatchOption, option_map, nat_lt, count_by};
+ghost use Rattle.std.specs.Prelude.{◌≡◌, ◌≤◌, ◌+◌, ◌<◌, ◌^◌, [], ◌∷◌, vec_len, vec_capacity, IfOk, MatchOption, option_map, nat_lt, count_by};
 ghost use Rattle.object_store.specs.Copy.{size as size_of_copy};
 ghost use Rattle.object_store.specs.Listed.{copy_of as copy_by_key, without as without_key, fitting, octets as octets_in, OneEach, without_all_below};
 
 use crate::{WebCopy, size};
+use std::alloc::{AllocError, Global};
 use url_key::Key;
 
 /// The key's copy.
@@ -11,6 +12,20 @@ pub(crate) fn copy_of<'a, T>(copies: &'a [WebCopy<T>], key: &Key) -> Option<&'a 
     ensures { option_map (λ c. c.now) result ≡ copy_by_key key.now copies.now }
 {
     copies.iter().find(|copy| copy.key.text() == key.text())
+}
+
+/// Copies of all copies, in their order.
+pub(crate) fn copy_all<T: Copy>(
+    alloc: Global,
+    copies: &[WebCopy<T>],
+) -> Result<Vec<WebCopy<T>>, AllocError>
+    ensures { IfOk result (λ made. made.items ≡ copies.now) }
+{
+    let mut made = Vec::with_capacity(alloc, copies.len())?;
+    for copy in copies {
+        made.push(copy.copy(alloc)?)?;
+    }
+    Ok(made)
 }
 
 /// Takes the key's copy out.

@@ -3,7 +3,7 @@ ghost use Rattle.object_store.specs.Copy.{size as size_of_copy};
 ghost use Rattle.object_store.specs.Listed.{copy_of as copy_by_key, without as without_key, to_front, fitting, octets, without_below, without_all_below};
 ghost use Rattle.std.specs.Borrow.{sem};
 
-use crate::list::{copy_of, drop_below, drop_copy, make_room, octets_of, take_out};
+use crate::list::{copy_all, copy_of, drop_below, drop_copy, make_room, octets_of, take_out};
 use crate::{WebCopy, size};
 use std::alloc::{AllocError, Global};
 use std::marker::Model;
@@ -110,8 +110,8 @@ impl<T> Store<T> {
         self.peek(key)
     }
 
-    /// Moves the key's copy to the front.
-    fn refresh(&mut self, key: &Key)
+    /// Makes the key's copy, if it holds one, the most recent.
+    pub fn refresh(&mut self, key: &Key)
         ensures { self.new ≡ with_copies self.old (to_front key.now self.old.copies) }
     {
         if let Some(copy) = take_out(&mut self.copies, key) {
@@ -119,6 +119,15 @@ impl<T> Store<T> {
                 unreachable!()
             }
         }
+    }
+}
+
+impl<T: Copy> Store<T> {
+    /// All copies, the most recent first. They share fields and bodies with those of the store, which stays as it is.
+    pub fn copies(&self, alloc: Global) -> Result<Vec<WebCopy<T>>, AllocError>
+        ensures { IfOk result (λ copies. copies.items ≡ self.now.copies) }
+    {
+        copy_all(alloc, self.copies.as_slice())
     }
 }
 

@@ -2,8 +2,8 @@ ghost use Rattle.std.specs.Prelude.{◌≤◌};
 
 use crate::laws::what_fits_is_the_longest_front;
 use crate::{Put, Store, WebCopy, size};
+use fetch_messages::{Answer, Body, Field, Fields};
 use http_header::{HeaderName, HeaderValue};
-use peer_fetch::{Answer, Body, Field, Fields};
 use std::test::Fail;
 use url_key::Key;
 
@@ -123,6 +123,25 @@ fn copies_are_cleared_by_their_stamps(rt: HostRuntime) -> Result<(), Fail> {
     assert!(rt; store.remove(&key_of(&rt, b'c')?));
     assert!(rt; !store.remove(&key_of(&rt, b'c')?));
     assert!(rt; store.is_empty() && store.bytes() == 0);
+    Ok(())
+}
+
+#[test]
+fn all_copies_in_their_order(rt: HostRuntime) -> Result<(), Fail> {
+    let mut store = store_of(&rt, 10, 1000)?;
+    for (name, stamp) in [(b'a', 3), (b'b', 5), (b'c', 7)] {
+        assert!(rt; put(&mut store, copy_of(&rt, name, stamp, 3)?)? == Put::Stored);
+    }
+    store.refresh(&key_of(&rt, b'a')?);
+    store.refresh(&key_of(&rt, b'd')?);
+    let copies = store.copies(rt.alloc())?;
+    assert!(rt; copies.len() == 3 && store.len() == 3);
+    for (copy, expected) in copies.iter().zip([3, 7, 5]) {
+        assert!(rt;
+            copy.stamp == expected && copy.tag == expected,
+            "{expected}"
+        );
+    }
     Ok(())
 }
 

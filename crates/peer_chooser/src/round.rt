@@ -84,6 +84,20 @@ impl Round {
         }
     }
 
+    /// The same round once more, which has at most 23 answers. It takes no memory.
+    pub fn copy(&self) -> Round
+        ensures value { result ≡ self.now }
+        ensures few { length self.now.told ≤ 23 }
+    {
+        Round {
+            asked: self.asked,
+            asked_count: self.asked_count,
+            told: self.told,
+            told_count: self.told_count,
+            has_expired: self.has_expired,
+        }
+    }
+
     /// The peers that are asked, in the roster's order. It takes no memory.
     pub fn asked(&self) -> &[Peer]
         ensures { result.now ≡ self.now.asked }

@@ -137,6 +137,19 @@ fn the_first_to_arrive_goes_first(rt: HostRuntime) -> Result<(), Fail> {
 }
 
 #[test]
+fn a_copy_goes_on_by_itself(rt: HostRuntime) -> Result<(), Fail> {
+    let mut round = Round::begin(&[peer(2, SIBLING), peer(3, PARENT)], 0);
+    round.answer(3, Said::Miss);
+    let mut copy = round.copy();
+    copy.expire();
+    assert!(rt; round.next(0, &[]) == Source::Wait);
+    assert!(rt; copy.next(0, &[]) == to(3, false) && copy.copy().next(0, &[]) == to(3, false));
+    round.answer(2, Said::Hit(None));
+    assert!(rt; round.told().len() == 2 && copy.told().len() == 1);
+    Ok(())
+}
+
+#[test]
 fn only_a_first_answer_of_one_that_was_asked_counts(rt: HostRuntime) -> Result<(), Fail> {
     let mut round = round_of_four();
     assert!(rt; round.asked().len() == 4);

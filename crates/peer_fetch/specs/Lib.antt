@@ -1,3 +1,2 @@
-pub mod Field
-pub mod Answer
-pub mod Fault
+pub mod Writable
+pub mod Reading

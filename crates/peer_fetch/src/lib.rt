@@ -1,19 +1,15 @@
-//! HTTP asks and answers as caches hold them.
+//! HTTP asks and answers of caches (RFC 9112): as values, written and read.
 //!
-//! An [`Answer`] is copied into a store, into replies and into recorded histories. A copy shares the body's
-//! octets and the list of fields with its source: copying takes two counts of owners and no octets.
+//! `laws` joins the two: what is written spells the ask or the answer that was to be written, no ask is a proper front of
+//! another and no such answer of another, and an input that begins with what was written is read as that, whatever follows.
+//!
+//! It has no bodies of its own, only laws and what it hands out, so it has no must-fail edits.
 #![tactic(auto)]
 
-mod answer;
-mod ask;
-mod body;
-mod fault;
-mod fields;
+pub mod laws;
 #[cfg(test)]
 mod tests;
 
-pub use answer::Answer;
-pub use ask::Ask;
-pub use body::Body;
-pub use fault::FetchFault;
-pub use fields::{Field, Fields};
+pub use fetch_messages::{Answer, Ask, Body, FetchFault, Field, Fields};
+pub use peer_reading::{read_answer, read_ask};
+pub use peer_writing::{AskForm, is_name, write_answer, write_ask};

@@ -1,171 +1,179 @@
-use crate::{Answer, Ask, Body, FetchFault, Field, Fields};
+//! Asks and answers, written and read back in pieces of one octet and whole, with other octets behind them.
+use crate::{
+    Answer, Ask, AskForm, Body, FetchFault, Field, Fields, is_name, read_answer, read_ask,
+    write_answer, write_ask,
+};
 use http_header::{HeaderName, HeaderValue};
+use std::io::{self, Read};
 use std::test::Fail;
-use url_key::{Key, KeyFault};
+use url_key::Key;
 
-fn fields_of(rt: &HostRuntime, lines: &[(&[u8], &[u8])]) -> Result<Fields, Fail> {
+/// A reader that gives a text in pieces of at most so many octets, and then ends.
+#[derive(Drop)]
+struct Pieces<'a> {
+    rest: &'a [u8],
+    length: usize,
+}
+
+impl Read for Pieces<'_> {
+    fn read(&mut self, buffer: &mut [u8]) -> io::Result<usize> {
+        let count = self.rest.len().min(self.length).min(buffer.len());
+        let (piece, rest) = self.rest.split_at(count);
+        buffer[..count].copy_from_slice(piece);
+        self.rest = rest;
+        Ok(count)
+    }
+}
+
+/// The lengths of pieces in which each text is read.
+const LENGTHS: [usize; 2] = [1, usize::MAX];
+
+/// What stands behind each text.
+const BEHIND: [&[u8]; 3] = [b"", b"\r\n", b"HTTP/1.1 200 \r\n\r\n"];
+
+#[test]
+fn asks_are_read_back(rt: HostRuntime) -> Result<(), Fail> {
+    let table: [(&[u8], bool, bool, Option<u8>); 5] = [
+        (b"http://o/", false, false, None),
+        (b"http://o/a?b=/%20c", true, false, Some(1)),
+        (b"http://o:8080/a", false, true, Some(16)),
+        (b"http://[::1]:81/?", true, true, Some(10)),
+        (b"http://o/~a;b=(c)", true, true, None),
+    ];
+    for (url, only_if_cached, no_cache, member) in table {
+        let ask = Ask {
+            key: Key::read(rt.alloc(), url)?,
+            only_if_cached,
+            no_cache,
+            member,
+        };
+        for behind in BEHIND {
+            let mut text = Vec::new(rt.alloc());
+            write_ask(&mut text, &ask, AskForm::Absolute, b"n1")?;
+            text.extend_from_slice(behind)?;
+            for length in LENGTHS {
+                let mut reader = Pieces {
+                    rest: text.as_slice(),
+                    length,
+                };
+                let read = read_ask(rt.alloc(), &mut reader)?;
+                assert!(rt; read.key.text() == url, "{url:?}");
+                let flags = (read.only_if_cached, read.no_cache, read.member);
+                assert!(rt; flags == (only_if_cached, no_cache, member), "{url:?}");
+            }
+        }
+    }
+    Ok(())
+}
+
+/// An ask that an origin gets is read with the host of its key.
+#[test]
+fn origin_form_is_read_back(rt: HostRuntime) -> Result<(), Fail> {
+    let ask = Ask {
+        key: Key::read(rt.alloc(), b"http://o:81/a?b")?,
+        only_if_cached: false,
+        no_cache: true,
+        member: None,
+    };
+    let mut text = Vec::new(rt.alloc());
+    write_ask(&mut text, &ask, AskForm::Origin, b"n1")?;
+    let mut reader = Pieces {
+        rest: text.as_slice(),
+        length: 1,
+    };
+    let read = read_ask(rt.alloc(), &mut reader)?;
+    assert!(rt; read == ask);
+    Ok(())
+}
+
+fn answer_of(
+    rt: &HostRuntime,
+    status: u16,
+    lines: &[(&[u8], &[u8])],
+    age: Option<u32>,
+    stamp: Option<u32>,
+    body: &[u8],
+) -> Result<Option<Answer>, Fail> {
     let mut fields = Vec::new(rt.alloc());
     for (name, value) in lines {
         let name = HeaderName::from_bytes(rt.alloc(), name)?;
         let value = HeaderValue::from_bytes(rt.alloc(), value)?;
         fields.push(Field { name, value })?;
     }
-    Ok(Fields::new(rt.alloc(), fields)?)
+    let fields = Fields::new(rt.alloc(), fields)?;
+    let body = Body::from_vec(body.to_vec(rt.alloc())?)?;
+    Ok(Answer::new(status, fields, age, stamp, body))
 }
 
-/// So many fields of six octets each with the 4 of their lines.
-fn many_fields(rt: &HostRuntime, count: usize) -> Result<Fields, Fail> {
-    let mut fields = Vec::new(rt.alloc());
-    for _ in 0..count {
-        let name = HeaderName::from_bytes(rt.alloc(), b"a")?;
-        let value = HeaderValue::from_bytes(rt.alloc(), b"b")?;
-        fields.push(Field { name, value })?;
+fn holds_fields(answer: &Answer, lines: &[(&[u8], &[u8])]) -> bool {
+    if answer.fields().len() != lines.len() {
+        return false;
     }
-    Ok(Fields::new(rt.alloc(), fields)?)
-}
-
-fn octets(rt: &HostRuntime, octet: u8, count: usize) -> Result<Vec<u8>, Fail> {
-    Ok(vec![in rt.alloc(); octet; count]?)
+    for (field, (name, value)) in answer.fields().iter().zip(lines) {
+        if field.name.as_bytes() != *name || field.value.as_bytes() != *value {
+            return false;
+        }
+    }
+    true
 }
 
 #[test]
-fn which_statuses_and_ages_are_writable(rt: HostRuntime) -> Result<(), Fail> {
-    let table: [(u16, Option<u32>, usize, bool); 13] = [
-        (200, None, 0, true),
-        (599, Some(0), 3, true),
-        (199, None, 0, false),
-        (600, None, 0, false),
-        (101, None, 0, false),
-        (204, None, 0, true),
-        (204, None, 1, false),
-        (304, None, 0, true),
-        (304, None, 1, false),
-        (200, Some(2_147_483_648), 0, true),
-        (200, Some(2_147_483_649), 0, false),
-        (200, None, 65_536, true),
-        (200, None, 65_537, false),
+fn answers_are_read_back(rt: HostRuntime) -> Result<(), Fail> {
+    let two: [(&[u8], &[u8]); 2] = [
+        (b"content-type", b"text/plain; charset=\"a, b\""),
+        (b"x-b", b""),
     ];
-    for (status, age, length, expected) in table {
-        let fields = fields_of(&rt, &[])?;
-        let body = Body::from_vec(octets(&rt, b'x', length)?)?;
-        let made = Answer::new(status, fields, age, Some(u32::MAX), body).is_some();
-        assert!(rt; made == expected, "{status} {age:?} {length}");
-    }
-    Ok(())
-}
-
-#[test]
-fn which_fields_are_kept(rt: HostRuntime) -> Result<(), Fail> {
-    let table: [(&[u8], &[u8], bool); 22] = [
-        (b"cache-control", b"max-age=60", true),
-        (b"Connection", b"close", false),
-        (b"keep-alive", b"x", false),
-        (b"proxy-connection", b"x", false),
-        (b"proxy-authenticate", b"x", false),
-        (b"proxy-authentication-info", b"x", false),
-        (b"TE", b"x", false),
-        (b"trailer", b"x", false),
-        (b"transfer-encoding", b"x", false),
-        (b"upgrade", b"x", false),
-        (b"close", b"x", false),
-        (b"content-length", b"1", false),
-        (b"age", b"1", false),
-        (b"via", b"x", false),
-        (b"x-purge-stamp", b"1", false),
-        (b"x-purge-stamps", b"1", true),
-        (b"connectio", b"x", true),
-        (b"x", b"", true),
-        (b"x", b" a", false),
-        (b"x", b"a ", false),
-        (b"x", b"\ta", false),
-        (b"x", b"a b", true),
+    let long = [b'\r'; 4419];
+    let table: [(u16, &[(&[u8], &[u8])], Option<u32>, Option<u32>, &[u8]); 8] = [
+        (304, &[], None, None, b""),
+        (304, two.as_slice(), Some(0), Some(0), b""),
+        (204, &[], Some(2_147_483_648), None, b""),
+        (200, &[], None, None, b""),
+        (200, two.as_slice(), None, Some(4_294_967_295), b"one"),
+        (599, two.as_slice(), Some(59), Some(7), b"0\r\n\r\n"),
+        (404, &[], Some(1), None, long.as_slice()),
+        (200, two.as_slice(), Some(1), Some(1), long.as_slice()),
     ];
-    for (name, value, expected) in table {
-        let fields = fields_of(&rt, &[(name, value)])?;
-        let made = Answer::new(200, fields, None, None, Body::empty()).is_some();
-        assert!(rt; made == expected, "{name:?}: {value:?}");
+    for (status, lines, age, stamp, body) in table {
+        let Some(answer) = answer_of(&rt, status, lines, age, stamp, body)? else {
+            return Err(Fail::from("no answer"));
+        };
+        for behind in BEHIND {
+            let mut text = Vec::new(rt.alloc());
+            write_answer(&mut text, &answer, b"n1")?;
+            text.extend_from_slice(behind)?;
+            for length in LENGTHS {
+                let mut reader = Pieces {
+                    rest: text.as_slice(),
+                    length,
+                };
+                let read = read_answer(rt.alloc(), &mut reader)?;
+                assert!(rt; read.status() == status, "{status}");
+                assert!(rt; holds_fields(&read, lines), "{status}");
+                assert!(rt; (read.age(), read.stamp()) == (age, stamp), "{status}");
+                assert!(rt; read.body() == body, "{status}");
+            }
+        }
     }
     Ok(())
 }
 
+/// A text that is cut anywhere is not read as another message.
 #[test]
-fn how_many_fields_are_kept(rt: HostRuntime) -> Result<(), Fail> {
-    let most = many_fields(&rt, 56)?;
-    assert!(rt; Answer::new(200, most, None, None, Body::empty()).is_some());
-    let over = many_fields(&rt, 57)?;
-    assert!(rt; Answer::new(200, over, None, None, Body::empty()).is_none());
-    // A line of one octet of name, 4 more, and its value.
-    let value = octets(&rt, b'v', 15_995)?;
-    let longest = fields_of(&rt, &[(b"x", &value)])?;
-    assert!(rt; Answer::new(200, longest, None, None, Body::empty()).is_some());
-    let value = octets(&rt, b'v', 15_996)?;
-    let longer = fields_of(&rt, &[(b"x", &value)])?;
-    assert!(rt; Answer::new(200, longer, None, None, Body::empty()).is_none());
-    Ok(())
-}
-
-#[test]
-fn a_copy_of_fields_is_equal(rt: HostRuntime) -> Result<(), Fail> {
-    let fields = fields_of(&rt, &[(b"a", b"b"), (b"cache-control", b"max-age=60")])?;
-    let copy = fields.copy()?;
-    assert!(rt; copy.as_slice() == fields.as_slice());
-    let field = copy.as_slice().first().ok_or("two fields")?;
-    assert!(rt; field.copy()? == *field);
-    Ok(())
-}
-
-#[test]
-fn a_copy_of_a_body_is_equal(rt: HostRuntime) -> Result<(), Fail> {
-    let body = Body::from_slice(rt.alloc(), b"one")?;
-    assert!(rt; !body.is_empty());
-    assert!(rt; body.len() == 3);
-    assert!(rt; body.copy()?.as_slice() == b"one".as_slice());
-    Ok(())
-}
-
-#[test]
-fn a_copy_of_an_answer_is_equal(rt: HostRuntime) -> Result<(), Fail> {
-    let fields = fields_of(&rt, &[(b"a", b"b"), (b"cache-control", b"max-age=60")])?;
-    let body = Body::from_slice(rt.alloc(), b"one")?;
-    let answer = Answer::new(200, fields, Some(7), Some(3), body).ok_or("writable")?;
-    let copy = answer.copy()?;
-    assert!(rt; (copy.status(), copy.age(), copy.stamp()) == (200, Some(7), Some(3)));
-    assert!(rt; copy.fields() == answer.fields());
-    assert!(rt; copy.body() == b"one".as_slice());
-    // 1 and 1 and 4, then 13 and 10 and 4, and a body of 3.
-    assert!(rt; copy.size() == 36);
-    Ok(())
-}
-
-#[test]
-fn a_copy_of_an_ask_is_equal(rt: HostRuntime) -> Result<(), Fail> {
-    let key = Key::read(rt.alloc(), b"http://o/a")?;
-    let ask = Ask {
-        key,
-        only_if_cached: true,
-        no_cache: false,
-        member: Some(16),
+fn cut_texts_are_refused(rt: HostRuntime) -> Result<(), Fail> {
+    let Some(answer) = answer_of(&rt, 200, &[], Some(1), None, b"one")? else {
+        return Err(Fail::from("no answer"));
     };
-    assert!(rt; ask.copy(rt.alloc())? == ask);
-    Ok(())
-}
-
-#[test]
-fn faults_have_names(rt: HostRuntime) {
-    let table: [(FetchFault, &str); 11] = [
-        (FetchFault::Io, "Io"),
-        (FetchFault::EndOfInput, "EndOfInput"),
-        (FetchFault::BadHead, "BadHead"),
-        (FetchFault::HeadTooLong, "HeadTooLong"),
-        (FetchFault::BadTarget(KeyFault::NotHttp), "BadTarget"),
-        (FetchFault::MethodNotServed, "MethodNotServed"),
-        (FetchFault::Credentials, "Credentials"),
-        (FetchFault::BadBody, "BadBody"),
-        (FetchFault::BodyTooLong, "BodyTooLong"),
-        (FetchFault::TooManyTurns, "TooManyTurns"),
-        (FetchFault::NoMemory, "NoMemory"),
-    ];
-    for (fault, expected) in table {
-        assert!(rt; fault.name() == expected);
+    let mut text = Vec::new(rt.alloc());
+    assert!(rt; is_name(b"n1"));
+    write_answer(&mut text, &answer, b"n1")?;
+    for end in 0..text.len() {
+        let mut reader = Pieces {
+            rest: &text[..end],
+            length: 7,
+        };
+        let read = read_answer(rt.alloc(), &mut reader);
+        assert!(rt; matches!(read, Err(FetchFault::EndOfInput)), "{end}");
     }
+    Ok(())
 }

@@ -7,9 +7,9 @@ use Rattle.list_values.specs.Blanks.{trim}
 use Rattle.http_header.specs.Token.{lowercase}
 use Rattle.http_header.specs.FieldName.{IsFieldName}
 use Rattle.http_header.specs.FieldValue.{IsFieldValue}
-use Rattle.peer_fetch.specs.declared.fault.FetchFault.{FetchFault}
-use Rattle.peer_fetch.specs.declared.fault.FetchFault.TheVariants.{BadHead, HeadTooLong, NoMemory}
-use Rattle.peer_fetch.specs.Field.{FieldText, is_dropped_name, is_trimmed}
+use Rattle.fetch_messages.specs.declared.fault.FetchFault.{FetchFault}
+use Rattle.fetch_messages.specs.declared.fault.FetchFault.TheVariants.{BadHead, HeadTooLong, NoMemory}
+use Rattle.fetch_messages.specs.Field.{FieldText, is_dropped_name, is_trimmed}
 use Rattle.peer_fields.specs.Fields.{values_named}
 
 abbrev pub is_comma : ℕ → Bool

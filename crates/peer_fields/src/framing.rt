@@ -9,8 +9,8 @@ ghost use Rattle.peer_fields.specs.Framing as spec;
 
 use crate::decimal::number_up_to;
 use crate::fields::{Values, all_named, count_named};
+use fetch_messages::FetchFault;
 use httparse::spans::HeaderSpan;
-use peer_fetch::FetchFault;
 use thiserror::Error;
 
 /// The most octets of a body that is read.

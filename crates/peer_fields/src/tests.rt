@@ -3,9 +3,9 @@ use crate::{
     first_named, framing_of, has_credentials, host_of, is_chunked, is_no_cache, is_only_if_cached,
     kept_fields, member, only_named, stamp,
 };
+use fetch_messages::{Answer, Body, FetchFault, Fields};
 use httparse::Status;
 use httparse::spans::{EMPTY_HEADER_SPAN, HeaderSpan, Span, parse_headers};
-use peer_fetch::{Answer, Body, FetchFault, Fields};
 use std::test::Fail;
 
 /// The places of the fields of a section, which ends with an empty line.

@@ -3,8 +3,8 @@ use Rattle.std.proofs.Common.{◌≡◌, ℕ, ◌+◌, ◌<◌, ◌≤◌, ◌�
 use Rattle.std.proofs.lemmas.List.{take-append-le, drop-append-le, nil_from_length}
 use Rattle.std.proofs.Math.Decide.{dec_le}
 use Rattle.std.specs.Io.KnownBytes.{IsAtEnd}
-use Rattle.peer_fetch.specs.declared.fault.FetchFault.{FetchFault}
-use Rattle.peer_fetch.specs.declared.fault.FetchFault.TheVariants.{BodyTooLong, TooManyTurns}
+use Rattle.fetch_messages.specs.declared.fault.FetchFault.{FetchFault}
+use Rattle.fetch_messages.specs.declared.fault.FetchFault.TheVariants.{BodyTooLong, TooManyTurns}
 use Rattle.peer_intake.specs.Reading.{Takes}
 use Rattle.peer_intake.specs.Bodies.{ReadsBodyOf, CutsBodyOf, FillsShort, ReadsToEnd, StopsBeforeEnd, is_end_fault, is_length_fault}
 use Rattle.peer_intake.specs.Reading.{is_read_fault}

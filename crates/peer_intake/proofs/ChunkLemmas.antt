@@ -9,8 +9,8 @@ use Rattle.std.proofs.lemmas.List.Concat.{flat_map-append}
 use Rattle.peer_intake.proofs.FillLemmas.{take-append-add}
 use Rattle.peer_intake.specs.Chunks.{ChunkText, IsChunk, print_chunk, AddsChunk, ChunksUpTo, IsLastLine, HoldsChunks, IsOpenChunk, RefusesStep, StopsAtChunk}
 use Rattle.peer_intake.specs.Reading.{is_read_fault}
-use Rattle.peer_fetch.specs.declared.fault.FetchFault.{FetchFault}
-use Rattle.peer_fetch.specs.declared.fault.FetchFault.TheVariants.{Io, EndOfInput, TooManyTurns, NoMemory}
+use Rattle.fetch_messages.specs.declared.fault.FetchFault.{FetchFault}
+use Rattle.fetch_messages.specs.declared.fault.FetchFault.TheVariants.{Io, EndOfInput, TooManyTurns, NoMemory}
 use Rattle.std.specs.Io.KnownBytes.{IsAtEnd}
 use Rattle.std.proofs.lemmas.Bool.{false≢true}
 

@@ -1,8 +1,8 @@
 -- Bodies whose length is told, and bodies up to the end of the input (RFC 9112, section 6.3).
 use Rattle.std.specs.Prelude.{◌≡◌, ℕ, ◌+◌, ◌<◌, ◌≤◌, max, Bool, true, false, IsTrue, List, length, take, drop, Option}
 use Rattle.std.specs.Io.KnownBytes.{IsAtEnd}
-use Rattle.peer_fetch.specs.declared.fault.FetchFault.{FetchFault}
-use Rattle.peer_fetch.specs.declared.fault.FetchFault.TheVariants.{EndOfInput, BodyTooLong, TooManyTurns}
+use Rattle.fetch_messages.specs.declared.fault.FetchFault.{FetchFault}
+use Rattle.fetch_messages.specs.declared.fault.FetchFault.TheVariants.{EndOfInput, BodyTooLong, TooManyTurns}
 use Rattle.peer_intake.specs.Reading.{Takes, most_turns, is_read_fault}
 
 -- a body has at most this many octets

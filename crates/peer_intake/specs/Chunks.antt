@@ -5,8 +5,8 @@ use Rattle.std.specs.Io.KnownBytes.{IsAtEnd}
 use Rattle.httparse.specs.Ascii.{crlf_bytes}
 use Rattle.httparse.specs.Grammar.{ChunkLine, print_chunk_line, IsChunkLine, chunk_size, HasNoChunkLine, NeverHasChunkLine}
 use Rattle.httparse.specs.Spans.{IsChunkLineAt}
-use Rattle.peer_fetch.specs.declared.fault.FetchFault.{FetchFault}
-use Rattle.peer_fetch.specs.declared.fault.FetchFault.TheVariants.{Io, EndOfInput, BadBody, BodyTooLong, TooManyTurns, NoMemory}
+use Rattle.fetch_messages.specs.declared.fault.FetchFault.{FetchFault}
+use Rattle.fetch_messages.specs.declared.fault.FetchFault.TheVariants.{Io, EndOfInput, BadBody, BodyTooLong, TooManyTurns, NoMemory}
 use Rattle.peer_intake.specs.declared.chunks.ChunkStep.{ChunkStep}
 use Rattle.peer_intake.specs.declared.chunks.ChunkStep.TheVariants.{More, Chunk, Last}
 use Rattle.peer_intake.specs.Reading.{most_turns}

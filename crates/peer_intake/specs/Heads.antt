@@ -1,11 +1,11 @@
 -- When the head of a message is read, and when it is refused (RFC 9112, sections 2 to 5).
 use Rattle.std.specs.Prelude.{ℕ, ◌≤◌, ◌⊎◌, Bool, true, false, IsTrue, List, length, take, drop, Option}
 use Rattle.std.specs.Io.KnownBytes.{IsAtEnd}
-use Rattle.peer_fetch.specs.declared.fault.FetchFault.{FetchFault}
-use Rattle.peer_fetch.specs.declared.fault.FetchFault.TheVariants.{BadHead, HeadTooLong}
+use Rattle.fetch_messages.specs.declared.fault.FetchFault.{FetchFault}
+use Rattle.fetch_messages.specs.declared.fault.FetchFault.TheVariants.{BadHead, HeadTooLong}
 use Rattle.httparse.specs.Grammar.{HasNoRequest, HasNoResponse}
 use Rattle.httparse.specs.Spans.{RequestExceeds, ResponseExceeds}
-use Rattle.peer_intake.specs.Reading.{is_read_fault}
+use Rattle.peer_intake.specs.Reading.{most_turns, is_read_fault}
 
 -- a head has at most this many octets
 abbrev pub longest_head : ℕ
@@ -34,6 +34,14 @@ EndsBeforeRequest reader start octets = HasNoRequest (drop start octets) × IsAt
 -- the same for a response
 abbrev pub EndsBeforeResponse : Option (List ℕ) → ℕ → List ℕ → Type 0
 EndsBeforeResponse reader start octets = HasNoResponse (drop start octets) × IsAtEnd reader
+
+-- the calls of the reader were spent before a head of a request ended
+abbrev pub SpentBeforeRequest : ℕ → List ℕ → Type 0
+SpentBeforeRequest start octets = HasNoRequest (drop start octets) × (most_turns ≤ length octets)
+
+-- the same for a response
+abbrev pub SpentBeforeResponse : ℕ → List ℕ → Type 0
+SpentBeforeResponse start octets = HasNoResponse (drop start octets) × (most_turns ≤ length octets)
 
 -- the faults of a head's octets
 abbrev pub is_head_refusal : FetchFault → Bool

@@ -1,8 +1,8 @@
 -- What is taken from a reader, and how far reading goes.
 use Rattle.std.specs.Prelude.{◌≡◌, ℕ, Bool, true, false, IsTrue, List, ◌++◌, Option}
 use Rattle.std.specs.Io.KnownBytes.{Consumes}
-use Rattle.peer_fetch.specs.declared.fault.FetchFault.{FetchFault}
-use Rattle.peer_fetch.specs.declared.fault.FetchFault.TheVariants.{Io, EndOfInput, TooManyTurns, NoMemory}
+use Rattle.fetch_messages.specs.declared.fault.FetchFault.{FetchFault}
+use Rattle.fetch_messages.specs.declared.fault.FetchFault.TheVariants.{Io, EndOfInput, TooManyTurns, NoMemory}
 
 -- a reader is called at most this often for one message
 abbrev pub most_turns : ℕ

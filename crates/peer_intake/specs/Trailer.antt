@@ -3,8 +3,8 @@ use Rattle.std.specs.Prelude.{ℕ, ◌+◌, ◌≤◌, ◌⊎◌, ⊤, List, len
 use Rattle.std.specs.Io.KnownBytes.{IsAtEnd}
 use Rattle.httparse.specs.Grammar.{Field, LineEnd, ReadsSection, HasNoSection, NeverHasSection}
 use Rattle.httparse.specs.Spans.{SectionExceeds}
-use Rattle.peer_fetch.specs.declared.fault.FetchFault.{FetchFault}
-use Rattle.peer_fetch.specs.declared.fault.FetchFault.TheVariants.{Io, EndOfInput, HeadTooLong, BadBody, TooManyTurns, NoMemory}
+use Rattle.fetch_messages.specs.declared.fault.FetchFault.{FetchFault}
+use Rattle.fetch_messages.specs.declared.fault.FetchFault.TheVariants.{Io, EndOfInput, HeadTooLong, BadBody, TooManyTurns, NoMemory}
 use Rattle.peer_intake.specs.Reading.{most_turns}
 use Rattle.peer_intake.specs.Heads.{longest_head, most_fields, head_window}
 use Rattle.peer_intake.specs.Chunks.{HoldsChunks, StopsInChunks}

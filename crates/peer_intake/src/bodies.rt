@@ -6,7 +6,7 @@ ghost use Rattle.peer_intake.specs.Reading.{IsReadFault};
 use crate::Intake;
 use crate::fill::fill;
 use crate::piece::read_piece;
-use peer_fetch::FetchFault;
+use fetch_messages::FetchFault;
 use std::alloc::{AllocError, Global};
 use std::io::Read;
 

@@ -8,8 +8,8 @@ ghost use Rattle.peer_intake.specs.Chunks.{longest_line, HasLine, HasBadLine, Is
 
 use crate::Intake;
 use crate::bodies::LONGEST_BODY;
+use fetch_messages::FetchFault;
 use httparse::{Status, parse_chunk_size};
-use peer_fetch::FetchFault;
 use std::alloc::Global;
 use std::io::Read;
 

@@ -4,7 +4,7 @@ ghost use Rattle.peer_intake.specs.Reading.{Takes};
 ghost use Rattle.peer_intake.specs.Bodies.{FillsShort};
 
 use crate::piece::MOST_TURNS;
-use peer_fetch::FetchFault;
+use fetch_messages::FetchFault;
 use std::io::Read;
 
 /// Reads until the buffer is full from this place on, where so many calls were made before.

@@ -6,9 +6,9 @@ ghost use Rattle.httparse.specs.Spans.{IsRequestOf, IsRequestWithin, IsResponseO
 ghost use Rattle.peer_intake.specs.Heads.{most_fields, longest_head, IsLongRequest, IsLongResponse, IsHeadRefusal};
 
 use crate::head_watch::LONGEST_HEAD;
+use fetch_messages::FetchFault;
 use httparse::spans::{HeaderSpan, RequestSpans, ResponseSpans, parse_request, parse_response};
 use httparse::{Error, Status};
-use peer_fetch::FetchFault;
 
 /// Whether a request's head stands in the window. `Partial` leaves room for more octets.
 pub(crate) fn judge_request(

@@ -4,14 +4,14 @@ ghost use Rattle.std.specs.Io.KnownBytes.{IsAtEnd};
 ghost use Rattle.httparse.specs.Grammar.{HasNoRequest, HasNoResponse, NeverHasRequest, NeverHasResponse};
 ghost use Rattle.httparse.specs.Spans.{IsRequestOf, IsRequestWithin, IsResponseOf, IsResponseWithin};
 ghost use Rattle.peer_intake.specs.Reading.{Takes, most_turns, IsReadFault};
-ghost use Rattle.peer_intake.specs.Heads.{head_window, longest_head, most_fields, IsLongRequest, IsLongResponse, EndsBeforeRequest, EndsBeforeResponse, IsHeadFault};
+ghost use Rattle.peer_intake.specs.Heads.{head_window, longest_head, most_fields, IsLongRequest, IsLongResponse, EndsBeforeRequest, EndsBeforeResponse, SpentBeforeRequest, SpentBeforeResponse, IsHeadFault};
 
 use crate::head_watch::{HeadWatch, LONGEST_HEAD};
 use crate::heads::{judge_request, judge_response};
 use crate::piece::read_piece;
+use fetch_messages::FetchFault;
 use httparse::Status;
 use httparse::spans::{HeaderSpan, RequestSpans, ResponseSpans};
-use peer_fetch::FetchFault;
 use std::alloc::Global;
 use std::io::Read;
 use std::marker::Model;
@@ -65,7 +65,7 @@ impl Intake {
     }
 
     /// The octets from `start` on in which a head may stand: at most 16,384.
-    pub(crate) fn window(&self, start: usize) -> &[u8]
+    pub fn window(&self, start: usize) -> &[u8]
         requires { start ≤ length self.now }
         ensures value { result.now ≡ head_window start self.now }
         ensures short { length result.now ≤ longest_head }
@@ -135,6 +135,7 @@ impl Intake {
         requires start { start ≤ length self.old }
         requires room { length headers.old ≡ most_fields }
         ensures taken { Takes (R.remaining reader.old) (R.remaining reader.new) self.old self.new }
+        ensures short { length self.new ≤ 286720000 }
         ensures head { IfOk result (IsRequestOf (head_window start self.new) headers.new) }
         ensures within { IfOk result (IsRequestWithin (head_window start self.new) headers.new) }
         ensures inside { IfOk result (λ head. start + head.len ≤ length self.new) }
@@ -144,7 +145,8 @@ impl Intake {
             → IsLongRequest (head_window start self.new) }
         ensures ended { IsErrOf result FetchFault.EndOfInput
             → EndsBeforeRequest (R.remaining reader.new) start self.new }
-        ensures spent { IsErrOf result FetchFault.TooManyTurns → most_turns ≤ length self.new }
+        ensures spent { IsErrOf result FetchFault.TooManyTurns
+            → SpentBeforeRequest start self.new }
         ensures faults { IfErr result IsHeadFault }
     {
         let mut watch = HeadWatch::new(self.window(start).len(), true);
@@ -204,6 +206,7 @@ impl Intake {
         requires start { start ≤ length self.old }
         requires room { length headers.old ≡ most_fields }
         ensures taken { Takes (R.remaining reader.old) (R.remaining reader.new) self.old self.new }
+        ensures short { length self.new ≤ 286720000 }
         ensures head { IfOk result (IsResponseOf (head_window start self.new) headers.new) }
         ensures within { IfOk result (IsResponseWithin (head_window start self.new) headers.new) }
         ensures inside { IfOk result (λ head. start + head.len ≤ length self.new) }
@@ -213,7 +216,8 @@ impl Intake {
             → IsLongResponse (head_window start self.new) }
         ensures ended { IsErrOf result FetchFault.EndOfInput
             → EndsBeforeResponse (R.remaining reader.new) start self.new }
-        ensures spent { IsErrOf result FetchFault.TooManyTurns → most_turns ≤ length self.new }
+        ensures spent { IsErrOf result FetchFault.TooManyTurns
+            → SpentBeforeResponse start self.new }
         ensures faults { IfErr result IsHeadFault }
     {
         let mut watch = HeadWatch::new(self.window(start).len(), true);

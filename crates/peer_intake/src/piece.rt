@@ -3,7 +3,7 @@ ghost use Rattle.std.specs.Prelude.{◌≡◌, ◌+◌, ◌*◌, ◌<◌, ◌≤
 ghost use Rattle.std.specs.Io.KnownBytes.{IsAtEnd};
 ghost use Rattle.peer_intake.specs.Reading.{Takes, IsReadFault};
 
-use peer_fetch::FetchFault;
+use fetch_messages::FetchFault;
 use std::io::Read;
 
 /// The most calls of the reader for one message.

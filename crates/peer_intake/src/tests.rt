@@ -1,7 +1,7 @@
 use crate::Intake;
 use crate::head_watch::HeadWatch;
+use fetch_messages::FetchFault;
 use httparse::spans::{EMPTY_HEADER_SPAN, RequestSpans, ResponseSpans};
-use peer_fetch::FetchFault;
 use std::alloc::AllocError;
 use std::io::{self, Error, ErrorKind, Read};
 use std::process::Abort;

@@ -9,9 +9,9 @@ ghost use Rattle.peer_intake.specs.Trailer.{HoldsTrailer, RefusesTrailer, StopsI
 
 use crate::Intake;
 use crate::head_watch::{HeadWatch, LONGEST_HEAD};
+use fetch_messages::FetchFault;
 use httparse::spans::{EMPTY_HEADER_SPAN, parse_headers};
 use httparse::{Error, Status};
-use peer_fetch::FetchFault;
 use std::alloc::Global;
 use std::io::Read;
 

@@ -1,8 +1,8 @@
 -- The lines of fields, written one after another.
 use Rattle.std.proofs.Common.{◌≡◌, ℕ, ◌+◌, ◌<◌, List, ◌∷◌, ◌++◌, length, map, drop, get_or, sym, ap, ◌∙◌}
 use Rattle.std.proofs.lemmas.List.{drop_more}
-use Rattle.peer_fetch.specs.declared.fields.Field.{Field}
-use Rattle.peer_fetch.specs.Field.{field_text}
+use Rattle.fetch_messages.specs.declared.fields.Field.{Field}
+use Rattle.fetch_messages.specs.Field.{field_text}
 use Rattle.peer_writing.specs.Answer.{kept_line, kept_lines}
 
 -- the lines of the fields from one on

@@ -1,7 +1,7 @@
 -- The text of an answer (RFC 9112, sections 4 to 6).
 use Rattle.std.specs.Prelude.{ℕ, List, ◌++◌, Option, Some, None, length, flat_map, codes, decimal, if◌then◌else◌}
-use Rattle.peer_fetch.specs.Field.{FieldText}
-use Rattle.peer_fetch.specs.Answer.{AnswerText, has_no_body}
+use Rattle.fetch_messages.specs.Field.{FieldText}
+use Rattle.fetch_messages.specs.Answer.{AnswerText, has_no_body}
 use Rattle.peer_writing.specs.Lines.{crlf, line, field_line, number_line, last_lines}
 
 -- the status line: the reason phrase is empty, and the space before it stays (RFC 9112, section 4)

@@ -1,7 +1,7 @@
 -- The text of an ask (RFC 9112, section 3; RFC 9111, section 5.2.1).
 use Rattle.std.specs.Prelude.{ℕ, Bool, true, false, List, [], ◌++◌, codes}
 use Rattle.url_key.specs.Text.{key_authority, key_path}
-use Rattle.peer_fetch.specs.declared.ask.Ask.{Ask}
+use Rattle.fetch_messages.specs.declared.ask.Ask.{Ask}
 use Rattle.peer_writing.specs.declared.ask.AskForm.{AskForm}
 use Rattle.peer_writing.specs.declared.ask.AskForm.TheVariants.{Absolute, Origin}
 use Rattle.peer_writing.specs.Lines.{crlf, line, field_line, number_line, last_lines}

@@ -1,12 +1,12 @@
 ghost use Rattle.std.specs.Prelude.{◌≡◌, IfErr, IsTrue, map};
 ghost use Rattle.text_writer.specs.Writing.{Writes};
-ghost use Rattle.peer_fetch.specs.Field.{field_text};
+ghost use Rattle.fetch_messages.specs.Field.{field_text};
 ghost use Rattle.peer_writing.specs.Answer.{answer_text, status_line, kept_line, kept_lines, first_lines, number_lines, told_length};
 ghost use Rattle.peer_writing.specs.Name.{is_name as names_cache};
 
 use crate::lines::{write, write_field, write_last_lines, write_number, write_three};
+use fetch_messages::{Answer, FetchFault, Field};
 use itoa::Buffer;
-use peer_fetch::{Answer, FetchFault, Field};
 use std::io::Write;
 
 /// Writes an answer: the status line with an empty reason, its fields in order, `age` and `x-purge-stamp` where it

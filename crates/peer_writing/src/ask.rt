@@ -4,7 +4,7 @@ ghost use Rattle.peer_writing.specs.Ask.{ask_text, target as target_text, reques
 ghost use Rattle.peer_writing.specs.Name.{is_name as names_cache};
 
 use crate::lines::{write, write_field, write_last_lines, write_number, write_three};
-use peer_fetch::{Ask, FetchFault};
+use fetch_messages::{Ask, FetchFault};
 use std::io::Write;
 use url_key::Key;
 

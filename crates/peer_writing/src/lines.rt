@@ -3,8 +3,8 @@ ghost use Rattle.std.specs.Prelude.{◌≡◌, ◌++◌, IfErr, decimal};
 ghost use Rattle.text_writer.specs.Writing.{Writes};
 ghost use Rattle.peer_writing.specs.Lines.{field_line, number_line, last_lines};
 
+use fetch_messages::FetchFault;
 use itoa::Buffer;
-use peer_fetch::FetchFault;
 use std::io::Write;
 use text_writer::write_text;
 

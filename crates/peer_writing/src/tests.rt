@@ -1,6 +1,6 @@
 use crate::{AskForm, is_name, write_answer, write_ask};
+use fetch_messages::{Answer, Ask, Body, FetchFault, Field, Fields};
 use http_header::{HeaderName, HeaderValue};
-use peer_fetch::{Answer, Ask, Body, FetchFault, Field, Fields};
 use std::io::{self, Write};
 use std::test::Fail;
 use url_key::Key;

@@ -1,12 +1,16 @@
 -- What the statements that make the tables do.
-use Rattle.std.proofs.Common.{◌≡◌, ℕ, List, [], false, None, Ok, Err, Result, OnOk, IsTrue, refl, sym, ap, subst, ◌∙◌, arith}
+use Rattle.std.proofs.Common.{◌≡◌, ℕ, pos, List, [], ◌∷◌, map, false, None, Ok, Err, Result, OnOk, IsTrue, refl, sym, ap, subst, ◌∙◌, arith}
+use Rattle.sqlite.specs.declared.types.Value.TheVariants.{Null, Int}
+use Rattle.sqlite_value.specs.Order.{Row}
 use Rattle.sqlite_trees.specs.Tree.{Trees}
+use Rattle.sqlite_rules.specs.Cast.{cast}
+use Rattle.sqlite.specs.Kind.TheVariants.{Integer}
 use Rattle.sqlite.specs.declared.error.Error.{Error}
 use Rattle.sqlite.specs.Table.{Table}
 use Rattle.sqlite.specs.Schema.{Schema}
-use Rattle.sqlite.specs.Edit.{edit_of}
+use Rattle.sqlite.specs.Edit.{edit_of, edited}
 use Rattle.sqlite.specs.Rowids.TheVariants.{Chosen}
-use Rattle.sqlite.specs.Change.{created, next_tree}
+use Rattle.sqlite.specs.Change.{created, next_tree, KeepsRows}
 use Rattle.sqlite.specs.Compile.{table_defined_by}
 use Rattle.sqlite.specs.Command.TheVariants.{CreateTable}
 use Rattle.sqlite.specs.Does.{Tally, Does, lacks_sequence}
@@ -16,13 +20,15 @@ use Rattle.sqlite.specs.Listing.{understood}
 use Rattle.sqlite.specs.State.{State, HasCleanDisk, Writes, Executes, ExecutesInside, mode_of}
 use Rattle.sqlite.proofs.Callers.{IsPlain, command_of, statement_of, runs_as, one_step}
 use Rattle.purge_numbers.specs.Tables.{form_table, floors_table, empty_schema, form_schema, node_schema}
-use Rattle.purge_numbers.specs.Making.{IsBlank, IsFormed, IsUnused, Makes}
+use Rattle.purge_numbers.specs.Making.{IsBlank, IsFormed, IsUnversioned, IsVersioned, Makes}
+use Rattle.purge_numbers.specs.Rows.{shown_version}
 use Rattle.purge_numbers.proofs.Texts.{create_form, create_floors, form_defined, floors_defined, form_created, floors_created, create_form_is, create_form_plain, create_floors_is, create_floors_text, create_floors_plain, name_text, name_command, name_is, name_plain}
-use Rattle.purge_numbers.proofs.PutLemmas.{went, same_value}
+use Rattle.purge_numbers.proofs.PutLemmas.{went, same_value, cast_int}
 
 module _ (text : List ℕ) (before after : Schema) (table : Table) (is : command_of (understood before text) ≡ CreateTable) (whole : statement_of text (understood before text) ≡ text) (plain : IsPlain (understood before text))
     (defined : table_defined_by text ≡ Ok table) (makes : created before table ≡ after) (uncounted : lacks_sequence after ≡ false) where
-  creates : (old new : State) (count : ℕ) → old.now.schema ≡ before → Executes text [] old new (Ok count) → (new.now.schema ≡ after) × (new.now.trees (next_tree before) ≡ [])
+  creates : (old new : State) (count : ℕ) → old.now.schema ≡ before → Executes text [] old new (Ok count)
+      → (new.now.schema ≡ after) × (new.now.trees (next_tree before) ≡ []) × KeepsRows before.tables old.now.trees new.now.trees
   creates old new count has h =
       let w = subst (λ t. Writes old new None CreateTable t [] count) whole (runs_as text [] old new before has CreateTable is plain count h) in
       let all = went w.changed in
@@ -33,42 +39,63 @@ module _ (text : List ℕ) (before after : Schema) (table : Table) (is : command
       let schema : first.0.schema ≡ after = made.is ∙ ap (λ s. created s made.table) has ∙ ap (created before) same ∙ makes in
       let none : lacks_sequence first.0.schema ≡ false = ap lacks_sequence schema ∙ uncounted in
       let now : new.now ≡ first.0 = ap (λ (p : Tally × Database). p.1) (same_value all.2) ∙ same_value (rw none at first.2) in
-      (ap (λ (d : Database). d.schema) now ∙ schema, ap (λ (d : Database). d.trees (next_tree before)) now ∙ subst (λ s. first.0.trees (next_tree s) ≡ []) has made.empty)
+      let kept : KeepsRows before.tables old.now.trees first.0.trees = subst (λ s. KeepsRows s.tables old.now.trees first.0.trees) has made.others in (
+        ap (λ (d : Database). d.schema) now ∙ schema,
+        ap (λ (d : Database). d.trees (next_tree before)) now ∙ subst (λ s. first.0.trees (next_tree s) ≡ []) has made.empty,
+        subst (λ (d : Database). KeepsRows before.tables old.now.trees d.trees) (sym now) kept,
+      )
 
-form_step : (old new : State) (count : ℕ) → old.now.schema ≡ empty_schema → Executes create_form [] old new (Ok count) → new.now.schema ≡ form_schema
-form_step old new count has h = (creates create_form empty_schema form_schema form_table create_form_is.0 create_form_is.1 create_form_plain form_defined form_created refl old new count has h).0
+form_step : (old new : State) (count : ℕ) → old.now.schema ≡ empty_schema → Executes create_form [] old new (Ok count) → IsFormed new.now
+form_step old new count has h =
+    let made = creates create_form empty_schema form_schema form_table create_form_is.0 create_form_is.1 create_form_plain form_defined form_created refl old new count has h in (made.0, made.1)
 
-floors_step : (old new : State) (count : ℕ) → old.now.schema ≡ form_schema → Executes create_floors [] old new (Ok count) → (new.now.schema ≡ node_schema) × (new.now.trees 1 ≡ [])
-floors_step old new count has h = creates create_floors form_schema node_schema (record floors_table { tree = 0 }) create_floors_is create_floors_text create_floors_plain floors_defined floors_created refl old new count has h
+floors_step : (old new : State) (count : ℕ) → IsFormed old.now → Executes create_floors [] old new (Ok count) → IsUnversioned new.now
+floors_step old new count formed h =
+    let made = creates create_floors form_schema node_schema (record floors_table { tree = 0 }) create_floors_is create_floors_text create_floors_plain floors_defined floors_created refl old new count formed.0 h in
+    (made.0, made.2.0 ∙ formed.1, made.1)
 
-name_step : (old new : State) (count : ℕ) → old.now.schema ≡ node_schema → Executes name_text [] old new (Ok count) → (new.now.schema ≡ node_schema) × (new.now.trees 1 ≡ old.now.trees 1)
-name_step old new count has h =
+-- the row that names the version, in a table that had none
+version_row : (version : ℕ) (db : Trees) (given : List Row) → db 0 ≡ [] → given ≡ (Int (pos version) ∷ Null ∷ []) ∷ []
+    → edited db (edit_of db form_table [] Chosen 0 given) ≡ (Int (pos version) ∷ cast Integer Null ∷ []) ∷ []
+version_row version db given none is = rw (none, is, cast_int (pos version)) refl
+
+abbrev version_params : ℕ → Row
+version_params version = Int (pos version) ∷ []
+
+name_step : (version : ℕ) (old new : State) (count : ℕ) → IsUnversioned old.now → Executes name_text (version_params version) old new (Ok count) → IsVersioned version new.now
+name_step version old new count unversioned h =
+    let has = unversioned.0 in
     let db = old.now.trees in
-    let w = runs_as name_text [] old new node_schema has name_command name_is name_plain count h in
+    let w = runs_as name_text (version_params version) old new node_schema has name_command name_is name_plain count h in
     let text = statement_of name_text (understood node_schema name_text) in
-    let done = went (subst (λ s. Does old.step_limit (mode_of old) [] (record old.now { schema = s }) text None name_command (Ok (w.tally, new.now))) has w.changed) in
+    let done = went (subst (λ s. Does old.step_limit (mode_of old) (version_params version) (record old.now { schema = s }) text None name_command (Ok (w.tally, new.now))) has w.changed) in
     let now = ap (λ (p : Tally × Database). p.1) (same_value (went (went done.2).2).2) in
     let given = went done.1 in
     let written = went (went given.2).2 in
     let counted = went written.2 in
     let trees : done.0.trees ≡ written.0 = ap (λ (it : Written). it.trees) (same_value counted.2) ∙ same_value counted.1 in
     let step = one_step node_schema _ db written.0 (edit_of db form_table [] Chosen 0 given.0) refl written.1 in
-    (ap (λ (d : Database). d.schema) now, ap (λ (d : Database). d.trees 1) now ∙ ap (λ (t : Trees). t 1) trees ∙ step.tables.1.0 (omega arith))
+    let rows : new.now.trees 0 ≡ (Int (pos version) ∷ cast Integer Null ∷ []) ∷ [] =
+    ap (λ (d : Database). d.trees 0) now ∙ ap (λ (t : Trees). t 0) trees ∙ step.rows ∙ version_row version db given.0 unversioned.1 given.1.1 in (
+      ap (λ (d : Database). d.schema) now,
+      ap (λ (d : Database). d.trees 1) now ∙ ap (λ (t : Trees). t 1) trees ∙ step.tables.1.0 (omega arith) ∙ unversioned.2,
+      ap (map shown_version) rows,
+    )
 
-inside : (old new : State) (text : List ℕ) (count : ℕ) → ExecutesInside 0 text [] old new (Ok count) → Executes text [] old new (Ok count) × IsTrue new.in_transaction
-inside old new text count h = (h.0, h.1.mode)
+inside : (old new : State) (text : List ℕ) (params : Row) (count : ℕ) → ExecutesInside 0 text params old new (Ok count) → Executes text params old new (Ok count) × IsTrue new.in_transaction
+inside old new text params count h = (h.0, h.1.mode)
 
-abbrev Ran : List ℕ → State → State → Result ℕ Error → Type 0
-Ran text old new r = HasCleanDisk new → IsTrue old.in_transaction → ExecutesInside 0 text [] old new r
+abbrev Ran : List ℕ → Row → State → State → Result ℕ Error → Type 0
+Ran text params old new r = HasCleanDisk new → IsTrue old.in_transaction → ExecutesInside 0 text params old new r
 
-pub makes_form : (old new : State) (r : Result ℕ Error) → Ran create_form old new r → OnOk r (HasCleanDisk new → Makes IsBlank IsFormed old new)
+pub makes_form : (old new : State) (r : Result ℕ Error) → Ran create_form [] old new r → OnOk r (HasCleanDisk new → Makes IsBlank IsFormed old new)
 makes_form old new (Err e) h = tt
-makes_form old new (Ok count) h = λ clean on from. let it = inside old new create_form count (h clean on) in (it.1, form_step old new count from it.0)
+makes_form old new (Ok count) h = λ clean on from. let it = inside old new create_form [] count (h clean on) in (it.1, form_step old new count from it.0)
 
-pub makes_floors : (old new : State) (r : Result ℕ Error) → Ran create_floors old new r → OnOk r (HasCleanDisk new → Makes IsFormed IsUnused old new)
+pub makes_floors : (old new : State) (r : Result ℕ Error) → Ran create_floors [] old new r → OnOk r (HasCleanDisk new → Makes IsFormed IsUnversioned old new)
 makes_floors old new (Err e) h = tt
-makes_floors old new (Ok count) h = λ clean on from. let it = inside old new create_floors count (h clean on) in (it.1, floors_step old new count from it.0)
+makes_floors old new (Ok count) h = λ clean on from. let it = inside old new create_floors [] count (h clean on) in (it.1, floors_step old new count from it.0)
 
-pub makes_name : (old new : State) (r : Result ℕ Error) → Ran name_text old new r → OnOk r (HasCleanDisk new → Makes IsUnused IsUnused old new)
-makes_name old new (Err e) h = tt
-makes_name old new (Ok count) h = λ clean on from. let it = inside old new name_text count (h clean on) in let named = name_step old new count from.0 it.0 in (it.1, (named.0, named.1 ∙ from.1))
+pub makes_name : (version : ℕ) (old new : State) (r : Result ℕ Error) → Ran name_text (version_params version) old new r → OnOk r (HasCleanDisk new → Makes IsUnversioned (IsVersioned version) old new)
+makes_name version old new (Err e) h = tt
+makes_name version old new (Ok count) h = λ clean on from. let it = inside old new name_text (version_params version) count (h clean on) in (it.1, name_step version old new count from it.0)

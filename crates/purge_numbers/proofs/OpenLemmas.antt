@@ -1,12 +1,9 @@
 -- A file that was read is ready.
-use Rattle.std.proofs.Common.{◌≡◌, ◌≢◌, ◌<◌, ◌⊎◌, length, pos, inl, inr, subst, arith, List, [], ◌∷◌, map, false, IsTrue, Ok, Err, Result, IfOk, OnOk, sym, ap, ◌∙◌}
+use Rattle.std.proofs.Common.{◌≡◌, ◌≢◌, ◌<◌, length, pos, inl, inr, subst, arith, List, [], ◌∷◌, map, false, IsTrue, Ok, Err, Result, IfOk, OnOk, sym, ap, ◌∙◌}
 use Rattle.std.specs.List.{AllByRecursion}
 use Rattle.std.specs.List.Sorted.{IsPermutation}
-use Rattle.std.specs.FinMap.{empty, from_entries}
-use Rattle.std.specs.Ordering.{nat_cmp}
-use Rattle.std.specs.Cmp.Lexicographic.{slice_cmp}
+use Rattle.std.specs.FinMap.{empty}
 use Rattle.sqlite.specs.declared.types.Value.TheVariants.{Int}
-use Rattle.sqlite_trees.specs.Tree.{Trees}
 use Rattle.sqlite_value.specs.Order.{Row}
 use Rattle.sqlite.specs.Effect.{Database}
 use Rattle.sqlite.specs.State.{State, HasCleanDisk, IsUnchanged, Survives}
@@ -15,8 +12,8 @@ use Rattle.std.proofs.lemmas.List.Sorted.{IsPermutation-sym, length_permutation}
 use Rattle.std.proofs.lemmas.List.{length-map}
 use Rattle.purge_numbers.specs.declared.fault.FloorFault.{FloorFault}
 use Rattle.purge_numbers.specs.Floors.{FloorMap}
-use Rattle.purge_numbers.specs.Tables.{empty_schema, node_schema, floor_entry, floors_in}
-use Rattle.purge_numbers.specs.Making.{IsBlank, IsNodeFile, IsUnused, LeavesNoOther, OpensWith}
+use Rattle.purge_numbers.specs.Tables.{node_schema, floors_in}
+use Rattle.purge_numbers.specs.Making.{IsNodeFile, LeavesNoOther}
 use Rattle.purge_numbers.specs.Rows.{Adds, IsFloor, shown_row, shown_version, HasVersionOne}
 use Rattle.purge_numbers.specs.Store.{AreIn, committed_floors}
 use Rattle.purge_numbers.proofs.AddLemmas.{reads_floors, floor_rows, shown_add}
@@ -67,25 +64,8 @@ pub too_many : (old : State) (rows : List Row) → IsPermutation (map shown_row 
 too_many old rows shown many file =
     omega (arith, many, file.few, length_permutation (map shown_row (old.now.trees 1)) rows shown, length-map (old.now.trees 1) shown_row)
 
--- the empty tree has no floors
-none_left : (old new : State) → IsBlank old.now → (HasCleanDisk new → (db : Trees) → new.may_leave db → old.may_leave db ⊎ (old.now.schema ≡ empty_schema → db 1 ≡ [])) → LeavesNoOther old new
-none_left old new blank crash clean left may = elim (crash clean may.0 may.1) [
-  | inl before ↦ inl (may.0, before, may.2)
-  | inr made ↦ inr (blank, may.2 ∙ ap (λ rows. from_entries {R = slice_cmp nat_cmp} (map floor_entry rows)) (made blank))
-]
-
-pub made_crash : (old new : State) → IsBlank old.now → Survives old new (λ trees. old.now.schema ≡ empty_schema → trees 1 ≡ []) → LeavesNoOther old new
-made_crash old new blank survives = none_left old new blank survives.crash
-
 pub kept_crash : (old mid new : State) → LeavesNoOther old mid → Survives mid new (λ _. ⊥) → LeavesNoOther old new
 kept_crash old mid new first second clean left may = elim (second.crash clean may.0 may.1) [
   | inl before ↦ first (omega (arith, second.clean)) left (may.0, before, may.2)
   | inr none ↦ absurd none
 ]
-
-pub opens : (old mid new : State) → ((IsBlank old.now × (HasCleanDisk mid → IsUnused mid.committed)) ⊎ (mid ≡ old)) → Survives mid new (λ _. ⊥) → HasCleanDisk new
-    → mid.now.schema ≡ node_schema → HasVersionOne (mid.now.trees 0) → AllByRecursion IsFloor (mid.now.trees 1) → committed_floors new ≡ committed_floors mid → OpensWith old (committed_floors new)
-opens old mid new (inl made) survives clean has version rows same =
-    inl (made.0, same ∙ ap (λ rows. from_entries {R = slice_cmp nat_cmp} (map floor_entry rows)) (made.1 (omega (arith, survives.clean))).1)
-opens old mid new (inr is) survives clean has version rows same =
-    inr (ap (λ (s : State). s.now.schema) (sym is) ∙ has, subst (λ (s : State). HasVersionOne (s.now.trees 0)) is version, subst (λ (s : State). AllByRecursion IsFloor (s.now.trees 1)) is rows, same ∙ ap committed_floors is)

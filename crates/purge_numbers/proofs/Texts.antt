@@ -118,10 +118,10 @@ unfolding understood everything
 version_plain = (refl, refl)
 
 abbrev pub name_text : List ℕ
-name_text = codes "INSERT INTO form (version) VALUES (1)"
+name_text = codes "INSERT INTO form (version) VALUES (?1)"
 
 abbrev pub name_command : Command
-name_command = Insert 0 (Values (lit (Int (pos 1)) ∷ lit Null ∷ []) 2)
+name_command = Insert 0 (Values (col 0 0 ∷ lit Null ∷ []) 2)
 
 pub name_is : command_of (understood node_schema name_text) ≡ name_command
 unfolding understood everything

@@ -1,11 +1,11 @@
 -- How a file gets its tables.
-use Rattle.std.specs.Prelude.{◌≡◌, ◌≤◌, ◌⊎◌, [], false, length, IsTrue}
+use Rattle.std.specs.Prelude.{◌≡◌, ◌≤◌, ◌⊎◌, ℕ, [], false, length, IsTrue}
 use Rattle.std.specs.FinMap.{empty}
 use Rattle.std.specs.List.{AllByRecursion}
 use Rattle.sqlite.specs.Effect.{Database}
 use Rattle.sqlite.specs.State.{State, HasCleanDisk}
 use Rattle.purge_numbers.specs.Floors.{FloorMap}
-use Rattle.purge_numbers.specs.Rows.{HasVersionOne, IsFloor}
+use Rattle.purge_numbers.specs.Rows.{HasVersion, HasVersionOne, IsFloor}
 use Rattle.purge_numbers.specs.Store.{MayFind, committed_floors}
 use Rattle.purge_numbers.specs.Tables.{empty_schema, form_schema, node_schema, IsFloorTable}
 
@@ -13,13 +13,27 @@ use Rattle.purge_numbers.specs.Tables.{empty_schema, form_schema, node_schema, I
 abbrev pub IsBlank : Database → Type 0
 IsBlank db = db.schema ≡ empty_schema
 
--- it has the table of versions
+-- it has the table of versions, without a row
 abbrev pub IsFormed : Database → Type 0
-IsFormed db = db.schema ≡ form_schema
+IsFormed db = (db.schema ≡ form_schema) × (db.trees 0 ≡ [])
 
--- it has the tables of a node, and no floor
+-- it has the tables of a node, without a row
+abbrev pub IsUnversioned : Database → Type 0
+IsUnversioned db = (db.schema ≡ node_schema) × (db.trees 0 ≡ []) × (db.trees 1 ≡ [])
+
+-- it has the tables of a node, this one version, and no floor
+abbrev pub IsVersioned : ℕ → Database → Type 0
+IsVersioned version db = (db.schema ≡ node_schema) × (db.trees 1 ≡ []) × HasVersion version (db.trees 0)
+
+-- it has the tables of a node, the one version 1, and no floor
 abbrev pub IsUnused : Database → Type 0
-IsUnused db = (db.schema ≡ node_schema) × (db.trees 1 ≡ [])
+IsUnused db = IsVersioned 1 db
+
+-- such a file, with all of it committed and no transaction open
+pub record IsMade (file : State) : Type 0 where
+  pub autocommit : file.in_transaction ≡ false
+  pub committed : file.committed ≡ file.now
+  pub unused : IsUnused file.now
 
 -- a step of a transaction from such a database to such a one
 abbrev pub Makes : (Database → Type 0) → (Database → Type 0) → State → State → Type 0

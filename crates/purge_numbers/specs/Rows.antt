@@ -1,5 +1,5 @@
 -- The rows of a node's file, and what reading them gives.
-use Rattle.std.specs.Prelude.{◌≡◌, ◌≤◌, ◌<◌, ◌^◌, ◌⊎◌, ℤ, pos, Result, IfErr, List, [], ◌∷◌, map, None}
+use Rattle.std.specs.Prelude.{◌≡◌, ◌≤◌, ◌<◌, ◌^◌, ◌⊎◌, ℕ, ℤ, pos, Result, IfErr, List, [], ◌∷◌, map, None}
 use Rattle.std.specs.FinMap.{get, insert}
 use Rattle.sqlite.specs.declared.types.Value.TheVariants.{Int, Text as Words}
 use Rattle.sqlite_value.specs.Order.{Row, column}
@@ -41,6 +41,10 @@ shown_row row = rowid row ∷ column row 1 ∷ column row 2 ∷ []
 abbrev pub shown_version : Row → Row
 shown_version row = rowid row ∷ []
 
+-- this one version stands there
+abbrev pub HasVersion : ℕ → List Row → Type 0
+HasVersion version rows = map shown_version rows ≡ (Int (pos version) ∷ []) ∷ []
+
 -- the one version that stands there is 1
 abbrev pub HasVersionOne : List Row → Type 0
-HasVersionOne rows = map shown_version rows ≡ (Int (pos 1) ∷ []) ∷ []
+HasVersionOne rows = HasVersion 1 rows

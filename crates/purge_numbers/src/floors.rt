@@ -1,6 +1,6 @@
 ghost use Rattle.std.specs.Prelude.{◌≡◌, ◌≤◌, false, is_some, None, IsTrue, IfOk, OnOk, OnErr};
 ghost use Rattle.std.specs.FinMap.{empty, get, insert, len};
-ghost use Rattle.purge_numbers.specs.Floors.{HasRoom, floor, seen};
+ghost use Rattle.purge_numbers.specs.Floors.{HasRoom, floor, raised, seen};
 
 use std::alloc::{AllocError, Global};
 use std::collections::BTreeMap;
@@ -75,7 +75,7 @@ impl Floors {
     }
 
     /// Whether the key may have a number: it has one, or there is room for one more.
-    pub(crate) fn has_room(&self, key: &Key) -> bool
+    pub fn has_room(&self, key: &Key) -> bool
         ensures yes { IsTrue result → HasRoom self.now key.now }
         ensures no { result ≡ false → (65536 ≤ len self.now) × (get self.now key.now ≡ None) }
     {
@@ -83,13 +83,26 @@ impl Floors {
     }
 
     /// The same floors once more.
-    pub(crate) fn copy(&self) -> Result<Floors, AllocError>
+    pub fn copy(&self) -> Result<Floors, AllocError>
         ensures { IfOk result (λ floors. floors ≡ self.now) }
     {
         Ok(Floors {
             rows: self.rows.clone()?,
             seen: self.seen,
         })
+    }
+
+    /// Gives the key the greater of its number and this one, which is at least 1. Where there is no memory for it, nothing
+    /// changes. Whether there is room for one more row is the caller's to ask (`has_room`).
+    pub fn raise(&mut self, alloc: Global, key: &Key, number: u32) -> Result<(), AllocError>
+        requires { 1 ≤ number }
+        ensures ok { OnOk result (self.new ≡ raised self.old key.now number) }
+        ensures err { OnErr result (self.new ≡ self.old) }
+    {
+        if number <= self.floor(key) {
+            return Ok(());
+        }
+        self.set(alloc, key, number)
     }
 
     /// Gives the key this number, which is no less than its own.

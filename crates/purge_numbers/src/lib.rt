@@ -1,7 +1,7 @@
 //! Purge numbers of URLs, by their keys: in memory, and in a file that outlives a restart.
 //!
-//! No wrong body that `rt plant` tries is proved. Four functions get none from it, `SqliteFloors::open`, `into_connection`, the `from` of
-//! `FloorFault` and `MemoryFloors::load`; all but `from` have a must-fail edit.
+//! No wrong body of a public function that `rt plant` tries is proved. Four of them get none from it, `SqliteFloors::open`,
+//! `into_connection`, the `from` of `FloorFault` and `MemoryFloors::load`; all but `from` have a must-fail edit.
 #![tactic(auto)]
 
 mod durable;

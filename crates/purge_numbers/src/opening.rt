@@ -4,7 +4,7 @@ ghost use Rattle.std.specs.List.{AllByRecursion};
 ghost use Rattle.sqlite.specs.State.{HasCleanDisk, Survives, IsUnchanged};
 ghost use Rattle.sqlite.specs.Held.{state};
 ghost use Rattle.sqlite.specs.declared.types.Value.TheVariants.{Int};
-ghost use Rattle.purge_numbers.specs.Making.{IsBlank, IsFormed, IsNodeFile, IsUnused, LeavesNoOther, Makes, OpensWith};
+ghost use Rattle.purge_numbers.specs.Making.{IsBlank, IsFormed, IsMade, IsNodeFile, IsUnversioned, IsUnused, IsVersioned, LeavesNoOther, Makes, OpensWith};
 ghost use Rattle.purge_numbers.specs.Rows.{HasVersionOne, IsFloor, shown_row, shown_version};
 ghost use Rattle.purge_numbers.specs.Store.{AreIn, committed_floors};
 ghost use Rattle.purge_numbers.specs.Tables.{node_schema, empty_schema};
@@ -13,6 +13,7 @@ use crate::fault::{FloorFault, fault_of};
 use crate::floors::{Floors, MOST_ROWS};
 use crate::rows::floors_of;
 use crate::tables::is_node_schema;
+use sqlite::types::ToSql;
 use sqlite::{Alter, Connection, Error, Row, Transaction};
 use sqlite_schema::schema::Schema;
 use sqlite_value::value::ValueRef;
@@ -104,7 +105,7 @@ fn create_form<S: Alter>(tx: &mut Transaction<'_, S>) -> Result<usize, Error>
 
 fn create_floors<S: Alter>(tx: &mut Transaction<'_, S>) -> Result<usize, Error>
     ensures same_reference { tx.new.conn.ghost_name ≡ tx.old.conn.ghost_name }
-    ensures made { OnOk result (HasCleanDisk (state S.Store tx.new.conn.now) → Makes IsFormed IsUnused (state S.Store tx.old.conn.now) (state S.Store tx.new.conn.now)) }
+    ensures made { OnOk result (HasCleanDisk (state S.Store tx.new.conn.now) → Makes IsFormed IsUnversioned (state S.Store tx.old.conn.now) (state S.Store tx.new.conn.now)) }
     ensures survives { Survives (state S.Store tx.old.conn.now) (state S.Store tx.new.conn.now) (λ _. ⊥) }
 {
     tx.execute(
@@ -113,12 +114,16 @@ fn create_floors<S: Alter>(tx: &mut Transaction<'_, S>) -> Result<usize, Error>
     )
 }
 
-fn name_version<S: Alter>(tx: &mut Transaction<'_, S>) -> Result<usize, Error>
+/// Writes the one row of the table of versions.
+fn name_version<S: Alter>(tx: &mut Transaction<'_, S>, version: u32) -> Result<usize, Error>
     ensures same_reference { tx.new.conn.ghost_name ≡ tx.old.conn.ghost_name }
-    ensures made { OnOk result (HasCleanDisk (state S.Store tx.new.conn.now) → Makes IsUnused IsUnused (state S.Store tx.old.conn.now) (state S.Store tx.new.conn.now)) }
+    ensures made { OnOk result (HasCleanDisk (state S.Store tx.new.conn.now) → Makes IsUnversioned (IsVersioned version) (state S.Store tx.old.conn.now) (state S.Store tx.new.conn.now)) }
     ensures survives { Survives (state S.Store tx.old.conn.now) (state S.Store tx.new.conn.now) (λ _. ⊥) }
 {
-    tx.execute("INSERT INTO form (version) VALUES (1)", &[])
+    tx.execute(
+        "INSERT INTO form (version) VALUES (?1)",
+        &[version.to_sql()],
+    )
 }
 
 /// Makes the tables of a node, with the version and no floor.
@@ -129,13 +134,13 @@ fn fill<S: Alter>(tx: &mut Transaction<'_, S>) -> Result<(), Error>
 {
     create_form(tx)?;
     create_floors(tx)?;
-    name_version(tx)?;
+    name_version(tx, 1)?;
     Ok(())
 }
 
 /// Makes the tables, in one transaction.
 fn make_tables<S: Alter>(conn: &mut Connection<S>) -> Result<(), Error>
-    ensures made { OnOk result (HasCleanDisk (state S.Store conn.new) → IsBlank (state S.Store conn.old).now → IsUnused (state S.Store conn.new).committed) }
+    ensures made { OnOk result (HasCleanDisk (state S.Store conn.new) → IsBlank (state S.Store conn.old).now → IsMade (state S.Store conn.new)) }
     ensures survives { Survives (state S.Store conn.old) (state S.Store conn.new) (λ trees. (state S.Store conn.old).now.schema ≡ empty_schema → trees 1 ≡ []) }
 {
     if !conn.is_autocommit() {
@@ -148,14 +153,15 @@ fn make_tables<S: Alter>(conn: &mut Connection<S>) -> Result<(), Error>
 
 /// There is no table, no index and no view.
 fn is_blank(schema: &Schema) -> bool
-    ensures { IsTrue result → schema.now ≡ empty_schema }
+    ensures yes { IsTrue result → schema.now ≡ empty_schema }
+    ensures no { result ≡ false → schema.now ≢ empty_schema }
 {
     schema.tables.is_empty() && schema.indexes.is_empty() && schema.views.is_empty()
 }
 
 /// Makes the tables in a file that has none.
 fn make_where_blank<S: Alter>(conn: &mut Connection<S>) -> Result<(), FloorFault>
-    ensures done { OnOk result ((IsBlank (state S.Store conn.old).now × (HasCleanDisk (state S.Store conn.new) → IsUnused (state S.Store conn.new).committed)) ⊎ (conn.new ≡ conn.old)) }
+    ensures done { OnOk result ((IsBlank (state S.Store conn.old).now × (HasCleanDisk (state S.Store conn.new) → IsMade (state S.Store conn.new))) ⊎ ((¬ IsBlank (state S.Store conn.old).now) × (conn.new ≡ conn.old))) }
     ensures named { result ≢ Err FloorFault.BadTable }
     ensures crash { LeavesNoOther (state S.Store conn.old) (state S.Store conn.new) }
 {
@@ -193,6 +199,7 @@ pub(crate) fn open_file<S: Alter>(
     ensures kept { IfOk result (λ floors. HasCleanDisk (state S.Store conn.new) → AreIn (state S.Store conn.new) floors) }
     ensures found { OnOk result (HasCleanDisk (state S.Store conn.new) → OpensWith (state S.Store conn.old) (committed_floors (state S.Store conn.new))) }
     ensures bad { result ≡ Err FloorFault.BadTable → HasCleanDisk (state S.Store conn.new) → ¬ IsNodeFile (state S.Store conn.old) }
+    ensures blank { IsBlank (state S.Store conn.old).now → (state S.Store conn.old).in_transaction ≡ false → HasCleanDisk (state S.Store conn.new) → result ≢ Err FloorFault.BadTable }
     ensures crash { LeavesNoOther (state S.Store conn.old) (state S.Store conn.new) }
 {
     conn.set_step_limit(None);

@@ -74,6 +74,24 @@ fn an_empty_store_has_seen_nothing(rt: HostRuntime) -> Result<(), Fail> {
 }
 
 #[test]
+fn floors_by_themselves(rt: HostRuntime) -> Result<(), Fail> {
+    let (a, b) = (
+        Key::read(rt.alloc(), b"http://a/")?,
+        Key::read(rt.alloc(), b"http://b/")?,
+    );
+    let mut floors = Floors::new(rt.alloc());
+    floors.raise(rt.alloc(), &a, 7)?;
+    let copy = floors.copy()?;
+    floors.raise(rt.alloc(), &a, 3)?;
+    floors.raise(rt.alloc(), &b, 5)?;
+    floors.raise(rt.alloc(), &a, 9)?;
+    assert!(rt; floors.floor(&a) == 9 && floors.floor(&b) == 5 && floors.seen() == 9);
+    assert!(rt; floors.rows() == 2 && floors.has_room(&a));
+    assert!(rt; copy.floor(&a) == 7 && copy.floor(&b) == 0 && copy.rows() == 1);
+    Ok(())
+}
+
+#[test]
 fn opened_again_a_file_has_its_floors(rt: HostRuntime) -> Result<(), Fail> {
     let alloc = rt.alloc();
     let mut store = in_memory(alloc)?;

@@ -3,8 +3,8 @@ use Rattle.std.specs.Prelude.{ℕ, ◌-◌, Bool, ◌&&◌, ◌==◌, nat_le, mi
 use Rattle.std.specs.List.{list_all, before_first, after_first, flat_map}
 use Rattle.std.specs.Char.{is_ascii_digit, to_ascii_lowercase}
 use Rattle.std.specs.Str.Parse.{digits_value}
-use Rattle.peer_fetch.specs.Field.{FieldText}
-use Rattle.peer_fetch.specs.Answer.{AnswerText}
+use Rattle.fetch_messages.specs.Field.{FieldText}
+use Rattle.fetch_messages.specs.Answer.{AnswerText}
 use Rattle.reuse_rules.specs.declared.directive.Directive.{Directive}
 use Rattle.list_values.specs.Members.{members, double_quote}
 use Rattle.list_values.specs.Blanks.{trim}

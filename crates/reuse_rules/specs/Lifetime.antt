@@ -1,7 +1,7 @@
 -- For how long an answer may be served again, if it is stored at all (RFC 9111, sections 3, 4.2.1 and 5.2.2).
 use Rattle.std.specs.Prelude.{ℕ, Bool, not, ◌||◌, ◌==◌, bytes_eq, List, [], ◌∷◌, codes, find, Option, Some, None, option_map, if◌then◌else◌}
 use Rattle.std.specs.List.{list_any}
-use Rattle.peer_fetch.specs.Answer.{AnswerText}
+use Rattle.fetch_messages.specs.Answer.{AnswerText}
 use Rattle.reuse_rules.specs.Directives.{DirectiveText, directives, is_called, seconds}
 
 -- the statuses whose answers are stored (of those of RFC 9110, section 15.1, that say all of their resource)

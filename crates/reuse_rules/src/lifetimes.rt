@@ -4,7 +4,7 @@ ghost use Rattle.reuse_rules.specs.Directives.{directives, directive_text, is_ca
 ghost use Rattle.reuse_rules.specs.Lifetime as spec;
 
 use crate::directive::{Directive, directives_of};
-use peer_fetch::{Answer, Field};
+use fetch_messages::{Answer, Field};
 
 /// For how many seconds an answer is fresh from the moment when it was asked for, less the age that it came with
 /// (RFC 9111, sections 3, 4.2.1 and 5.2.2); `None`: it is not stored.

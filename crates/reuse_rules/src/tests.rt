@@ -1,6 +1,6 @@
 use crate::{is_fresh, lifetime};
+use fetch_messages::{Answer, Body, Field, Fields};
 use http_header::{HeaderName, HeaderValue};
-use peer_fetch::{Answer, Body, Field, Fields};
 use std::test::Fail;
 
 fn answer_of(rt: &HostRuntime, status: u16, lines: &[(&str, &str)]) -> Result<Answer, Fail> {

@@ -1,4 +1,4 @@
-use Rattle.std.proofs.Common.{◌≡◌, ap, sym, ◌∙◌, arith}
+use Rattle.std.proofs.Common.{ap, sym, ◌∙◌, arith}
 use Rattle.object_store.specs.Listed.{octets}
 use Rattle.object_store.proofs.Places.{none_out, octets_out}
 use Rattle.object_store.proofs.list.drop_copy.Goals as goal

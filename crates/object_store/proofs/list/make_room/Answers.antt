@@ -1,7 +1,5 @@
 use Rattle.std.proofs.Common.{◌≡◌, List, ◌<◌, ◌++◌, ◌∷◌, [], ◌⊎◌, inl, inr, length, sym, ap, ◌∙◌, arith}
-use Rattle.std.proofs.lemmas.Grind.{common_steps}
 use Rattle.object_store.specs.Listed.{fitting}
-use Rattle.object_store.specs.Copy.{size}
 use Rattle.object_store.specs.Listed.{octets}
 use Rattle.object_store.proofs.Places.{last_over, all_fit, octets_push}
 use Rattle.object_store.proofs.list.make_room.Goals.{then-len-count, else-len-count+then-left-bytes}

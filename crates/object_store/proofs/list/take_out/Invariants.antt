@@ -1,4 +1,4 @@
-use Rattle.std.proofs.Common.{◌≡◌, ◌++◌, drop, take, vec_len, vec_capacity}
+use Rattle.std.proofs.Common.{◌≡◌, ◌++◌, drop, take}
 use Rattle.object_store.specs.Listed.{copy_of, without}
 use Rattle.object_store.proofs.list.take_out.Given as goal
 

@@ -1,7 +1,7 @@
 use Rattle.std.proofs.Common.{◌+◌, subst}
 use Rattle.text_writer.specs.Writing.{AppendsUpTo}
 use Rattle.text_writer.proofs.Laws.{up_to_piece, up_to_fault}
-use Rattle.peer_fetch.specs.Field.{field_text}
+use Rattle.fetch_messages.specs.Field.{field_text}
 use Rattle.peer_writing.specs.Answer.{kept_line}
 use Rattle.peer_writing.proofs.Fields.{lines_from, lines_from-next}
 use Rattle.peer_writing.proofs.answer.write_fields.Goals as goal

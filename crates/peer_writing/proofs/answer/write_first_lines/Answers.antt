@@ -1,6 +1,6 @@
 use Rattle.std.proofs.Common.{◌++◌}
 use Rattle.std.specs.Prelude.{map}
-use Rattle.peer_fetch.specs.Field.{field_text}
+use Rattle.fetch_messages.specs.Field.{field_text}
 use Rattle.peer_writing.specs.Answer.{status_line, kept_lines}
 use Rattle.text_writer.proofs.Laws.{writes_then}
 use Rattle.peer_writing.proofs.Stops.{stops}

@@ -1,6 +1,6 @@
-use Rattle.std.proofs.Common.{◌≡◌, ap, ◌∙◌, arith, not, nat_lt}
+use Rattle.std.proofs.Common.{ap, ◌∙◌, arith, not, nat_lt}
 use Rattle.object_store.specs.Copy.{size}
-use Rattle.object_store.specs.Listed.{octets, without_all_below}
+use Rattle.object_store.specs.Listed.{octets}
 use Rattle.object_store.proofs.Stores.{sum_filter, store_filtered}
 use Rattle.object_store.proofs.store.Store.clear_all_below.Goals as goal
 

@@ -1,5 +1,4 @@
 use Rattle.std.proofs.Common.{arith}
-use Rattle.object_store.specs.Copy.{size}
 use Rattle.object_store.proofs.Places.{counted_out, none_out, octets_out}
 use Rattle.object_store.proofs.store.Store.remove.Goals as goal
 

@@ -1,5 +1,5 @@
 use Rattle.std.proofs.Common.{◌≡◌, Err, refl, ap, subst}
-use Rattle.peer_fetch.specs.declared.fault.FetchFault.TheVariants.{HeadTooLong}
+use Rattle.fetch_messages.specs.declared.fault.FetchFault.TheVariants.{HeadTooLong}
 use Rattle.httparse.specs.Grammar.{HasNoResponse}
 use Rattle.peer_intake.specs.Heads.{IsLongResponse}
 use Rattle.peer_intake.proofs.ReadingLemmas.{whole_window}

@@ -1,5 +1,5 @@
 use Rattle.std.proofs.Common.{◌≡◌, Err, ap, subst}
-use Rattle.peer_fetch.specs.declared.fault.FetchFault.TheVariants.{HeadTooLong}
+use Rattle.fetch_messages.specs.declared.fault.FetchFault.TheVariants.{HeadTooLong}
 use Rattle.peer_intake.specs.Heads.{IsLongResponse}
 use Rattle.peer_intake.proofs.ReadingLemmas.{takes_then}
 use Rattle.peer_intake.proofs.intake.Intake.read_response_head.Goals as goal

@@ -1,5 +1,5 @@
 use Rattle.std.proofs.Common.{◌≡◌, ◌+◌, ◌≤◌, ◌<◌, length, drop, Err, sym, ap, ◌∙◌, arith, refl}
-use Rattle.peer_fetch.specs.declared.fault.FetchFault.TheVariants.{BodyTooLong, TooManyTurns}
+use Rattle.fetch_messages.specs.declared.fault.FetchFault.TheVariants.{BodyTooLong, TooManyTurns}
 use Rattle.peer_intake.proofs.BodyLemmas.{reads_to_end, stops_before_end, not_long}
 use Rattle.peer_intake.proofs.ReadingLemmas.{takes_then}
 use Rattle.peer_intake.proofs.intake.Intake.read_to_end.Goals as goal

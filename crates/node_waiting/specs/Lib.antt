@@ -1,0 +1,4 @@
+pub mod CanGoOn
+pub mod InOrder
+pub mod Changed
+pub mod Found

@@ -1,0 +1,81 @@
+//! Laws of asks that wait. Each function does nothing: its clauses are the law.
+ghost use Rattle.std.specs.Prelude.{◌≡◌, ◌≤◌, ◌<◌, ◌+◌, ◌++◌, [], ◌∷◌, ℕ, All, Bool, true, List, length, Option, Some, None};
+ghost use Rattle.fetch_messages.specs.declared.ask.Ask.{Ask};
+ghost use Rattle.roster_tables.specs.declared.plain.Peer.{Peer};
+ghost use Rattle.peer_chooser.specs.declared.said.Said.{Said};
+ghost use Rattle.peer_chooser.specs.declared.said.Source.TheVariants as source;
+ghost use Rattle.peer_chooser.specs.Round.{RoundText, started, answered, ended};
+ghost use Rattle.peer_chooser.specs.Choice.{choice};
+ghost use Rattle.node_rules.specs.declared.state.Fetch.TheVariants.{AtPeer, AtOrigin};
+ghost use Rattle.node_rules.specs.declared.state.Pending.{Pending};
+ghost use Rattle.node_rules.specs.declared.state.NodeState.{NodeState};
+ghost use Rattle.node_rules.specs.State.{is_idle, with_pending, changing, ending};
+ghost use Rattle.node_rules.specs.Asks.{new_ask};
+ghost use Rattle.node_rules.specs.Fetching.{fetching};
+ghost use Rattle.node_rules.specs.Arrivals.{not_fetching, with_round};
+ghost use Rattle.node_waiting.specs.CanGoOn.{CanGoOn};
+ghost use Rattle.node_waiting.specs.Changed.{changed, ended as without_block};
+
+use peer_chooser::choices_follow_answers;
+
+/// An ask that can go on has begun 26 fetches at most.
+pub fn fetches_are_few<T>()
+    ensures { (p : Pending T) → CanGoOn p → p.fetches ≤ 26 }
+{}
+
+/// A new ask can go on, without a round and with one that begins.
+pub fn new_asks_can_go_on<T>()
+    ensures alone { (block : ℕ) (asker : Option ℕ) (ask : Ask) →
+        let p : Pending T = new_ask block asker ask None in CanGoOn p }
+    ensures with_round { (block : ℕ) (asker : Option ℕ) (ask : Ask) (peers : List Peer) (floor : ℕ) →
+        let p : Pending T = new_ask block asker ask (Some (started peers floor)) in CanGoOn p }
+{}
+
+/// An ask that goes to the peer that its round chose, or to the origin for the first, second or third time, can go on.
+pub fn fetching_asks_can_go_on<T>()
+    ensures peer { (p : Pending T) (r : RoundText) (floor peer now : ℕ) (cached : Bool) →
+        CanGoOn p → p.round ≡ Some r → is_idle p.fetch ≡ true → choice r floor p.tried ≡ source.Peer peer cached →
+        CanGoOn (fetching p p.reads (AtPeer peer now)) }
+    ensures origin { (p : Pending T) (stamp now : ℕ) (mark : T) →
+        CanGoOn p → is_idle p.fetch ≡ true → p.reads < 3 →
+        CanGoOn (fetching p (p.reads + 1) (AtOrigin stamp now mark)) }
+{
+    choices_follow_answers();
+}
+
+/// An ask whose fetch has ended can go on: at a peer, which is tried now, or at the origin.
+pub fn asks_can_go_on_after_a_fetch<T>()
+    ensures peer { (p : Pending T) (peer asked : ℕ) →
+        CanGoOn p → p.fetch ≡ AtPeer peer asked → CanGoOn (not_fetching p (p.tried ++ peer ∷ [])) }
+    ensures origin { (p : Pending T) (stamp asked : ℕ) (mark : T) →
+        CanGoOn p → p.fetch ≡ AtOrigin stamp asked mark → CanGoOn (not_fetching p p.tried) }
+{}
+
+/// An ask can go on after an answer to its round, of which there are 23 at most, and after its round's end.
+pub fn asks_can_go_on_with_their_rounds<T>()
+    ensures answered { (p : Pending T) (r : RoundText) (id : ℕ) (said : Said) →
+        CanGoOn p → p.round ≡ Some r → length (answered r id said).told ≤ 23 → CanGoOn (with_round p (answered r id said)) }
+    ensures ended { (p : Pending T) (r : RoundText) →
+        CanGoOn p → p.round ≡ Some r → CanGoOn (with_round p (ended r)) }
+{}
+
+/// What becomes of the asks is what a node's rules say of its state.
+pub fn changes_are_by_the_rules<T>()
+    ensures changed { (s : NodeState T) (p : Pending T) → changing s p ≡ with_pending s (changed p s.pending) }
+    ensures ended { (s : NodeState T) (block : ℕ) → ending s block ≡ with_pending s (without_block block s.pending) }
+{}
+
+/// Of two changes of one ask the later one counts.
+pub fn later_changes_count<T>()
+    ensures { (asks : List (Pending T)) (p : Pending T) (q : Pending T) → q.block ≡ p.block → changed q (changed p asks) ≡ changed q asks }
+{}
+
+/// Blocks that are below a bound stay so as an ask is added, changes or ends.
+pub fn blocks_stay_below<T>()
+    ensures added { (asks : List (Pending T)) (p : Pending T) (bound : ℕ) →
+        All (λ q. q.block < bound) asks → p.block < bound → All (λ q. q.block < bound) (asks ++ p ∷ []) }
+    ensures changed { (asks : List (Pending T)) (p : Pending T) (bound : ℕ) →
+        All (λ q. q.block < bound) asks → p.block < bound → All (λ q. q.block < bound) (changed p asks) }
+    ensures ended { (asks : List (Pending T)) (block : ℕ) (bound : ℕ) →
+        All (λ q. q.block < bound) asks → All (λ q. q.block < bound) (without_block block asks) }
+{}

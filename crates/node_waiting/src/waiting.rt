@@ -1,0 +1,171 @@
+ghost use Rattle.std.specs.Prelude.{◌≡◌, ◌<◌, ◌==◌, ◌&&◌, Bool, All, length, [], ◌∷◌, ◌++◌, find, slice_get, Some, MatchOption, IfSome, IfErr, OnOk, OnErr};
+ghost use Rattle.std.specs.Option.{option_and_then};
+ghost use Rattle.node_rules.specs.declared.state.Pending.{Pending};
+ghost use Rattle.node_rules.specs.State.{round_serial, fetch_serial};
+
+use crate::Progress;
+use node_rules::Pending;
+use std::alloc::{AllocError, Global};
+use std::marker::Model;
+use std::mem::replace;
+
+/// The asks that wait at a node, in the order of their blocks.
+///
+/// A contract sees the list of them. Their blocks ascend, from 1 to 134,217,727, and each ask can go on.
+#[derive(Drop)]
+pub struct Waiting<T> {
+    asks: Vec<Pending<T>>,
+}
+
+impl<T> Model for Waiting<T> {
+    ghost use Rattle.std.specs.Prelude.{List};
+    ghost use Rattle.node_rules.specs.declared.state.Pending.{Pending};
+    ghost use Rattle.node_waiting.specs.InOrder.{AreInOrder};
+
+    ghost Value = { List (Pending T) };
+
+    ghost view = { λ w. w.asks.items };
+
+    ghost invariant = { λ w. AreInOrder w.asks.items };
+}
+
+impl<T> Waiting<T> {
+    ghost use Rattle.node_waiting.specs.CanGoOn.{CanGoOn};
+    ghost use Rattle.node_waiting.specs.InOrder.{IsBlock, AreInOrder};
+    ghost use Rattle.node_waiting.specs.Changed.{progress_of, with_progress, changed, ended};
+    ghost use Rattle.node_waiting.specs.Found.{IsPlaceOf, IsAbsent, if_passes};
+
+    /// No ask waits. It takes no memory.
+    pub fn new(alloc: Global) -> Waiting<T>
+        ensures { result ≡ [] }
+    {
+        Waiting {
+            asks: Vec::new(alloc),
+        }
+    }
+
+    /// How many asks wait.
+    pub fn len(&self) -> usize
+        ensures count { result ≡ length self.now }
+        ensures in_order { AreInOrder self.now }
+    {
+        self.asks.len()
+    }
+
+    /// Whether no ask waits.
+    pub fn is_empty(&self) -> bool
+        ensures { result ≡ (length self.now == 0) }
+    {
+        self.asks.is_empty()
+    }
+
+    /// The place of the ask whose round has this serial, if there is one. It takes no memory.
+    pub fn of_round(&self, serial: u32) -> Option<usize>
+        ensures found { option_and_then (slice_get self.now) result ≡ find (λ p. round_serial p == serial) self.now }
+        ensures found_where { (test : Pending T → Bool) →
+            if_passes test (option_and_then (slice_get self.now) result) ≡ find (λ p. (round_serial p == serial) && test p) self.now }
+        ensures place { IfSome result (λ place. place < length self.now) }
+    {
+        let place = self.of_block(serial / 32)?;
+        if serial % 32 == 0 { Some(place) } else { None }
+    }
+
+    /// The place of the ask whose last fetch has this serial, if there is one; an ask that has begun none has its round's. It takes
+    /// no memory.
+    pub fn of_fetch(&self, serial: u32) -> Option<usize>
+        ensures found { option_and_then (slice_get self.now) result ≡ find (λ p. fetch_serial p == serial) self.now }
+        ensures found_where { (test : Pending T → Bool) →
+            if_passes test (option_and_then (slice_get self.now) result) ≡ find (λ p. (fetch_serial p == serial) && test p) self.now }
+        ensures place { IfSome result (λ place. place < length self.now) }
+    {
+        let (block, fetches) = (serial / 32, serial % 32);
+        let place = self.of_block(block)?;
+        if u32::from(self.asks[place].fetches) == fetches {
+            Some(place)
+        } else {
+            None
+        }
+    }
+
+    /// The place of the ask of this block, if there is one.
+    fn of_block(&self, block: u32) -> Option<usize>
+        ensures in_order { AreInOrder self.now }
+        ensures place { MatchOption result (IsAbsent self.now block) (IsPlaceOf self.now block) }
+    {
+        match self.asks.binary_search_by_key(&block, |ask| ask.block) {
+            Ok(place) => Some(place),
+            Err(_) => None,
+        }
+    }
+
+    /// The ask at a place, which is below `len`.
+    pub fn ask(&self, place: usize) -> &Pending<T>
+        requires { place < length self.now }
+        ensures value { slice_get self.now place ≡ Some result.now }
+        ensures block { IsBlock result.now.block }
+        ensures can_go_on { CanGoOn result.now }
+    {
+        &self.asks[place]
+    }
+
+    /// Adds an ask behind the others. Its block is greater than theirs and at most 134,217,727, and it can go on. Where there is
+    /// no memory for it, it comes back, and nothing changes.
+    pub fn add(&mut self, ask: Pending<T>) -> Result<(), (Pending<T>, AllocError)>
+        requires block { IsBlock ask.block }
+        requires above { All (λ q. q.block < ask.block) self.old }
+        requires can_go_on { CanGoOn ask }
+        ensures ok { OnOk result (self.new ≡ self.old ++ ask ∷ []) }
+        ensures err { OnErr result (self.new ≡ self.old) }
+        ensures returned { IfErr result (λ refused. refused.0 ≡ ask) }
+    {
+        if let Err(error) = self.asks.reserve(1) {
+            return Err((ask, error));
+        }
+        self.asks.push_reserved(ask);
+        Ok(())
+    }
+
+    /// The ask at a place, which is below `len`, becomes as far as this, and can go on. It stays in its place. How far it was
+    /// comes back. It takes no memory.
+    pub fn replace(&mut self, place: usize, progress: Progress<T>) -> Progress<T>
+        requires place { place < length self.old }
+        requires can_go_on { IfSome (slice_get self.old place) (λ p. CanGoOn (with_progress p progress)) }
+        ensures before { IfSome (slice_get self.old place) (λ p. result ≡ progress_of p) }
+        ensures changed { IfSome (slice_get self.old place) (λ p. self.new ≡ changed (with_progress p progress) self.old) }
+        ensures there { IfSome (slice_get self.old place) (λ p. slice_get self.new place ≡ Some (with_progress p progress)) }
+    {
+        let ask = &mut self.asks[place];
+        Progress {
+            round: replace(&mut ask.round, progress.round),
+            tried: replace(&mut ask.tried, progress.tried),
+            fetches: replace(&mut ask.fetches, progress.fetches),
+            reads: replace(&mut ask.reads, progress.reads),
+            fetch: replace(&mut ask.fetch, progress.fetch),
+        }
+    }
+
+    /// Takes out the ask at a place, which is below `len`. Those behind it move up by one.
+    pub fn end(&mut self, place: usize) -> Pending<T>
+        requires { place < length self.old }
+        ensures value { slice_get self.old place ≡ Some result }
+        ensures rest { self.new ≡ ended result.block self.old }
+    {
+        self.asks.remove(place)
+    }
+}
+
+impl<T: Drop> Waiting<T> {
+    ghost use Rattle.node_waiting.specs.CanGoOn.{CanGoOn};
+    ghost use Rattle.node_waiting.specs.Changed.{with_progress, changed};
+
+    /// The ask at a place, which is below `len`, becomes as far as this, and can go on. It stays in its place. It takes no
+    /// memory.
+    pub fn change(&mut self, place: usize, progress: Progress<T>)
+        requires place { place < length self.old }
+        requires can_go_on { IfSome (slice_get self.old place) (λ p. CanGoOn (with_progress p progress)) }
+        ensures changed { IfSome (slice_get self.old place) (λ p. self.new ≡ changed (with_progress p progress) self.old) }
+        ensures there { IfSome (slice_get self.old place) (λ p. slice_get self.new place ≡ Some (with_progress p progress)) }
+    {
+        let _ = self.replace(place, progress);
+    }
+}

@@ -1,0 +1,4 @@
+pub mod AskHead
+pub mod Asks
+pub mod AnswerHead
+pub mod Answers
