@@ -177,3 +177,27 @@ fn cut_texts_are_refused(rt: HostRuntime) -> Result<(), Fail> {
     }
     Ok(())
 }
+
+/// The text of an answer with a field of so many octets and a body of 65,536: it has 65,581 octets and those of the field's value.
+fn long_answer(rt: &HostRuntime, octets: usize) -> Result<Vec<u8>, Fail> {
+    let mut text = b"HTTP/1.1 200 \r\na: ".to_vec(rt.alloc())?;
+    text.extend_from_slice(&vec![in rt.alloc(); b'x'; octets]?)?;
+    text.extend_from_slice(b"\r\ncontent-length: 65536\r\n\r\n")?;
+    text.extend_from_slice(&vec![in rt.alloc(); b'y'; 65_536]?)?;
+    Ok(text)
+}
+
+/// One octet a call, 70,000 calls read a text of 70,000 octets, and no longer one.
+#[test]
+fn as_many_calls_as_may_be_made(rt: HostRuntime) -> Result<(), Fail> {
+    for (octets, expected) in [(4_419, None), (4_420, Some(FetchFault::TooManyTurns))] {
+        let text = long_answer(&rt, octets)?;
+        let mut reader = Pieces {
+            rest: text.as_slice(),
+            length: 1,
+        };
+        let read = read_answer(rt.alloc(), &mut reader);
+        assert!(rt; read.err() == expected, "{octets}");
+    }
+    Ok(())
+}

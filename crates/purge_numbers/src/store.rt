@@ -35,6 +35,7 @@ pub trait FloorStore {
     fn load(&mut self, alloc: Global) -> Result<Floors, FloorFault>
         ensures floors { IfOk result (λ floors. is_honest self.new → floors ≡ content self.old) }
         ensures same { OnOk result (self.new ≡ self.old) }
+        ensures usable { OnOk result (IsTrue (is_usable self.new)) }
         ensures kept { content self.new ≡ content self.old }
         ensures fault { result ≡ Err FloorFault.StoreFault → HaveRisen (failed self.old) (failed self.new) };
 

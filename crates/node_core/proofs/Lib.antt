@@ -1,0 +1,10 @@
+pub mod Outcomes
+pub mod NumberLines
+pub mod GoingOn
+pub mod Arrive
+pub mod Asking
+pub mod Hearing
+pub mod HearingQuestions
+pub mod HearingRounds
+pub mod SameWords
+pub mod Copying

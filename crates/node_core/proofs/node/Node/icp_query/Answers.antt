@@ -1,0 +1,22 @@
+use Rattle.std.proofs.Common.{option_map}
+use Rattle.roster_tables.specs.declared.plain.Udp.TheVariants as udp
+use Rattle.node_rules.specs.Known.{is_known}
+use Rattle.node_core.specs.View.{setting_of}
+use Rattle.node_core.proofs.HearingQuestions.{no_query, no_object, answers_query}
+use Rattle.node_core.proofs.node.Node.icp_query.Goals as goal
+
+pub icp_answer-answer-requires-clause-query : goal.icp_answer-answer-requires-clause-query
+icp_answer-answer-requires-clause-query g c =
+    let v = c.args.self.now in
+    no_query (is_known v.roster v.id udp.Icp c.args.from) v.state c.args.now (option_map (λ k. k.now) c.as_ref.result) _ c.query_answer-op.ensures
+
+pub icp_answer-answer-requires-clause-object : goal.icp_answer-answer-requires-clause-object
+icp_answer-answer-requires-clause-object g c =
+    let v = c.args.self.now in
+    no_object (is_known v.roster v.id udp.Icp c.args.from) v.state c.args.now (option_map (λ k. k.now) c.as_ref.result) _ c.query_answer-op.ensures
+
+pub returns : goal.returns
+returns g c = λ key_of gives.
+    let v = c.args.self.now in
+    answers_query (setting_of v key_of) v.state c.args.from c.args.message c.args.now (option_map (λ k. k.now) c.as_ref.result) _ _ _ _ _
+    gives c.in_ok-key.ensures c.as_slice.ensures.value c.as_ref.ensures.value c.query_answer-op.ensures c.icp_answer-answer.ensures c.in_ok-sends.ensures

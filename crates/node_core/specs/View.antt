@@ -1,0 +1,56 @@
+-- A node as contracts see it, and what holds of every node.
+use Rattle.std.specs.Prelude.{◌≡◌, ℕ, ◌<◌, ◌≤◌, All, IsTrue, Bool, true, false, List, [], Option, Some, None, Result, Ok, Err}
+use Rattle.url_key.specs.declared.fault.KeyFault.{KeyFault}
+use Rattle.url_key.specs.Key.{HasKey}
+use Rattle.key_texts.specs.KeyOf.{key_in}
+use Rattle.object_store.specs.Held.{Held}
+use Rattle.purge_numbers.specs.Floors.{FloorMap}
+use Rattle.roster_tables.specs.declared.plain.Limits.{Limits}
+use Rattle.roster_tables.specs.declared.plain.Tables.{Tables}
+use Rattle.roster.specs.Lookups.{is_member}
+use Rattle.node_rules.specs.declared.state.Pending.{Pending}
+use Rattle.node_rules.specs.declared.state.NodeState.{NodeState}
+use Rattle.node_rules.specs.State.{Setting}
+
+-- the roster, the node's id in it, its state, and the store of its floors
+pub record NodeText (X S : Type 0) : Type 0 where
+  pub roster : Tables
+  pub id : ℕ
+  pub state : NodeState X
+  pub store : S
+
+-- what stays the same through all steps, with this way to read a text as a key
+abbrev pub setting_of : {X S : Type 0} → NodeText X S → (List ℕ → Option (List ℕ)) → Setting
+setting_of v key_of = record { roster = v.roster; id = v.id; key_of = key_of }
+
+-- the store has the roster's limits
+abbrev pub HasLimits : {X : Type 0} → Held X → Limits → Type 0
+HasLimits held limits = (held.limit_count ≡ limits.copies) × (held.limit_bytes ≡ limits.bytes)
+
+-- the id is a member's; the store has the roster's limits; a block is taken once; a closed node has no ask pending
+pub record IsNode {X : Type 0} (roster : Tables) (id : ℕ) (held : Held X) (pending : List (Pending X)) (next : ℕ) (closed : Bool) : Type 0 where
+  pub member : is_member roster id ≡ true
+  pub limits : HasLimits held roster.limits
+  pub first : 1 ≤ next
+  pub last : next ≤ 134217728
+  pub taken : All (λ p. p.block < next) pending
+  pub none_waits : closed ≡ true → pending ≡ []
+
+-- while the node is open, no call of its store has failed, and its floors are those that an honest store has committed
+abbrev pub IsTied : Bool → FloorMap → Bool → Type 0 → FloorMap → Type 0
+IsTied closed floors usable honest stored = closed ≡ false → IsTrue usable × (honest → stored ≡ floors)
+
+-- roster, id and the store of floors stay
+pub record IsSameNode {X S : Type 0} (before after : NodeText X S) : Type 0 where
+  pub roster : after.roster ≡ before.roster
+  pub id : after.id ≡ before.id
+  pub store : after.store ≡ before.store
+
+-- the key that the text has, if it has one
+abbrev pub HasKeyOf : List ℕ → Option (List ℕ) → Type 0
+HasKeyOf text key = (outcome : Result (List ℕ) KeyFault) × HasKey text outcome × (key ≡ key_in outcome)
+
+-- roster and id stay
+pub record IsSameMember {X S : Type 0} (before after : NodeText X S) : Type 0 where
+  pub roster : after.roster ≡ before.roster
+  pub id : after.id ≡ before.id

@@ -1,0 +1,242 @@
+//! A client's or a member's ask comes.
+ghost use Rattle.std.specs.Prelude.{◌≡◌, ◌≤◌, ℕ, List, [], Option, None, Some, IfOk, OnOk, OnErr, false};
+ghost use Rattle.roster.specs.Lookups.{is_member};
+ghost use Rattle.object_store.specs.Listed.{to_front};
+ghost use Rattle.node_rules.specs.State as state;
+ghost use Rattle.node_rules.specs.Asks as asks;
+ghost use Rattle.node_rules.specs.Fetching.{read_origin as read_origin_rule};
+ghost use Rattle.node_waiting.specs.CanGoOn.{CanGoOn};
+ghost use Rattle.node_core.specs.View.{IsSameNode, setting_of};
+ghost use Rattle.node_core.specs.Leads.{Leads};
+
+use crate::Node;
+use crate::copies::served_age;
+use crate::going_on::{origin_ask, serial_of};
+use crate::replies::{begins, serves};
+use fetch_messages::Ask;
+use node_messages::{has_origin, queries};
+use node_rules::{Begin, Fetch, Pending, Reply, Served, StepFault};
+use object_store::WebCopy;
+use peer_chooser::Round;
+use purge_numbers::FloorStore;
+use roster::{Listed, Roster};
+use std::alloc::AllocError;
+use url_key::Key;
+
+/// The most asks that wait.
+const MOST_ASKS: usize = 1_024;
+
+/// The last block of serials.
+const LAST_BLOCK: u32 = 134_217_727;
+
+/// Whether the asker's entry names this node a sibling.
+fn is_siblings_ask(roster: &Roster, id: u8, asker: Option<u8>) -> bool
+    ensures { (key_of : List ℕ → Option (List ℕ)) → result ≡ asks.is_siblings_ask (record {
+      roster = roster.now;
+      id = id;
+      key_of = key_of;
+    }) asker }
+{
+    match asker {
+        Some(asker) => roster.names_sibling(asker, id),
+        None => false,
+    }
+}
+
+impl<T: Copy + Drop, S: FloorStore> Node<T, S> {
+    /// An ask comes. A held copy is served; else a cached-only ask gets 504 (RFC 9111, section 5.2.1.7); else `Busy`; else a read or a round begins.
+    pub(crate) fn ask(
+        &mut self,
+        asker: Option<u8>,
+        ask: Ask,
+        now: u64,
+        mark: T,
+    ) -> Result<Reply<T>, StepFault>
+        requires { self.old.state.closed ≡ false }
+        ensures same { IsSameNode self.old self.new }
+        ensures leads { (key_of : List ℕ → Option (List ℕ)) → Leads (asks.ask_comes (setting_of self.old key_of) self.old.state asker ask now mark) self.old.state result self.new.state }
+    {
+        match self.copy_to_serve(&ask, now)? {
+            Some(copy) => Ok(self.serve_held(asker, &ask.key, copy, now)),
+            None => self.not_held(asker, ask, now, mark),
+        }
+    }
+
+    /// Serves a copy that is held, which becomes the most recent.
+    fn serve_held(&mut self, asker: Option<u8>, key: &Key, copy: WebCopy<T>, now: u64) -> Reply<T>
+        ensures same { IsSameNode self.old self.new }
+        ensures state { self.new.state ≡ state.with_copies self.old.state (to_front key.now self.old.state.copies) }
+        ensures reply { result ≡ state.serving None asker (Served.Copy copy (state.served_age copy now)) }
+    {
+        self.copies.refresh(key);
+        let age = served_age(&copy, now);
+        serves(self.alloc, None, asker, Served::Copy { copy, age })
+    }
+
+    /// An ask comes for which no copy may be served.
+    fn not_held(
+        &mut self,
+        asker: Option<u8>,
+        ask: Ask,
+        now: u64,
+        mark: T,
+    ) -> Result<Reply<T>, StepFault>
+        requires { self.old.state.closed ≡ false }
+        ensures same { IsSameNode self.old self.new }
+        ensures leads { (key_of : List ℕ → Option (List ℕ)) → Leads (asks.not_held (setting_of self.old key_of) self.old.state asker ask now mark) self.old.state result self.new.state }
+    {
+        if self.is_cached_only(asker, &ask) {
+            return Ok(serves(self.alloc, None, asker, Served::Status(504)));
+        }
+        if self.is_busy() {
+            return Err(StepFault::Busy);
+        }
+        self.begin_ask(asker, ask, now, mark)
+    }
+
+    /// Whether an ask may be answered from the store alone: it says so (RFC 9111, section 5.2.1.7), or its asker's entry names this node a
+    /// sibling.
+    fn is_cached_only(&self, asker: Option<u8>, ask: &Ask) -> bool
+        ensures { (key_of : List ℕ → Option (List ℕ)) → result ≡ asks.is_cached_only (setting_of self.now key_of) asker ask.now }
+    {
+        ask.only_if_cached || is_siblings_ask(&self.roster, self.id, asker)
+    }
+
+    /// Whether no new ask can wait: as many as may wait do, or no block of serials is left.
+    fn is_busy(&self) -> bool
+        ensures { result ≡ asks.is_busy self.now.state }
+    {
+        self.pending.len() >= MOST_ASKS || self.next > LAST_BLOCK
+    }
+
+    /// A new ask begins a read or a round.
+    fn begin_ask(
+        &mut self,
+        asker: Option<u8>,
+        ask: Ask,
+        now: u64,
+        mark: T,
+    ) -> Result<Reply<T>, StepFault>
+        requires open { self.old.state.closed ≡ false }
+        requires block { self.old.state.next ≤ 134217727 }
+        ensures same { IsSameNode self.old self.new }
+        ensures leads { (key_of : List ℕ → Option (List ℕ)) → Leads (asks.begin_ask (setting_of self.old key_of) self.old.state asker ask now mark) self.old.state result self.new.state }
+    {
+        if ask.no_cache {
+            return self.begin_with_read(asker, ask, now, mark);
+        }
+        let round = Round::start(&self.roster, self.id, self.floors.floor(&ask.key));
+        if round.asked().is_empty() {
+            self.begin_with_read(asker, ask, now, mark)
+        } else {
+            self.begin_with_round(asker, ask, round)
+        }
+    }
+
+    /// A new ask reads the origin, if the roster has it.
+    fn begin_with_read(
+        &mut self,
+        asker: Option<u8>,
+        ask: Ask,
+        now: u64,
+        mark: T,
+    ) -> Result<Reply<T>, StepFault>
+        requires open { self.old.state.closed ≡ false }
+        requires block { self.old.state.next ≤ 134217727 }
+        ensures same { IsSameNode self.old self.new }
+        ensures leads { (key_of : List ℕ → Option (List ℕ)) →
+            Leads (read_origin_rule (setting_of self.old key_of) (state.adding (asks.takes_block self.old.state) (asks.new_ask self.old.state.next asker ask None)) (asks.new_ask self.old.state.next asker ask None) None now mark) self.old.state result self.new.state }
+    {
+        if !has_origin(&self.roster, &ask.key) {
+            self.next += 1;
+            return Ok(serves(self.alloc, None, asker, Served::Status(502)));
+        }
+        let asked = origin_ask(self.alloc, &ask)?;
+        let serial = serial_of(self.next, 1);
+        let fetch = Fetch::AtOrigin {
+            stamp: self.floors.seen(),
+            asked: now,
+            mark,
+        };
+        self.wait(asker, ask, None, 1, 1, fetch)?;
+        Ok(begins(self.alloc, Begin::Read { serial, ask: asked }))
+    }
+
+    /// A new ask begins a round of questions, in the roster's order.
+    fn begin_with_round(
+        &mut self,
+        asker: Option<u8>,
+        ask: Ask,
+        round: Round,
+    ) -> Result<Reply<T>, StepFault>
+        requires open { self.old.state.closed ≡ false }
+        requires block { self.old.state.next ≤ 134217727 }
+        requires told { round.told ≡ [] }
+        ensures same { IsSameNode self.old self.new }
+        ensures leads { (key_of : List ℕ → Option (List ℕ)) →
+            Leads (asks.begin_round (setting_of self.old key_of) (asks.takes_block self.old.state) asker ask self.old.state.next round) self.old.state result self.new.state }
+    {
+        let serial = serial_of(self.next, 0);
+        let send = queries(self.alloc, &self.roster, serial, &ask.key, round.asked())?;
+        self.wait(asker, ask, Some(round), 0, 0, Fetch::Nowhere)?;
+        Ok(Reply {
+            serve: None,
+            send,
+            begin: Some(Begin::Round { serial }),
+        })
+    }
+
+    /// A new ask waits, in the next block.
+    fn wait(
+        &mut self,
+        asker: Option<u8>,
+        ask: Ask,
+        round: Option<Round>,
+        fetches: u8,
+        reads: u8,
+        fetch: Fetch<T>,
+    ) -> Result<(), AllocError>
+        requires open { self.old.state.closed ≡ false }
+        requires block { self.old.state.next ≤ 134217727 }
+        requires can_go_on { CanGoOn (record {
+          block = self.old.state.next;
+          asker = asker;
+          ask = ask;
+          round = round;
+          tried = [];
+          fetches = fetches;
+          reads = reads;
+          fetch = fetch;
+        }) }
+        ensures same { IsSameNode self.old self.new }
+        ensures ok { OnOk result (self.new.state ≡ state.adding (asks.takes_block self.old.state) (record {
+          block = self.old.state.next;
+          asker = asker;
+          ask = ask;
+          round = round;
+          tried = [];
+          fetches = fetches;
+          reads = reads;
+          fetch = fetch;
+        })) }
+        ensures err { OnErr result (self.new.state ≡ self.old.state) }
+    {
+        let pending = Pending {
+            block: self.next,
+            asker,
+            ask,
+            round,
+            tried: Listed::new(Vec::new(self.alloc)),
+            fetches,
+            reads,
+            fetch,
+        };
+        match self.pending.add(pending) {
+            Ok(()) => {
+                self.next += 1;
+                Ok(())
+            }
+            Err((_, error)) => Err(error),
+        }
+    }
+}

@@ -1,0 +1,117 @@
+//! How a node begins and ends.
+ghost use Rattle.std.specs.Prelude.{◌≡◌, ◌≢◌, ◌==◌, true, false, find, option_map, IfOk, Ok, Err};
+ghost use Rattle.roster.specs.Lookups.{is_member as is_member_of};
+ghost use Rattle.node_rules.specs.State.{opened};
+ghost use Rattle.node_core.specs.Names.{open_fault_name};
+
+use crate::Node;
+use node_waiting::Waiting;
+use object_store::Store;
+use purge_numbers::{FloorFault, FloorStore};
+use roster::{Member, Roster};
+use std::alloc::{AllocError, Global};
+use thiserror::Error;
+
+/// Why a node was not opened.
+#[derive(Clone, Copy, Debug, PartialEq, Eq, Error)]
+pub enum OpenFault {
+    /// The roster has no member of this id.
+    #[error("no member has this id")]
+    NoSuchNode,
+    /// The store of floors failed, or holds no floors.
+    #[error("the floors were not read")]
+    Floors(FloorFault),
+    /// A growth was refused.
+    #[error("there was no memory")]
+    NoMemory,
+}
+
+impl From<AllocError> for OpenFault {
+    ghost use Rattle.std.specs.Prelude.{◌≡◌};
+    ghost use Rattle.node_core.specs.declared.opening.OpenFault.TheVariants.{NoMemory};
+
+    ghost from_gives = { λ _ fault. fault ≡ NoMemory };
+
+    fn from(_: AllocError) -> OpenFault {
+        OpenFault::NoMemory
+    }
+}
+
+impl OpenFault {
+    /// The name that scripts print: that of the floors' fault, where they failed.
+    pub const fn name(self) -> &'static str
+        ensures { result.now ≡ open_fault_name self }
+    {
+        match self {
+            OpenFault::NoSuchNode => "NoSuchNode",
+            OpenFault::Floors(fault) => fault.name(),
+            OpenFault::NoMemory => "NoMemory",
+        }
+    }
+}
+
+/// The member of this id.
+fn member_of(members: &[Member], id: u8) -> Option<&Member>
+    ensures { option_map (λ m. m.now) result ≡ find (λ m. m.cache.id == id) members.now }
+{
+    members.iter().find(|member| member.cache.id == id)
+}
+
+/// Whether a member has this id.
+fn has_member(roster: &Roster, id: u8) -> bool
+    ensures { result ≡ is_member_of roster.now id }
+{
+    match member_of(roster.members(), id) {
+        Some(_) => true,
+        None => false,
+    }
+}
+
+impl<T, S: FloorStore + Drop> Node<T, S> {
+    /// The node of a member, with the floors that its store has, and with nothing else: no copy, no ask, and block 1 to come.
+    ///
+    /// Faults: `NoSuchNode` where the roster has no member of this id, `Floors` where the store does not load, `NoMemory`. The store is gone then, and is to be
+    /// opened again.
+    pub fn open(
+        alloc: Global,
+        roster: Roster,
+        id: u8,
+        mut store: S,
+    ) -> Result<Node<T, S>, OpenFault>
+        ensures member { IfOk result (λ node. (node.roster ≡ roster) × (node.id ≡ id)) }
+        ensures no_such { is_member_of roster id ≡ false → result ≡ Err OpenFault.NoSuchNode }
+        ensures such { is_member_of roster id ≡ true → result ≢ Err OpenFault.NoSuchNode }
+        ensures state { IfOk result (λ node. S.is_honest node.store → node.state ≡ opened (S.content store)) }
+        ensures store { IfOk result (λ node. node.store ≡ store) }
+    {
+        if !has_member(&roster, id) {
+            return Err(OpenFault::NoSuchNode);
+        }
+        let floors = match store.load(alloc) {
+            Ok(floors) => floors,
+            Err(fault) => return Err(OpenFault::Floors(fault)),
+        };
+        let limits = roster.limits();
+        let copies = Store::new(alloc, limits.copies as usize, limits.bytes)?;
+        Ok(Node {
+            alloc,
+            roster,
+            id,
+            store,
+            floors,
+            copies,
+            pending: Waiting::new(alloc),
+            next: 1,
+            closed: false,
+        })
+    }
+}
+
+impl<T: Drop, S: FloorStore> Node<T, S> {
+    /// The store of floors, also that of a closed node. It takes no memory.
+    pub fn into_floors(self) -> S
+        ensures { result ≡ self.store }
+    {
+        self.store
+    }
+}

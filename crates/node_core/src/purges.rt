@@ -1,0 +1,193 @@
+//! Purges: an HTCP CLR comes (RFC 2756, "CLR").
+ghost use Rattle.std.specs.Prelude.{◌≡◌, ◌≤◌, ℕ, List, Option, Some, None, option_map, IfOk, false, Err};
+ghost use Rattle.node_rules.specs.State as state;
+ghost use Rattle.node_rules.specs.Datagrams as datagrams;
+ghost use Rattle.roster.specs.Lookups.{is_master as is_master_at};
+ghost use Rattle.object_store.specs.Listed.{copy_of};
+ghost use Rattle.object_store.specs.Held.{is_older_than};
+ghost use Rattle.node_rules.specs.declared.state.NodeState.{NodeState};
+ghost use Rattle.key_texts.specs.KeyOf.{GivesKeys};
+ghost use Rattle.node_core.specs.View.{IsSameNode, IsSameMember, setting_of};
+ghost use Rattle.purge_numbers.specs.Store.{HaveRisen};
+ghost use Rattle.node_core.specs.Closing.{step_fault_of as answer_to_fault, purge_meant, KeepsStore, FailsWithCause};
+ghost use Rattle.node_core.specs.Leads.{Leads, MayClose};
+
+use crate::Node;
+use crate::questions::key_of_text;
+use crate::replies::sends_if;
+use htcp_wire::{HeaderKind, Specifier, number_in};
+use node_messages::{clr_answer, is_known, overall_answer};
+use node_rules::{Reply, StepFault};
+use node_waiting::Waiting;
+use purge_numbers::{FloorFault, FloorStore};
+use roster::{Address, Roster, Udp};
+use std::alloc::{AllocError, Global};
+use url_key::Key;
+
+/// The opcode of CLR.
+const CLR: u8 = 4;
+
+/// HTCP's overall response for what is not allowed here.
+const NOT_ALLOWED: u8 = 5;
+
+/// Whether an address is the master's.
+fn is_master(roster: &Roster, from: Address) -> bool
+    ensures { result ≡ is_master_at roster.now from }
+{
+    let master = roster.master();
+    from.ip == master.ip && from.port == master.port
+}
+
+/// The answer to a CLR that is not allowed.
+fn refused<T: Drop>(
+    alloc: Global,
+    from: Address,
+    trans: u32,
+    desired: bool,
+) -> Result<Reply<T>, AllocError>
+    ensures { IfOk result (λ reply. (s : NodeState T) →
+        datagrams.clr_refused s from trans desired ≡ state.replies s reply) }
+{
+    sends_if(
+        alloc,
+        desired,
+        overall_answer(from, trans, CLR, NOT_ALLOWED),
+    )
+}
+
+/// What a step answers where the store of floors answered so: of any other fault than want of memory nothing is known but that it failed.
+fn step_fault_of(fault: FloorFault) -> StepFault
+    ensures { result ≡ answer_to_fault fault }
+{
+    match fault {
+        FloorFault::NoMemory => StepFault::NoMemory,
+        FloorFault::StoreFault | FloorFault::FloorsFull | FloorFault::BadTable => {
+            StepFault::StoreFault
+        }
+    }
+}
+
+impl<T: Copy + Drop, S: FloorStore> Node<T, S> {
+    /// A CLR comes.
+    #[tactic(auto, unfolding(node_rules::specs::Datagrams::htcp_clr, node_rules::specs::Datagrams::clr_by_line), using(crate::proofs::Outcomes::without_fault, crate::proofs::Outcomes::without_fault_by))]
+    pub(crate) fn htcp_clr(
+        &mut self,
+        from: Address,
+        trans: u32,
+        desired: bool,
+        spec: &Specifier,
+    ) -> Result<Reply<T>, StepFault>
+        requires { self.old.state.closed ≡ false }
+        ensures same { IsSameMember self.old self.new }
+        ensures store { KeepsStore (S.is_honest self.new.store) (S.may_find self.new.store) self.old self.new result }
+        ensures cause { FailsWithCause (S.is_honest self.new.store) (HaveRisen (S.failed self.old.store) (S.failed self.new.store)) result }
+        ensures leads { (key_of : List ℕ → Option (List ℕ)) → GivesKeys key_of →
+            MayClose (datagrams.htcp_clr (setting_of self.old key_of) self.old.state from trans desired spec.now) self.old.state (purge_meant (setting_of self.old key_of) from trans spec.now) result self.new.state }
+    {
+        let key = key_of_text(self.alloc, spec.uri.as_slice())?;
+        match number_in(spec.request_headers.as_slice(), HeaderKind::PurgeNumber) {
+            Ok(None) => self.plain_clr(from, trans, desired, key.as_ref()),
+            Ok(Some(number)) => self.numbered_clr(from, trans, desired, key.as_ref(), number),
+            Err(_) => Ok(refused(self.alloc, from, trans, desired)?),
+        }
+    }
+
+    /// A CLR without a number comes: the copy goes whatever its stamp, and floors stay.
+    #[tactic(auto, unfolding(node_rules::specs::Datagrams::plain_clr))]
+    fn plain_clr(
+        &mut self,
+        from: Address,
+        trans: u32,
+        desired: bool,
+        key: Option<&Key>,
+    ) -> Result<Reply<T>, StepFault>
+        ensures same { IsSameNode self.old self.new }
+        ensures leads { (key_of : List ℕ → Option (List ℕ)) →
+            Leads (datagrams.plain_clr (setting_of self.old key_of) self.old.state from trans desired (option_map (λ k. k.now) key.entry)) self.old.state result self.new.state }
+    {
+        if !is_known(&self.roster, self.id, Udp::Htcp, from) && !is_master(&self.roster, from) {
+            return Ok(refused(self.alloc, from, trans, desired)?);
+        }
+        let held = match key {
+            Some(key) => self.copies.peek(key).is_some(),
+            None => false,
+        };
+        let reply = sends_if(self.alloc, desired, clr_answer(from, trans, held))?;
+        if let Some(key) = key {
+            self.copies.remove(key);
+        }
+        Ok(reply)
+    }
+
+    /// A CLR with a number comes: a good one is the master's, for a key, and its number is its TRANS-ID and at least 1.
+    #[tactic(auto, unfolding(node_rules::specs::Datagrams::numbered_clr))]
+    fn numbered_clr(
+        &mut self,
+        from: Address,
+        trans: u32,
+        desired: bool,
+        key: Option<&Key>,
+        number: u32,
+    ) -> Result<Reply<T>, StepFault>
+        requires { self.old.state.closed ≡ false }
+        ensures same { IsSameMember self.old self.new }
+        ensures store { KeepsStore (S.is_honest self.new.store) (S.may_find self.new.store) self.old self.new result }
+        ensures cause { FailsWithCause (S.is_honest self.new.store) (HaveRisen (S.failed self.old.store) (S.failed self.new.store)) result }
+        ensures leads { (key_of : List ℕ → Option (List ℕ)) →
+            let purge = datagrams.purge_of (setting_of self.old key_of) from trans (option_map (λ k. k.now) key.entry) number in
+            MayClose (datagrams.numbered_clr self.old.state from trans desired purge) self.old.state purge result self.new.state }
+    {
+        match key {
+            Some(key) if is_master(&self.roster, from) && number == trans && number >= 1 => {
+                self.purge(from, trans, desired, key, number)
+            }
+            _ => Ok(refused(self.alloc, from, trans, desired)?),
+        }
+    }
+
+    /// Whether the key's copy is of a lesser stamp.
+    fn holds_below(&self, key: &Key, number: u32) -> bool
+        ensures { result ≡ is_older_than number (copy_of key.now self.now.state.copies) }
+    {
+        match self.copies.peek(key) {
+            Some(copy) => copy.stamp < number,
+            None => false,
+        }
+    }
+
+    /// The key is purged: its floor is raised and committed before the copy goes and the answer is given.
+    #[tactic(auto, unfolding(node_rules::specs::Datagrams::purge))]
+    fn purge(
+        &mut self,
+        from: Address,
+        trans: u32,
+        desired: bool,
+        key: &Key,
+        number: u32,
+    ) -> Result<Reply<T>, StepFault>
+        requires open { self.old.state.closed ≡ false }
+        requires number { 1 ≤ number }
+        ensures same { IsSameMember self.old self.new }
+        ensures store { KeepsStore (S.is_honest self.new.store) (S.may_find self.new.store) self.old self.new result }
+        ensures cause { FailsWithCause (S.is_honest self.new.store) (HaveRisen (S.failed self.old.store) (S.failed self.new.store)) result }
+        ensures leads { MayClose (datagrams.purge self.old.state from trans desired key.now number) self.old.state (Some (key.now, number)) result self.new.state }
+    {
+        if !self.floors.has_room(key) {
+            return Ok(refused(self.alloc, from, trans, desired)?);
+        }
+        let dropped = self.holds_below(key, number);
+        let reply = sends_if(self.alloc, desired, clr_answer(from, trans, dropped))?;
+        self.floors.raise(self.alloc, key, number)?;
+        match self.store.raise(self.alloc, key, number) {
+            Ok(()) => {
+                self.copies.clear_below(key, number);
+                Ok(reply)
+            }
+            Err(fault) => {
+                self.closed = true;
+                self.pending = Waiting::new(self.alloc);
+                Err(step_fault_of(fault))
+            }
+        }
+    }
+}

@@ -1,0 +1,261 @@
+//! Questions of other caches, and their answers to a round.
+ghost use Rattle.std.specs.Prelude.{◌≡◌, ◌<◌, ℕ, List, Option, Some, None, length, option_map, IfOk, IfSome, slice_get, false};
+ghost use Rattle.node_rules.specs.State as state;
+ghost use Rattle.node_rules.specs.Datagrams as datagrams;
+ghost use Rattle.node_rules.specs.Texts.{IsSendable};
+ghost use Rattle.node_rules.specs.Messages as messages;
+ghost use Rattle.icp_wire.specs.declared.message.IcpOp.TheVariants as ops;
+ghost use Rattle.roster_tables.specs.declared.plain.Peer.{Peer as PeerText};
+ghost use Rattle.peer_chooser.specs.declared.said.Said.{Said as SaidText};
+ghost use Rattle.roster_tables.specs.declared.plain.Udp.TheVariants as udp;
+ghost use Rattle.peer_chooser.specs.Round.{has_told as has_told_in};
+ghost use Rattle.node_rules.specs.Known.{is_known as is_known_at};
+ghost use Rattle.key_texts.specs.KeyOf.{GivesKeys};
+ghost use Rattle.node_core.specs.View.{IsSameNode, setting_of, HasKeyOf};
+ghost use Rattle.node_core.specs.Heard.{said_by};
+ghost use Rattle.node_core.specs.Leads.{Leads};
+
+use crate::Node;
+use crate::replies::{quiet, sends, sends_if};
+use htcp_wire::{HeaderKind, Specifier, number_in};
+use icp_wire::{Icp, IcpOp};
+use node_messages::{icp_answer, is_foreign, is_known, overall_answer, peer_at, tst_answer};
+use node_rules::{Reply, StepFault};
+use peer_chooser::{Round, Said};
+use purge_numbers::FloorStore;
+use roster::{Address, Peer, Udp};
+use std::alloc::{AllocError, Global};
+use url_key::{Key, KeyFault};
+
+/// What a peer said: a member's word and a foreign cache's may differ.
+#[derive(Clone, Copy)]
+pub(crate) struct Heard {
+    /// Where a member said it.
+    pub(crate) member: Said,
+    /// Where a foreign cache said it.
+    pub(crate) foreign: Said,
+}
+
+impl Heard {
+    /// The same of both.
+    pub(crate) fn of(said: Said) -> Heard
+        ensures { result ≡ record {
+          member = said;
+          foreign = said;
+        } }
+    {
+        Heard {
+            member: said,
+            foreign: said,
+        }
+    }
+
+    /// What this peer said.
+    fn by(self, peer: Peer) -> Said
+        ensures { result ≡ said_by self peer }
+    {
+        if is_foreign(peer.id) {
+            self.foreign
+        } else {
+            self.member
+        }
+    }
+}
+
+/// The key of a text, if it has one.
+pub(crate) fn key_of_text(alloc: Global, text: &[u8]) -> Result<Option<Key>, AllocError>
+    ensures { IfOk result (HasKeyOf text.now) }
+{
+    match Key::read(alloc, text) {
+        Ok(key) => Ok(Some(key)),
+        Err(KeyFault::NoMemory) => Err(AllocError),
+        Err(_) => Ok(None),
+    }
+}
+
+/// Whether a text has this key.
+fn has_key(alloc: Global, text: &[u8], key: &Key) -> Result<bool, AllocError>
+    ensures { (key_of : List ℕ → Option (List ℕ)) → GivesKeys key_of →
+        IfOk result (λ same. same ≡ datagrams.is_key (key_of text.now) key.now) }
+{
+    match key_of_text(alloc, text)? {
+        Some(read) => Ok(read == *key),
+        None => Ok(false),
+    }
+}
+
+/// What an answer to a question by ICP says: an object that comes with a hit is not used.
+fn icp_said(op: IcpOp) -> Said
+    ensures { result ≡ datagrams.icp_said op }
+{
+    match op {
+        IcpOp::Hit | IcpOp::HitObj => Said::Hit(None),
+        IcpOp::Miss => Said::Miss,
+        IcpOp::Query | IcpOp::Error | IcpOp::MissNoFetch | IcpOp::Denied => Said::NoFetch,
+    }
+}
+
+/// What a TST's answer with these CACHE-HDRS says: only a member's stamp is trusted, and a bad line tells none.
+pub(crate) fn hit_said(headers: &[u8]) -> Heard
+    ensures { (p : PeerText) → said_by result p ≡ datagrams.tst_hit_said headers.now p }
+{
+    let stamp = number_in(headers, HeaderKind::PurgeStamp).unwrap_or(None);
+    Heard {
+        member: Said::Hit(stamp),
+        foreign: Said::Hit(None),
+    }
+}
+
+/// Whether the peer of this id has answered.
+fn has_told(round: &Round, id: u8) -> bool
+    ensures { result ≡ has_told_in round.now.told id }
+{
+    round.told().iter().any(|told| told.peer.id == id)
+}
+
+impl<T: Copy + Drop, S: FloorStore> Node<T, S> {
+    /// What a QUERY is answered (RFC 2186, "ICP_OP_QUERY").
+    fn query_answer(&self, from: Address, key: Option<&Key>, now: u64) -> IcpOp
+        ensures { result ≡ datagrams.icp_answer (is_known_at self.now.roster self.now.id udp.Icp from) self.now.state now (option_map (λ k. k.now) key.entry) }
+    {
+        if !is_known(&self.roster, self.id, Udp::Icp, from) {
+            return IcpOp::Denied;
+        }
+        match key {
+            None => IcpOp::Error,
+            Some(key) => match self.good_copy(key, now) {
+                Some(_) => IcpOp::Hit,
+                None => IcpOp::Miss,
+            },
+        }
+    }
+
+    /// A QUERY comes. The answer repeats number and URL, and the store keeps its order.
+    pub(crate) fn icp_query(
+        &self,
+        from: Address,
+        message: Icp,
+        now: u64,
+    ) -> Result<Reply<T>, StepFault>
+        requires { IsSendable (messages.icp ops.Miss message.number message.url) }
+        ensures { (key_of : List ℕ → Option (List ℕ)) → GivesKeys key_of →
+            Leads (datagrams.icp_query (setting_of self.now key_of) self.now.state from message now) self.now.state result self.now.state }
+    {
+        let key = key_of_text(self.alloc, message.url.as_slice())?;
+        let op = self.query_answer(from, key.as_ref(), now);
+        let answer = icp_answer(self.alloc, from, op, message.number, message.url);
+        Ok(sends(self.alloc, answer)?)
+    }
+
+    /// The stamp of the copy that a SPECIFIER means, if it may be served: only GET has one.
+    fn stamp_meant(&self, spec: &Specifier, now: u64) -> Result<Option<u32>, AllocError>
+        ensures { (key_of : List ℕ → Option (List ℕ)) → GivesKeys key_of →
+            IfOk result (λ stamp. stamp ≡ option_map (λ c. c.stamp) (datagrams.copy_meant (setting_of self.now key_of) self.now.state spec.now now)) }
+    {
+        if spec.method.as_slice() != b"GET".as_slice() {
+            return Ok(None);
+        }
+        match key_of_text(self.alloc, spec.uri.as_slice())? {
+            None => Ok(None),
+            Some(key) => match self.good_copy(&key, now) {
+                Some(copy) => Ok(Some(copy.stamp)),
+                None => Ok(None),
+            },
+        }
+    }
+
+    /// A TST comes (RFC 2756, "TST").
+    pub(crate) fn htcp_tst(
+        &self,
+        from: Address,
+        trans: u32,
+        desired: bool,
+        spec: &Specifier,
+        now: u64,
+    ) -> Result<Reply<T>, StepFault>
+        ensures { (key_of : List ℕ → Option (List ℕ)) → GivesKeys key_of →
+            Leads (datagrams.htcp_tst (setting_of self.now key_of) self.now.state from trans desired spec.now now) self.now.state result self.now.state }
+    {
+        if !desired {
+            return Ok(quiet(self.alloc));
+        }
+        if !is_known(&self.roster, self.id, Udp::Htcp, from) {
+            return Ok(sends(self.alloc, overall_answer(from, trans, 1, 5))?);
+        }
+        let stamp = self.stamp_meant(spec, now)?;
+        Ok(sends(self.alloc, tst_answer(self.alloc, from, trans, stamp)?)?)
+    }
+
+    /// Another ICP message than a QUERY comes: it counts for a pending round of its number whose ask has its key.
+    pub(crate) fn icp_told(
+        &mut self,
+        from: Address,
+        message: &Icp,
+        now: u64,
+        mark: T,
+    ) -> Result<Reply<T>, StepFault>
+        ensures same { IsSameNode self.old self.new }
+        ensures leads { (key_of : List ℕ → Option (List ℕ)) → GivesKeys key_of →
+            Leads (datagrams.icp_told (setting_of self.old key_of) self.old.state from message.now now mark) self.old.state result self.new.state }
+    {
+        let Some(place) = self.pending.of_round(message.number) else {
+            return Ok(quiet(self.alloc));
+        };
+        let key = &self.pending.ask(place).ask.key;
+        let is_of_key = has_key(self.alloc, message.url.as_slice(), key)?;
+        if is_of_key {
+            let heard = Heard::of(icp_said(message.op));
+            self.told(place, Udp::Icp, from, heard, now, mark)
+        } else {
+            Ok(quiet(self.alloc))
+        }
+    }
+
+    /// An answer to a TST comes: it counts for a pending round whose serial is its TRANS-ID.
+    pub(crate) fn htcp_told(
+        &mut self,
+        from: Address,
+        trans: u32,
+        heard: Heard,
+        now: u64,
+        mark: T,
+    ) -> Result<Reply<T>, StepFault>
+        ensures same { IsSameNode self.old self.new }
+        ensures leads { (key_of : List ℕ → Option (List ℕ)) →
+            Leads (datagrams.htcp_told (setting_of self.old key_of) self.old.state from trans (said_by heard) now mark) self.old.state result self.new.state }
+    {
+        match self.pending.of_round(trans) {
+            Some(place) => self.told(place, Udp::Htcp, from, heard, now, mark),
+            None => Ok(quiet(self.alloc)),
+        }
+    }
+
+    /// Something is said to the round of the ask at a place: it counts where a peer of the round said it, by the protocol and from the address by
+    /// which it is asked, and for the first time.
+    fn told(
+        &mut self,
+        place: usize,
+        by: Udp,
+        from: Address,
+        heard: Heard,
+        now: u64,
+        mark: T,
+    ) -> Result<Reply<T>, StepFault>
+        requires place { place < length self.old.state.pending }
+        ensures same { IsSameNode self.old self.new }
+        ensures leads { (key_of : List ℕ → Option (List ℕ)) → IfSome (slice_get self.old.state.pending place) (λ p.
+            Leads (datagrams.told_to (setting_of self.old key_of) self.old.state by from (said_by heard) now mark (Some p)) self.old.state result self.new.state) }
+    {
+        let Some(round) = &self.pending.ask(place).round else {
+            return Ok(quiet(self.alloc));
+        };
+        match peer_at(&self.roster, by, from, round) {
+            Some(peer) if !has_told(round, peer.id) => {
+                let mut round = round.copy();
+                round.answer(peer.id, heard.by(peer));
+                self.round_moves(place, round.copy(), now, mark)
+            }
+            _ => Ok(quiet(self.alloc)),
+        }
+    }
+}

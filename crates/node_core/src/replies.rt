@@ -1,0 +1,80 @@
+//! Replies that steps make.
+ghost use Rattle.std.specs.Prelude.{◌≡◌, [], ◌∷◌, IfOk};
+ghost use Rattle.node_rules.specs.declared.state.NodeState.{NodeState};
+ghost use Rattle.node_rules.specs.State as state;
+ghost use Rattle.node_rules.specs.Datagrams as datagrams;
+
+use node_rules::{Begin, Outgoing, Reply, Serve, Served};
+use roster::Listed;
+use std::alloc::{AllocError, Global};
+
+/// A reply that serves, sends and begins nothing. It takes no memory.
+pub(crate) fn quiet<T>(alloc: Global) -> Reply<T>
+    ensures { result ≡ state.quiet }
+{
+    Reply {
+        serve: None,
+        send: Listed::new(Vec::new(alloc)),
+        begin: None,
+    }
+}
+
+/// A reply that begins something. It takes no memory.
+pub(crate) fn begins<T>(alloc: Global, begin: Begin) -> Reply<T>
+    ensures { result ≡ state.beginning begin }
+{
+    Reply {
+        serve: None,
+        send: Listed::new(Vec::new(alloc)),
+        begin: Some(begin),
+    }
+}
+
+/// A reply that serves something. It takes no memory.
+pub(crate) fn serves<T>(
+    alloc: Global,
+    waiter: Option<u32>,
+    asker: Option<u8>,
+    served: Served<T>,
+) -> Reply<T>
+    ensures { result ≡ state.serving waiter asker served }
+{
+    Reply {
+        serve: Some(Serve {
+            waiter,
+            asker,
+            served,
+        }),
+        send: Listed::new(Vec::new(alloc)),
+        begin: None,
+    }
+}
+
+/// A reply that sends one message.
+pub(crate) fn sends<T: Drop>(alloc: Global, message: Outgoing) -> Result<Reply<T>, AllocError>
+    ensures { IfOk result (λ reply. reply ≡ state.sending (message ∷ [])) }
+{
+    let mut messages = Vec::with_capacity(alloc, 1)?;
+    messages.push(message)?;
+    Ok(Reply {
+        serve: None,
+        send: Listed::new(messages),
+        begin: None,
+    })
+}
+
+/// A reply that sends one message, where a response is desired (RFC 2756, "RD").
+pub(crate) fn sends_if<T: Drop>(
+    alloc: Global,
+    desired: bool,
+    message: Outgoing,
+) -> Result<Reply<T>, AllocError>
+    ensures { IfOk result (λ reply. (s : NodeState T) →
+        datagrams.if_desired s desired message.to message.message ≡ state.replies s reply) }
+{
+    if desired {
+        sends(alloc, message)
+    } else {
+        Ok(quiet(alloc))
+    }
+}

@@ -1,0 +1,335 @@
+//! Worked runs of a node, each a table of events and of what they are answered.
+use crate::{Node, OpenFault, Placed};
+use fetch_messages::{Answer, Ask, Body, Field, Fields};
+use htcp_wire::{Content, Htcp, Specifier};
+use http_header::{HeaderName, HeaderValue};
+use icp_wire::{Icp, IcpOp};
+use node_rules::{Begin, Event, Message, Received, Reply, Served, StepFault, can_be_answered};
+use purge_numbers::MemoryFloors;
+use roster::{Address, Roster};
+use std::fmt::Write;
+use std::test::Fail;
+use url_key::Key;
+use wire_octets::Octets;
+
+/// One member, and the origin of `http://o/`.
+const ONE: &str = "default_lifetime = 60
+copies = 1000
+bytes = 1048576
+query_wait = 2000
+[master]
+address = \"127.0.0.1\"
+htcp = 4800
+[[node]]
+id = 1
+name = \"n1\"
+address = \"127.0.0.1\"
+http = 8101
+icp = 3101
+htcp = 4101
+[[origin]]
+host = \"o\"
+port = 80
+address = \"127.0.0.1\"
+connect = 8080
+";
+
+/// The same with a foreign sibling.
+const FOREIGN: &str = "default_lifetime = 60
+copies = 1000
+bytes = 1048576
+query_wait = 2000
+[master]
+address = \"127.0.0.1\"
+htcp = 4800
+[[node]]
+id = 1
+name = \"n1\"
+address = \"127.0.0.1\"
+http = 8101
+icp = 3101
+htcp = 4101
+[[node.peer]]
+id = 101
+role = \"sibling\"
+by = \"icp\"
+[[foreign]]
+id = 101
+name = \"f1\"
+address = \"127.0.0.1\"
+http = 8201
+icp = 3201
+htcp = 4201
+[[origin]]
+host = \"o\"
+port = 80
+address = \"127.0.0.1\"
+connect = 8080
+";
+
+type Tested = Node<u64, MemoryFloors>;
+
+fn node_of(rt: &HostRuntime, text: &str) -> Result<Tested, Fail> {
+    let roster = match Roster::read(rt.alloc(), text) {
+        Ok(roster) => roster,
+        Err(error) => return Err(error.fault.name().into()),
+    };
+    match Node::open(rt.alloc(), roster, 1, MemoryFloors::new(rt.alloc())) {
+        Ok(node) => Ok(node),
+        Err(fault) => Err(fault.name().into()),
+    }
+}
+
+fn at(port: u16) -> Address {
+    Address {
+        ip: 0x7f00_0001,
+        port,
+    }
+}
+
+fn key_of(rt: &HostRuntime, url: &str) -> Result<Key, Fail> {
+    Ok(Key::read(rt.alloc(), url.as_bytes())?)
+}
+
+fn client(rt: &HostRuntime, url: &str, now: u64) -> Result<Event<u64>, Fail> {
+    let ask = Ask {
+        key: key_of(rt, url)?,
+        only_if_cached: false,
+        no_cache: false,
+        member: None,
+    };
+    Ok(Event::Client { ask, now })
+}
+
+/// An answer of status 200 with a lifetime of 60 seconds.
+fn answer_of(rt: &HostRuntime, stamp: Option<u32>) -> Result<Answer, Fail> {
+    let name = HeaderName::from_bytes(rt.alloc(), b"cache-control")?;
+    let value = HeaderValue::from_bytes(rt.alloc(), b"max-age=60")?;
+    let fields = Fields::new(rt.alloc(), vec![in rt.alloc(); Field { name, value }]?)?;
+    let body = Body::from_slice(rt.alloc(), b"one")?;
+    Ok(Answer::new(200, fields, None, stamp, body).ok_or("writable")?)
+}
+
+fn origin(rt: &HostRuntime, serial: u32, url: &str, now: u64) -> Result<Event<u64>, Fail> {
+    Ok(Event::OriginAnswer {
+        serial,
+        key: key_of(rt, url)?,
+        answer: answer_of(rt, None)?,
+        now,
+    })
+}
+
+fn came(message: Message) -> Result<Received, Fail> {
+    if can_be_answered(&message) {
+        Ok(Received::new(message))
+    } else {
+        Err("no answer has a text".into())
+    }
+}
+
+/// The master's CLR of a URL under this number (RFC 2756, "CLR").
+fn purge(rt: &HostRuntime, url: &str, number: u32) -> Result<Event<u64>, Fail> {
+    let alloc = rt.alloc();
+    let line = format!(in alloc; "X-Purge-Number: {number}\r\n")?;
+    let spec = Specifier {
+        method: Octets::from_slice(alloc, b"GET")?,
+        uri: Octets::from_slice(alloc, url.as_bytes())?,
+        version: Octets::from_slice(alloc, b"HTTP/1.1")?,
+        request_headers: Octets::from_slice(alloc, line.as_bytes())?,
+    };
+    let content = Content::ClrAsk {
+        desired: true,
+        reason: 0,
+        spec,
+    };
+    let message = came(Message::Htcp(Htcp {
+        minor: 0,
+        trans: number,
+        content,
+    }))?;
+    Ok(Event::Datagram {
+        from: at(4800),
+        message,
+        now: 0,
+    })
+}
+
+/// An ICP message of this opcode, under this number, for a URL.
+fn icp(rt: &HostRuntime, port: u16, op: IcpOp, number: u32, url: &str) -> Result<Event<u64>, Fail> {
+    let message = came(Message::Icp(Icp {
+        op,
+        number,
+        url: Octets::from_slice(rt.alloc(), url.as_bytes())?,
+        object: Octets::new(rt.alloc()),
+    }))?;
+    Ok(Event::Datagram {
+        from: at(port),
+        message,
+        now: 0,
+    })
+}
+
+/// What a message that is sent says.
+fn show_sent(text: &mut String, message: &Message) -> Result<(), Fail> {
+    match message {
+        Message::Icp(message) => write!(text, " {}", message.op.name())?,
+        Message::Htcp(message) => match message.content {
+            Content::ClrAnswer { code } => write!(text, " clr {code}")?,
+            _ => write!(text, " {}", message.content.name())?,
+        },
+    }
+    Ok(())
+}
+
+/// What a step serves, sends and begins.
+fn show(rt: &HostRuntime, reply: &Reply<u64>) -> Result<String, Fail> {
+    let mut text = String::new(rt.alloc());
+    if let Some(serve) = &reply.serve {
+        match &serve.served {
+            Served::Copy { copy, age } => {
+                write!(
+                    text,
+                    " serve stamp {} tag {} age {age}",
+                    copy.stamp, copy.tag
+                )?
+            }
+            Served::Status(status) => write!(text, " serve {status}")?,
+        }
+    }
+    for sent in reply.send.as_slice() {
+        show_sent(&mut text, sent.message.message())?;
+    }
+    match &reply.begin {
+        Some(Begin::Round { serial }) => write!(text, " round {serial}")?,
+        Some(Begin::Peer { serial, peer, .. }) => write!(text, " peer {peer} {serial}")?,
+        Some(Begin::Read { serial, .. }) => write!(text, " read {serial}")?,
+        None => {}
+    }
+    Ok(text)
+}
+
+/// Takes a step, and shows what it is answered.
+fn step(rt: &HostRuntime, node: &mut Tested, event: Event<u64>, mark: u64) -> Result<String, Fail> {
+    match node.step(event, mark) {
+        Ok(reply) => show(rt, &reply),
+        Err(fault) => Ok(format!(in rt.alloc(); " {}", fault.name())?),
+    }
+}
+
+/// A read that a purge overtakes begins anew, and a copy bears the stamp and the mark of its own read.
+#[test]
+fn a_purge_overtakes_a_read(rt: HostRuntime) -> Result<(), Fail> {
+    let mut node = node_of(&rt, ONE)?;
+    let table = [
+        (client(&rt, "http://o/a", 100)?, " read 33"),
+        (purge(&rt, "http://o/a", 1)?, " clr 2"),
+        (origin(&rt, 33, "http://o/a", 101)?, " read 34"),
+        (origin(&rt, 33, "http://o/a", 101)?, " UnknownSerial"),
+        (
+            origin(&rt, 34, "http://o/a", 102)?,
+            " serve stamp 1 tag 3 age 1",
+        ),
+        (client(&rt, "http://p/", 102)?, " serve 502"),
+        (client(&rt, "http://o/b", 102)?, " read 97"),
+        (
+            client(&rt, "http://o/a", 103)?,
+            " serve stamp 1 tag 3 age 2",
+        ),
+        (client(&rt, "http://o/a", 161)?, " read 129"),
+    ];
+    let mut mark = 0u64;
+    for (event, expected) in table {
+        mark = u64::saturating_add(mark, 1);
+        let shown = step(&rt, &mut node, event, mark)?;
+        assert!(rt; shown.as_str() == expected, "{mark}: {shown}");
+    }
+    assert!(rt; !node.is_closed());
+    Ok(())
+}
+
+/// A foreign cache's stamp is not trusted, and it is not asked for what was purged.
+#[test]
+fn a_foreign_sibling(rt: HostRuntime) -> Result<(), Fail> {
+    let mut node = node_of(&rt, FOREIGN)?;
+    let given = Event::ForeignAnswer {
+        serial: 33,
+        peer: 101,
+        key: key_of(&rt, "http://o/a")?,
+        answer: answer_of(&rt, Some(9))?,
+        tag: 0,
+        now: 0,
+    };
+    let table = [
+        (client(&rt, "http://o/a", 0)?, " Query round 32"),
+        (icp(&rt, 3102, IcpOp::Hit, 32, "http://o/a")?, ""),
+        (icp(&rt, 3201, IcpOp::Hit, 32, "http://o/b")?, ""),
+        (
+            icp(&rt, 3201, IcpOp::Hit, 32, "http://o/a")?,
+            " peer 101 33",
+        ),
+        (given, " serve stamp 0 tag 0 age 0"),
+        (icp(&rt, 3201, IcpOp::Query, 9, "HTTP://O/a")?, " Hit"),
+        (icp(&rt, 3202, IcpOp::Query, 9, "http://o/a")?, " Denied"),
+        (purge(&rt, "http://o/a", 1)?, " clr 0"),
+        (icp(&rt, 3201, IcpOp::Query, 9, "http://o/a")?, " Miss"),
+        (client(&rt, "http://o/a", 0)?, " read 65"),
+    ];
+    let mut mark = 0u64;
+    for (event, expected) in table {
+        mark = u64::saturating_add(mark, 1);
+        let shown = step(&rt, &mut node, event, mark)?;
+        assert!(rt; shown.as_str() == expected, "{mark}: {shown}");
+    }
+    Ok(())
+}
+
+#[test]
+fn at_most_1024_asks_wait(rt: HostRuntime) -> Result<(), Fail> {
+    let mut node = node_of(&rt, ONE)?;
+    for _ in 0..1024 {
+        let event = client(&rt, "http://o/a", 0)?;
+        assert!(rt; node.step(event, 0).is_ok());
+    }
+    let refused = step(&rt, &mut node, client(&rt, "http://o/a", 0)?, 0)?;
+    assert!(rt; refused.as_str() == " Busy");
+    let ended = step(&rt, &mut node, Event::FetchFailed { serial: 33, now: 0 }, 0)?;
+    assert!(rt; ended.as_str() == " serve 502");
+    let again = step(&rt, &mut node, Event::FetchFailed { serial: 33, now: 0 }, 0)?;
+    assert!(rt; again.as_str() == " UnknownSerial");
+    assert!(rt; node.state()?.pending.as_slice().len() == 1023);
+    Ok(())
+}
+
+#[test]
+fn copies_placed_by_hand(rt: HostRuntime) -> Result<(), Fail> {
+    let mut node = node_of(&rt, ONE)?;
+    let key = key_of(&rt, "http://o/a")?;
+    assert!(rt; node.place(&key, Some(3), 1)? == Placed::Stored);
+    assert!(rt; node.place(&key, Some(2), 1)? == Placed::Kept);
+    let cleared = step(&rt, &mut node, purge(&rt, "http://o/a", 7)?, 0)?;
+    assert!(rt; cleared.as_str() == " clr 0");
+    assert!(rt; node.place(&key, Some(6), 1)? == Placed::Old);
+    assert!(rt; node.place(&key, None, 1)? == Placed::Stored);
+    let state = node.state()?;
+    assert!(rt; state.copies.as_slice().len() == 1 && state.floors.seen() == 7);
+    let floors = node.into_floors();
+    let _ = floors;
+    Ok(())
+}
+
+#[test]
+fn a_node_that_is_no_member(rt: HostRuntime) -> Result<(), Fail> {
+    let roster = match Roster::read(rt.alloc(), ONE) {
+        Ok(roster) => roster,
+        Err(error) => return Err(error.fault.name().into()),
+    };
+    let opened: Result<Tested, OpenFault> = Node::open(
+        rt.alloc(),
+        roster,
+        2,
+        MemoryFloors::new(rt.alloc()),
+    );
+    assert!(rt; matches!(opened, Err(OpenFault::NoSuchNode)));
+    assert!(rt; StepFault::Closed.name() == "Closed");
+    Ok(())
+}

@@ -1,0 +1,5 @@
+pub mod View
+pub mod Store
+pub mod Book
+pub mod News
+pub mod Names

@@ -1,0 +1,36 @@
+-- What a call leaves of a master and its store.
+use Rattle.std.specs.Prelude.{◌≡◌, ◌⊎◌, ℕ, Bool, true, false, IsTrue, Result, Err, OnOk, OnErr}
+use Rattle.purge_rules.specs.declared.calls.MasterCall.{MasterCall}
+use Rattle.purge_rules.specs.declared.calls.MasterAnswer.{MasterAnswer}
+use Rattle.purge_rules.specs.declared.fault.MasterFault.{MasterFault}
+use Rattle.purge_rules.specs.declared.fault.MasterFault.TheVariants as fault
+use Rattle.purge_rules.specs.Purges.{PurgeList}
+use Rattle.purge_rules.specs.Store.{IsEither, HaveRisen}
+use Rattle.purge_rules.specs.Calls.{Calls, called}
+use Rattle.purge_master.specs.View.{MasterView, writes}
+
+-- What a store says of itself at a moment: nobody else has written it, what an open after a crash may find, no call has failed, and
+-- how many were answered with a store's fault.
+pub record Witness : Type 1 where
+  pub is_honest : Type 0
+  pub may_find : PurgeList → Type 0
+  pub is_usable : Bool
+  pub failed : ℕ
+
+abbrev pub witness : Type 0 → (PurgeList → Type 0) → Bool → ℕ → Witness
+witness is_honest may_find is_usable failed = record { is_honest = is_honest; may_find = may_find; is_usable = is_usable; failed = failed }
+
+-- An honest store was honest before. A call that writes nothing leaves it. After one that writes and is answered, a crash leaves the purges as they are now. After
+-- one that is refused, the store is as it was, or a crash leaves the purges from before the call or after it. A store's fault comes from the store.
+pub record KeepsStore {S : Type 0} (was now : Witness) (before after : MasterView S) (c : MasterCall) (out : Result MasterAnswer MasterFault) : Type 0 where
+  pub honest : now.is_honest → was.is_honest
+  pub untouched : writes before c ≡ false → after.store ≡ before.store
+  pub durable : OnOk out (writes before c ≡ true → now.is_honest → (found : PurgeList) → now.may_find found → found ≡ after.state.purges)
+  pub crash : OnErr out ((after.store ≡ before.store) ⊎ (now.is_honest → IsTrue was.is_usable → (found : PurgeList) → now.may_find found → IsEither before.state.purges (called before.members before.state c).state.purges found))
+  pub fault : out ≡ Err fault.StoreFault → HaveRisen was.failed now.failed
+
+-- The master has answered the call so, and is left so.
+pub record IsCalled {S : Type 0} (was now : Witness) (before after : MasterView S) (c : MasterCall) (out : Result MasterAnswer MasterFault) : Type 0 where
+  pub members : after.members ≡ before.members
+  pub call : Calls before.members before.state c out after.state
+  pub store : KeepsStore was now before after c out

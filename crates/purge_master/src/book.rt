@@ -1,0 +1,121 @@
+//! The book of a master's calls.
+ghost use Rattle.std.specs.Prelude.{◌≡◌, ◌⊎◌, ◌<◌, ◌≤◌, [], length, IfOk, IfSome, Err};
+ghost use Rattle.purge_rules.specs.declared.fault.MasterFault.TheVariants as faults;
+ghost use Rattle.htcp_wire.specs.Written.{Fits};
+ghost use Rattle.purge_rules.specs.Clear.{message_of};
+ghost use Rattle.purge_master.specs.Store.{witness};
+ghost use Rattle.purge_master.specs.Book.{IsEntered};
+
+use crate::Master;
+use htcp_wire::Htcp;
+use purge_rules::{MasterAnswer, MasterCall, MasterFault, PurgeStore};
+use std::alloc::{AllocError, Global};
+use std::marker::Model;
+use std::mem::replace;
+
+/// The most entries of a book.
+pub const MOST_ENTRIES: usize = 4096;
+
+/// A call of a master, and what it answered.
+#[derive(Debug, Drop)]
+pub struct MasterEntry {
+    /// The call's place, as its caller counts.
+    pub place: u64,
+    /// The call.
+    pub call: MasterCall,
+    /// What it answered, a fault too.
+    pub answer: Result<MasterAnswer, MasterFault>,
+}
+
+/// A master with a book of its calls: each call is entered with its answer, in their order.
+///
+/// A contract sees the master and the entries, of which there are at most 4,096.
+#[derive(Drop)]
+pub struct MasterBook<S: PurgeStore> {
+    alloc: Global,
+    master: Master<S>,
+    entries: Vec<MasterEntry>,
+}
+
+impl<S: PurgeStore> Model for MasterBook<S> {
+    ghost use Rattle.std.specs.Prelude.{◌≤◌, length};
+    ghost use Rattle.std.specs.Coded.{codes};
+    ghost use Rattle.purge_master.specs.Book.{BookView};
+
+    ghost Value = { BookView S };
+
+    ghost coded = { Prim.hlevel (codes) };
+
+    ghost view = { λ b. record { master = b.master; entries = b.entries.items } };
+
+    ghost invariant = { λ b. length b.entries.items ≤ 4096 };
+}
+
+impl<S: PurgeStore> MasterBook<S> {
+    /// A book without entries.
+    pub fn open(master: Master<S>) -> MasterBook<S>
+        ensures { result ≡ record { master = master; entries = [] } }
+    {
+        let alloc = master.alloc;
+        MasterBook {
+            alloc,
+            master,
+            entries: Vec::new(alloc),
+        }
+    }
+
+    /// Makes a call of the master, and enters it with this place and with what it answers.
+    ///
+    /// Faults: `ShiftFull` before anything else, where there are 4,096 entries; `NoMemory` where there is no room for one more. Neither is entered, and nothing
+    /// changes. Any other is the master's (`Master::issue`, `acknowledge`, `due`), and is entered.
+    pub fn call(&mut self, place: u64, call: MasterCall) -> Result<MasterAnswer, MasterFault>
+        ensures full { 4096 ≤ length self.old.entries → (result ≡ Err faults.ShiftFull) × (self.new ≡ self.old) }
+        ensures entered { length self.old.entries < 4096 → (result ≡ Err faults.NoMemory) × (self.new ≡ self.old)
+            ⊎ IsEntered (witness (S.is_honest self.old.master.store) (S.may_find self.old.master.store) (S.is_usable self.old.master.store) (S.failed self.old.master.store))
+            (witness (S.is_honest self.new.master.store) (S.may_find self.new.master.store) (S.is_usable self.new.master.store) (S.failed self.new.master.store))
+            self.old self.new place call result }
+    {
+        if self.entries.len() >= MOST_ENTRIES {
+            return Err(MasterFault::ShiftFull);
+        }
+        self.entries.reserve(1)?;
+        let (told, entered) = self.master.outcome(&call);
+        self.entries.push_reserved(MasterEntry {
+            place,
+            call,
+            answer: entered,
+        });
+        told
+    }
+
+    /// The entries since the book was opened or they were last taken.
+    pub fn entries(&self) -> &[MasterEntry]
+        ensures value { result.now ≡ self.now.entries }
+        ensures most { length self.now.entries ≤ 4096 }
+    {
+        self.entries.as_slice()
+    }
+
+    /// Takes the entries, so that none is left. It takes no memory.
+    pub fn take_entries(&mut self) -> Vec<MasterEntry>
+        ensures taken { result.items ≡ self.old.entries }
+        ensures left { self.new ≡ record { master = self.old.master; entries = [] } }
+    {
+        replace(&mut self.entries, Vec::new(self.alloc))
+    }
+
+    /// The CLR of the pending purge of a number, if there is one, as `Master::message`. It is no call, and makes no entry.
+    pub fn message(&self, number: u32) -> Result<Option<Htcp>, AllocError>
+        ensures value { IfOk result (λ message. message ≡ message_of self.now.master.state.purges number) }
+        ensures fits { IfOk result (λ message. IfSome message Fits) }
+    {
+        self.master.message(number)
+    }
+
+    /// The master. The entries are gone.
+    pub fn into_master(self) -> Master<S>
+        ensures { result ≡ self.master }
+    {
+        self.master
+    }
+}

@@ -1,0 +1,181 @@
+ghost use Rattle.std.specs.Prelude.{◌≡◌, Ok, IfOk, IfSome};
+ghost use Rattle.htcp_wire.specs.Written.{Fits};
+ghost use Rattle.purge_rules.specs.declared.calls.MasterCall.TheVariants as calls;
+ghost use Rattle.purge_rules.specs.declared.calls.MasterAnswer.TheVariants as answers;
+ghost use Rattle.purge_rules.specs.Calls.{Calls, status_of, is_acknowledging as acknowledges};
+ghost use Rattle.purge_rules.specs.Clear.{message_of};
+ghost use Rattle.purge_master.specs.View.{issue_outcome, acknowledge_outcome, due_outcome, fault_of as answer_to_fault};
+ghost use Rattle.purge_master.specs.Store.{IsCalled, witness};
+
+use crate::news::{News, news_of};
+use htcp_wire::Htcp;
+use purge_rules::{MasterFault, MemberSet, PurgeFault, PurgeStore, Purges, Status, clear};
+use roster_tables::Listed;
+use std::alloc::{AllocError, Global};
+use std::marker::Model;
+use url_key::Key;
+
+/// The greatest number of a purge.
+const LAST_NUMBER: u32 = 4294967295;
+
+/// A master of purges, over a store of them.
+///
+/// A contract sees its members, its state, and the store.
+#[derive(Drop)]
+pub struct Master<S: PurgeStore> {
+    pub(crate) alloc: Global,
+    pub(crate) members: MemberSet,
+    pub(crate) purges: Purges,
+    pub(crate) closed: bool,
+    pub(crate) store: S,
+}
+
+impl<S: PurgeStore> Model for Master<S> {
+    ghost use Rattle.purge_master.specs.View.{MasterView, IsTied};
+    ghost use Rattle.std.specs.Coded.{codes};
+
+    ghost Value = { MasterView S };
+
+    ghost coded = { Prim.hlevel (codes) };
+
+    ghost view = { λ m. record { members = m.members; state = record { purges = m.purges; closed = m.closed }; store = m.store } };
+
+    ghost invariant = { λ m. IsTied m.closed m.purges (S.is_honest m.store) (S.content m.store) };
+}
+
+/// What a call answers where the store answered so. A call that writes is never answered with `BadTable`.
+fn fault_of(fault: PurgeFault) -> MasterFault
+    ensures { result ≡ answer_to_fault fault }
+{
+    match fault {
+        PurgeFault::NoMemory => MasterFault::NoMemory,
+        PurgeFault::StoreFault | PurgeFault::BadTable => MasterFault::StoreFault,
+    }
+}
+
+/// Whether a response of this code acknowledges a purge (RFC 2756, "CLR"): 0, the entity was held and is gone, or 2, it was not held.
+fn is_acknowledging(code: u8) -> bool
+    ensures { result ≡ acknowledges code }
+{
+    code == 0 || code == 2
+}
+
+impl<S: PurgeStore> Master<S> {
+    /// Whether it is closed.
+    pub fn is_closed(&self) -> bool
+        ensures { result ≡ self.now.state.closed }
+    {
+        self.closed
+    }
+
+    /// Gives a number to a purge of the key, and commits it. The members are told by `message`.
+    ///
+    /// Faults, in this order: `Closed`; `NumbersSpent` after the number 4294967295; `TooManyPending` where 1,024 purges are pending;
+    /// `StoreFault`, which closes the master; `NoMemory`, which closes it where the store answered it.
+    pub fn issue(&mut self, key: &Key) -> Result<u32, MasterFault>
+        ensures { IsCalled (witness (S.is_honest self.old.store) (S.may_find self.old.store) (S.is_usable self.old.store) (S.failed self.old.store))
+            (witness (S.is_honest self.new.store) (S.may_find self.new.store) (S.is_usable self.new.store) (S.failed self.new.store))
+            self.old self.new (calls.Issue key.now) (issue_outcome result) }
+    {
+        if self.closed {
+            return Err(MasterFault::Closed);
+        }
+        let last = self.purges.last();
+        if last == LAST_NUMBER {
+            return Err(MasterFault::NumbersSpent);
+        }
+        if self.purges.is_full() {
+            return Err(MasterFault::TooManyPending);
+        }
+        let number = last + 1;
+        self.purges.add(self.alloc, number, key)?;
+        match self.store.add(self.alloc, number, key) {
+            Ok(()) => Ok(number),
+            Err(fault) => {
+                self.purges.take_back(last);
+                self.closed = true;
+                Err(fault_of(fault))
+            }
+        }
+    }
+
+    /// A member responds to a CLR, with this TRANS-ID and this code. It answers with the purge that is done by it, if one is: the last
+    /// missing member has acknowledged it. A response of a stranger, of another code than 0 and 2, or for no pending purge changes
+    /// nothing, and neither does one that comes again.
+    ///
+    /// Faults: `Closed`; `StoreFault`, which closes the master; `NoMemory`, which the store answers, and which closes the master.
+    pub fn acknowledge(
+        &mut self,
+        member: u8,
+        trans: u32,
+        code: u8,
+    ) -> Result<Option<u32>, MasterFault>
+        ensures { IsCalled (witness (S.is_honest self.old.store) (S.may_find self.old.store) (S.is_usable self.old.store) (S.failed self.old.store))
+            (witness (S.is_honest self.new.store) (S.may_find self.new.store) (S.is_usable self.new.store) (S.failed self.new.store))
+            self.old self.new (calls.Acknowledge member trans code) (acknowledge_outcome result) }
+    {
+        if self.closed {
+            return Err(MasterFault::Closed);
+        }
+        if !is_acknowledging(code) {
+            return Ok(None);
+        }
+        if !self.members.has(member) {
+            return Ok(None);
+        }
+        match news_of(&self.purges, self.members, member, trans) {
+            News::Nothing => Ok(None),
+            News::Mark => match self.store.mark(self.alloc, trans, member) {
+                Ok(()) => {
+                    self.purges.mark(trans, member);
+                    Ok(None)
+                }
+                Err(fault) => {
+                    self.closed = true;
+                    Err(fault_of(fault))
+                }
+            },
+            News::Done => match self.store.finish(self.alloc, trans) {
+                Ok(()) => {
+                    self.purges.finish(trans);
+                    Ok(Some(trans))
+                }
+                Err(fault) => {
+                    self.closed = true;
+                    Err(fault_of(fault))
+                }
+            },
+        }
+    }
+
+    /// Each pending purge with each member that is missing, by number and then by id: who is to be told again.
+    ///
+    /// Faults: `Closed`, and `NoMemory`. Nothing changes.
+    pub fn due(&self) -> Result<Listed<(u32, u8)>, MasterFault>
+        ensures { Calls self.now.members self.now.state calls.Due (due_outcome result) self.now.state }
+    {
+        if self.closed {
+            return Err(MasterFault::Closed);
+        }
+        Ok(self.purges.due(self.alloc, self.members)?)
+    }
+
+    /// How far the purge of a number is, also of a closed master. It takes no memory.
+    pub fn status(&self, number: u32) -> Status
+        ensures value { result ≡ status_of self.now.members self.now.state.purges number }
+        ensures call { Calls self.now.members self.now.state (calls.Status number) (Ok (answers.Status result)) self.now.state }
+    {
+        self.purges.status(self.members, number)
+    }
+
+    /// The CLR of the pending purge of a number, if there is one, also of a closed master. It has a written text.
+    pub fn message(&self, number: u32) -> Result<Option<Htcp>, AllocError>
+        ensures value { IfOk result (λ message. message ≡ message_of self.now.state.purges number) }
+        ensures fits { IfOk result (λ message. IfSome message Fits) }
+    {
+        match self.purges.find(number) {
+            Some(purge) => Ok(Some(clear(self.alloc, purge.number, &purge.key)?)),
+            None => Ok(None),
+        }
+    }
+}

@@ -1,0 +1,81 @@
+//! How a master begins and ends.
+ghost use Rattle.std.specs.Prelude.{◌≡◌, IfOk};
+ghost use Rattle.purge_rules.specs.Members.{members_of};
+ghost use Rattle.purge_rules.specs.Calls.{opened};
+ghost use Rattle.purge_master.specs.Names.{open_fault_name, open_fault_of as answer_to_fault};
+
+use crate::Master;
+use purge_rules::{MemberSet, PurgeFault, PurgeStore};
+use roster::Roster;
+use std::alloc::Global;
+use thiserror::Error;
+
+/// Why a master was not opened.
+#[derive(Clone, Copy, Debug, PartialEq, Eq, Error)]
+pub enum MasterOpenFault {
+    /// The store failed.
+    #[error("the store failed")]
+    StoreFault,
+    /// The store's file is not that of a master.
+    #[error("the file is not that of a master")]
+    BadTable,
+    /// A growth was refused.
+    #[error("there was no memory")]
+    NoMemory,
+}
+
+impl MasterOpenFault {
+    /// The name that scripts print.
+    pub const fn name(self) -> &'static str
+        ensures { result.now ≡ open_fault_name self }
+    {
+        match self {
+            MasterOpenFault::StoreFault => "StoreFault",
+            MasterOpenFault::BadTable => "BadTable",
+            MasterOpenFault::NoMemory => "NoMemory",
+        }
+    }
+}
+
+/// What an open answers where the store answered so.
+fn open_fault_of(fault: PurgeFault) -> MasterOpenFault
+    ensures { result ≡ answer_to_fault fault }
+{
+    match fault {
+        PurgeFault::StoreFault => MasterOpenFault::StoreFault,
+        PurgeFault::BadTable => MasterOpenFault::BadTable,
+        PurgeFault::NoMemory => MasterOpenFault::NoMemory,
+    }
+}
+
+impl<S: PurgeStore + Drop> Master<S> {
+    /// The master of a roster's members, with the purges that its store has.
+    ///
+    /// Faults: those that the store answers to its load. The store is gone then, and is to be opened again.
+    pub fn open(alloc: Global, roster: &Roster, mut store: S) -> Result<Master<S>, MasterOpenFault>
+        ensures members { IfOk result (λ master. master.members ≡ members_of roster.now) }
+        ensures state { IfOk result (λ master. S.is_honest master.store → master.state ≡ opened (S.content store)) }
+        ensures store { IfOk result (λ master. master.store ≡ store) }
+    {
+        let purges = match store.load(alloc) {
+            Ok(purges) => purges,
+            Err(fault) => return Err(open_fault_of(fault)),
+        };
+        Ok(Master {
+            alloc,
+            members: MemberSet::of(roster),
+            purges,
+            closed: false,
+            store,
+        })
+    }
+}
+
+impl<S: PurgeStore> Master<S> {
+    /// The store of purges, also that of a closed master. It takes no memory.
+    pub fn into_store(self) -> S
+        ensures { result ≡ self.store }
+    {
+        self.store
+    }
+}

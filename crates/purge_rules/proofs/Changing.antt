@@ -1,0 +1,112 @@
+-- What becomes of purges as one is marked or done.
+use Rattle.std.proofs.Common.{◌≡◌, ◌≢◌, ℕ, zero, suc, ◌<◌, ◌≤◌, Bool, true, false, cond, not, List, [], ◌∷◌, map, filter, All, length, get_or, set, refl, inl, inr, sym, ap, ◌∙◌, arith, length-set, get_or-set_other}
+use Rattle.std.specs.List.{remove}
+use Rattle.std.proofs.lemmas.List.{same_lists, get_or-map, length-map}
+use Rattle.std.proofs.lemmas.Grind.{get_or-set_at}
+use Rattle.std.proofs.lemmas.Bool.{cases_eq}
+use Rattle.std.proofs.lemmas.List.Elements.{All-filter, All-map}
+use Rattle.std.proofs.lemmas.List.Kept.{AllPairs-filter}
+use Rattle.purge_rules.specs.declared.purges.Purge.{Purge}
+use Rattle.purge_rules.specs.Purges.{PurgeList, AreNumbered, is_numbered, marked_by, with_mark, without_purge}
+use Rattle.purge_rules.specs.Places.{IsPlaceOf, IsAbsent}
+use Rattle.purge_rules.proofs.Finding.{Ascend, eqb_same, eqb_other}
+
+-- Marks
+
+abbrev mark_of : ℕ → ℕ → Purge → Purge
+mark_of number id p = cond (is_numbered number p) (marked_by id p) p
+
+mark_here : (number id : ℕ) (p : Purge) → p.number ≡ number → mark_of number id p ≡ marked_by id p
+mark_here number id p e = ap (λ b. cond b (marked_by id p) p) (eqb_same e)
+
+mark_other : (number id : ℕ) (p : Purge) → p.number ≢ number → mark_of number id p ≡ p
+mark_other number id p n = ap (λ b. cond b (marked_by id p) p) (eqb_other n)
+
+number_kept : (number id : ℕ) (p : Purge) → (mark_of number id p).number ≡ p.number
+number_kept number id p = elim (is_numbered number p) as (λ b. (cond b (marked_by id p) p).number ≡ p.number) [ true ↦ refl | false ↦ refl ]
+
+-- another place has another number
+only_there : (purges : List Purge) (number place : ℕ) → Ascend purges → IsPlaceOf purges number place → (k : ℕ) (d : Purge) → k < length purges → k ≢ place → (get_or purges k d).number ≢ number
+only_there purges number place ascend at k d l other e =
+    let here = at.is_of_it d in
+    let after = ascend place k d in
+    let before = ascend k place d in
+    grind (arith, at.in_range)
+
+-- the purge at the place is marked, as all of that number are
+pub set_marked : (purges : List Purge) (number place id : ℕ) (p q : Purge) → Ascend purges → IsPlaceOf purges number place → p ≡ get_or purges place p → q ≡ marked_by id p → set purges place q ≡ map (mark_of number id) purges
+set_marked purges number place id p q ascend at is marked = same_lists _ _ (length-set purges place q ∙ sym (length-map purges _)) (λ k d h.
+    let h : k < length purges = omega (arith, length-set purges place q) in
+    let mapped : get_or (map (mark_of number id) purges) k d ≡ mark_of number id (get_or purges k d) = get_or-map (mark_of number id) purges k d d h in
+    elim (cases_eq k place) [
+      | inl e ↦
+          let here : get_or purges k d ≡ p = ap (λ i. get_or purges i d) e ∙ read_at purges place p d at.in_range is in
+          get_or-set_at purges place k q d e at.in_range ∙ marked ∙ sym (mapped ∙ mark_here number id (get_or purges k d) (ap (λ i. (get_or purges i d).number) e ∙ at.is_of_it d) ∙ ap (marked_by id) here)
+      | inr n ↦ get_or-set_other purges place k q d n ∙ sym (mapped ∙ mark_other number id (get_or purges k d) (only_there purges number place ascend at k d h n))
+    ])
+  where
+    read_at : (purges : List Purge) (place : ℕ) (p d : Purge) → place < length purges → p ≡ get_or purges place p → get_or purges place d ≡ p
+    read_at [] place p d l e = absurd (omega arith)
+    read_at (x ∷ xs) zero p d l e = sym e
+    read_at (x ∷ xs) (suc place) p d l e = read_at xs place p d (omega arith) e
+
+-- where none has the number, nothing is marked
+pub none_marked : (purges : List Purge) (number id : ℕ) → IsAbsent purges number → map (mark_of number id) purges ≡ purges
+none_marked [] number id none = refl
+none_marked (p ∷ purges) number id none =
+    ap (λ q. q ∷ map (mark_of number id) purges) (mark_other number id p (none 0 p (omega arith)))
+    ∙ ap (λ qs. p ∷ qs) (none_marked purges number id (λ k d l. none (suc k) d (omega arith)))
+
+pub numbered_marked : (purges : PurgeList) (number id : ℕ) → AreNumbered purges → AreNumbered (with_mark purges number id)
+numbered_marked purges number id are = record {
+  ascend = λ i j d lt l.
+      let size : length (map (mark_of number id) purges.pending) ≡ length purges.pending = length-map purges.pending _ in
+      let first : get_or (map (mark_of number id) purges.pending) i d ≡ mark_of number id (get_or purges.pending i d) = get_or-map (mark_of number id) purges.pending i d d (omega arith) in
+      let second : get_or (map (mark_of number id) purges.pending) j d ≡ mark_of number id (get_or purges.pending j d) = get_or-map (mark_of number id) purges.pending j d d (omega arith) in
+      let one = ap (λ (p : Purge). p.number) first ∙ number_kept number id (get_or purges.pending i d) in
+      let two = ap (λ (p : Purge). p.number) second ∙ number_kept number id (get_or purges.pending j d) in
+      let rise = are.ascend i j d lt (omega arith) in
+      omega arith;
+  positive = All-map (λ (a : Purge). 1 ≤ a.number) (mark_of number id) purges.pending (λ k d l. let same = number_kept number id (get_or purges.pending k d) in let there = are.positive k d l in omega arith);
+  given = All-map (λ (a : Purge). a.number ≤ purges.last) (mark_of number id) purges.pending (λ k d l. let same = number_kept number id (get_or purges.pending k d) in let there = are.given k d l in omega arith);
+  last = are.last;
+}
+
+-- Ends
+
+pub filter_all : (p : Purge → Bool) (xs : List Purge) → All (λ x. p x ≡ true) xs → filter p xs ≡ xs
+filter_all p [] passes = refl
+filter_all p (x ∷ xs) passes =
+    ap (λ b. cond b (x ∷ filter p xs) (filter p xs)) (passes 0 x (omega arith))
+    ∙ ap (λ ys. x ∷ ys) (filter_all p xs (λ k d l. passes (suc k) d (omega arith)))
+
+abbrev others : ℕ → List Purge → List Purge
+others number purges = filter (λ p. not (is_numbered number p)) purges
+
+pub removed : (purges : List Purge) (number place : ℕ) → Ascend purges → IsPlaceOf purges number place → remove purges place ≡ others number purges
+removed [] number place ascend at = absurd (let l = at.in_range in omega arith)
+removed (q ∷ purges) number zero ascend at =
+    let here : q.number ≡ number = at.is_of_it q in
+    sym (ap (λ b. cond (not b) (q ∷ others number purges) (others number purges)) (eqb_same here)
+    ∙ filter_all _ purges (λ k d h.
+    let above = ascend 0 (suc k) d (omega arith) (omega arith) in
+    ap not (eqb_other (λ (e : (get_or purges k d).number ≡ number). omega arith))))
+removed (q ∷ purges) number (suc place) ascend at =
+    let above = ascend 0 (suc place) q (omega arith) at.in_range in
+    let here : (get_or purges place q).number ≡ number = at.is_of_it q in
+    let l = at.in_range in
+    let rest = removed purges number place (λ j k d lt h. ascend (suc j) (suc k) d (omega arith) (omega arith)) record { in_range = omega arith; is_of_it = λ d. at.is_of_it d } in
+    ap (λ xs. q ∷ xs) rest
+    ∙ sym (ap (λ b. cond (not b) (q ∷ others number purges) (others number purges)) (eqb_other (λ (e : q.number ≡ number). omega arith)))
+
+-- where none has the number, none goes
+pub none_removed : (purges : List Purge) (number : ℕ) → IsAbsent purges number → others number purges ≡ purges
+none_removed purges number none = filter_all _ purges (λ k d l. ap not (eqb_other (none k d l)))
+
+pub numbered_without : (purges : PurgeList) (number : ℕ) → AreNumbered purges → AreNumbered (without_purge purges number)
+numbered_without purges number are = record {
+  ascend = AllPairs-filter (λ a b. a.number < b.number) _ purges.pending are.ascend;
+  positive = All-filter _ (λ (a : Purge). 1 ≤ a.number) purges.pending are.positive;
+  given = All-filter _ (λ (a : Purge). a.number ≤ purges.last) purges.pending are.given;
+  last = are.last;
+}

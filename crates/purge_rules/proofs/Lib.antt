@@ -1,0 +1,5 @@
+pub mod Ids
+pub mod Finding
+pub mod Changing
+pub mod Listing
+pub mod Sendable

@@ -1,0 +1,19 @@
+-- The message that tells of a purge has a text.
+use Rattle.std.proofs.Common.{ℕ, ◌≤◌, ◌<◌, ◌^◌, List, [], ◌∷◌, ◌++◌, length, refl, codes, decimal, arith, length-append}
+use Rattle.std.proofs.lemmas.Fmt.{length-decimal-le}
+use Rattle.url_key.specs.Key.{IsKey}
+use Rattle.wire_octets.specs.Counted.{counted}
+use Rattle.htcp_wire.specs.Written.{Fits, written_data}
+use Rattle.htcp_wire.proofs.Writings.{length-written_with}
+use Rattle.purge_rules.specs.Clear.{clear, number_line}
+
+pub clear_fits : (number : ℕ) (key : List ℕ) → IsKey key → number < 2 ^ 32 → Fits (clear number key)
+clear_fits number key k small = record {
+  minor = refl;
+  in_range = omega arith;
+  short =
+      let size = length-written_with number (written_data (clear number key).content) in
+      let digits = length-decimal-le 10 number (omega arith) (omega arith) (omega arith) in
+      let line : length (number_line number) ≤ 28 = omega (arith, digits, length-append (decimal number) (13 ∷ 10 ∷ [])) in
+      omega (arith, k.short, size, line, length-append key (counted (codes "HTTP/1.1") ++ counted (number_line number)));
+}

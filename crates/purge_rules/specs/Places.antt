@@ -1,0 +1,27 @@
+-- Where a purge is found among those that are pending, and which addition is taken back.
+use Rattle.std.specs.Prelude.{◌≡◌, ◌≢◌, ℕ, ◌<◌, All, List, length}
+use Rattle.std.specs.List.{HoldsAt}
+use Rattle.purge_rules.specs.declared.purges.Purge.{Purge}
+use Rattle.purge_rules.specs.Purges.{PurgeList, AreNumbered, with_purge}
+
+-- the purge at this place has this number
+pub record IsPlaceOf (purges : List Purge) (number place : ℕ) : Type 0 where
+  pub in_range : place < length purges
+  pub is_of_it : HoldsAt (λ p. p.number ≡ number) purges place
+
+-- none has this number
+abbrev pub IsAbsent : List Purge → ℕ → Type 0
+IsAbsent purges number = All (λ p. p.number ≢ number) purges
+
+-- They came of such purges, whose last number is this one, by the addition of a purge.
+pub record CameBy (now : PurgeList) (last : ℕ) : Type 0 where
+  pub before : PurgeList
+  pub number : ℕ
+  pub key : List ℕ
+  pub numbered : AreNumbered before
+  pub is : now ≡ with_purge before number key
+  pub same : last ≡ before.last
+
+-- the numbers up to this one were given, and those of them that are not pending are done
+abbrev pub given_to : PurgeList → ℕ → PurgeList
+given_to purges last = record { last = last; pending = purges.pending }

@@ -1,0 +1,350 @@
+-- Each step of a node serves what was asked, with its age.
+use Rattle.std.proofs.Common.{◌≡◌, ℕ, ◌+◌, ◌≤◌, Bool, true, false, not, ◌&&◌, ◌||◌, List, [], ◌∷◌, ◌++◌, find, Option, Some, None, Result, Ok, Err, refl, sym, ◌∙◌, ap, subst, nat_le, nat_eq, inl, inr, arith}
+use Rattle.std.specs.List.{AllByRecursion, Contains}
+use Rattle.std.proofs.lemmas.Option.{cond_some}
+use Rattle.icp_wire.specs.declared.message.IcpOp.{IcpOp}
+use Rattle.icp_wire.specs.declared.message.IcpOp.TheVariants as op
+use Rattle.icp_wire.specs.declared.message.Icp.{Icp}
+use Rattle.htcp_wire.specs.declared.fault.HtcpFault.{HtcpFault}
+use Rattle.htcp_wire.specs.declared.message.Content.{Content}
+use Rattle.htcp_wire.specs.declared.message.Content.TheVariants as content
+use Rattle.fetch_messages.specs.declared.ask.Ask.{Ask}
+use Rattle.fetch_messages.specs.Answer.{AnswerText}
+use Rattle.object_store.specs.declared.copy.WebCopy.{WebCopy}
+use Rattle.object_store.specs.Copy.{is_of}
+use Rattle.object_store.specs.Listed.{copy_of}
+use Rattle.purge_numbers.specs.Floors.{floor, seen}
+use Rattle.reuse_rules.specs.Lifetime.{lifetime}
+use Rattle.roster_tables.specs.Ranges.{is_foreign_id}
+use Rattle.roster_tables.specs.declared.plain.Address.{Address}
+use Rattle.roster_tables.specs.declared.plain.Peer.{Peer}
+use Rattle.roster_tables.specs.declared.plain.Udp.{Udp}
+use Rattle.roster_tables.specs.declared.plain.Udp.TheVariants as udp
+use Rattle.roster.specs.Lookups.{is_master}
+use Rattle.peer_chooser.specs.declared.said.Said.{Said}
+use Rattle.peer_chooser.specs.declared.said.Source.{Source}
+use Rattle.peer_chooser.specs.declared.said.Source.TheVariants as source
+use Rattle.peer_chooser.specs.Round.{RoundText, has_told, answered, ended}
+use Rattle.node_rules.specs.declared.message.Message.{Message}
+use Rattle.node_rules.specs.declared.message.Message.TheVariants as message
+use Rattle.node_rules.specs.declared.state.Fetch.{Fetch}
+use Rattle.node_rules.specs.declared.state.Fetch.TheVariants.{Nowhere, AtPeer, AtOrigin}
+use Rattle.node_rules.specs.declared.state.Pending.{Pending}
+use Rattle.node_rules.specs.declared.state.NodeState.{NodeState}
+use Rattle.node_rules.specs.declared.event.Event.{Event}
+use Rattle.node_rules.specs.declared.event.Event.TheVariants as event
+use Rattle.node_rules.specs.declared.reply.Reply.{Reply}
+use Rattle.node_rules.specs.declared.reply.StepFault.{StepFault}
+use Rattle.node_rules.specs.Known.{has_origin, is_known}
+use Rattle.node_rules.specs.State.{Setting, Stepped, replies, refuses, quiet, ending, changing, is_idle, is_of_block, is_good, if_good, good_copy, served_age}
+use Rattle.node_rules.specs.Fetching.{fetching, ask_peer, begin_read, read_origin, go_to, go_on}
+use Rattle.node_rules.specs.Asks.{new_ask, is_cached_only, is_busy, takes_block, begin_round, ask_around, begin_ask, not_held, by_copy, copy_for, ask_comes}
+use Rattle.node_rules.specs.Arrivals.{new_copy, not_fetching, with_round, use_answer, try_on, is_gateway_fault, peer_gave, origin_gave, from_peer, peer_answer_to, peer_answer, foreign_answer, from_origin, origin_answer_to, origin_answer, fails, failure_of, fetch_failed, round_moves, expires, expiry_of, round_expired}
+use Rattle.node_rules.specs.Datagrams.{is_full, purged, if_desired, icp_query, htcp_tst, hears, told_by, told_to, icp_told, htcp_told, purge, numbered_clr, dropped, plain_clr, clr_by_line, htcp_clr, icp_comes, tst_refused, htcp_comes, datagram}
+use Rattle.node_rules.specs.Step.{open_step, step_if, step}
+use Rattle.node_rules.specs.Relation.{Steps, Closes, ClosesOn, purge_in}
+use Rattle.node_rules.proofs.Cases.{branches, unless_refused, true_not_false}
+use Rattle.node_rules.proofs.FloorLaws.{same_text}
+use Rattle.node_rules.proofs.Pendings.{all_mapped, all_joined, all_contained, found, found_passes, all_changed, all_left}
+use Rattle.node_rules.proofs.Stepping.{steps_case, closing_closes}
+use Rattle.world_rules.specs.Asked.{moment, Asks, IsAskAfter, ServesRightly, AnswersAsks}
+
+-- a copy that is chosen for an ask is of its key
+good_key : {X : Type 0} (floor now : ℕ) (o : Option (WebCopy X)) (c : WebCopy X) → if_good floor now o ≡ Some c → o ≡ Some c
+good_key floor now None c e = e
+good_key floor now (Some d) c e = ap Some (cond_some (is_good floor now d) d c e).1
+
+copy_key : {X : Type 0} (s : NodeState X) (ask : Ask) (now : ℕ) (c : WebCopy X) → copy_for s ask now ≡ Some c → c.key ≡ ask.key
+copy_key s ask now c e =
+    let good : good_copy s ask.key now ≡ Some c = unless_refused ask.no_cache (good_copy s ask.key now) c e in
+    same_text c.key ask.key (found_passes (is_of ask.key) s.copies c (good_key (floor s.floors ask.key) now (copy_of ask.key s.copies) c good))
+
+module _ {X : Type 0} (g : Setting) (s : NodeState X) (e : Event X) (mark : X) (is_open : s.closed ≡ false) where
+  abbrev pub Answers : Stepped X → Type 0
+  Answers r = AnswersAsks s e r.outcome r.state
+
+  -- the asks of a state that rules have led to
+  abbrev pub GoesOn : NodeState X → Type 0
+  GoesOn t = AllByRecursion (IsAskAfter s e t.next) t.pending × (s.next ≤ t.next)
+
+  plainly : (t : NodeState X) (outcome : Result (Reply X) StepFault) → GoesOn t → ServesRightly s e outcome → Answers record { state = t; outcome = outcome }
+  plainly t outcome on serves = record { asks = on.0; blocks = λ _. (is_open, on.1); serves = serves }
+
+  ended_so : (t : NodeState X) (block : ℕ) (outcome : Result (Reply X) StepFault) → GoesOn t → ServesRightly s e outcome → Answers record { state = ending t block; outcome = outcome }
+  ended_so t block outcome on serves = plainly (ending t block) outcome (all_left (IsAskAfter s e t.next) (λ q. not (is_of_block block q)) t.pending on.0, on.1) serves
+
+  changed_so : (t : NodeState X) (p : Pending X) (outcome : Result (Reply X) StepFault) → GoesOn t → IsAskAfter s e t.next p → ServesRightly s e outcome → Answers record { state = changing t p; outcome = outcome }
+  changed_so t p outcome on is serves = plainly (changing t p) outcome (all_changed (IsAskAfter s e t.next) (is_of_block p.block) p t.pending is on.0, on.1) serves
+
+  was_asked : (next : ℕ) (p : Pending X) → Contains s.pending p → IsAskAfter s e next p
+  was_asked next p has = inl record { was = p; waits = has; block_same = refl; asker_same = refl; ask_same = refl }
+
+  all_asked : (next : ℕ) → AllByRecursion (IsAskAfter s e next) s.pending
+  all_asked next = all_mapped (Contains s.pending) (IsAskAfter s e next) (was_asked next) s.pending (all_contained s.pending)
+
+  here : GoesOn s
+  here = (all_asked s.next, omega arith)
+
+  silent : Answers (replies s quiet)
+  silent = plainly s _ here tt
+
+  refused : (f : StepFault) → Answers (refuses s f)
+  refused f = plainly s _ here tt
+
+  -- Going on
+
+  read_origin_answers : (t : NodeState X) → GoesOn t → (p : Pending X) → IsAskAfter s e t.next p → (waiter : Option ℕ) (now : ℕ) → Answers (read_origin g t p waiter now mark)
+  unfolding read_origin begin_read
+  read_origin_answers t on p is waiter now =
+      branches Answers (nat_le 3 p.reads) _ _ (λ _. ended_so t p.block _ on tt)
+      (λ _. branches Answers (has_origin g.roster p.ask.key) _ _ (λ _. changed_so t (fetching p (p.reads + 1) (AtOrigin (seen t.floors) now mark)) _ on is tt) (λ _. ended_so t p.block _ on tt))
+
+  go_to_answers : (t : NodeState X) → GoesOn t → (p : Pending X) → IsAskAfter s e t.next p → (now : ℕ) (to : Source) → Answers (go_to g t p now mark to)
+  unfolding go_to ask_peer
+  go_to_answers t on p is now source.Wait = changed_so t p _ on is tt
+  go_to_answers t on p is now (source.Peer peer cached) = changed_so t (fetching p p.reads (AtPeer peer now)) _ on is tt
+  go_to_answers t on p is now source.Origin = read_origin_answers t on p is (Some p.block) now
+
+  go_on_answers : (t : NodeState X) → GoesOn t → (p : Pending X) → IsAskAfter s e t.next p → (now : ℕ) → Answers (go_on g t p now mark)
+  unfolding go_on
+  go_on_answers t on p is now = go_to_answers t on p is now _
+
+  -- Asks
+
+  module _ (asker : Option ℕ) (ask : Ask) (now : ℕ) (asks : Asks e asker ask) (at : now ≡ moment e) where
+    new_is : (round : Option RoundText) → IsAskAfter s e (s.next + 1) (new_ask s.next asker ask round)
+    new_is round = inr (refl, omega arith, asks)
+
+    one_more : (round : Option RoundText) → AllByRecursion (IsAskAfter s e (s.next + 1)) (s.pending ++ new_ask s.next asker ask round ∷ [])
+    one_more round = all_joined (IsAskAfter s e (s.next + 1)) s.pending (new_ask s.next asker ask round ∷ []) (all_asked (s.next + 1)) (new_is round, tt)
+
+    ask_around_answers : (round : RoundText) (peers : List Peer) → Answers (ask_around g (takes_block s) asker ask s.next now mark round peers)
+    unfolding ask_around begin_round
+    ask_around_answers round [] = read_origin_answers _ (one_more None, omega arith) _ (new_is None) None now
+    ask_around_answers round (p ∷ peers) = plainly _ _ (one_more (Some round), omega arith) tt
+
+    not_held_answers : Answers (not_held g s asker ask now mark)
+    unfolding not_held begin_ask
+    not_held_answers =
+        branches Answers (is_cached_only g asker ask) _ _ (λ _. plainly s _ here tt)
+        (λ _. branches Answers (is_busy s) _ _ (λ _. refused _) (λ _. ask_around_answers _ _))
+
+    by_copy_answers : (o : Option (WebCopy X)) → ((c : WebCopy X) → o ≡ Some c → c.key ≡ ask.key) → Answers (by_copy g s asker ask now mark o)
+    unfolding by_copy
+    by_copy_answers None key = not_held_answers
+    by_copy_answers (Some c) key = plainly _ _ here (ap (served_age c) at, (ask, asks, sym (key c refl)))
+
+    ask_comes_answers : Answers (ask_comes g s asker ask now mark)
+    unfolding ask_comes
+    ask_comes_answers = by_copy_answers (copy_for s ask now) (copy_key s ask now)
+
+  -- Arrivals
+
+  waiting : (test : Pending X → Bool) (p : Pending X) → find test s.pending ≡ Some p → Contains s.pending p
+  waiting test p waits = found (Contains s.pending) test s.pending p (all_contained s.pending) waits
+
+  module _ (p : Pending X) (has : Contains s.pending p) (now : ℕ) (at : now ≡ moment e) where
+    goes_on : (q : Pending X) → IsAskAfter s e s.next q → Answers (go_on g s q now mark)
+    goes_on q is = go_on_answers s here q is now
+
+    use_answer_answers : (stamp asked : ℕ) (answer : AnswerText) (tag : X) → Answers (use_answer g s p stamp asked answer tag now)
+    unfolding use_answer
+    use_answer_answers stamp asked answer tag =
+        plainly _ _ (all_left (IsAskAfter s e s.next) (λ q. not (is_of_block p.block q)) s.pending here.0, here.1) (ap (served_age (new_copy p.ask.key stamp asked (lifetime answer g.roster.limits.default_lifetime) answer tag)) at, (p, has, refl, refl, refl))
+
+    peer_gave_answers : (peer asked stamp : ℕ) (answer : AnswerText) (tag : X) → Answers (peer_gave g s p peer asked stamp answer tag now mark)
+    unfolding peer_gave try_on
+    peer_gave_answers peer asked stamp answer tag =
+        branches Answers (nat_le (floor s.floors p.ask.key) stamp && not (is_gateway_fault answer.status)) _ _
+        (λ _. use_answer_answers stamp asked answer tag) (λ _. goes_on (not_fetching p (p.tried ++ peer ∷ [])) (was_asked s.next p has))
+
+    origin_gave_answers : (stamp asked : ℕ) (read_mark : X) (answer : AnswerText) → Answers (origin_gave g s p stamp asked read_mark answer now mark)
+    unfolding origin_gave
+    origin_gave_answers stamp asked read_mark answer =
+        branches Answers (nat_le (floor s.floors p.ask.key) stamp) _ _
+        (λ _. use_answer_answers stamp asked answer read_mark) (λ _. goes_on (not_fetching p p.tried) (was_asked s.next p has))
+
+    from_peer_answers : (peer stamp : ℕ) (answer : AnswerText) (tag : X) (fetch : Fetch X) → Answers (from_peer g s p peer stamp answer tag now mark fetch)
+    unfolding from_peer
+    from_peer_answers peer stamp answer tag (AtPeer at_peer asked) =
+        branches Answers (nat_eq at_peer peer) _ _ (λ _. peer_gave_answers peer asked stamp answer tag) (λ _. refused _)
+    from_peer_answers peer stamp answer tag (AtOrigin read asked read_mark) = refused _
+    from_peer_answers peer stamp answer tag Nowhere = refused _
+
+    from_origin_answers : (answer : AnswerText) (fetch : Fetch X) → Answers (from_origin g s p answer now mark fetch)
+    unfolding from_origin
+    from_origin_answers answer (AtOrigin stamp asked read_mark) = origin_gave_answers stamp asked read_mark answer
+    from_origin_answers answer (AtPeer peer asked) = refused _
+    from_origin_answers answer Nowhere = refused _
+
+    fails_answers : (fetch : Fetch X) → Answers (fails g s p now mark fetch)
+    unfolding fails try_on
+    fails_answers (AtPeer peer asked) = goes_on (not_fetching p (p.tried ++ peer ∷ [])) (was_asked s.next p has)
+    fails_answers (AtOrigin stamp asked read_mark) = ended_so s p.block _ here tt
+    fails_answers Nowhere = refused _
+
+    moves_answers : (q : Pending X) → IsAskAfter s e s.next q → Answers (round_moves g s q now mark)
+    unfolding round_moves
+    moves_answers q is = branches Answers (is_idle q.fetch) _ _ (λ _. goes_on q is) (λ _. changed_so s q _ here is tt)
+
+    expires_answers : (o : Option RoundText) → Answers (expires g s p now mark o)
+    unfolding expires
+    expires_answers None = refused _
+    expires_answers (Some r) = moves_answers (with_round p (ended r)) (was_asked s.next p has)
+
+    hears_answers : (peer : Peer) (said : Said) (o : Option RoundText) → Answers (hears g s p peer said now mark o)
+    unfolding hears
+    hears_answers peer said None = silent
+    hears_answers peer said (Some r) = branches Answers (has_told r.told peer.id) _ _ (λ _. silent) (λ _. moves_answers (with_round p (answered r peer.id said)) (was_asked s.next p has))
+
+    told_by_answers : (said : Peer → Said) (o : Option Peer) → Answers (told_by g s p said now mark o)
+    unfolding told_by
+    told_by_answers said None = silent
+    told_by_answers said (Some peer) = hears_answers peer (said peer) p.round
+
+  module _ (now : ℕ) (at : now ≡ moment e) where
+    peer_answer_to_answers : (peer stamp : ℕ) (answer : AnswerText) (tag : X) (test : Pending X → Bool) (o : Option (Pending X)) → find test s.pending ≡ o → Answers (peer_answer_to g s peer stamp answer tag now mark o)
+    unfolding peer_answer_to
+    peer_answer_to_answers peer stamp answer tag test None waits = refused _
+    peer_answer_to_answers peer stamp answer tag test (Some p) waits = from_peer_answers p (waiting test p waits) now at peer stamp answer tag p.fetch
+
+    origin_answer_to_answers : (answer : AnswerText) (test : Pending X → Bool) (o : Option (Pending X)) → find test s.pending ≡ o → Answers (origin_answer_to g s answer now mark o)
+    unfolding origin_answer_to
+    origin_answer_to_answers answer test None waits = refused _
+    origin_answer_to_answers answer test (Some p) waits = from_origin_answers p (waiting test p waits) now at answer p.fetch
+
+    failure_of_answers : (test : Pending X → Bool) (o : Option (Pending X)) → find test s.pending ≡ o → Answers (failure_of g s now mark o)
+    unfolding failure_of
+    failure_of_answers test None waits = refused _
+    failure_of_answers test (Some p) waits = fails_answers p (waiting test p waits) now at p.fetch
+
+    expiry_of_answers : (test : Pending X → Bool) (o : Option (Pending X)) → find test s.pending ≡ o → Answers (expiry_of g s now mark o)
+    unfolding expiry_of
+    expiry_of_answers test None waits = refused _
+    expiry_of_answers test (Some p) waits = expires_answers p (waiting test p waits) now at p.round
+
+    told_to_answers : (by : Udp) (from : Address) (said : Peer → Said) (test : Pending X → Bool) (o : Option (Pending X)) → find test s.pending ≡ o → Answers (told_to g s by from said now mark o)
+    unfolding told_to
+    told_to_answers by from said test None waits = silent
+    told_to_answers by from said test (Some p) waits = told_by_answers p (waiting test p waits) now at said _
+
+    -- Datagrams
+
+    if_desired_answers : (t : NodeState X) → GoesOn t → (desired : Bool) (from : Address) (m : Message) → Answers (if_desired t desired from m)
+    if_desired_answers t on true from m = plainly t _ on tt
+    if_desired_answers t on false from m = plainly t _ on tt
+
+    purge_answers : (from : Address) (trans : ℕ) (desired : Bool) (key : List ℕ) (n : ℕ) → Answers (purge s from trans desired key n)
+    unfolding purge
+    purge_answers from trans desired key n =
+        branches Answers (is_full s.floors key) _ _ (λ _. if_desired_answers s here desired from _) (λ _. if_desired_answers (purged s key n) here desired from _)
+
+    numbered_answers : (from : Address) (trans : ℕ) (desired : Bool) (o : Option (List ℕ × ℕ)) → Answers (numbered_clr s from trans desired o)
+    unfolding numbered_clr
+    numbered_answers from trans desired None = if_desired_answers s here desired from _
+    numbered_answers from trans desired (Some x) = purge_answers from trans desired x.0 x.1
+
+    dropped_goes_on : (key : Option (List ℕ)) → GoesOn (dropped s key)
+    dropped_goes_on None = here
+    dropped_goes_on (Some key) = here
+
+    plain_clr_answers : (from : Address) (trans : ℕ) (desired : Bool) (key : Option (List ℕ)) → Answers (plain_clr g s from trans desired key)
+    unfolding plain_clr
+    plain_clr_answers from trans desired key =
+        branches Answers (is_known g.roster g.id udp.Htcp from || is_master g.roster from) _ _
+        (λ _. if_desired_answers (dropped s key) (dropped_goes_on key) desired from _) (λ _. if_desired_answers s here desired from _)
+
+    clr_by_line_answers : (from : Address) (trans : ℕ) (desired : Bool) (key : Option (List ℕ)) (line : Result (Option ℕ) HtcpFault) → Answers (clr_by_line g s from trans desired key line)
+    unfolding clr_by_line
+    clr_by_line_answers from trans desired key (Ok None) = plain_clr_answers from trans desired key
+    clr_by_line_answers from trans desired key (Ok (Some n)) = numbered_answers from trans desired _
+    clr_by_line_answers from trans desired key (Err fault) = if_desired_answers s here desired from _
+
+    htcp_told_answers : (from : Address) (trans : ℕ) (said : Peer → Said) → Answers (htcp_told g s from trans said now mark)
+    unfolding htcp_told
+    htcp_told_answers from trans said = told_to_answers _ from said _ _ refl
+
+    icp_comes_answers : (from : Address) (m : Icp) (o : IcpOp) → Answers (icp_comes g s from m now mark o)
+    unfolding icp_comes icp_query icp_told
+    icp_comes_answers from m op.Query = plainly s _ here tt
+    icp_comes_answers from m _ = told_to_answers _ from _ _ _ refl
+
+    tst_refused_answers : (from : Address) (trans opcode : ℕ) → Answers (tst_refused g s from trans opcode now mark)
+    unfolding tst_refused
+    tst_refused_answers from trans opcode = branches Answers (nat_eq opcode 1) _ _ (λ _. htcp_told_answers from trans _) (λ _. silent)
+
+    htcp_comes_answers : (from : Address) (trans : ℕ) (content : Content) → Answers (htcp_comes g s from trans now mark content)
+    unfolding htcp_comes htcp_tst htcp_clr
+    htcp_comes_answers from trans (content.NopAsk desired) = if_desired_answers s here desired from _
+    htcp_comes_answers from trans content.NopAnswer = silent
+    htcp_comes_answers from trans (content.TstAsk desired spec) = if_desired_answers s here desired from _
+    htcp_comes_answers from trans (content.TstHit detail) = htcp_told_answers from trans _
+    htcp_comes_answers from trans (content.TstMiss cache) = htcp_told_answers from trans _
+    htcp_comes_answers from trans (content.ClrAsk desired reason spec) = clr_by_line_answers from trans desired _ _
+    htcp_comes_answers from trans (content.ClrAnswer code) = silent
+    htcp_comes_answers from trans (content.Other opcode desired) = if_desired_answers s here desired from _
+    htcp_comes_answers from trans (content.Overall opcode code) = tst_refused_answers from trans opcode
+    htcp_comes_answers from trans (content.OtherAnswer opcode code) = tst_refused_answers from trans opcode
+
+    datagram_answers : (from : Address) (m : Message) → Answers (datagram g s from now mark m)
+    unfolding datagram
+    datagram_answers from (message.Icp m) = icp_comes_answers from m m.op
+    datagram_answers from (message.Htcp m) = htcp_comes_answers from m.trans m.content
+
+-- The whole step
+
+module _ {X : Type 0} (g : Setting) (s : NodeState X) (mark : X) where
+  open_step_answers : s.closed ≡ false → (e : Event X) → AnswersAsks s e (open_step g s mark e).outcome (open_step g s mark e).state
+  unfolding open_step peer_answer foreign_answer origin_answer fetch_failed round_expired
+  open_step_answers is_open (event.Client ask now) = ask_comes_answers g s _ mark is_open None ask now (refl, refl) refl
+  open_step_answers is_open (event.Datagram from m now) = datagram_answers g s _ mark is_open now refl from m
+  open_step_answers is_open (event.PeerAsk asker ask now) = ask_comes_answers g s _ mark is_open (Some asker) ask now (refl, refl) refl
+  open_step_answers is_open (event.PeerAnswer serial peer key answer tag now) =
+      branches (Answers g s _ mark is_open) (is_foreign_id peer) _ _ (λ _. refused g s _ mark is_open _)
+      (λ _. peer_answer_to_answers g s _ mark is_open now refl peer _ answer tag _ _ refl)
+  open_step_answers is_open (event.OriginAnswer serial key answer now) = origin_answer_to_answers g s _ mark is_open now refl answer _ _ refl
+  open_step_answers is_open (event.ForeignAnswer serial peer key answer tag now) =
+      branches (Answers g s _ mark is_open) (is_foreign_id peer) _ _
+      (λ _. peer_answer_to_answers g s _ mark is_open now refl peer 0 answer tag _ _ refl) (λ _. refused g s _ mark is_open _)
+  open_step_answers is_open (event.FetchFailed serial now) = failure_of_answers g s _ mark is_open now refl _ _ refl
+  open_step_answers is_open (event.Expired serial now) = expiry_of_answers g s _ mark is_open now refl _ _ refl
+
+  -- a closed node's asks stay, and it serves none
+  closed_answers : (e : Event X) → s.closed ≡ true → (f : StepFault) → AnswersAsks s e (Err f) s
+  closed_answers e is f = record {
+    asks = all_mapped (Contains s.pending) (IsAskAfter s e s.next) (λ p has. inl record { was = p; waits = has; block_same = refl; asker_same = refl; ask_same = refl }) s.pending (all_contained s.pending);
+    blocks = λ is_open. absurd (true_not_false (sym is ∙ is_open));
+    serves = tt;
+  }
+
+  step_if_answers : (e : Event X) (closed : Bool) → s.closed ≡ closed → AnswersAsks s e (step_if g s e mark closed).outcome (step_if g s e mark closed).state
+  unfolding step_if
+  step_if_answers e true is = closed_answers e is _
+  step_if_answers e false is = open_step_answers is e
+
+  step_answers : (e : Event X) → AnswersAsks s e (step g s e mark).outcome (step g s e mark).state
+  unfolding step
+  step_answers e = step_if_answers e s.closed refl
+
+  same_answers : (e : Event X) (f : StepFault) → AnswersAsks s e (Err f) s
+  same_answers e f = record {
+    asks = all_mapped (Contains s.pending) (IsAskAfter s e s.next) (λ p has. inl record { was = p; waits = has; block_same = refl; asker_same = refl; ask_same = refl }) s.pending (all_contained s.pending);
+    blocks = λ is_open. (is_open, omega arith);
+    serves = tt;
+  }
+
+  closing_asks : (e : Event X) (o : Option (List ℕ × ℕ)) (next : NodeState X) → ClosesOn s o next → AllByRecursion (IsAskAfter s e next.next) next.pending
+  closing_asks e None next h = absurd h
+  closing_asks e (Some x) next h = subst (λ pending. AllByRecursion (IsAskAfter s e next.next) pending) (sym h.pending) tt
+
+  closing_answers : (e : Event X) (next : NodeState X) (f : StepFault) → Closes g s e next → AnswersAsks s e (Err f) next
+  closing_answers e next f h = record {
+    asks = closing_asks e (purge_in g e) next h.1;
+    blocks = λ is_open. absurd (closing_closes g s e mark (purge_in g e) next h.1 is_open);
+    serves = tt;
+  }
+
+  -- each step of a node serves what was asked
+  pub steps_answer_asks : (e : Event X) (outcome : Result (Reply X) StepFault) (next : NodeState X) → Steps g s e mark outcome next → AnswersAsks s e outcome next
+  steps_answer_asks e outcome next steps =
+      steps_case g s e mark (λ r. AnswersAsks s e r.outcome r.state) (step_answers e) (same_answers e _) (λ n f h. closing_answers e n f h) outcome next steps

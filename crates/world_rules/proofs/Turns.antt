@@ -1,0 +1,205 @@
+-- Each event keeps the lineage of the world.
+use Rattle.std.proofs.Common.{◌≡◌, ℕ, ◌+◌, Bool, true, false, cond, ◌||◌, List, [], ◌∷◌, ◌++◌, length, Option, Some, None, Result, refl, sym, ◌∙◌, ap, subst, nat_eq, unwrap_or, arith}
+use Rattle.std.specs.Prelude.{find, is_some, option_map}
+use Rattle.url_key.specs.Key.{IsKey}
+use Rattle.std.proofs.lemmas.Option.{none-some}
+use Rattle.roster_tables.specs.declared.plain.Address.{Address}
+use Rattle.roster_tables.specs.declared.plain.Udp.{Udp}
+use Rattle.roster_tables.specs.declared.plain.Udp.TheVariants as udp
+use Rattle.htcp_wire.specs.declared.message.Content.{Content}
+use Rattle.htcp_wire.specs.declared.message.Content.TheVariants as content
+use Rattle.node_rules.specs.declared.message.Message.{Message}
+use Rattle.node_rules.specs.declared.message.Message.TheVariants as message
+use Rattle.fetch_messages.specs.Answer.{AnswerText}
+use Rattle.object_store.specs.declared.copy.WebCopy.{WebCopy}
+use Rattle.roster_tables.specs.declared.plain.Member.{Member}
+use Rattle.node_rules.specs.declared.state.Fetch.{Fetch}
+use Rattle.node_rules.specs.declared.state.Fetch.TheVariants.{Nowhere, AtPeer, AtOrigin}
+use Rattle.node_rules.specs.declared.state.Pending.{Pending}
+use Rattle.node_rules.specs.declared.event.Event.{Event}
+use Rattle.node_rules.specs.declared.event.Event.TheVariants as event
+use Rattle.node_rules.specs.declared.reply.Reply.{Reply}
+use Rattle.node_rules.specs.declared.reply.StepFault.{StepFault}
+use Rattle.roster_tables.specs.Ranges.{is_foreign_id}
+use Rattle.roster.specs.Lookups.{is_master, is_member, member_at, same_address, address_by}
+use Rattle.node_rules.specs.State.{opened}
+use Rattle.node_rules.specs.Effect.{acknowledged as acknowledged_by_message}
+use Rattle.purge_rules.specs.declared.fault.MasterFault.{MasterFault}
+use Rattle.purge_rules.specs.Members.{members_of}
+use Rattle.purge_rules.specs.Calls.{is_acknowledging, issue_fault, acknowledged, status_of}
+use Rattle.node_rules.proofs.Cases.{branches, same_Some, true_not_false}
+use Rattle.node_rules.proofs.Lawful.{steps_are_lawful}
+use Rattle.world_rules.specs.Hierarchy.{Hierarchy, IsHierarchy, setting, is_own, udp_of}
+use Rattle.world_rules.specs.World.{Datagram, PeerAsk, PeerAnswer, World, item, node_at, after_node}
+use Rattle.world_rules.specs.declared.event.WorldEvent.{WorldEvent}
+use Rattle.world_rules.specs.declared.event.WorldEvent.TheVariants as world
+use Rattle.world_rules.specs.declared.outcome.WorldFault.TheVariants.{NoSuchPacket}
+use Rattle.world_rules.specs.Turn.{Seen, Replied, NotIssued, Told, Nothing, Turn, NodeSteps, Ends, Refused, at_member, with_clock, with_master, with_seat, closed_node, issue_by, told, acknowledged_by, master_hears_htcp, master_hears, delivered_to, delivered, ask_delivered, answer_delivered, origin_by, origin_to, foreign_by, foreign_to, fetching_at, turn}
+use Rattle.world_rules.specs.Run.{Step, Takes, IsOfKey, Happens, purged_by, TellsDone, ServesCopy}
+use Rattle.world_rules.specs.Lineage.{HasRaised, IsClear, IsMastersRightly, IsObeyed, IsSentAnswer, NodeHasLineage, AllHaveRaised, HasLineage}
+use Rattle.world_rules.proofs.Seats.{same_id, all_item}
+use Rattle.world_rules.proofs.NodeTurns.{ComesRightly, takes_keeps, silent_keeps}
+use Rattle.world_rules.proofs.MasterTurns.{clock_keeps, resend_keeps, acknowledge_keeps, told_raised}
+use Rattle.world_rules.proofs.Counting.{with_step, as_step, counted, left_number, issue_keeps}
+
+-- what an event's turn comes to: a node's step on what came rightly, or a world with its lineage
+pub record IsRightStep (h : Hierarchy) (past : List Step) (id : ℕ) (e : Event ℕ) : Type 0 where
+  pub comes : ComesRightly h past e
+  pub member : is_member h.roster id ≡ true
+
+pub record IsRightEnd (h : Hierarchy) (past : List Step) (event : WorldEvent) (seen : Seen) (w : World) : Type 0 where
+  pub lineage : HasLineage h (with_step past event seen) w
+  pub serves_none : (c : WebCopy ℕ) → ServesCopy seen c → ⊥
+
+abbrev pub IsRight : Hierarchy → List Step → WorldEvent → Turn → Type 0
+IsRight h past event (NodeSteps id e serial) = IsRightStep h past id e
+IsRight h past event (Ends seen w) = IsRightEnd h past event seen w
+IsRight h past event (Refused fault) = Unit {0}
+
+-- Look-ups
+
+-- who is found by an address is a member
+found_known : (members : List Member) (test : Member → Bool) (c : Member) → find test members ≡ Some c → is_some (find (λ m. nat_eq m.cache.id c.cache.id) members) ≡ true
+found_known [] test c e = absurd (none-some c e)
+found_known (d ∷ members) test c e =
+    (branches (λ (o : Option Member). o ≡ Some c → is_some (find (λ m. nat_eq m.cache.id c.cache.id) (d ∷ members)) ≡ true) (test d) (Some d) (find test members)
+    (λ _ f. ap (λ b. is_some (cond b (Some d) (find (λ m. nat_eq m.cache.id c.cache.id) members))) (subst (λ (x : Member). nat_eq d.cache.id x.cache.id ≡ true) (same_Some d c f) (same_id d.cache.id)))
+    (λ _ f. branches (λ (o : Option Member). is_some o ≡ true) (nat_eq d.cache.id c.cache.id) (Some d) (find (λ m. nat_eq m.cache.id c.cache.id) members) (λ _. refl) (λ _. found_known members test c f))) e
+
+member_by : (members : List Member) (test : Member → Bool) (o : Option Member) (id : ℕ) → find test members ≡ o → option_map (λ (c : Member). c.cache.id) o ≡ Some id → is_some (find (λ m. nat_eq m.cache.id id) members) ≡ true
+member_by members test None id is e = absurd (none-some id e)
+member_by members test (Some c) id is e = subst (λ n. is_some (find (λ m. nat_eq m.cache.id n) members) ≡ true) (same_Some c.cache.id id e) (found_known members test c is)
+
+member_at_known : (h : Hierarchy) (by : Udp) (address : Address) (id : ℕ) → member_at h.roster address by ≡ Some id → is_member h.roster id ≡ true
+member_at_known h by address id e = member_by h.roster.members (λ c. same_address address (address_by by c.cache)) _ id refl e
+
+or_false : (a b : Bool) → (a || b) ≡ false → a ≡ false
+or_false true b h = h
+or_false false b h = refl
+
+module _ (h : Hierarchy) (proper : IsHierarchy h) (past : List Step) (w : World) (lineage : HasLineage h past w) where
+  -- an event at a member is right if it is where it is one
+  at_member_right : (event : WorldEvent) (id : ℕ) (t : Turn) → (is_member h.roster id ≡ true → IsRight h past event t) → IsRight h past event (at_member h.roster id t)
+  at_member_right event id t right = branches (IsRight h past event) (is_member h.roster id) t (Refused NoSuchPacket) right (λ _. tt)
+
+  -- an end that issues nothing
+  end_right : (event : WorldEvent) (seen : Seen) (new : World) → purged_by event seen ≡ None → HasLineage h past new → ((number : ℕ) → TellsDone number seen → AllHaveRaised h past new.seats number) → ((c : WebCopy ℕ) → ServesCopy seen c → ⊥) → IsRight h past event (Ends seen new)
+  end_right event seen new silent kept tells none = record { lineage = counted h past event seen new silent record { lineage = kept; tells = tells }; serves_none = none }
+
+  quiet_right : (event : WorldEvent) (new : World) → purged_by event Nothing ≡ None → HasLineage h past new → IsRight h past event (Ends Nothing new)
+  quiet_right event new silent kept = end_right event Nothing new silent kept (λ number t. absurd t) (λ c s. absurd s)
+
+  -- The master
+
+  told_right : (event : WorldEvent) (number : ℕ) (new : World) → ((s : Seen) → purged_by event (Told number (status_of (members_of h.roster) new.master number)) ≡ None) → HasLineage h past new → IsRight h past event (told h.roster new number)
+  told_right event number new silent kept = end_right event (Told number (status_of (members_of h.roster) new.master number)) new (silent Nothing) kept (λ n t. told_raised h past new kept number n t) (λ c s. absurd s)
+
+  acknowledged_right : (which : ℕ) (number code : ℕ) (o : Option ℕ) → ((id : ℕ) → o ≡ Some id → is_acknowledging code ≡ true → HasRaised past (node_at w.seats id) number) → IsRight h past (world.Datagram which) (acknowledged_by h.roster w number code o)
+  acknowledged_right which number code None raised = quiet_right (world.Datagram which) w refl lineage
+  acknowledged_right which number code (Some id) raised =
+      told_right (world.Datagram which) number (with_master w (acknowledged (members_of h.roster) w.master id number code).purges) (λ s. refl) (acknowledge_keeps h past w lineage proper.roster id number code (raised id refl))
+
+  master_htcp_right : (which : ℕ) (sender : Address) (minor trans : ℕ) (c : Content) → ((number : ℕ) → acknowledged_by_message (message.Htcp record { minor = minor; trans = trans; content = c }) ≡ Some number → (id : ℕ) → member_at h.roster sender udp.Htcp ≡ Some id → HasRaised past (node_at w.seats id) number) → IsRight h past (world.Datagram which) (master_hears_htcp h.roster w sender trans c)
+  master_htcp_right which sender minor trans (content.ClrAnswer code) raised =
+      acknowledged_right which trans code (member_at h.roster sender udp.Htcp) (λ id from counts. raised trans (ap (λ b. cond b (Some trans) None) counts) id from)
+  master_htcp_right which sender minor trans _ raised = quiet_right (world.Datagram which) w refl lineage
+
+  master_right : (which : ℕ) (sender : Address) (m : Message) → ((number : ℕ) → acknowledged_by_message m ≡ Some number → (id : ℕ) → member_at h.roster sender udp.Htcp ≡ Some id → HasRaised past (node_at w.seats id) number) → IsRight h past (world.Datagram which) (master_hears h.roster w sender m)
+  master_right which sender (message.Icp m) raised = quiet_right (world.Datagram which) w refl lineage
+  master_right which sender (message.Htcp m) raised = master_htcp_right which sender m.minor m.trans m.content raised
+
+  issue_right : (key : List ℕ) → IsKey key → (o : Option MasterFault) → issue_fault w.master ≡ o → IsRight h past (world.Issue key) (issue_by h.roster w key o)
+  issue_right key is_key (Some fault) left = end_right (world.Issue key) (NotIssued fault) w refl lineage (λ number t. absurd t) (λ c s. absurd s)
+  issue_right key is_key None left = record { lineage = issue_keeps h past w lineage key is_key (left_number w.master left); serves_none = λ c s. absurd s }
+
+  -- Deliveries
+
+  to_right : (event : WorldEvent) (sender : Address) (m : Message) (by : Udp) (address : Address) → (is_master h.roster sender ≡ true → IsClear past m) → (o : Option ℕ) → member_at h.roster address by ≡ o → IsRight h past event (delivered_to w sender m o)
+  to_right event sender m by address right None at = tt
+  to_right event sender m by address right (Some id) at = record { comes = right; member = member_at_known h by address id at }
+
+  delivered_right : (which : ℕ) (o : Option Datagram) → item w.datagrams which ≡ o → IsRight h past (world.Datagram which) (delivered h.roster w o)
+  delivered_right which None is = tt
+  delivered_right which (Some d) is =
+      let masters : IsMastersRightly h past d = all_item (IsMastersRightly h past) w.datagrams which d lineage.masters is in
+      let obeyed : IsObeyed h past w.seats d = all_item (IsObeyed h past w.seats) w.datagrams which d lineage.obeyed is in
+      branches (IsRight h past (world.Datagram which)) (is_master h.roster d.receiver) (master_hears h.roster w d.sender d.message) (delivered_to w d.sender d.message (member_at h.roster d.receiver (udp_of d.message)))
+      (λ to_master. master_right which d.sender d.message (obeyed to_master)) (λ _. to_right (world.Datagram which) d.sender d.message (udp_of d.message) d.receiver masters (member_at h.roster d.receiver (udp_of d.message)) refl)
+
+  ask_right : (which : ℕ) (o : Option PeerAsk) → IsRight h past (world.Ask which) (ask_delivered h.roster w o)
+  ask_right which None = tt
+  ask_right which (Some a) = at_member_right (world.Ask which) a.receiver (NodeSteps a.receiver (event.PeerAsk a.sender a.ask w.clock) a.serial) (λ member. record { comes = tt; member = member })
+
+  answer_right : (which : ℕ) (serial : Option ℕ) (o : Option PeerAnswer) → item w.answers which ≡ o → IsRight h past (world.Answer which serial) (answer_delivered h.roster w serial o)
+  answer_right which serial None is = tt
+  answer_right which serial (Some a) is =
+      at_member_right (world.Answer which serial) a.receiver (NodeSteps a.receiver (event.PeerAnswer (unwrap_or serial a.serial) a.sender a.key a.answer a.mark w.clock) 0)
+      (λ member. record { comes = all_item (IsSentAnswer past) w.answers which a lineage.answers is; member = member })
+
+  -- Answers from outside
+
+  origin_by_right : (id serial : ℕ) (answer : AnswerText) (key : List ℕ) (fetch : Fetch ℕ) → is_member h.roster id ≡ true → IsRight h past (world.Origin id serial answer) (origin_by w id serial answer key fetch)
+  origin_by_right id serial answer key (AtOrigin stamp asked mark) member = record { comes = tt; member = member }
+  origin_by_right id serial answer key (AtPeer peer asked) member = tt
+  origin_by_right id serial answer key Nowhere member = tt
+
+  origin_right : (id serial : ℕ) (answer : AnswerText) (o : Option (Pending ℕ)) → is_member h.roster id ≡ true → IsRight h past (world.Origin id serial answer) (origin_to w id serial answer o)
+  origin_right id serial answer None member = tt
+  origin_right id serial answer (Some p) member = origin_by_right id serial answer p.ask.key p.fetch member
+
+  foreign_by_right : (id serial : ℕ) (answer : AnswerText) (key : List ℕ) (fetch : Fetch ℕ) → is_member h.roster id ≡ true → IsRight h past (world.Foreign id serial answer) (foreign_by w id serial answer key fetch)
+  foreign_by_right id serial answer key (AtPeer peer asked) member =
+      branches (IsRight h past (world.Foreign id serial answer)) (is_foreign_id peer) _ _ (λ _. record { comes = tt; member = member }) (λ _. tt)
+  foreign_by_right id serial answer key (AtOrigin stamp asked mark) member = tt
+  foreign_by_right id serial answer key Nowhere member = tt
+
+  foreign_right : (id serial : ℕ) (answer : AnswerText) (o : Option (Pending ℕ)) → is_member h.roster id ≡ true → IsRight h past (world.Foreign id serial answer) (foreign_to w id serial answer o)
+  foreign_right id serial answer None member = tt
+  foreign_right id serial answer (Some p) member = foreign_by_right id serial answer p.ask.key p.fetch member
+
+  -- Faults and restarts
+
+  closed_right : (id : ℕ) → NodeHasLineage past (closed_node (node_at w.seats id))
+  closed_right id = record { seen_issued = (lineage.nodes id).seen_issued; copies = λ is_open. absurd (true_not_false is_open); reads = tt }
+
+  opened_right : (id : ℕ) → NodeHasLineage past (opened (node_at w.seats id).floors)
+  opened_right id = record { seen_issued = (lineage.nodes id).seen_issued; copies = λ is_open. tt; reads = tt }
+
+  -- each event is right
+  pub turn_right : (event : WorldEvent) → IsOfKey event → IsRight h past event (turn h.roster w event)
+  turn_right (world.Clock now) key = quiet_right (world.Clock now) (with_clock w now) refl (clock_keeps h past w lineage now)
+  turn_right (world.Client id ask) key = at_member_right (world.Client id ask) id (NodeSteps id (event.Client ask w.clock) 0) (λ member. record { comes = tt; member = member })
+  turn_right (world.Datagram number) key = delivered_right number (item w.datagrams number) refl
+  turn_right (world.Ask number) key = ask_right number (item w.asks number)
+  turn_right (world.Answer number serial) key = answer_right number serial (item w.answers number) refl
+  turn_right (world.Origin id serial answer) key = at_member_right (world.Origin id serial answer) id _ (origin_right id serial answer (fetching_at w id serial))
+  turn_right (world.Foreign id serial answer) key = at_member_right (world.Foreign id serial answer) id _ (foreign_right id serial answer (fetching_at w id serial))
+  turn_right (world.Fail id serial) key = at_member_right (world.Fail id serial) id (NodeSteps id (event.FetchFailed serial w.clock) 0) (λ member. record { comes = tt; member = member })
+  turn_right (world.Expire id serial) key = at_member_right (world.Expire id serial) id (NodeSteps id (event.Expired serial w.clock) 0) (λ member. record { comes = tt; member = member })
+  turn_right (world.Fault id) key = at_member_right (world.Fault id) id _ (λ member. quiet_right (world.Fault id) (with_seat w id (closed_node (node_at w.seats id))) refl (silent_keeps h past w lineage id _ (λ key. omega arith) (closed_right id)))
+  turn_right (world.Restart id) key = at_member_right (world.Restart id) id _ (λ member. quiet_right (world.Restart id) (with_seat w id (opened (node_at w.seats id).floors)) refl (silent_keeps h past w lineage id _ (λ key. omega arith) (opened_right id)))
+  turn_right (world.Issue key) is_key = issue_right key is_key (issue_fault w.master) refl
+  turn_right world.Resend key = quiet_right world.Resend _ refl (resend_keeps h past w lineage)
+  turn_right (world.Status number) key = told_right (world.Status number) number w (λ s. refl) lineage
+  turn_right world.RestartMaster key = quiet_right world.RestartMaster w refl lineage
+  turn_right (world.Strange to sender m) key =
+      branches (IsRight h past (world.Strange to sender m)) (is_own h.roster sender) (Refused NoSuchPacket) _ (λ _. tt)
+      (λ strange. to_right (world.Strange to sender m) sender m (udp_of m) to (λ master. absurd (true_not_false (sym master ∙ or_false (is_master h.roster sender) _ strange))) (member_at h.roster to (udp_of m)) refl)
+
+-- a node's step issues no purge
+issues_nothing : (event : WorldEvent) (id : ℕ) (outcome : Result (Reply ℕ) StepFault) → purged_by event (Replied id outcome) ≡ None
+issues_nothing (world.Issue key) id outcome = refl
+issues_nothing _ id outcome = refl
+
+module _ (h : Hierarchy) (proper : IsHierarchy h) (past : List Step) (old : World) (lineage : HasLineage h past old) (event : WorldEvent) (seen : Seen) (new : World) where
+  takes_on : (t : Turn) → IsRight h past event t → Takes h (length past + 1) old t seen new → HasLineage h (with_step past event seen) new
+  takes_on (NodeSteps id e serial) right (outcome, next, steps, is_seen, is_new) =
+      let law = steps_are_lawful (setting h id) (node_at old.seats id) e (length past + 1) outcome next steps in
+      let kept : HasLineage h past (after_node h.roster old id e serial outcome next) = takes_keeps h proper past old lineage id e right.comes serial outcome next law in
+      rw (is_seen, is_new) (counted h past event (Replied id outcome) (after_node h.roster old id e serial outcome next) (issues_nothing event id outcome) record { lineage = kept; tells = λ number t. absurd t })
+  takes_on (Ends what world) right (is_seen, is_new) = rw (is_seen, is_new) right.lineage
+  takes_on (Refused fault) right takes = absurd takes
+
+  -- each event keeps the lineage of the world
+  pub happens_keeps : Happens h (length past + 1) old event seen new → HasLineage h (past ++ record { event = event; seen = seen } ∷ []) new
+  happens_keeps (key, takes) = subst (λ steps. HasLineage h steps new) (as_step past event seen) (takes_on (turn h.roster old event) (turn_right h proper past old lineage event key) takes)

@@ -1,0 +1,106 @@
+-- What one event does where neither memory nor a floor store fails, as a function; and what is told of it.
+use Rattle.std.specs.Prelude.{◌≡◌, ℕ, zero, suc, ◌+◌, ◌-◌, nat_lt, List, [], ◌∷◌, length, Option, Some, None, Result, Ok, Err, if◌then◌else◌}
+use Rattle.node_rules.specs.declared.event.Event.{Event}
+use Rattle.node_rules.specs.declared.reply.Begin.{Begin}
+use Rattle.node_rules.specs.declared.reply.Begin.TheVariants as begin
+use Rattle.node_rules.specs.declared.reply.Reply.{Reply}
+use Rattle.node_rules.specs.declared.reply.StepFault.{StepFault}
+use Rattle.node_rules.specs.State.{Stepped, quiet}
+use Rattle.node_rules.specs.Step.{step}
+use Rattle.purge_rules.specs.declared.calls.Status.{Status}
+use Rattle.world_rules.specs.declared.event.WorldEvent.{WorldEvent}
+use Rattle.world_rules.specs.declared.outcome.Outcome.{Outcome}
+use Rattle.world_rules.specs.declared.outcome.ActorFault.{ActorFault}
+use Rattle.world_rules.specs.declared.outcome.ActorFault.TheVariants as actor
+use Rattle.world_rules.specs.declared.outcome.WorldFault.{WorldFault}
+use Rattle.world_rules.specs.Hierarchy.{Hierarchy, setting}
+use Rattle.world_rules.specs.World.{World, node_at, reply_in, after_node}
+use Rattle.world_rules.specs.Turn.{Seen, Replied, Issued, NotIssued, Told, Turn, NodeSteps, Ends, Refused, turn}
+use Rattle.world_rules.specs.Run.{Happens}
+
+-- so many numbers after this one
+abbrev pub numbers_after : ℕ → ℕ → List ℕ
+numbers_after first zero = []
+numbers_after first (suc count) = (first + 1) ∷ numbers_after (first + 1) count
+
+-- the number of the item that was sent, if one was
+abbrev pub new_item : ℕ → ℕ → Option ℕ
+new_item before after = if nat_lt before after then Some after else None
+
+-- what a node replied, or nothing
+abbrev pub reply_of : Seen → Reply ℕ
+reply_of (Replied id outcome) = reply_in outcome
+reply_of _ = quiet
+
+-- the number that a purge got
+abbrev pub purge_of : Seen → Option ℕ
+purge_of (Issued number) = Some number
+purge_of _ = None
+
+-- the status that the master told, with the number of its purge
+abbrev pub status_of : Seen → Option (ℕ × Status)
+status_of (Told number status) = Some (number, status)
+status_of _ = None
+
+-- the serial of a round that begins
+abbrev pub round_in : Option Begin → Option ℕ
+round_in (Some (begin.Round serial)) = Some serial
+round_in _ = None
+
+-- the serial of a read that begins
+abbrev pub read_in : Option Begin → Option ℕ
+read_in (Some (begin.Read serial ask)) = Some serial
+read_in _ = None
+
+-- the fault of a node's step
+abbrev pub fault_in : Result (Reply ℕ) StepFault → Option ActorFault
+fault_in (Ok reply) = None
+fault_in (Err fault) = Some (actor.Step fault)
+
+-- the fault of a node or of the master
+abbrev pub fault_of : Seen → Option ActorFault
+fault_of (Replied id outcome) = fault_in outcome
+fault_of (NotIssued fault) = Some (actor.Master fault)
+fault_of _ = None
+
+-- what is told of what was seen, where the first world became the second
+abbrev pub outcome_of : World → World → Seen → Outcome
+outcome_of old new seen = record {
+  serve = (reply_of seen).serve;
+  answer = new_item (length old.answers) (length new.answers);
+  purge = purge_of seen;
+  status = status_of seen;
+  round = round_in (reply_of seen).begin;
+  sent = numbers_after (length old.datagrams) (length new.datagrams - length old.datagrams);
+  ask = new_item (length old.asks) (length new.asks);
+  read = read_in (reply_of seen).begin;
+  fault = fault_of seen;
+}
+
+-- an event is applied, or it is refused, changes nothing and has no place
+pub data Applied : Type 0 where
+  Did : (outcome : Outcome) (world : World) → Applied
+  DidNot : (fault : WorldFault) → Applied
+
+-- applied, with what is told of it
+abbrev pub did : World → Seen → World → Applied
+did old seen new = Did (outcome_of old new seen) new
+
+-- applied as this step of a node
+abbrev pub did_step : Hierarchy → World → ℕ → Event ℕ → ℕ → Stepped ℕ → Applied
+did_step h w id e serial r = did w (Replied id r.outcome) (after_node h.roster w id e serial r.outcome r.state)
+
+-- what a turn comes to where nothing fails
+abbrev pub by_turn : Hierarchy → ℕ → World → Turn → Applied
+by_turn h place w (NodeSteps id e serial) = did_step h w id e serial (step (setting h id) (node_at w.seats id) e place)
+by_turn h place w (Ends seen new) = did w seen new
+by_turn h place w (Refused fault) = DidNot fault
+
+-- one event, at this place
+abbrev pub apply : Hierarchy → ℕ → World → WorldEvent → Applied
+apply h place w event = by_turn h place w (turn h.roster w event)
+
+-- what the function does of an event is one way that it may happen, and it refuses just what is no event
+abbrev pub IsDone : Hierarchy → ℕ → World → WorldEvent → Applied → Type 0
+IsDone h place w event (Did outcome new) = (seen : Seen) × Happens h place w event seen new × (outcome ≡ outcome_of w new seen)
+IsDone h place w event (DidNot fault) = turn h.roster w event ≡ Refused fault

@@ -1,0 +1,102 @@
+-- What holds of the world at every place of every run: where stamps come from, and what an acknowledgement is worth.
+use Rattle.std.specs.Prelude.{◌≡◌, ℕ, ◌≤◌, List, length, Some, None, true, false, unwrap_or, ◌⊎◌}
+use Rattle.std.specs.List.{AllByRecursion}
+use Rattle.url_key.specs.Key.{IsKey}
+use Rattle.fetch_messages.specs.Answer.{AnswerText}
+use Rattle.object_store.specs.declared.copy.WebCopy.{WebCopy}
+use Rattle.purge_numbers.specs.Floors.{floor, seen}
+use Rattle.roster_tables.specs.declared.plain.Udp.TheVariants as udp
+use Rattle.roster.specs.Lookups.{is_member, is_master, member_at}
+use Rattle.node_rules.specs.declared.message.Message.{Message}
+use Rattle.node_rules.specs.declared.message.Message.TheVariants as message
+use Rattle.node_rules.specs.declared.state.Fetch.{Fetch}
+use Rattle.node_rules.specs.declared.state.Fetch.TheVariants.{Nowhere, AtPeer, AtOrigin}
+use Rattle.node_rules.specs.declared.state.Pending.{Pending}
+use Rattle.node_rules.specs.declared.state.NodeState.{NodeState}
+use Rattle.node_rules.specs.Arrivals.{is_gateway_fault}
+use Rattle.node_rules.specs.Effect.{acknowledged}
+use Rattle.purge_rules.specs.declared.purges.Purge.{Purge}
+use Rattle.purge_rules.specs.Members.{is_among}
+use Rattle.purge_rules.specs.Purges.{pending_at}
+use Rattle.purge_rules.specs.Clear.{clear}
+use Rattle.world_rules.specs.Hierarchy.{Hierarchy}
+use Rattle.world_rules.specs.World.{Seat, Datagram, PeerAnswer, World, node_at}
+use Rattle.world_rules.specs.Run.{Step, IsItem, purges, issued, IsReportedAt}
+
+-- the stamp is no greater than the number of purges issued before the mark
+abbrev pub IsStamped : List Step → ℕ → ℕ → Type 0
+IsStamped past stamp mark = stamp ≤ issued past mark
+
+-- so it is with a copy
+abbrev pub IsStampedCopy : List Step → WebCopy ℕ → Type 0
+IsStampedCopy past c = IsStamped past c.stamp c.tag
+
+-- and with a read of the origin
+abbrev pub IsStampedFetch : List Step → Fetch ℕ → Type 0
+IsStampedFetch past (AtOrigin stamp asked mark) = IsStamped past stamp mark
+IsStampedFetch past (AtPeer peer asked) = Unit {0}
+IsStampedFetch past Nowhere = Unit {0}
+
+-- and with the read of an ask
+abbrev pub IsStampedRead : List Step → Pending ℕ → Type 0
+IsStampedRead past p = IsStampedFetch past p.fetch
+
+-- a peer's answer is one that no peer uses, or its stamp is no greater than it may be
+abbrev pub IsStampedAnswer : List Step → AnswerText → ℕ → Type 0
+IsStampedAnswer past answer mark = (is_gateway_fault answer.status ≡ true) ⊎ IsStamped past (unwrap_or answer.stamp 0) mark
+
+-- so it is with an answer that was sent
+abbrev pub IsSentAnswer : List Step → PeerAnswer → Type 0
+IsSentAnswer past a = IsStampedAnswer past a.answer a.mark
+
+-- the purge of this number was issued, and the node's floor for its key is at least the number
+abbrev pub HasRaised : List Step → NodeState ℕ → ℕ → Type 0
+HasRaised past s number = (key : List ℕ) × IsItem (purges past) number key × (number ≤ floor s.floors key)
+
+-- the CLR of a purge that was issued, with its key
+pub record IsClear (past : List Step) (m : Message) : Type 0 where
+  pub number : ℕ
+  pub key : List ℕ
+  pub is_clear : m ≡ message.Htcp (clear number key)
+  pub issued_key : IsItem (purges past) number key
+  pub small : number ≤ 4294967295
+  pub is_key : IsKey key
+
+-- what comes from the master's address is a CLR
+abbrev pub IsMastersRightly : Hierarchy → List Step → Datagram → Type 0
+IsMastersRightly h past d = is_master h.roster d.sender ≡ true → IsClear past d.message
+
+-- a member that acknowledges a purge to the master has raised its floor
+abbrev pub IsObeyed : Hierarchy → List Step → List Seat → Datagram → Type 0
+IsObeyed h past seats d =
+    is_master h.roster d.receiver ≡ true → (number : ℕ) → acknowledged d.message ≡ Some number →
+    (id : ℕ) → member_at h.roster d.sender udp.Htcp ≡ Some id → HasRaised past (node_at seats id) number
+
+-- what holds of a node
+pub record NodeHasLineage (past : List Step) (s : NodeState ℕ) : Type 0 where
+  -- no floor is above what was issued
+  pub seen_issued : seen s.floors ≤ length (purges past)
+  pub copies : s.closed ≡ false → AllByRecursion (IsStampedCopy past) s.copies
+  pub reads : AllByRecursion (IsStampedRead past) s.pending
+
+-- a pending purge has its key, and the members that are marked have raised their floors
+pub record PurgeHasLineage (past : List Step) (seats : List Seat) (p : Purge) : Type 0 where
+  pub issued_key : IsItem (purges past) p.number p.key
+  pub is_key : IsKey p.key
+  pub marked : (id : ℕ) → is_among id p.marked ≡ true → HasRaised past (node_at seats id) p.number
+
+-- each member has raised its floor
+abbrev pub AllHaveRaised : Hierarchy → List Step → List Seat → ℕ → Type 0
+AllHaveRaised h past seats number = (id : ℕ) → is_member h.roster id ≡ true → HasRaised past (node_at seats id) number
+
+-- what holds of the world after the steps of the past
+pub record HasLineage (h : Hierarchy) (past : List Step) (w : World) : Type 0 where
+  pub last : w.master.last ≡ length (purges past)
+  pub small : w.master.last ≤ 4294967295
+  pub nodes : (id : ℕ) → NodeHasLineage past (node_at w.seats id)
+  pub masters : AllByRecursion (IsMastersRightly h past) w.datagrams
+  pub obeyed : AllByRecursion (IsObeyed h past w.seats) w.datagrams
+  pub answers : AllByRecursion (IsSentAnswer past) w.answers
+  pub pending : AllByRecursion (PurgeHasLineage past w.seats) w.master.pending
+  pub done : (number : ℕ) → 1 ≤ number → number ≤ w.master.last → pending_at w.master number ≡ None → AllHaveRaised h past w.seats number
+  pub reported : (place number : ℕ) → IsReportedAt past place number → AllHaveRaised h past w.seats number

@@ -1,0 +1,92 @@
+-- Whole runs, and what is said of them.
+use Rattle.std.specs.Prelude.{◌≡◌, ℕ, ◌+◌, ◌-◌, ◌≤◌, List, [], ◌∷◌, length, take, filter_map, slice_get, ◌⊎◌, Option, Some, None, Result}
+use Rattle.url_key.specs.Key.{IsKey}
+use Rattle.object_store.specs.declared.copy.WebCopy.{WebCopy}
+use Rattle.node_rules.specs.declared.state.NodeState.{NodeState}
+use Rattle.node_rules.specs.declared.reply.Reply.{Reply}
+use Rattle.node_rules.specs.declared.reply.StepFault.{StepFault}
+use Rattle.node_rules.specs.Relation.{Steps}
+use Rattle.node_rules.specs.Effect.{copy_served}
+use Rattle.purge_rules.specs.declared.calls.Status.TheVariants.{Done}
+use Rattle.world_rules.specs.declared.event.WorldEvent.{WorldEvent}
+use Rattle.world_rules.specs.declared.event.WorldEvent.TheVariants.{Issue}
+use Rattle.world_rules.specs.declared.outcome.WorldFault.{WorldFault}
+use Rattle.world_rules.specs.Hierarchy.{Hierarchy, setting}
+use Rattle.world_rules.specs.World.{World, node_at, after_node}
+use Rattle.world_rules.specs.Turn.{Seen, Replied, Issued, Told, Turn, NodeSteps, Ends, Refused, turn}
+
+-- A turn at this place of the run may be seen so, and leave this world. Only a node's step leaves a choice: it may want memory,
+-- or its floor store may fail. The place is its mark.
+abbrev pub Takes : Hierarchy → ℕ → World → Turn → Seen → World → Type 0
+Takes h place old (NodeSteps id e serial) seen new =
+    (outcome : Result (Reply ℕ) StepFault) × (next : NodeState ℕ)
+    × Steps (setting h id) (node_at old.seats id) e place outcome next
+    × (seen ≡ Replied id outcome) × (new ≡ after_node h.roster old id e serial outcome next)
+Takes h place old (Ends what world) seen new = (seen ≡ what) × (new ≡ world)
+Takes h place old (Refused fault) seen new = ⊥
+
+-- what is purged is the key of a URL
+abbrev pub IsOfKey : WorldEvent → Type 0
+IsOfKey (Issue key) = IsKey key
+IsOfKey _ = Unit {0}
+
+-- The event may happen in the old world at this place, be seen so, and leave the new world.
+abbrev pub Happens : Hierarchy → ℕ → World → WorldEvent → Seen → World → Type 0
+Happens h place old event seen new = IsOfKey event × Takes h place old (turn h.roster old event) seen new
+
+-- one event with what was seen of it
+pub record Step : Type 0 where
+  pub event : WorldEvent
+  pub seen : Seen
+
+-- these steps, the first of them at the place, lead from the old world to the new
+abbrev pub Run : Hierarchy → ℕ → World → List Step → World → Type 0
+Run h place old [] new = new ≡ old
+Run h place old (step ∷ steps) new = (next : World) × Happens h place old step.event step.seen next × Run h (place + 1) next steps new
+
+-- This list of events, any of which may be refused, leads through these steps. What is refused changes nothing and has no place.
+abbrev pub Plays : Hierarchy → ℕ → World → List WorldEvent → List Step → World → Type 0
+Plays h place old [] steps new = (steps ≡ []) × (new ≡ old)
+Plays h place old (event ∷ events) steps new =
+    ((fault : WorldFault) × (turn h.roster old event ≡ Refused fault) × Plays h place old events steps new)
+    ⊎ ((seen : Seen) × (next : World) × (rest : List Step) × Happens h place old event seen next
+    × (steps ≡ record { event = event; seen = seen } ∷ rest) × Plays h (place + 1) next events rest new)
+
+-- the item with this number, where items are counted from 1
+abbrev pub IsItem : {A : Type 0} → List A → ℕ → A → Type 0
+IsItem items number x = (1 ≤ number) × (slice_get items (number - 1) ≡ Some x)
+
+-- the key of the purge that an event issued
+abbrev pub purged_by : WorldEvent → Seen → Option (List ℕ)
+purged_by (Issue key) (Issued number) = Some key
+purged_by _ _ = None
+
+-- the keys of the purges that the steps issued, in order
+abbrev pub purges : List Step → List (List ℕ)
+purges steps = filter_map (λ step. purged_by step.event step.seen) steps
+
+-- how many purges were issued at places before this one
+abbrev pub issued : List Step → ℕ → ℕ
+issued steps place = length (purges (take (place - 1) steps))
+
+-- the event at this place issued the purge of this number, of this key
+abbrev pub IsIssuedAt : List Step → ℕ → ℕ → List ℕ → Type 0
+IsIssuedAt steps place number key = IsItem steps place (record { event = Issue key; seen = Issued number })
+
+-- what is seen tells that the purge of this number is done
+abbrev pub TellsDone : ℕ → Seen → Type 0
+TellsDone number (Told of Done) = of ≡ number
+TellsDone number _ = ⊥
+
+-- at this place the purge is reported done, by the last acknowledgement or by a later answer of the master
+abbrev pub IsReportedAt : List Step → ℕ → ℕ → Type 0
+IsReportedAt steps place number = (step : Step) × IsItem steps place step × TellsDone number step.seen
+
+-- what is seen begins to serve this copy, to a client or to a peer
+abbrev pub ServesCopy : Seen → WebCopy ℕ → Type 0
+ServesCopy (Replied id outcome) c = copy_served outcome ≡ Some c
+ServesCopy _ c = ⊥
+
+-- at this place some member begins to serve the copy
+abbrev pub IsServedAt : List Step → ℕ → WebCopy ℕ → Type 0
+IsServedAt steps place c = (step : Step) × IsItem steps place step × ServesCopy step.seen c

@@ -1,0 +1,29 @@
+-- The safety of purges: the theorem that this crate is for.
+use Rattle.std.specs.Prelude.{◌≡◌, ℕ, ◌+◌, ◌<◌, List, length, true, Result}
+use Rattle.object_store.specs.declared.copy.WebCopy.{WebCopy}
+use Rattle.node_rules.specs.declared.event.Event.{Event}
+use Rattle.node_rules.specs.declared.reply.Reply.{Reply}
+use Rattle.node_rules.specs.declared.reply.StepFault.{StepFault}
+use Rattle.node_rules.specs.Questions.{is_from_sibling, BeginsNothing}
+use Rattle.world_rules.specs.declared.event.WorldEvent.{WorldEvent}
+use Rattle.world_rules.specs.Hierarchy.{Hierarchy, setting}
+use Rattle.world_rules.specs.World.{World, node_at}
+use Rattle.world_rules.specs.Turn.{Replied, NodeSteps, turn}
+use Rattle.world_rules.specs.Run.{Step, Happens, IsIssuedAt, IsReportedAt, IsServedAt}
+
+-- Once a purge of a key is reported done, whatever copy of that key a member begins to serve, its reading from the origin
+-- began after the purge was issued. (A foreign cache's copy has the mark 0, so none is served.)
+abbrev pub NothingOldIsServed : List Step → Type 0
+NothingOldIsServed steps =
+    (number : ℕ) (key : List ℕ) (issued reported served : ℕ) (c : WebCopy ℕ) →
+    IsIssuedAt steps issued number key → IsReportedAt steps reported number → reported < served → IsServedAt steps served c →
+    c.key ≡ key → issued < c.tag
+
+-- In the world that the steps lead to, an event that brings a member a sibling's ask, a QUERY or a TST begins no round, no
+-- fetch and no read, and leaves no ask waiting.
+abbrev pub SiblingsAskNothing : Hierarchy → List Step → World → Type 0
+SiblingsAskNothing h steps before =
+    (event : WorldEvent) (id : ℕ) (e : Event ℕ) (serial : ℕ) (outcome : Result (Reply ℕ) StepFault) (after : World) →
+    turn h.roster before event ≡ NodeSteps id e serial → is_from_sibling (setting h id) e ≡ true →
+    Happens h (length steps + 1) before event (Replied id outcome) after →
+    BeginsNothing (node_at before.seats id) outcome (node_at after.seats id)

@@ -1,0 +1,51 @@
+-- What holds of the world at every place of every run: where contents come from, and which asks wait.
+use Rattle.std.specs.Prelude.{◌≡◌, ◌⊎◌, ℕ, ◌<◌, List, true, false, Some}
+use Rattle.std.specs.List.{AllByRecursion}
+use Rattle.node_rules.specs.declared.state.Fetch.{Fetch}
+use Rattle.node_rules.specs.declared.state.Fetch.TheVariants.{Nowhere, AtPeer, AtOrigin}
+use Rattle.node_rules.specs.declared.state.Pending.{Pending}
+use Rattle.node_rules.specs.declared.state.NodeState.{NodeState}
+use Rattle.node_rules.specs.State.{fetch_serial}
+use Rattle.node_rules.specs.Arrivals.{is_gateway_fault}
+use Rattle.world_rules.specs.Hierarchy.{Hierarchy}
+use Rattle.world_rules.specs.World.{PeerAnswer, Waiting, World, node_at, Answered, asked_before}
+use Rattle.world_rules.specs.Run.{Step}
+use Rattle.world_rules.specs.Provenance.{BeginsReadAt, HasSource, IsSourcedCopy}
+
+-- a read that is under way began at its mark
+abbrev pub FetchHasBegun : Hierarchy → List Step → ℕ → ℕ → List ℕ → Fetch ℕ → Type 0
+FetchHasBegun h past id serial key (AtOrigin stamp asked mark) = BeginsReadAt h past mark id serial key
+FetchHasBegun h past id serial key (AtPeer peer asked) = Unit {0}
+FetchHasBegun h past id serial key Nowhere = Unit {0}
+
+-- so did the read of an ask
+abbrev pub ReadHasBegun : Hierarchy → List Step → ℕ → Pending ℕ → Type 0
+ReadHasBegun h past id p = FetchHasBegun h past id (fetch_serial p) p.ask.key p.fetch
+
+-- a peer's answer is one that no peer uses, or has a source
+abbrev pub AnswerHasSource : Hierarchy → List Step → PeerAnswer → Type 0
+AnswerHasSource h past a = (is_gateway_fault a.answer.status ≡ true) ⊎ HasSource h past a.key a.mark a.answer
+
+-- what holds of a node: its copies have sources, and its reads began
+pub record NodeHasSources (h : Hierarchy) (past : List Step) (id : ℕ) (s : NodeState ℕ) : Type 0 where
+  pub copies : s.closed ≡ false → AllByRecursion (IsSourcedCopy h past) s.copies
+  pub reads : AllByRecursion (ReadHasBegun h past id) s.pending
+
+-- a block of this node is below its next
+abbrev pub IsTaken : ℕ → ℕ → Waiting → Type 0
+IsTaken id next x = x.node ≡ id → x.block < next
+
+-- a member's ask that waits here is kept with its key
+abbrev pub IsKept : List Waiting → ℕ → Pending ℕ → Type 0
+IsKept waiting id p = (asker : ℕ) → p.asker ≡ Some asker → (a : Answered) × (asked_before waiting id p.block ≡ Some a) × (a.key ≡ p.ask.key)
+
+-- what holds of the asks of peers that wait at a node
+pub record NodeHasAsks (waiting : List Waiting) (id : ℕ) (s : NodeState ℕ) : Type 0 where
+  pub taken : AllByRecursion (IsTaken id s.next) waiting
+  pub kept : AllByRecursion (IsKept waiting id) s.pending
+
+-- what holds of the world after the steps of the past
+pub record HasSources (h : Hierarchy) (past : List Step) (w : World) : Type 0 where
+  pub nodes : (id : ℕ) → NodeHasSources h past id (node_at w.seats id)
+  pub answers : AllByRecursion (AnswerHasSource h past) w.answers
+  pub asks : (id : ℕ) → (node_at w.seats id).closed ≡ false → NodeHasAsks w.waiting id (node_at w.seats id)

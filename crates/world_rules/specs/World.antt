@@ -1,0 +1,178 @@
+-- The nodes, the master and all that was ever sent.
+use Rattle.std.specs.Prelude.{ℕ, ◌-◌, Bool, ◌==◌, ◌&&◌, List, [], ◌∷◌, ◌++◌, map, find, slice_get, Option, Some, None, Result, Ok, Err, option_map, if◌then◌else◌}
+use Rattle.std.specs.FinMap.{empty}
+use Rattle.fetch_messages.specs.declared.ask.Ask.{Ask}
+use Rattle.fetch_messages.specs.Answer.{AnswerText}
+use Rattle.object_store.specs.declared.copy.WebCopy.{WebCopy}
+use Rattle.roster_tables.specs.Ranges.{is_foreign_id}
+use Rattle.roster_tables.specs.declared.plain.Address.{Address}
+use Rattle.roster_tables.specs.declared.plain.Member.{Member}
+use Rattle.roster_tables.specs.declared.plain.Tables.{Tables}
+use Rattle.roster.specs.Lookups.{member_of, address_by}
+use Rattle.node_rules.specs.declared.message.Message.{Message}
+use Rattle.node_rules.specs.declared.message.Outgoing.{Outgoing}
+use Rattle.node_rules.specs.declared.state.NodeState.{NodeState}
+use Rattle.node_rules.specs.declared.event.Event.{Event}
+use Rattle.node_rules.specs.declared.event.Event.TheVariants as event
+use Rattle.node_rules.specs.declared.reply.Served.{Served}
+use Rattle.node_rules.specs.declared.reply.Served.TheVariants.{Copy, Status}
+use Rattle.node_rules.specs.declared.reply.Serve.{Serve}
+use Rattle.node_rules.specs.declared.reply.Begin.{Begin}
+use Rattle.node_rules.specs.declared.reply.Begin.TheVariants as begin
+use Rattle.node_rules.specs.declared.reply.Reply.{Reply}
+use Rattle.node_rules.specs.declared.reply.StepFault.{StepFault}
+use Rattle.node_rules.specs.State.{opened, quiet}
+use Rattle.purge_rules.specs.Purges.{PurgeList, no_purges}
+use Rattle.world_rules.specs.Hierarchy.{udp_of}
+
+-- a member's node; its marks are places
+pub record Seat : Type 0 where
+  pub id : ℕ
+  pub node : NodeState ℕ
+
+-- a datagram, with the address that sent it and the address that it goes to
+pub record Datagram : Type 0 where
+  pub sender : Address
+  pub receiver : Address
+  pub message : Message
+
+-- an ask that a member sent to a member, under a serial of the sender
+pub record PeerAsk : Type 0 where
+  pub sender : ℕ
+  pub receiver : ℕ
+  pub serial : ℕ
+  pub ask : Ask
+
+-- an answer that a member sent to a member: for the serial and the key of its ask, with the mark of its copy
+pub record PeerAnswer : Type 0 where
+  pub sender : ℕ
+  pub receiver : ℕ
+  pub serial : ℕ
+  pub key : List ℕ
+  pub answer : AnswerText
+  pub mark : ℕ
+
+-- a peer's ask that waits at a node, as an ask of this block
+pub record Waiting : Type 0 where
+  pub node : ℕ
+  pub block : ℕ
+  pub serial : ℕ
+  pub key : List ℕ
+
+-- The network is the lists of everything ever sent, of which any item may come, again and in any order. What a restart keeps stands in
+-- the nodes' floors and in the master's purges.
+pub record World : Type 0 where
+  pub seats : List Seat
+  pub master : PurgeList
+  pub clock : ℕ
+  pub datagrams : List Datagram
+  pub asks : List PeerAsk
+  pub answers : List PeerAnswer
+  pub waiting : List Waiting
+
+-- a node that has nothing, not even a floor
+abbrev pub new_node : NodeState ℕ
+new_node = opened empty
+
+-- nothing is stored and nothing is sent
+abbrev pub new_world : Tables → World
+new_world roster = record { seats = map (λ m. record { id = m.cache.id; node = new_node }) roster.members; master = no_purges; clock = 0; datagrams = []; asks = []; answers = []; waiting = [] }
+
+-- the item with this number, where items are counted from 1
+abbrev pub item : {A : Type 0} → List A → ℕ → Option A
+item items number = if number == 0 then None else slice_get items (number - 1)
+
+-- a member's node
+abbrev pub node_at : List Seat → ℕ → NodeState ℕ
+node_at [] id = new_node
+node_at (seat ∷ seats) id = if seat.id == id then seat.node else node_at seats id
+
+-- the member's node is now this one
+abbrev pub with_node : List Seat → ℕ → NodeState ℕ → List Seat
+with_node [] id node = record { id = id; node = node } ∷ []
+with_node (seat ∷ seats) id node = if seat.id == id then record { id = id; node = node } ∷ seats else seat ∷ with_node seats id node
+
+-- What a node's reply sends
+
+-- the datagrams of a member, from its address for their protocol
+abbrev pub datagrams_from : Option Member → List Outgoing → List Datagram
+datagrams_from None sent = []
+datagrams_from (Some m) sent = map (λ o. record { sender = address_by (udp_of o.message) m.cache; receiver = o.to; message = o.message }) sent
+
+-- the ask that it sends to a member; foreign caches are no part of the world
+abbrev pub asks_in : ℕ → Option Begin → List PeerAsk
+asks_in id (Some (begin.Peer serial peer ask)) = if is_foreign_id peer then [] else record { sender = id; receiver = peer; serial = serial; ask = ask } ∷ []
+asks_in id _ = []
+
+-- a copy as it is written to a member: with its age and its stamp
+abbrev pub answer_of_copy : WebCopy ℕ → ℕ → AnswerText
+answer_of_copy c age = record { status = c.answer.status; fields = c.answer.fields; age = Some age; stamp = Some c.stamp; body = c.answer.body }
+
+-- a bare status as it is written to a member
+abbrev pub answer_of_status : ℕ → AnswerText
+answer_of_status status = record { status = status; fields = []; age = None; stamp = None; body = [] }
+
+-- what is served, as it is written to a member
+abbrev pub answer_of : Served ℕ → AnswerText
+answer_of (Copy c age) = answer_of_copy c age
+answer_of (Status status) = answer_of_status status
+
+-- the mark of the copy that is served; a bare status has none
+abbrev pub mark_of : Served ℕ → ℕ
+mark_of (Copy c age) = c.tag
+mark_of (Status status) = 0
+
+-- which ask is answered: the serial and the key that it has at its sender
+pub record Answered : Type 0 where
+  pub serial : ℕ
+  pub key : List ℕ
+
+-- the ask that the event is
+abbrev pub asked_now : Event ℕ → ℕ → Option Answered
+asked_now (event.PeerAsk asker ask now) serial = Some record { serial = serial; key = ask.key }
+asked_now _ serial = None
+
+-- it is the ask that waits at this node as this block
+abbrev pub is_waiting_as : ℕ → ℕ → Waiting → Bool
+is_waiting_as id block w = (w.node == id) && (w.block == block)
+
+-- the ask that waited as this block
+abbrev pub asked_before : List Waiting → ℕ → ℕ → Option Answered
+asked_before waiting id block = option_map (λ w. record { serial = w.serial; key = w.key }) (find (is_waiting_as id block) waiting)
+
+-- the ask that is answered: the one that waited as the block, or else the event
+abbrev pub asked_by : List Waiting → ℕ → Event ℕ → ℕ → Option ℕ → Option Answered
+asked_by waiting id e serial None = asked_now e serial
+asked_by waiting id e serial (Some block) = asked_before waiting id block
+
+-- an answer to the member that asked; a client's is no part of the world
+abbrev pub answer_to : ℕ → Option ℕ → Served ℕ → Option Answered → List PeerAnswer
+answer_to id (Some asker) served (Some a) = record { sender = id; receiver = asker; serial = a.serial; key = a.key; answer = answer_of served; mark = mark_of served } ∷ []
+answer_to id _ served _ = []
+
+-- the answer that it sends to a member
+abbrev pub answers_in : List Waiting → ℕ → Event ℕ → ℕ → Option (Serve ℕ) → List PeerAnswer
+answers_in waiting id e serial None = []
+answers_in waiting id e serial (Some serve) = answer_to id serve.asker serve.served (asked_by waiting id e serial serve.waiter)
+
+-- the ask of a peer that has begun to wait here, as the block that was next
+abbrev pub waits_now : ℕ → Event ℕ → ℕ → NodeState ℕ → NodeState ℕ → List Waiting
+waits_now id (event.PeerAsk asker ask now) serial old new = if old.next == new.next then [] else record { node = id; block = old.next; serial = serial; key = ask.key } ∷ []
+waits_now id _ serial old new = []
+
+-- a refused step sends nothing
+abbrev pub reply_in : Result (Reply ℕ) StepFault → Reply ℕ
+reply_in (Ok reply) = reply
+reply_in (Err fault) = quiet
+
+-- One step of a member's node: all it sends is added to what was sent. The serial is that of the peer's ask that the event is.
+abbrev pub after_node : Tables → World → ℕ → Event ℕ → ℕ → Result (Reply ℕ) StepFault → NodeState ℕ → World
+after_node roster w id e serial outcome next = record {
+  seats = with_node w.seats id next;
+  master = w.master;
+  clock = w.clock;
+  datagrams = w.datagrams ++ datagrams_from (member_of roster id) (reply_in outcome).send;
+  asks = w.asks ++ asks_in id (reply_in outcome).begin;
+  answers = w.answers ++ answers_in w.waiting id e serial (reply_in outcome).serve;
+  waiting = w.waiting ++ waits_now id e serial (node_at w.seats id) next;
+}
