@@ -2,5 +2,4 @@ pub mod Digits
 pub mod Counting
 pub mod LineLemmas
 pub mod PlayLemmas
-pub mod ReplyLemmas
 pub mod Outcomes

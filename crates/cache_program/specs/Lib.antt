@@ -5,5 +5,5 @@ pub mod Script
 pub mod Playing
 pub mod Words
 pub mod Answer
+pub mod Answered
 pub mod Wire
-pub mod Reply

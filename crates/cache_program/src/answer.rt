@@ -1,81 +1,99 @@
-//! The command `cache answer`: a store that is asked by ICP, line by line.
-ghost use Rattle.std.specs.Prelude.{◌≡◌, ℕ, List, ◌++◌, OnOk, IfOk, IfErr, Ok};
-ghost use Rattle.hex.specs.Hex.{decode_of, encode_lower};
-ghost use Rattle.icp_wire.specs.Written.{Fits, written};
-ghost use Rattle.object_store.specs.Held.{Held};
+//! The command `cache answer`: a node that is given copies and datagrams, line by line.
+ghost use Rattle.std.specs.Prelude.{◌≡◌, ℕ, List, ◌++◌, OnOk, Ok};
+ghost use Rattle.hex.specs.Hex.{decode_of};
+ghost use Rattle.node_rules.specs.declared.event.Event.TheVariants as event;
 ghost use Rattle.cache_program.specs.Words.{split_word as split_words};
-ghost use Rattle.cache_program.specs.Script.{HasPlayed};
-ghost use Rattle.cache_program.specs.Answer.{StoreLine, command_of, command_text, store_of, stored_copy, put_text, DatagramAnswers, CommandAnswers, LineAnswers, first_store};
+ghost use Rattle.cache_program.specs.Answered.{HasAnswered};
+ghost use Rattle.cache_program.specs.Answer.{StoreLine, command_of, command_text, datagram_of as datagram_words, store_of, placed_text, sent_text, StepAnswers, DatagramAnswers, CommandAnswers, LineAnswers};
 
 use crate::decimal::number_of;
 use crate::fault::RunFault;
-use crate::reply::reply;
+use crate::first::{Answering, first_node};
 use crate::script::{Script, play};
 use crate::words::{is_word, split_word};
-use fetch_messages::{Answer, Body, Fields};
 use hex::FromHexError;
-use icp_wire::{Icp, IcpFault, decode, encode};
-use object_store::{Put, Store, WebCopy};
+use htcp_wire::HtcpFault;
+use icp_wire::IcpFault;
+use node_bytes::{octets_of, read_htcp, read_icp};
+use node_core::{PlaceFault, Placed};
+use node_rules::{Event, Outgoing, Received, StepFault};
+use roster::{Address, Udp};
 use std::alloc::{AllocError, Global};
 use std::io::{Read, Write};
 use url_key::{Key, KeyFault};
 
-/// The most copies of the store.
-const MOST_COPIES: usize = 1_000;
+/// Where node 2 sends ICP from.
+const SIBLING_BY_ICP: Address = Address {
+    ip: 0x7f00_0001,
+    port: 3102,
+};
 
-/// The most octets of its copies.
-const MOST_OCTETS: u64 = 1_048_576;
+/// Where node 2 sends HTCP from.
+const SIBLING_BY_HTCP: Address = Address {
+    ip: 0x7f00_0001,
+    port: 4102,
+};
 
-/// How long a copy that is stored stays fresh, in seconds.
-const LIFETIME: u64 = 60;
+/// Where the master sends from.
+const MASTER: Address = Address {
+    ip: 0x7f00_0001,
+    port: 4800,
+};
+
+/// An address that the roster doesn't have.
+const STRANGER: Address = Address {
+    ip: 0x7f00_0009,
+    port: 9,
+};
 
 /// A line of the input.
 pub(crate) enum Line<'a> {
-    /// `store URL` or `store URL STAMP`: put a copy.
-    Store { url: &'a [u8], stamp: u32 },
-    /// `icp HEX`: answer a datagram.
+    /// `store URL` or `store URL STAMP`: place a copy.
+    Store { url: &'a [u8], stamp: Option<u32> },
+    /// `icp HEX`: an ICP datagram from node 2.
     Icp { hex: &'a [u8] },
+    /// `htcp HEX`: an HTCP datagram from node 2.
+    Htcp { hex: &'a [u8] },
+    /// `master HEX`: an HTCP datagram from the master.
+    Master { hex: &'a [u8] },
+    /// `stranger HEX`: an HTCP datagram from an address that the roster doesn't have.
+    Stranger { hex: &'a [u8] },
     /// Anything else.
     Bad,
 }
 
-/// Answers each line of the input: `store URL [STAMP]` puts an empty copy into a store that may hold 1,000 copies
-/// of 1,048,576 octets, and `icp HEX` is a datagram of a known sender, which is answered in hex.
+/// Answers each line of the input by node 1 of a roster of two, at moment 0: `store URL [STAMP]` places an empty copy under the
+/// stamp, or under the greatest purge number seen; `icp HEX` and `htcp HEX` are datagrams from node 2, `master HEX` is HTCP from the
+/// master, and `stranger HEX` is HTCP from an address that the roster doesn't have.
 ///
-/// Each answer is a line: `stored`, `Kept` (a copy with a greater stamp is held) or the fault of the URL; the reply
-/// in hex, `nothing` where a message has no reply, the fault of the datagram, or `bad hex`; `bad line` to any other
-/// line. A bad line changes nothing. Where the reader or the writer fails, a line has more than 140,000 octets,
-/// 70,000 reads are not enough or there is no memory, a front of the answers is written.
+/// Each answer is a line: `stored`, `Kept` (a copy with a greater stamp is held), `Old` (the stamp is below the key's floor),
+/// `TooLarge` or the fault of the URL; what the node sends in hex, `nothing` where it sends nothing, the fault of the datagram, or
+/// `bad hex`; `bad line` to any other line. A bad line changes nothing. Where the reader or the writer fails, a line has more than
+/// 140,000 octets, 70,000 reads are not enough or there is no memory, a front of the answers is written. `NoFirstNode` never comes.
 pub fn run_answer<R: Read, W: Write>(
     alloc: Global,
     reader: &mut R,
     writer: &mut W,
 ) -> Result<(), RunFault>
-    ensures { (end : Held (Unit {0})) × HasPlayed LineAnswers first_store (R.remaining reader.old)
-        (W.contents writer.old) (W.contents writer.new) result end }
+    ensures { HasAnswered (R.remaining reader.old) (W.contents writer.old) (W.contents writer.new) result }
 {
-    let mut store = match first_store_of(alloc) {
-        Ok(store) => store,
+    let mut node = match first_node(alloc) {
+        Ok(node) => node,
         Err(fault) => return Err(fault),
     };
-    play(alloc, &mut store, reader, writer)
+    play(alloc, &mut node, reader, writer)
 }
 
-/// The store at the start.
-fn first_store_of(alloc: Global) -> Result<Store<()>, RunFault>
-    ensures ok { IfOk result (λ store. store ≡ first_store) }
-    ensures err { IfErr result (λ fault. fault ≡ RunFault.NoMemory) }
-{
-    Ok(Store::new(alloc, MOST_COPIES, MOST_OCTETS)?)
-}
-
-impl Script for Store<()> {
+impl Script for Answering {
     ghost answers = { LineAnswers };
 
     fn answer(&mut self, alloc: Global, line: &[u8], text: &mut Vec<u8>) -> Result<(), AllocError> {
         match line_of(line) {
-            Line::Store { url, stamp } => put(alloc, self, url, stamp, text),
-            Line::Icp { hex } => answer_hex(alloc, self, hex, text),
+            Line::Store { url, stamp } => place(alloc, self, url, stamp, text),
+            Line::Icp { hex } => answer_hex(alloc, self, Udp::Icp, SIBLING_BY_ICP, hex, text),
+            Line::Htcp { hex } => answer_hex(alloc, self, Udp::Htcp, SIBLING_BY_HTCP, hex, text),
+            Line::Master { hex } => answer_hex(alloc, self, Udp::Htcp, MASTER, hex, text),
+            Line::Stranger { hex } => answer_hex(alloc, self, Udp::Htcp, STRANGER, hex, text),
             Line::Bad => text.extend_from_slice(b"bad line"),
         }
     }
@@ -90,14 +108,14 @@ fn line_of(line: &[u8]) -> Line<'_>
     };
     if keyword == b"store".as_slice() {
         store_line(rest)
-    } else if keyword == b"icp".as_slice() && is_word(rest) {
-        Line::Icp { hex: rest }
+    } else if is_word(rest) {
+        datagram_line(keyword, rest)
     } else {
         Line::Bad
     }
 }
 
-/// What follows `store`: a URL, and a stamp where it is not 0.
+/// What follows `store`: a URL, and a stamp where one is given.
 fn store_line(text: &[u8]) -> Line<'_>
     ensures { command_text result ≡ store_of (split_words text.now) }
 {
@@ -106,23 +124,43 @@ fn store_line(text: &[u8]) -> Line<'_>
         return Line::Bad;
     }
     let Some(stamp) = stamp else {
-        return Line::Store { url, stamp: 0 };
+        return Line::Store { url, stamp: None };
     };
     match number_of(stamp) {
-        Some(stamp) => Line::Store { url, stamp },
+        Some(stamp) => Line::Store {
+            url,
+            stamp: Some(stamp),
+        },
         None => Line::Bad,
     }
 }
 
-/// Puts an empty copy of the URL's key into the store.
-fn put(
+/// A datagram, by the word in front of it.
+fn datagram_line<'a>(keyword: &[u8], hex: &'a [u8]) -> Line<'a>
+    ensures { command_text result ≡ datagram_words keyword.now hex.now }
+{
+    if keyword == b"icp".as_slice() {
+        Line::Icp { hex }
+    } else if keyword == b"htcp".as_slice() {
+        Line::Htcp { hex }
+    } else if keyword == b"master".as_slice() {
+        Line::Master { hex }
+    } else if keyword == b"stranger".as_slice() {
+        Line::Stranger { hex }
+    } else {
+        Line::Bad
+    }
+}
+
+/// Places an empty copy of the URL's key.
+fn place(
     alloc: Global,
-    store: &mut Store<()>,
+    node: &mut Answering,
     url: &[u8],
-    stamp: u32,
+    stamp: Option<u32>,
     text: &mut Vec<u8>,
 ) -> Result<(), AllocError>
-    ensures { OnOk result ((answer : List ℕ) × CommandAnswers store.old (StoreLine url.now stamp) answer store.new
+    ensures { OnOk result ((answer : List ℕ) × CommandAnswers node.old (StoreLine url.now stamp) answer node.new
         × (text.new.items ≡ text.old.items ++ answer)) }
 {
     let key = match Key::read(alloc, url) {
@@ -130,86 +168,103 @@ fn put(
         Err(KeyFault::NoMemory) => return Err(AllocError),
         Err(fault) => return text.extend_from_slice(fault.name().as_bytes()),
     };
-    let copy = empty_copy(alloc, key, stamp)?;
-    match store.put(copy) {
-        Ok(done) => text.extend_from_slice(put_name(done).as_bytes()),
-        Err((_, error)) => Err(error),
+    match node.place(&key, stamp, ()) {
+        Ok(placed) => text.extend_from_slice(placed_name(placed).as_bytes()),
+        Err(PlaceFault::Closed) => text.extend_from_slice(b"Closed"),
+        Err(PlaceFault::NoMemory) => Err(AllocError),
     }
 }
 
-/// A copy of an empty answer of status 200, asked for at moment 0.
-fn empty_copy(alloc: Global, key: Key, stamp: u32) -> Result<WebCopy<()>, AllocError>
-    ensures { IfOk result (λ copy. copy ≡ stored_copy key stamp) }
+/// What is answered to a copy that was placed.
+fn placed_name(placed: Placed) -> &'static str
+    ensures { result.now ≡ placed_text placed }
 {
-    let fields = Fields::new(alloc, Vec::new(alloc))?;
-    let Some(answer) = Answer::new(200, fields, None, None, Body::empty()) else {
-        unreachable!()
-    };
-    Ok(WebCopy {
-        key,
-        stamp,
-        asked: 0,
-        lifetime: LIFETIME,
-        answer,
-        tag: (),
-    })
-}
-
-/// What is answered to a put.
-fn put_name(done: Put) -> &'static str
-    ensures { result.now ≡ put_text done }
-{
-    match done {
-        Put::TooLarge => "TooLarge",
-        Put::Kept => "Kept",
-        Put::Stored => "stored",
+    match placed {
+        Placed::Old => "Old",
+        Placed::TooLarge => "TooLarge",
+        Placed::Kept => "Kept",
+        Placed::Stored => "stored",
     }
 }
 
 /// Answers a datagram in hex.
 fn answer_hex(
     alloc: Global,
-    store: &Store<()>,
+    node: &mut Answering,
+    by: Udp,
+    from: Address,
     hex: &[u8],
     text: &mut Vec<u8>,
 ) -> Result<(), AllocError>
-    ensures { OnOk result ((answer : List ℕ) × DatagramAnswers store.now (decode_of hex.now) answer
+    ensures { OnOk result ((answer : List ℕ) × DatagramAnswers node.old by from (decode_of hex.now) answer node.new
         × (text.new.items ≡ text.old.items ++ answer)) }
 {
     match hex::decode(alloc, hex) {
-        Ok(octets) => answer_datagram(alloc, store, &octets, text),
+        Ok(octets) => answer_octets(alloc, node, by, from, &octets, text),
         Err(FromHexError::OutOfMemory) => Err(AllocError),
         Err(_) => text.extend_from_slice(b"bad hex"),
     }
 }
 
 /// Answers a datagram.
-fn answer_datagram(
+fn answer_octets(
     alloc: Global,
-    store: &Store<()>,
+    node: &mut Answering,
+    by: Udp,
+    from: Address,
     octets: &[u8],
     text: &mut Vec<u8>,
 ) -> Result<(), AllocError>
-    ensures { OnOk result ((answer : List ℕ) × DatagramAnswers store.now (Ok octets.now) answer
+    ensures { OnOk result ((answer : List ℕ) × DatagramAnswers node.old by from (Ok octets.now) answer node.new
         × (text.new.items ≡ text.old.items ++ answer)) }
 {
-    match decode(alloc, octets) {
-        Ok(message) => match reply(alloc, store, message)? {
-            Some(reply) => push_message(alloc, &reply, text),
-            None => text.extend_from_slice(b"nothing"),
+    match by {
+        Udp::Icp => match read_icp(alloc, octets) {
+            Ok(message) => answer_message(alloc, node, from, message, text),
+            Err(IcpFault::NoMemory) => Err(AllocError),
+            Err(fault) => text.extend_from_slice(fault.name().as_bytes()),
         },
-        Err(IcpFault::NoMemory) => Err(AllocError),
+        Udp::Htcp => match read_htcp(alloc, octets) {
+            Ok(message) => answer_message(alloc, node, from, message, text),
+            Err(HtcpFault::NoMemory) => Err(AllocError),
+            Err(fault) => text.extend_from_slice(fault.name().as_bytes()),
+        },
+    }
+}
+
+/// Takes a step with a message that came.
+fn answer_message(
+    alloc: Global,
+    node: &mut Answering,
+    from: Address,
+    message: Received,
+    text: &mut Vec<u8>,
+) -> Result<(), AllocError>
+    ensures { OnOk result ((answer : List ℕ) × StepAnswers node.old (event.Datagram from message 0) answer node.new
+        × (text.new.items ≡ text.old.items ++ answer)) }
+{
+    let event = Event::Datagram {
+        from,
+        message,
+        now: 0,
+    };
+    match node.step(event, ()) {
+        Ok(reply) => push_sent(alloc, reply.send.as_slice(), text),
+        Err(StepFault::NoMemory) => Err(AllocError),
         Err(fault) => text.extend_from_slice(fault.name().as_bytes()),
     }
 }
 
-/// Writes a message in hex.
-fn push_message(alloc: Global, message: &Icp, text: &mut Vec<u8>) -> Result<(), AllocError>
-    requires { Fits message.now }
-    ensures { OnOk result (text.new.items ≡ text.old.items ++ encode_lower (written message.now)) }
+/// Writes what is sent, one datagram after another in hex.
+fn push_sent(alloc: Global, sent: &[Outgoing], text: &mut Vec<u8>) -> Result<(), AllocError>
+    ensures { OnOk result (text.new.items ≡ text.old.items ++ sent_text sent.now) }
 {
-    match encode(alloc, message) {
-        Ok(octets) => text.extend_from_slice(hex::encode(alloc, octets)?.as_bytes()),
-        Err(_) => Err(AllocError),
+    if sent.is_empty() {
+        return text.extend_from_slice(b"nothing");
     }
+    for datagram in sent {
+        let octets = octets_of(alloc, datagram)?;
+        text.extend_from_slice(hex::encode(alloc, octets)?.as_bytes())?;
+    }
+    Ok(())
 }

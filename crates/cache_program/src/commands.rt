@@ -98,9 +98,9 @@ fn cache_command<'a>(alloc: Global) -> Result<Command<'a>, AllocError> {
 
 fn answer_command<'a>(alloc: Global) -> Command<'a> {
     Command::new(alloc, "answer")
-        .about("Answers each line of standard input from a store")
+        .about("Answers each line of standard input by a node, member 1 of a roster of two")
         .after_help(
-            "Lines:\n  store URL [STAMP]  put an empty copy: stored, Kept, or the URL's fault\n  icp HEX            a datagram: the reply in hex, nothing, or the datagram's fault\nAny other line is answered by: bad line",
+            "Lines:\n  store URL [STAMP]  place an empty copy: stored, Kept, Old (purged), or the URL's fault\n  icp HEX            an ICP datagram from node 2\n  htcp HEX           an HTCP datagram from node 2\n  master HEX         an HTCP datagram from the master\n  stranger HEX       an HTCP datagram from an unknown address\nA datagram is answered by the reply in hex, nothing, or the datagram's fault; any other line by: bad line",
         )
 }
 

@@ -19,6 +19,10 @@ pub enum RunFault {
     /// A growth was refused.
     #[error("there was no memory")]
     NoMemory,
+    /// The roster that is part of the program, that of `cache answer`, gave no first node. No proof rules this out, but it never
+    /// comes: a test opens that node.
+    #[error("the roster of the program gave no first node")]
+    NoFirstNode,
 }
 
 impl RunFault {
@@ -31,6 +35,7 @@ impl RunFault {
             RunFault::TooManyTurns => "TooManyTurns",
             RunFault::LineTooLong => "LineTooLong",
             RunFault::NoMemory => "NoMemory",
+            RunFault::NoFirstNode => "NoFirstNode",
         }
     }
 }

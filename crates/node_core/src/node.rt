@@ -1,19 +1,15 @@
-ghost use Rattle.std.specs.Prelude.{◌≡◌, ◌≢◌, ℕ, List, Option, IfOk, IfErr, OnOk, true, false, Err};
-ghost use Rattle.roster.specs.Lookups.{is_member};
-ghost use Rattle.node_rules.specs.State.{opened};
-ghost use Rattle.node_rules.specs.Relation.{Steps};
-ghost use Rattle.key_texts.specs.KeyOf.{GivesKeys};
-ghost use Rattle.node_core.specs.View.{setting_of};
+ghost use Rattle.std.specs.Prelude.{◌≡◌, ◌==◌, find, option_map};
+ghost use Rattle.node_rules.specs.State.{fetch_serial};
+ghost use Rattle.node_core.specs.View.{IsSameNode, IsTied};
+ghost use Rattle.node_core.specs.Closing.{closing};
 
-use node_messages::is_foreign;
-use node_rules::{Event, NodeState, Reply, StepFault};
+use node_rules::Pending;
 use node_waiting::Waiting;
 use object_store::Store;
-use purge_numbers::{FloorFault, FloorStore, Floors};
-use roster::{Listed, Roster};
-use std::alloc::{AllocError, Global};
+use purge_numbers::{FloorStore, Floors};
+use roster::Roster;
+use std::alloc::Global;
 use std::marker::Model;
-use thiserror::Error;
 
 /// A node of the hierarchy, over a store of its floors.
 ///
@@ -59,10 +55,44 @@ impl<T, S: FloorStore> Model for Node<T, S> {
 }
 
 impl<T, S: FloorStore> Node<T, S> {
-    /// Whether it is closed.
+    /// Whether it is closed. While it is not, no call of its store has failed, and an honest store has committed its floors.
     pub fn is_closed(&self) -> bool
-        ensures { result ≡ self.now.state.closed }
+        ensures value { result ≡ self.now.state.closed }
+        ensures tied { IsTied self.now.state.closed self.now.state.floors (S.is_usable self.now.store) (S.is_honest self.now.store) (S.content self.now.store) }
     {
         self.closed
+    }
+
+    /// Its id in the roster.
+    pub fn id(&self) -> u8
+        ensures { result ≡ self.now.id }
+    {
+        self.id
+    }
+
+    /// The block of serials that comes next; 134217728 where none is left.
+    pub fn next(&self) -> u32
+        ensures { result ≡ self.now.state.next }
+    {
+        self.next
+    }
+
+    /// The pending ask whose last fetch has this serial, if there is one; an ask that has begun none has its round's. It takes no memory.
+    pub fn fetching(&self, serial: u32) -> Option<&Pending<T>>
+        ensures { option_map (λ p. p.now) result ≡ find (λ p. fetch_serial p == serial) self.now.state.pending }
+    {
+        let place = self.pending.of_fetch(serial)?;
+        Some(self.pending.ask(place))
+    }
+}
+
+impl<T: Drop, S: FloorStore> Node<T, S> {
+    /// Closes it, as a store of floors that fails would: it has no ask pending then, and every further step is answered with `Closed`. It takes no memory.
+    pub fn close(&mut self)
+        ensures same { IsSameNode self.old self.new }
+        ensures state { self.new.state ≡ closing self.old.state }
+    {
+        self.closed = true;
+        self.pending = Waiting::new(self.alloc);
     }
 }

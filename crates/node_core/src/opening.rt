@@ -1,5 +1,5 @@
 //! How a node begins and ends.
-ghost use Rattle.std.specs.Prelude.{◌≡◌, ◌≢◌, ◌==◌, true, false, find, option_map, IfOk, Ok, Err};
+ghost use Rattle.std.specs.Prelude.{◌≡◌, ◌≢◌, ◌≤◌, ◌==◌, [], true, false, find, option_map, IfOk, Ok, Err};
 ghost use Rattle.roster.specs.Lookups.{is_member as is_member_of};
 ghost use Rattle.node_rules.specs.State.{opened};
 ghost use Rattle.node_core.specs.Names.{open_fault_name};
@@ -8,8 +8,9 @@ use crate::Node;
 use node_waiting::Waiting;
 use object_store::Store;
 use purge_numbers::{FloorFault, FloorStore};
-use roster::{Member, Roster};
+use roster::{Limits, Member, Roster};
 use std::alloc::{AllocError, Global};
+use std::hash::RandomState;
 use thiserror::Error;
 
 /// Why a node was not opened.
@@ -67,16 +68,69 @@ fn has_member(roster: &Roster, id: u8) -> bool
     }
 }
 
+/// A store without copies, within these limits.
+fn empty_store<T>(
+    alloc: Global,
+    limits: Limits,
+    keys: Option<RandomState>,
+) -> Result<Store<T>, AllocError>
+    requires count { 1 ≤ limits.copies }
+    requires bytes { 1 ≤ limits.bytes }
+    ensures { IfOk result (λ store. store ≡ record {
+      limit_count = limits.copies;
+      limit_bytes = limits.bytes;
+      copies = [];
+    }) }
+{
+    let count = limits.copies as usize;
+    match keys {
+        Some(keys) => Store::with_random_keys(alloc, count, limits.bytes, keys),
+        None => Store::new(alloc, count, limits.bytes),
+    }
+}
+
 impl<T, S: FloorStore + Drop> Node<T, S> {
     /// The node of a member, with the floors that its store has, and with nothing else: no copy, no ask, and block 1 to come.
     ///
+    /// It finds its copies by hashes with fixed keys. Where strangers pick the URLs, open it by `open_with_random_keys`.
+    ///
     /// Faults: `NoSuchNode` where the roster has no member of this id, `Floors` where the store does not load, `NoMemory`. The store is gone then, and is to be
     /// opened again.
-    pub fn open(
+    pub fn open(alloc: Global, roster: Roster, id: u8, store: S) -> Result<Node<T, S>, OpenFault>
+        ensures member { IfOk result (λ node. (node.roster ≡ roster) × (node.id ≡ id)) }
+        ensures no_such { is_member_of roster id ≡ false → result ≡ Err OpenFault.NoSuchNode }
+        ensures such { is_member_of roster id ≡ true → result ≢ Err OpenFault.NoSuchNode }
+        ensures state { IfOk result (λ node. S.is_honest node.store → node.state ≡ opened (S.content store)) }
+        ensures store { IfOk result (λ node. node.store ≡ store) }
+    {
+        Node::open_over(alloc, roster, id, store, None)
+    }
+
+    /// The same, for URLs that strangers pick: it finds its copies by hashes with these random keys, which nobody outside knows, so that nobody can pick URLs whose
+    /// look-ups are slow. Any number of nodes may share the keys.
+    pub fn open_with_random_keys(
+        alloc: Global,
+        roster: Roster,
+        id: u8,
+        store: S,
+        keys: RandomState,
+    ) -> Result<Node<T, S>, OpenFault>
+        ensures member { IfOk result (λ node. (node.roster ≡ roster) × (node.id ≡ id)) }
+        ensures no_such { is_member_of roster id ≡ false → result ≡ Err OpenFault.NoSuchNode }
+        ensures such { is_member_of roster id ≡ true → result ≢ Err OpenFault.NoSuchNode }
+        ensures state { IfOk result (λ node. S.is_honest node.store → node.state ≡ opened (S.content store)) }
+        ensures store { IfOk result (λ node. node.store ≡ store) }
+    {
+        Node::open_over(alloc, roster, id, store, Some(keys))
+    }
+
+    /// The node, with the random keys if there are any.
+    fn open_over(
         alloc: Global,
         roster: Roster,
         id: u8,
         mut store: S,
+        keys: Option<RandomState>,
     ) -> Result<Node<T, S>, OpenFault>
         ensures member { IfOk result (λ node. (node.roster ≡ roster) × (node.id ≡ id)) }
         ensures no_such { is_member_of roster id ≡ false → result ≡ Err OpenFault.NoSuchNode }
@@ -91,8 +145,7 @@ impl<T, S: FloorStore + Drop> Node<T, S> {
             Ok(floors) => floors,
             Err(fault) => return Err(OpenFault::Floors(fault)),
         };
-        let limits = roster.limits();
-        let copies = Store::new(alloc, limits.copies as usize, limits.bytes)?;
+        let copies = empty_store(alloc, roster.limits(), keys)?;
         Ok(Node {
             alloc,
             roster,

@@ -8,6 +8,7 @@ use node_rules::{Begin, Event, Message, Received, Reply, Served, StepFault, can_
 use purge_numbers::MemoryFloors;
 use roster::{Address, Roster};
 use std::fmt::Write;
+use std::hash::RandomState;
 use std::test::Fail;
 use url_key::Key;
 use wire_octets::Octets;
@@ -331,5 +332,25 @@ fn a_node_that_is_no_member(rt: HostRuntime) -> Result<(), Fail> {
     );
     assert!(rt; matches!(opened, Err(OpenFault::NoSuchNode)));
     assert!(rt; StepFault::Closed.name() == "Closed");
+    Ok(())
+}
+
+#[test]
+fn a_node_tells_of_itself(rt: HostRuntime) -> Result<(), Fail> {
+    let roster = match Roster::read(rt.alloc(), ONE) {
+        Ok(roster) => roster,
+        Err(error) => return Err(error.fault.name().into()),
+    };
+    let (store, keys) = (MemoryFloors::new(rt.alloc()), RandomState::new(&rt)?);
+    let opened = Node::open_with_random_keys(rt.alloc(), roster, 1, store, keys);
+    let Ok(mut node) = opened else {
+        return Err("the node".into());
+    };
+    assert!(rt; node.id() == 1 && node.next() == 1);
+    let began = step(&rt, &mut node, client(&rt, "http://o/a", 0)?, 0)?;
+    assert!(rt; began.as_str() == " read 33" && node.next() == 2);
+    assert!(rt; node.fetching(33).is_some() && node.fetching(34).is_none());
+    node.close();
+    assert!(rt; node.is_closed() && node.fetching(33).is_none());
     Ok(())
 }

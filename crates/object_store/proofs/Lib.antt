@@ -1,3 +1,4 @@
 pub mod Cases
 pub mod Stores
 pub mod Places
+pub mod Entries

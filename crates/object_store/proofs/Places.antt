@@ -1,25 +1,18 @@
 -- Going over the copies of a store to a key's copy.
-use Rattle.std.proofs.Common.{◌≡◌, ℕ, ◌+◌, ◌-◌, ◌<◌, ◌≤◌, Bool, true, false, cond, not, ◌&&◌, nat_lt, nat_le, ◌⊎◌, inl, inr, List, [], ◌∷◌, ◌++◌, take, drop, length, get_or, Option, Some, None, refl, sym, ◌∙◌, ap, subst, append_assoc, arith, suc, zero}
-use Rattle.std.proofs.lemmas.List.{drop_more, take_more}
+use Rattle.std.proofs.Common.{◌≡◌, ℕ, ◌+◌, ◌-◌, ◌<◌, ◌≤◌, Bool, true, false, cond, not, ◌&&◌, nat_lt, nat_le, ◌⊎◌, inl, inr, List, [], ◌∷◌, ◌++◌, length, Option, Some, None, refl, sym, ◌∙◌, ap, subst, arith}
 use Rattle.std.proofs.lemmas.List.Sums.{sum_by-cons}
 use Rattle.std.proofs.lemmas.Option.{none-some}
 use Rattle.std.specs.List.{AllByRecursion}
 use Rattle.object_store.specs.declared.copy.WebCopy.{WebCopy}
-use Rattle.object_store.specs.declared.store.Put.TheVariants.{Stored}
 use Rattle.object_store.specs.Copy.{size, is_of}
 use Rattle.object_store.specs.Listed.{copy_of, without, in_front, to_front, fitting, octets, OneEach, without_below}
 use Rattle.object_store.specs.Held.{is_older_than}
 use Rattle.object_store.specs.Counted.{IsCounted}
 use Rattle.object_store.proofs.Cases.{second_true, same_Some, same_text}
-use Rattle.object_store.proofs.Stores.{store, IsStoreOf, store_to_front, store_filtered, store_put, all_kept_by, found_passes}
+use Rattle.object_store.proofs.Stores.{store, IsStoreOf, store_to_front, store_filtered, all_kept_by}
 
 abbrev pub IsCountedOf : {X : Type 0} → ℕ → ℕ → List (WebCopy X) → ℕ → Type 0
 IsCountedOf most limit copies count = IsCounted (store most limit copies) count
-
-pub one_each_drop : {X : Type 0} (i : ℕ) (xs : List (WebCopy X)) → OneEach xs → OneEach (drop i xs)
-one_each_drop zero xs one = one
-one_each_drop (suc i) [] one = one
-one_each_drop (suc i) (x ∷ xs) one = one_each_drop i xs one.1
 
 -- a key that no copy has
 pub none_of : {X : Type 0} (u : List ℕ) (xs : List (WebCopy X)) → AllByRecursion (λ d. d.key ≡ u → ⊥) xs → without u xs ≡ xs
@@ -35,28 +28,6 @@ pub rest_of : {X : Type 0} (u : List ℕ) (x : WebCopy X) (xs : List (WebCopy X)
 rest_of u x xs one same =
     ap (λ b. cond (not b) (x ∷ without u xs) (without u xs)) same
     ∙ none_of u xs (all_kept_by (λ (d : WebCopy _). d.key ≡ x.key → ⊥) (λ (d : WebCopy _). d.key ≡ u → ⊥) (λ d n e. n (e ∙ sym (same_text x.key u same))) xs one.0)
-
-pub found_here : {X : Type 0} (xs : List (WebCopy X)) (i : ℕ) (u : List ℕ) (c : WebCopy X) → i < length xs → c ≡ get_or xs i c → is_of u c ≡ true → copy_of u (drop i xs) ≡ Some c
-found_here xs i u c l is same =
-    ap (copy_of u) (drop_more xs i c l ∙ ap (λ x. x ∷ drop (i + 1) xs) (sym is))
-    ∙ ap (λ b. cond b (Some c) (copy_of u (drop (i + 1) xs))) same
-
-pub out_here : {X : Type 0} (xs : List (WebCopy X)) (i : ℕ) (u : List ℕ) (c : WebCopy X) → i < length xs → c ≡ get_or xs i c → is_of u c ≡ true → OneEach xs → take i xs ++ without u (drop i xs) ≡ take i xs ++ drop (i + 1) xs
-out_here xs i u c l is same one =
-    let here : drop i xs ≡ c ∷ drop (i + 1) xs = drop_more xs i c l ∙ ap (λ x. x ∷ drop (i + 1) xs) (sym is) in
-    ap (λ ys. take i xs ++ ys) (ap (without u) here ∙ rest_of u c (drop (i + 1) xs) (subst OneEach here (one_each_drop i xs one)) same)
-
-pub pass_copy : {X : Type 0} (xs : List (WebCopy X)) (i : ℕ) (u : List ℕ) (c : WebCopy X) → i < length xs → c ≡ get_or xs i c → is_of u c ≡ false → copy_of u (drop (i + 1) xs) ≡ copy_of u (drop i xs)
-pass_copy xs i u c l is other =
-    sym (ap (copy_of u) (drop_more xs i c l ∙ ap (λ x. x ∷ drop (i + 1) xs) (sym is))
-    ∙ ap (λ b. cond b (Some c) (copy_of u (drop (i + 1) xs))) other)
-
-pub pass_rest : {X : Type 0} (xs : List (WebCopy X)) (i : ℕ) (u : List ℕ) (c : WebCopy X) → i < length xs → c ≡ get_or xs i c → is_of u c ≡ false → take (i + 1) xs ++ without u (drop (i + 1) xs) ≡ take i xs ++ without u (drop i xs)
-pass_rest xs i u c l is other =
-    ap (λ ys. ys ++ without u (drop (i + 1) xs)) (take_more xs i c l ∙ ap (λ x. take i xs ++ x ∷ []) (sym is))
-    ∙ append_assoc (take i xs) (c ∷ []) (without u (drop (i + 1) xs))
-    ∙ ap (λ ys. take i xs ++ ys) (sym (ap (without u) (drop_more xs i c l ∙ ap (λ x. x ∷ drop (i + 1) xs) (sym is))
-    ∙ ap (λ b. cond (not b) (c ∷ without u (drop (i + 1) xs)) (without u (drop (i + 1) xs))) other))
 
 -- nothing goes where the key has no copy
 pub none_out : {X : Type 0} (u : List ℕ) (xs : List (WebCopy X)) → copy_of u xs ≡ None → without u xs ≡ xs
@@ -90,14 +61,6 @@ none_without u (x ∷ xs) =
       | false ↦ λ e. ap (λ b. cond b (Some x) (copy_of u (without u xs))) e ∙ none_without u xs
     ]) refl
 
--- what is in front is found
-pub copy_of-to_front : {X : Type 0} (u : List ℕ) (xs : List (WebCopy X)) → copy_of u (to_front u xs) ≡ copy_of u xs
-copy_of-to_front u xs = go (copy_of u xs) refl
-  where
-    go : (o : Option (WebCopy _)) → copy_of u xs ≡ o → copy_of u (in_front o (without u xs)) ≡ o
-    go None e = none_without u xs
-    go (Some c) e = ap (λ b. cond b (Some c) (copy_of u (without u xs))) (found_passes (is_of u) xs c e)
-
 pub counted_front : {X : Type 0} (most limit : ℕ) (u : List ℕ) (xs : List (WebCopy X)) (n : ℕ) (c : WebCopy X) → copy_of u xs ≡ Some c → IsCountedOf most limit xs n → IsCountedOf most limit (c ∷ without u xs) n
 counted_front most limit u xs n c e is =
     let front : to_front u xs ≡ c ∷ without u xs = ap (λ o. in_front o (without u xs)) e in
@@ -107,6 +70,13 @@ counted_front most limit u xs n c e is =
       counted = omega (arith, out, is.counted, sum_by-cons size c (without u xs));
       some = is.some;
     }
+
+pub counted_to_front : {X : Type 0} (most limit : ℕ) (u : List ℕ) (xs : List (WebCopy X)) (n : ℕ) → IsCountedOf most limit xs n → IsCountedOf most limit (to_front u xs) n
+counted_to_front most limit u xs n is = go (copy_of u xs) refl
+  where
+    go : (o : Option (WebCopy _)) → copy_of u xs ≡ o → IsCountedOf most limit (in_front o (without u xs)) n
+    go None e = subst (λ ys. IsCountedOf most limit ys n) (sym (none_out u xs e)) is
+    go (Some c) e = counted_front most limit u xs n c e is
 
 -- a store of which the key's copy is taken
 pub counted_out : {X : Type 0} (most limit : ℕ) (u : List ℕ) (xs : List (WebCopy X)) (n : ℕ) (c : WebCopy X) (m : ℕ) → copy_of u xs ≡ Some c → m ≡ size c → IsCountedOf most limit xs n → IsCountedOf most limit (without u xs) (n - m)
@@ -173,16 +143,3 @@ last_over count bytes (x ∷ xs) y over =
 pub octets_push : {X : Type 0} (xs : List (WebCopy X)) (y : WebCopy X) → octets (xs ++ y ∷ []) ≡ octets xs + size y
 octets_push [] y = omega (arith, sum_by-cons size y [])
 octets_push (x ∷ xs) y = omega (arith, octets_push xs y, sum_by-cons size x xs, sum_by-cons size x (xs ++ y ∷ []))
-
-pub fits_first : {X : Type 0} (most limit : ℕ) (c : WebCopy X) (xs : List (WebCopy X)) → 1 ≤ most → size c ≤ limit → fitting most limit (c ∷ xs) ≡ c ∷ fitting (most - 1) (limit - size c) xs
-fits_first most limit c xs some room =
-    let here : (nat_lt 0 most && nat_le (size c) limit) ≡ true = grind arith in
-    ap (λ b. cond b (c ∷ fitting (most - 1) (limit - size c) xs) []) here
-
-pub counted_put : {X : Type 0} (most limit : ℕ) (c : WebCopy X) (xs : List (WebCopy X)) (n m : ℕ) → 1 ≤ most → size c ≤ limit → m ≡ octets (fitting (most - 1) (limit - size c) (without c.key xs)) → IsCountedOf most limit xs n → IsCountedOf most limit (c ∷ fitting (most - 1) (limit - size c) (without c.key xs)) (m + size c)
-counted_put most limit c xs n m some room e is =
-    record {
-      is_store = subst (IsStoreOf most limit) (fits_first most limit c (without c.key xs) some room) (store_put most limit c xs Stored is.is_store);
-      counted = omega (arith, e, sum_by-cons size c (fitting (most - 1) (limit - size c) (without c.key xs)));
-      some = some;
-    }

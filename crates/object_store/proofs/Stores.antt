@@ -1,8 +1,8 @@
 -- What a store's operations keep.
-use Rattle.std.proofs.Common.{◌≡◌, ℕ, ◌+◌, ◌-◌, ◌≤◌, Bool, true, false, cond, not, ◌&&◌, List, [], ◌∷◌, zero, suc, ◌<◌, take, length, sum_by, count_by, filter, find, Option, Some, None, refl, sym, ◌∙◌, ap, subst, nat_lt, nat_le, arith}
+use Rattle.std.proofs.Common.{◌≡◌, ℕ, ◌+◌, ◌-◌, ◌≤◌, Bool, true, false, cond, not, ◌&&◌, List, [], ◌∷◌, zero, suc, ◌<◌, take, length, sum_by, filter, find, Option, Some, None, refl, sym, ◌∙◌, ap, subst, nat_lt, nat_le, arith}
 use Rattle.std.specs.List.{AllByRecursion}
 use Rattle.std.proofs.lemmas.Option.{none-some}
-use Rattle.std.proofs.lemmas.List.Sums.{sum_by-cons, length-filter}
+use Rattle.std.proofs.lemmas.List.Sums.{sum_by-cons}
 use Rattle.object_store.specs.declared.copy.WebCopy.{WebCopy}
 use Rattle.object_store.specs.declared.store.Put.{Put}
 use Rattle.object_store.specs.declared.store.Put.TheVariants.{TooLarge, Kept, Stored}
@@ -29,32 +29,11 @@ all_filtered P Q test (x ∷ xs) h all =
 pub all_kept : {A : Type 0} (P : A → Type 0) (test : A → Bool) (xs : List A) → AllByRecursion P xs → AllByRecursion P (filter test xs)
 all_kept P test xs = all_filtered P P test xs (λ x p _. p)
 
-pub found : {A : Type 0} (P : A → Type 0) (test : A → Bool) (xs : List A) (x : A) → AllByRecursion P xs → find test xs ≡ Some x → P x
-found P test [] x all e = absurd (none-some x e)
-found P test (y ∷ xs) x all e =
-    (elim (test y) as (λ b. cond b (Some y) (find test xs) ≡ Some x → P x) [
-      | true ↦ λ e. subst P (same_Some y x e) all.0
-      | false ↦ λ e. found P test xs x all.1 e
-    ]) e
-
 pub length_filter : {A : Type 0} (test : A → Bool) (xs : List A) → length (filter test xs) ≤ length xs
 length_filter test [] = omega arith
 length_filter test (x ∷ xs) =
     branches (λ ys. length ys ≤ length (x ∷ xs)) (test x) (x ∷ filter test xs) (filter test xs)
     (λ _. omega (arith, length_filter test xs)) (λ _. omega (arith, length_filter test xs))
-
--- those that pass and those that do not
-both_kept : {A : Type 0} (test : A → Bool) (xs : List A) → length (filter (λ x. not (test x)) xs) + length (filter test xs) ≡ length xs
-both_kept test [] = omega arith
-both_kept test (x ∷ xs) =
-    let rest = both_kept test xs in
-    elim (test x) as (λ b. length (cond (not b) (x ∷ filter (λ x. not (test x)) xs) (filter (λ x. not (test x)) xs)) + length (cond b (x ∷ filter test xs) (filter test xs)) ≡ length (x ∷ xs)) [
-      | true ↦ omega arith
-      | false ↦ omega arith
-    ]
-
-pub count_kept : {A : Type 0} (test : A → Bool) (xs : List A) → length (filter (λ x. not (test x)) xs) + count_by test xs ≡ length xs
-count_kept test xs = omega (arith, both_kept test xs, length-filter test xs)
 
 pub sum_filter : {A : Type 0} (f : A → ℕ) (test : A → Bool) (xs : List A) → sum_by f (filter test xs) ≤ sum_by f xs
 sum_filter f test [] = omega arith
@@ -139,13 +118,6 @@ store_filtered most limit test copies is =
     }
 
 -- the operations of a node's step
-
-pub all_to_front : {X : Type 0} (P : WebCopy X → Type 0) (u : List ℕ) (copies : List (WebCopy X)) → AllByRecursion P copies → AllByRecursion P (to_front u copies)
-all_to_front P u copies all = go (copy_of u copies) refl
-  where
-    go : (o : Option (WebCopy _)) → copy_of u copies ≡ o → AllByRecursion P (in_front o (without u copies))
-    go None e = all_kept P _ copies all
-    go (Some c) e = (found P (is_of u) copies c all e, all_kept P _ copies all)
 
 pub store_to_front : {X : Type 0} (most limit : ℕ) (u : List ℕ) (copies : List (WebCopy X)) → IsStoreOf most limit copies → IsStoreOf most limit (to_front u copies)
 store_to_front most limit u copies is = go (copy_of u copies) refl

@@ -3,3 +3,5 @@ pub mod Listed
 pub mod Held
 pub mod Counted
 pub mod Looked
+pub mod Hashing
+pub mod Cached

@@ -1,11 +1,14 @@
-ghost use Rattle.std.specs.Prelude.{◌≡◌, ◌≤◌, ◌+◌, ◌-◌, [], ◌∷◌, MatchOption, Some, None, IfOk, IfErr, OnOk, OnErr, option_map, is_some, length, nat_eq, nat_lt, count_by};
+ghost use Rattle.std.specs.Prelude.{◌≡◌, ◌≤◌, ◌+◌, ◌-◌, [], ◌∷◌, MatchOption, Some, None, IfOk, IfErr, OnOk, OnErr, option_map, is_some, length, nat_eq, nat_lt, count_by, slice_get};
 ghost use Rattle.object_store.specs.Copy.{size as size_of_copy};
 ghost use Rattle.object_store.specs.Listed.{copy_of as copy_by_key, without as without_key, to_front, fitting, octets, without_below, without_all_below};
 ghost use Rattle.std.specs.Borrow.{sem};
 
-use crate::list::{copy_all, copy_of, drop_below, drop_copy, make_room, octets_of, take_out};
+use crate::cached::{copy_all, drop_each, keys_below, make_room, put_first};
+use crate::hashing::Hashing;
 use crate::{WebCopy, size};
+use lru::LruCache;
 use std::alloc::{AllocError, Global};
+use std::hash::RandomState;
 use std::marker::Model;
 use url_key::Key;
 
@@ -22,32 +25,34 @@ pub enum Put {
 
 /// Copies within two limits, the most recent first, at most one for each key.
 ///
-/// A contract sees the limits and the list of the copies.
+/// A contract sees the limits and the list of the copies. The copies lie in a cache that is a hash map and a linked list at once, each
+/// under a copy of its key: a look-up takes expected constant time and no memory, whatever the number of copies.
 #[derive(Drop)]
 pub struct Store<T> {
     limit_count: usize,
     limit_bytes: u64,
-    copies: Vec<WebCopy<T>>,
+    cache: LruCache<Key, WebCopy<T>, Hashing>,
     octets: u64,
 }
 
 impl<T> Model for Store<T> {
     ghost use Rattle.object_store.specs.Held.{Held};
     ghost use Rattle.object_store.specs.Counted.{IsCounted};
+    ghost use Rattle.object_store.specs.Cached.{IsCached, copies_in};
 
     ghost Value = { Held T };
 
     ghost view = { λ s. record {
       limit_count = s.limit_count;
       limit_bytes = s.limit_bytes;
-      copies = s.copies.items;
+      copies = copies_in s.cache;
     } };
 
     ghost invariant = { λ s. IsCounted (record {
       limit_count = s.limit_count;
       limit_bytes = s.limit_bytes;
-      copies = s.copies.items;
-    }) s.octets };
+      copies = copies_in s.cache;
+    }) s.octets × IsCached s.cache };
 }
 
 impl<T> Store<T> {
@@ -55,6 +60,8 @@ impl<T> Store<T> {
     ghost use Rattle.object_store.specs.Held.{Held, IsStore, is_newer_than, put_answer, after_put, with_copies};
 
     /// A store without copies, for at most so many copies with at most so many octets (both at least 1).
+    ///
+    /// It hashes keys with fixed keys. Where strangers pick the URLs, make it by `with_random_keys`.
     pub fn new(alloc: Global, limit_count: usize, limit_bytes: u64) -> Result<Store<T>, AllocError>
         requires count { 1 ≤ limit_count }
         requires bytes { 1 ≤ limit_bytes }
@@ -64,10 +71,47 @@ impl<T> Store<T> {
           copies = [];
         }) }
     {
+        Store::with_hashing(alloc, limit_count, limit_bytes, Hashing::Fixed)
+    }
+
+    /// The same, for URLs that strangers pick: it hashes with these random keys, which nobody outside knows, so that nobody can pick URLs
+    /// whose look-ups are slow. Any number of stores may share the keys.
+    pub fn with_random_keys(
+        alloc: Global,
+        limit_count: usize,
+        limit_bytes: u64,
+        keys: RandomState,
+    ) -> Result<Store<T>, AllocError>
+        requires count { 1 ≤ limit_count }
+        requires bytes { 1 ≤ limit_bytes }
+        ensures { IfOk result (λ store. store ≡ record {
+          limit_count = limit_count;
+          limit_bytes = limit_bytes;
+          copies = [];
+        }) }
+    {
+        Store::with_hashing(alloc, limit_count, limit_bytes, Hashing::Random(keys))
+    }
+
+    fn with_hashing(
+        alloc: Global,
+        limit_count: usize,
+        limit_bytes: u64,
+        hashing: Hashing,
+    ) -> Result<Store<T>, AllocError>
+        requires count { 1 ≤ limit_count }
+        requires bytes { 1 ≤ limit_bytes }
+        ensures { IfOk result (λ store. store ≡ record {
+          limit_count = limit_count;
+          limit_bytes = limit_bytes;
+          copies = [];
+        }) }
+    {
+        let cache = LruCache::unbounded_with_hasher(alloc, hashing)?;
         Ok(Store {
             limit_count,
             limit_bytes,
-            copies: Vec::new(alloc),
+            cache,
             octets: 0,
         })
     }
@@ -77,14 +121,14 @@ impl<T> Store<T> {
         ensures value { result ≡ length self.now.copies }
         ensures valid { IsStore self.now }
     {
-        self.copies.len()
+        self.cache.len()
     }
 
     /// Whether it holds no copy.
     pub fn is_empty(&self) -> bool
         ensures { result ≡ nat_eq (length self.now.copies) 0 }
     {
-        self.copies.is_empty()
+        self.cache.is_empty()
     }
 
     /// The octets of its copies.
@@ -98,7 +142,7 @@ impl<T> Store<T> {
     pub fn peek(&self, key: &Key) -> Option<&WebCopy<T>>
         ensures { option_map (λ c. c.now) result ≡ copy_by_key key.now self.now.copies }
     {
-        copy_of(self.copies.as_slice(), key)
+        self.cache.peek(key)
     }
 
     /// The key's copy, which becomes the most recent.
@@ -106,18 +150,35 @@ impl<T> Store<T> {
         ensures* order { sem 𝓛 (EndsInFront T.row self.entry key.now) }
         ensures found { option_map (λ c. c.now) result ≡ copy_by_key key.now self.old.copies }
     {
-        self.refresh(key);
-        self.peek(key)
+        if self.bring(key) {
+            self.most_recent()
+        } else {
+            None
+        }
     }
 
     /// Makes the key's copy, if it holds one, the most recent.
     pub fn refresh(&mut self, key: &Key)
         ensures { self.new ≡ with_copies self.old (to_front key.now self.old.copies) }
     {
-        if let Some(copy) = take_out(&mut self.copies, key) {
-            if let Err(_) = self.copies.insert(0, copy) {
-                unreachable!()
-            }
+        self.bring(key);
+    }
+
+    /// Makes the key's copy the most recent, and says whether there is one.
+    fn bring(&mut self, key: &Key) -> bool
+        ensures answer { result ≡ is_some (copy_by_key key.now self.old.copies) }
+        ensures moved { self.new ≡ with_copies self.old (to_front key.now self.old.copies) }
+    {
+        self.cache.promote(key)
+    }
+
+    /// The most recent copy.
+    fn most_recent(&self) -> Option<&WebCopy<T>>
+        ensures { option_map (λ c. c.now) result ≡ slice_get self.now.copies 0 }
+    {
+        match self.cache.peek_mru() {
+            Some((_, copy)) => Some(copy),
+            None => None,
         }
     }
 }
@@ -127,7 +188,7 @@ impl<T: Copy> Store<T> {
     pub fn copies(&self, alloc: Global) -> Result<Vec<WebCopy<T>>, AllocError>
         ensures { IfOk result (λ copies. copies.items ≡ self.now.copies) }
     {
-        copy_all(alloc, self.copies.as_slice())
+        copy_all(alloc, &self.cache)
     }
 }
 
@@ -175,20 +236,12 @@ impl<T: Drop> Store<T> {
         ensures err { OnErr result (self.new ≡ self.old) }
         ensures returned { IfErr result (λ refused. refused.0 ≡ copy) }
     {
-        if let Err(error) = self.copies.reserve(1) {
-            return Err((copy, error));
-        }
-        let left = drop_copy(&mut self.copies, self.octets, &copy.key);
-        let left = make_room(
-            &mut self.copies,
-            left,
-            self.limit_count - 1,
-            self.limit_bytes - octets,
-        );
-        if let Err(_) = self.copies.insert(0, copy) {
-            unreachable!()
-        }
-        self.octets = left + octets;
+        let left = match put_first(&mut self.cache, self.octets, copy) {
+            Ok(left) => left,
+            Err(refused) => return Err(refused),
+        };
+        let all = left as u128 + octets as u128;
+        self.octets = make_room(&mut self.cache, all, self.limit_count, self.limit_bytes);
         Ok(())
     }
 
@@ -197,7 +250,7 @@ impl<T: Drop> Store<T> {
         ensures answer { result ≡ is_some (copy_by_key key.now self.old.copies) }
         ensures removed { self.new ≡ with_copies self.old (without_key key.now self.old.copies) }
     {
-        match take_out(&mut self.copies, key) {
+        match self.cache.pop(key) {
             Some(copy) => {
                 self.octets -= size(&copy);
                 true
@@ -237,8 +290,8 @@ impl<T: Drop> Store<T> {
             (self.new ≡ with_copies self.old (without_all_below stamp self.old.copies)) }
         ensures err { OnErr result (self.new ≡ self.old) }
     {
-        let dropped = drop_below(&mut self.copies, stamp);
-        self.octets = octets_of(self.copies.as_slice());
-        Ok(dropped as u64)
+        let keys = keys_below(*self.cache.allocator(), &self.cache, stamp)?;
+        self.octets = drop_each(&mut self.cache, self.octets, &keys);
+        Ok(keys.len() as u64)
     }
 }

@@ -1,11 +1,16 @@
-ghost use Rattle.std.specs.Prelude.{◌≤◌};
+ghost use Rattle.std.specs.Prelude.{◌≤◌, ◌<◌};
 
 use crate::laws::what_fits_is_the_longest_front;
 use crate::{Put, Store, WebCopy, size};
 use fetch_messages::{Answer, Body, Field, Fields};
 use http_header::{HeaderName, HeaderValue};
+use std::hash::RandomState;
 use std::test::Fail;
 use url_key::Key;
+
+mod plain;
+
+use plain::Plain;
 
 /// A copy of `http://o/NAME` with a body of so many octets; its size is 10 more.
 fn copy_of(rt: &HostRuntime, name: u8, stamp: u32, octets: usize) -> Result<WebCopy<u32>, Fail> {
@@ -38,13 +43,11 @@ fn key_of(rt: &HostRuntime, name: u8) -> Result<Key, Fail> {
     Ok(Key::read(rt.alloc(), &url)?)
 }
 
-/// Which of the copies a, b, c, d and e are held, as their names.
+/// The last letters of the keys of the copies that are held, the most recent first.
 fn held(rt: &HostRuntime, store: &Store<u32>) -> Result<Vec<u8>, Fail> {
     let mut found = Vec::new(rt.alloc());
-    for name in b"abcde" {
-        if store.peek(&key_of(rt, *name)?).is_some() {
-            found.push(*name)?;
-        }
+    for copy in &store.copies(rt.alloc())? {
+        found.push(*copy.key.text().last().ok_or("no key is empty")?)?;
     }
     Ok(found)
 }
@@ -66,17 +69,17 @@ fn the_least_recent_copy_goes(rt: HostRuntime) -> Result<(), Fail> {
     let looked = store.look(&key_of(&rt, b'a')?);
     assert!(rt; looked.is_some_and(|copy| copy.answer.body() == b"xxx".as_slice()));
     assert!(rt; put(&mut store, copy_of(&rt, b'c', 5, 3)?)? == Put::Stored);
-    assert!(rt; held(&rt, &store)?.as_slice() == b"ac".as_slice());
+    assert!(rt; held(&rt, &store)?.as_slice() == b"ca".as_slice());
     assert!(rt; put(&mut store, copy_of(&rt, b'c', 4, 3)?)? == Put::Kept);
     assert!(rt; put(&mut store, copy_of(&rt, b'd', 5, 3)?)? == Put::Stored);
     assert!(rt;
-        held(&rt, &store)?.as_slice() == b"cd".as_slice(),
+        held(&rt, &store)?.as_slice() == b"dc".as_slice(),
         "a was behind c"
     );
     // To peek leaves the order.
     assert!(rt; store.peek(&key_of(&rt, b'c')?).is_some());
     assert!(rt; put(&mut store, copy_of(&rt, b'e', 5, 3)?)? == Put::Stored);
-    assert!(rt; held(&rt, &store)?.as_slice() == b"de".as_slice());
+    assert!(rt; held(&rt, &store)?.as_slice() == b"ed".as_slice());
     assert!(rt; store.look(&key_of(&rt, b'a')?).is_none());
     Ok(())
 }
@@ -96,13 +99,13 @@ fn both_limits_hold(rt: HostRuntime) -> Result<(), Fail> {
     }
     assert!(rt; store.bytes() == 39);
     assert!(rt; put(&mut store, copy_of(&rt, b'd', 5, 3)?)? == Put::Stored);
-    assert!(rt; held(&rt, &store)?.as_slice() == b"bcd".as_slice());
+    assert!(rt; held(&rt, &store)?.as_slice() == b"dcb".as_slice());
     assert!(rt; store.look(&key_of(&rt, b'b')?).is_some());
     assert!(rt; put(&mut store, copy_of(&rt, b'e', 5, 16)?)? == Put::Stored);
-    assert!(rt; held(&rt, &store)?.as_slice() == b"be".as_slice());
+    assert!(rt; held(&rt, &store)?.as_slice() == b"eb".as_slice());
     assert!(rt; store.bytes() == 39 && store.len() == 2);
     assert!(rt; put(&mut store, copy_of(&rt, b'e', 4, 3)?)? == Put::Kept);
-    assert!(rt; held(&rt, &store)?.as_slice() == b"be".as_slice() && store.bytes() == 39);
+    assert!(rt; held(&rt, &store)?.as_slice() == b"eb".as_slice() && store.bytes() == 39);
     // The key's old copy goes, also where the new one is smaller.
     assert!(rt; put(&mut store, copy_of(&rt, b'e', 5, 3)?)? == Put::Stored);
     assert!(rt; store.bytes() == 26 && store.len() == 2);
@@ -118,7 +121,7 @@ fn copies_are_cleared_by_their_stamps(rt: HostRuntime) -> Result<(), Fail> {
     assert!(rt; !store.clear_below(&key_of(&rt, b'a')?, 3));
     assert!(rt; !store.clear_below(&key_of(&rt, b'd')?, 9));
     assert!(rt; store.clear_all_below(5)? == 1);
-    assert!(rt; held(&rt, &store)?.as_slice() == b"bc".as_slice() && store.bytes() == 26);
+    assert!(rt; held(&rt, &store)?.as_slice() == b"cb".as_slice() && store.bytes() == 26);
     assert!(rt; store.clear_below(&key_of(&rt, b'b')?, 6));
     assert!(rt; store.remove(&key_of(&rt, b'c')?));
     assert!(rt; !store.remove(&key_of(&rt, b'c')?));
@@ -168,5 +171,96 @@ fn copies_are_equal(rt: HostRuntime) -> Result<(), Fail> {
     assert!(rt; copy.answer.age() == Some(1) && copy.answer.stamp() == Some(2));
     assert!(rt; copy.answer.body() == b"one".as_slice() && size(&copy) == 19);
     what_fits_is_the_longest_front::<u8>();
+    Ok(())
+}
+
+/// Numbers that look random, the same at each run.
+#[derive(Drop)]
+struct Numbers {
+    state: u64,
+}
+
+impl Numbers {
+    /// A number below `end`, which is not 0.
+    fn below(&mut self, end: u32) -> u32
+        requires { 1 ≤ end }
+        ensures { result < end }
+    {
+        self.state = self
+            .state
+            .wrapping_mul(6364136223846793005)
+            .wrapping_add(1442695040888963407);
+        (self.state >> 33) as u32 % end
+    }
+}
+
+/// Makes one call of both, and says whether they answer the same.
+fn answer_the_same(
+    rt: &HostRuntime,
+    numbers: &mut Numbers,
+    number: u32,
+    store: &mut Store<u32>,
+    plain: &mut Plain,
+) -> Result<bool, Fail> {
+    let name = b'a' + numbers.below(9) as u8;
+    let stamp = numbers.below(5);
+    let key = key_of(rt, name)?;
+    let same = match numbers.below(10) {
+        0 => {
+            let looked = store.look(&key).map(|copy| copy.tag);
+            let expected = plain.peek(&key).map(|copy| copy.tag);
+            plain.refresh(&key)?;
+            looked == expected
+        }
+        1 => {
+            store.refresh(&key);
+            plain.refresh(&key)?;
+            true
+        }
+        2 => store.remove(&key) == plain.remove(&key),
+        3 => store.clear_below(&key, stamp) == plain.clear_below(&key, stamp),
+        4 => {
+            let stamp = numbers.below(3);
+            store.clear_all_below(stamp)? == plain.clear_all_below(stamp) as u64
+        }
+        _ => {
+            let mut copy = copy_of(rt, name, stamp, numbers.below(40) as usize)?;
+            copy.tag = number;
+            put(store, copy.copy(rt.alloc())?)? == plain.put(copy)?
+        }
+    };
+    Ok(same)
+}
+
+/// Whether both hold the same copies, in the same order.
+fn hold_the_same(rt: &HostRuntime, store: &Store<u32>, plain: &Plain) -> Result<bool, Fail> {
+    let copies = store.copies(rt.alloc())?;
+    let mut same = copies.len() == plain.copies().len()
+        && store.len() == copies.len()
+        && store.bytes() == plain.bytes();
+    for (copy, expected) in copies.iter().zip(plain.copies()) {
+        let found = store.peek(&expected.key).map(|copy| copy.tag);
+        same = same && copy.tag == expected.tag && copy.key == expected.key;
+        same = same && found == Some(expected.tag);
+    }
+    Ok(same)
+}
+
+#[test]
+fn a_plain_list_does_the_same(rt: HostRuntime) -> Result<(), Fail> {
+    let mut numbers = Numbers { state: 20261122 };
+    for (count, bytes) in [(1, 30), (3, 39), (4, 1000), (6, 150), (20, 1000)] {
+        let keys = RandomState::new(&rt)?;
+        let random = Store::with_random_keys(rt.alloc(), count, bytes, keys)?;
+        for mut store in [random, store_of(&rt, count, bytes)?] {
+            let mut plain = Plain::new(rt.alloc(), count, bytes);
+            for number in 0..300 {
+                let same = answer_the_same(&rt, &mut numbers, number, &mut store, &mut plain)?;
+                assert!(rt; same, "answers: {count} {bytes} {number}");
+                let same = hold_the_same(&rt, &store, &plain)?;
+                assert!(rt; same, "copies: {count} {bytes} {number}");
+            }
+        }
+    }
     Ok(())
 }

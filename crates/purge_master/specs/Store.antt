@@ -1,5 +1,5 @@
 -- What a call leaves of a master and its store.
-use Rattle.std.specs.Prelude.{◌≡◌, ◌⊎◌, ℕ, Bool, true, false, IsTrue, Result, Err, OnOk, OnErr}
+use Rattle.std.specs.Prelude.{◌≡◌, ◌⊎◌, ℕ, true, false, Result, Err, OnOk, OnErr}
 use Rattle.purge_rules.specs.declared.calls.MasterCall.{MasterCall}
 use Rattle.purge_rules.specs.declared.calls.MasterAnswer.{MasterAnswer}
 use Rattle.purge_rules.specs.declared.fault.MasterFault.{MasterFault}
@@ -9,16 +9,15 @@ use Rattle.purge_rules.specs.Store.{IsEither, HaveRisen}
 use Rattle.purge_rules.specs.Calls.{Calls, called}
 use Rattle.purge_master.specs.View.{MasterView, writes}
 
--- What a store says of itself at a moment: nobody else has written it, what an open after a crash may find, no call has failed, and
--- how many were answered with a store's fault.
+-- What a store says of itself at a moment: nobody else has written it, what an open after a crash may find, and how many calls were
+-- answered with a store's fault.
 pub record Witness : Type 1 where
   pub is_honest : Type 0
   pub may_find : PurgeList → Type 0
-  pub is_usable : Bool
   pub failed : ℕ
 
-abbrev pub witness : Type 0 → (PurgeList → Type 0) → Bool → ℕ → Witness
-witness is_honest may_find is_usable failed = record { is_honest = is_honest; may_find = may_find; is_usable = is_usable; failed = failed }
+abbrev pub witness : Type 0 → (PurgeList → Type 0) → ℕ → Witness
+witness is_honest may_find failed = record { is_honest = is_honest; may_find = may_find; failed = failed }
 
 -- An honest store was honest before. A call that writes nothing leaves it. After one that writes and is answered, a crash leaves the purges as they are now. After
 -- one that is refused, the store is as it was, or a crash leaves the purges from before the call or after it. A store's fault comes from the store.
@@ -26,7 +25,7 @@ pub record KeepsStore {S : Type 0} (was now : Witness) (before after : MasterVie
   pub honest : now.is_honest → was.is_honest
   pub untouched : writes before c ≡ false → after.store ≡ before.store
   pub durable : OnOk out (writes before c ≡ true → now.is_honest → (found : PurgeList) → now.may_find found → found ≡ after.state.purges)
-  pub crash : OnErr out ((after.store ≡ before.store) ⊎ (now.is_honest → IsTrue was.is_usable → (found : PurgeList) → now.may_find found → IsEither before.state.purges (called before.members before.state c).state.purges found))
+  pub crash : OnErr out ((after.store ≡ before.store) ⊎ (now.is_honest → (found : PurgeList) → now.may_find found → IsEither before.state.purges (called before.members before.state c).state.purges found))
   pub fault : out ≡ Err fault.StoreFault → HaveRisen was.failed now.failed
 
 -- The master has answered the call so, and is left so.

@@ -1,5 +1,5 @@
 -- A master and its book as contracts see them, and their answers as those of its calls.
-use Rattle.std.specs.Prelude.{◌≡◌, ℕ, Bool, false, not, ◌&&◌, List, Option, Result, Ok, Err}
+use Rattle.std.specs.Prelude.{◌≡◌, ℕ, Bool, IsTrue, false, not, ◌&&◌, List, Option, Result, Ok, Err}
 use Rattle.purge_rules.specs.declared.calls.MasterCall.{MasterCall}
 use Rattle.purge_rules.specs.declared.calls.MasterAnswer.{MasterAnswer}
 use Rattle.purge_rules.specs.declared.calls.MasterAnswer.TheVariants as answer
@@ -16,9 +16,9 @@ pub record MasterView (S : Type 0) : Type 0 where
   pub state : MasterState
   pub store : S
 
--- while the master is open, its purges are those that an honest store has committed
-abbrev pub IsTied : Bool → PurgeList → Type 0 → PurgeList → Type 0
-IsTied closed purges honest stored = closed ≡ false → honest → stored ≡ purges
+-- while the master is open, no call of its store has failed, and its purges are those that an honest store has committed
+abbrev pub IsTied : Bool → PurgeList → Bool → Type 0 → PurgeList → Type 0
+IsTied closed purges usable honest stored = closed ≡ false → IsTrue usable × (honest → stored ≡ purges)
 
 -- the call changes what is stored
 abbrev pub writes : {S : Type 0} → MasterView S → MasterCall → Bool

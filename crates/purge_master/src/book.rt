@@ -71,8 +71,8 @@ impl<S: PurgeStore> MasterBook<S> {
     pub fn call(&mut self, place: u64, call: MasterCall) -> Result<MasterAnswer, MasterFault>
         ensures full { 4096 ≤ length self.old.entries → (result ≡ Err faults.ShiftFull) × (self.new ≡ self.old) }
         ensures entered { length self.old.entries < 4096 → (result ≡ Err faults.NoMemory) × (self.new ≡ self.old)
-            ⊎ IsEntered (witness (S.is_honest self.old.master.store) (S.may_find self.old.master.store) (S.is_usable self.old.master.store) (S.failed self.old.master.store))
-            (witness (S.is_honest self.new.master.store) (S.may_find self.new.master.store) (S.is_usable self.new.master.store) (S.failed self.new.master.store))
+            ⊎ IsEntered (witness (S.is_honest self.old.master.store) (S.may_find self.old.master.store) (S.failed self.old.master.store))
+            (witness (S.is_honest self.new.master.store) (S.may_find self.new.master.store) (S.failed self.new.master.store))
             self.old self.new place call result }
     {
         if self.entries.len() >= MOST_ENTRIES {

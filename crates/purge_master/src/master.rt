@@ -40,7 +40,7 @@ impl<S: PurgeStore> Model for Master<S> {
 
     ghost view = { λ m. record { members = m.members; state = record { purges = m.purges; closed = m.closed }; store = m.store } };
 
-    ghost invariant = { λ m. IsTied m.closed m.purges (S.is_honest m.store) (S.content m.store) };
+    ghost invariant = { λ m. IsTied m.closed m.purges (S.is_usable m.store) (S.is_honest m.store) (S.content m.store) };
 }
 
 /// What a call answers where the store answered so. A call that writes is never answered with `BadTable`.
@@ -61,20 +61,13 @@ fn is_acknowledging(code: u8) -> bool
 }
 
 impl<S: PurgeStore> Master<S> {
-    /// Whether it is closed.
-    pub fn is_closed(&self) -> bool
-        ensures { result ≡ self.now.state.closed }
-    {
-        self.closed
-    }
-
     /// Gives a number to a purge of the key, and commits it. The members are told by `message`.
     ///
     /// Faults, in this order: `Closed`; `NumbersSpent` after the number 4294967295; `TooManyPending` where 1,024 purges are pending;
     /// `StoreFault`, which closes the master; `NoMemory`, which closes it where the store answered it.
     pub fn issue(&mut self, key: &Key) -> Result<u32, MasterFault>
-        ensures { IsCalled (witness (S.is_honest self.old.store) (S.may_find self.old.store) (S.is_usable self.old.store) (S.failed self.old.store))
-            (witness (S.is_honest self.new.store) (S.may_find self.new.store) (S.is_usable self.new.store) (S.failed self.new.store))
+        ensures { IsCalled (witness (S.is_honest self.old.store) (S.may_find self.old.store) (S.failed self.old.store))
+            (witness (S.is_honest self.new.store) (S.may_find self.new.store) (S.failed self.new.store))
             self.old self.new (calls.Issue key.now) (issue_outcome result) }
     {
         if self.closed {
@@ -110,8 +103,8 @@ impl<S: PurgeStore> Master<S> {
         trans: u32,
         code: u8,
     ) -> Result<Option<u32>, MasterFault>
-        ensures { IsCalled (witness (S.is_honest self.old.store) (S.may_find self.old.store) (S.is_usable self.old.store) (S.failed self.old.store))
-            (witness (S.is_honest self.new.store) (S.may_find self.new.store) (S.is_usable self.new.store) (S.failed self.new.store))
+        ensures { IsCalled (witness (S.is_honest self.old.store) (S.may_find self.old.store) (S.failed self.old.store))
+            (witness (S.is_honest self.new.store) (S.may_find self.new.store) (S.failed self.new.store))
             self.old self.new (calls.Acknowledge member trans code) (acknowledge_outcome result) }
     {
         if self.closed {

@@ -2,6 +2,7 @@
 ghost use Rattle.std.specs.Prelude.{◌≡◌, IfOk};
 ghost use Rattle.purge_rules.specs.Members.{members_of};
 ghost use Rattle.purge_rules.specs.Calls.{opened};
+ghost use Rattle.purge_master.specs.View.{IsTied};
 ghost use Rattle.purge_master.specs.Names.{open_fault_name, open_fault_of as answer_to_fault};
 
 use crate::Master;
@@ -72,9 +73,17 @@ impl<S: PurgeStore + Drop> Master<S> {
 }
 
 impl<S: PurgeStore> Master<S> {
+    /// Whether it is closed.
+    pub fn is_closed(&self) -> bool
+        ensures { result ≡ self.now.state.closed }
+    {
+        self.closed
+    }
+
     /// The store of purges, also that of a closed master. It takes no memory.
     pub fn into_store(self) -> S
-        ensures { result ≡ self.store }
+        ensures value { result ≡ self.store }
+        ensures tied { IsTied self.state.closed self.state.purges (S.is_usable self.store) (S.is_honest self.store) (S.content self.store) }
     {
         self.store
     }

@@ -158,11 +158,11 @@ impl Purges {
 
     /// The last number that was given is this one, which is no less than it was. A store uses it whose last purges are done. It takes no
     /// memory.
-    pub fn give(&mut self, last: u32)
-        requires { self.old.last ≤ last }
-        ensures { self.new ≡ given_to self.old last }
+    pub fn give(&mut self, given: u32)
+        requires { self.old.last ≤ given }
+        ensures { self.new ≡ given_to self.old given }
     {
-        self.last = last;
+        self.last = given;
     }
 
     /// Takes back the latest addition: the last number was this one before it. It takes no memory.

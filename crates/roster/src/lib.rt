@@ -5,6 +5,7 @@
 //! writes nothing would pass), and tests show them.
 #![tactic(auto)]
 
+mod copying;
 mod doubles;
 mod fault;
 mod judge;

@@ -7,10 +7,11 @@ ghost use Rattle.roster.specs.Lookups.{is_member, peers_of, peers_in as peers_of
 ghost use Rattle.roster.specs.Lookups.{address_by as address_for, is_origin_of as is_origin_for, is_sibling as is_sibling_role};
 ghost use Rattle.std.specs.List.{find, list_any};
 
+use crate::copying::copy_of_tables;
 use crate::judge::judge;
 use crate::{Address, Cache, Limits, Member, Origin, Peer, Role, RosterError, Udp};
 use roster_tables::Tables;
-use std::alloc::Global;
+use std::alloc::{AllocError, Global};
 use std::marker::Model;
 
 /// Who takes part in a hierarchy, whom each asks, and where all of them are.
@@ -110,6 +111,16 @@ impl Roster {
         ensures { result ≡ calls_sibling self.now of whom }
     {
         has_sibling(peers_in(self.members(), of), whom)
+    }
+
+    /// The same roster once more.
+    pub fn copy(&self, alloc: Global) -> Result<Roster, AllocError>
+        ensures value { IfOk result (λ copy. copy ≡ self.now) }
+        ensures valid { IsRoster self.now }
+    {
+        Ok(Roster {
+            tables: copy_of_tables(alloc, &self.tables)?,
+        })
     }
 
     /// What every node keeps to.

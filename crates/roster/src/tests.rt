@@ -144,7 +144,8 @@ fn two_are_siblings(rt: HostRuntime) -> Result<(), Fail> {
 
 #[test]
 fn peers_are_told(rt: HostRuntime) -> Result<(), Fail> {
-    let roster = Roster::read(rt.alloc(), TWO)?;
+    let roster = Roster::read(rt.alloc(), TWO)?.copy(rt.alloc())?;
+    assert_eq!(rt; roster.members().len(), 2);
     for member in roster.members() {
         if member.cache.id == 1 {
             let peers = member.peers.as_slice();

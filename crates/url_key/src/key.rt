@@ -1,8 +1,7 @@
-ghost use Rattle.std.specs.Prelude.{◌≡◌, ◌≤◌, ◌==◌, Ok, Err, IfOk, IfErr, MatchResult, [], nat_eq, unwrap_or, option_copied};
+ghost use Rattle.std.specs.Prelude.{◌≡◌, ◌≤◌, ◌==◌, ◌∷◌, Ok, Err, IfOk, IfErr, MatchResult, [], nat_eq, unwrap_or, option_copied};
 ghost use Rattle.std.specs.Cmp.{partial_equiv_from_equiv, partial_order_from_own_ties};
 ghost use Rattle.std.specs.Cmp.Lexicographic.{pointwise, nat_list_eq_equiv, slice_cmp};
 ghost use Rattle.std.specs.Cmp.Rules.{comparing, hashing};
-ghost use Rattle.std.specs.Hash as fed;
 ghost use Rattle.std.specs.Ordering.{nat_cmp, as_partial_cmp};
 ghost use Rattle.std.proofs.Common.{rules};
 ghost use Rattle.http_uri.specs.Uri.{uri_scheme, uri_authority};
@@ -239,12 +238,12 @@ impl Ord for Key {
 }
 
 impl Hash for Key {
-    ghost hash_input = { fed.slice fed.u8 };
+    ghost hash_input = { λ k. k ∷ [] };
 
     ghost respects_eq = { Prim.search (hashing, rules) };
 
     fn hash<H: Hasher>(&self, state: &mut H) {
-        self.text().hash(state);
+        state.write(self.text());
     }
 }
 

@@ -5,13 +5,13 @@ use Rattle.std.proofs.Math.Decide.{ℕ_discrete}
 use Rattle.std.proofs.lemmas.Option.{none-some}
 use Rattle.node_rules.proofs.Cases.{branches, true_not_false}
 use Rattle.node_rules.proofs.Pendings.{all_joined}
-use Rattle.world_rules.specs.Hierarchy.{Hierarchy}
 use Rattle.purge_rules.specs.declared.purges.Purge.{Purge}
 use Rattle.purge_rules.specs.declared.fault.MasterFault.{MasterFault}
 use Rattle.purge_rules.specs.declared.fault.MasterFault.TheVariants.{NumbersSpent, TooManyPending}
 use Rattle.purge_rules.specs.Purges.{PurgeList, pending_at, with_purge}
 use Rattle.purge_rules.specs.Calls.{issue_fault}
 use Rattle.url_key.specs.Key.{IsKey}
+use Rattle.roster_tables.specs.declared.plain.Tables.{Tables}
 use Rattle.world_rules.specs.declared.event.WorldEvent.{WorldEvent}
 use Rattle.world_rules.specs.declared.event.WorldEvent.TheVariants.{Issue}
 use Rattle.world_rules.specs.World.{World, node_at}
@@ -37,11 +37,11 @@ unfolding with_step
 extends_step past event seen = extends_by past (record { event = event; seen = seen } ∷ [])
 
 -- what an event that issues nothing leaves, before it is counted among the steps
-pub record Leaves (h : Hierarchy) (past : List Step) (seen : Seen) (w : World) : Type 0 where
+pub record Leaves (h : Tables) (past : List Step) (seen : Seen) (w : World) : Type 0 where
   pub lineage : HasLineage h past w
   pub tells : (number : ℕ) → TellsDone number seen → AllHaveRaised h past w.seats number
 
-module _ (h : Hierarchy) (past : List Step) (event : WorldEvent) (seen : Seen) (w : World) (silent : purged_by event seen ≡ None) (leaves : Leaves h past seen w) where
+module _ (h : Tables) (past : List Step) (event : WorldEvent) (seen : Seen) (w : World) (silent : purged_by event seen ≡ None) (leaves : Leaves h past seen w) where
   step_all : (number : ℕ) → AllHaveRaised h past w.seats number → AllHaveRaised h (with_step past event seen) w.seats number
   step_all number = all_later past (with_step past event seen) (extends_step past event seen) h w.seats w.seats (grows_itself w.seats) number
 
@@ -82,7 +82,7 @@ left_number m e =
     (branches (λ (o : Option MasterFault). o ≡ None → m.last + 1 ≤ 4294967295) (nat_le 4294967295 m.last) (Some NumbersSpent) (if nat_le 1024 (length m.pending) then Some TooManyPending else None)
     (λ spent f. absurd (none-some NumbersSpent (sym f))) (λ left f. grind (arith, left))) e
 
-module _ (h : Hierarchy) (past : List Step) (w : World) (lineage : HasLineage h past w) (key : List ℕ) (is_key : IsKey key) (small : w.master.last + 1 ≤ 4294967295) where
+module _ (h : Tables) (past : List Step) (w : World) (lineage : HasLineage h past w) (key : List ℕ) (is_key : IsKey key) (small : w.master.last + 1 ≤ 4294967295) where
   issued_now : List Step
   issued_now = with_step past (Issue key) (Issued (w.master.last + 1))
 
@@ -128,7 +128,7 @@ module _ (h : Hierarchy) (past : List Step) (w : World) (lineage : HasLineage h 
     | inr this ↦ absurd (rw (← this) at tells)
   ]
 
-  pub issue_keeps : HasLineage h (with_step past (Issue key) (Issued (w.master.last + 1))) (with_sent (with_master w (with_purge w.master (w.master.last + 1) key)) (clears_of h.roster (w.master.last + 1) key))
+  pub issue_keeps : HasLineage h (with_step past (Issue key) (Issued (w.master.last + 1))) (with_sent (with_master w (with_purge w.master (w.master.last + 1) key)) (clears_of h (w.master.last + 1) key))
   unfolding issued_now new_purge
   issue_keeps =
       let short : length (purges issued_now) ≤ 4294967295 = omega (arith, issue_last, small) in
@@ -136,8 +136,8 @@ module _ (h : Hierarchy) (past : List Step) (w : World) (lineage : HasLineage h 
         last = issue_last;
         small = small;
         nodes = λ id. node_later past issued_now issue_extends (node_at w.seats id) (lineage.nodes id);
-        masters = all_joined _ w.datagrams (clears_of h.roster (w.master.last + 1) key) (masters_later past issued_now issue_extends h w.datagrams lineage.masters) (new_right h issued_now w.seats (w.master.last + 1) key (clear_right h issued_now w.seats new_purge short new_purge_right));
-        obeyed = all_joined _ w.datagrams (clears_of h.roster (w.master.last + 1) key) (obeyed_later past issued_now issue_extends h w.seats w.seats (grows_itself w.seats) w.datagrams lineage.obeyed) (new_obeyed h issued_now w.seats (w.master.last + 1) key);
+        masters = all_joined _ w.datagrams (clears_of h (w.master.last + 1) key) (masters_later past issued_now issue_extends h w.datagrams lineage.masters) (new_right h issued_now w.seats (w.master.last + 1) key (clear_right h issued_now w.seats new_purge short new_purge_right));
+        obeyed = all_joined _ w.datagrams (clears_of h (w.master.last + 1) key) (obeyed_later past issued_now issue_extends h w.seats w.seats (grows_itself w.seats) w.datagrams lineage.obeyed) (new_obeyed h issued_now w.seats (w.master.last + 1) key);
         answers = answers_later past issued_now issue_extends w.answers lineage.answers;
         pending = all_joined (PurgeHasLineage issued_now w.seats) w.master.pending (new_purge ∷ []) (purges_later past issued_now issue_extends h w.seats w.seats (grows_itself w.seats) w.master.pending lineage.pending) (new_purge_right, tt);
         done = issue_done;

@@ -7,8 +7,8 @@ use Rattle.node_rules.specs.declared.state.Fetch.TheVariants.{Nowhere, AtPeer, A
 use Rattle.node_rules.specs.declared.state.NodeState.{NodeState}
 use Rattle.purge_numbers.specs.Floors.{floor}
 use Rattle.node_rules.proofs.Pendings.{all_mapped}
-use Rattle.world_rules.specs.Hierarchy.{Hierarchy}
 use Rattle.purge_rules.specs.declared.purges.Purge.{Purge}
+use Rattle.roster_tables.specs.declared.plain.Tables.{Tables}
 use Rattle.world_rules.specs.World.{Seat, Datagram, PeerAnswer, node_at, with_node}
 use Rattle.world_rules.specs.Run.{Step, IsItem, purges, issued}
 use Rattle.world_rules.specs.Lineage.{IsStamped, IsStampedCopy, IsStampedFetch, IsStampedRead, IsSentAnswer, HasRaised, IsClear, IsMastersRightly, IsObeyed, NodeHasLineage, PurgeHasLineage, AllHaveRaised}
@@ -62,10 +62,10 @@ module _ (past now : List Step) (extends : Extends past now) where
   pub clear_later : (m : Message) → IsClear past m → IsClear now m
   clear_later m is = record { number = is.number; key = is.key; is_clear = is.is_clear; issued_key = extends.keys is.number is.key is.issued_key; small = is.small; is_key = is.is_key }
 
-  pub masters_later : (h : Hierarchy) (datagrams : List Datagram) → AllByRecursion (IsMastersRightly h past) datagrams → AllByRecursion (IsMastersRightly h now) datagrams
+  pub masters_later : (h : Tables) (datagrams : List Datagram) → AllByRecursion (IsMastersRightly h past) datagrams → AllByRecursion (IsMastersRightly h now) datagrams
   masters_later h datagrams all = all_mapped (IsMastersRightly h past) (IsMastersRightly h now) (λ d is from. clear_later d.message (is from)) datagrams all
 
-  module _ (h : Hierarchy) (old new : List Seat) (grows : Grows old new) where
+  module _ (h : Tables) (old new : List Seat) (grows : Grows old new) where
     pub obeyed_later : (datagrams : List Datagram) → AllByRecursion (IsObeyed h past old) datagrams → AllByRecursion (IsObeyed h now new) datagrams
     obeyed_later datagrams all = all_mapped (IsObeyed h past old) (IsObeyed h now new) (λ d is to number acknowledges id from. raised_later (node_at old id) (node_at new id) number (grows id) (is to number acknowledges id from)) datagrams all
 

@@ -18,7 +18,7 @@ use Rattle.purge_rules.specs.Members.{is_among, with_id, are_among, members_of}
 use Rattle.purge_rules.specs.Purges.{PurgeList, is_numbered, pending_at, marked_by, with_mark, without_purge}
 use Rattle.purge_rules.specs.Calls.{is_acknowledging, Acknowledged, unchanged, counted, acknowledged, due, status_by, status_of}
 use Rattle.purge_rules.specs.Clear.{clear, message_of}
-use Rattle.world_rules.specs.Hierarchy.{Hierarchy}
+use Rattle.roster_tables.specs.declared.plain.Tables.{Tables}
 use Rattle.world_rules.specs.World.{Seat, World, node_at}
 use Rattle.world_rules.specs.Turn.{Told, with_clock, with_master, with_sent, clear_to, clears_of, clears_due}
 use Rattle.world_rules.specs.Run.{Step, purges, TellsDone}
@@ -32,7 +32,7 @@ all_flat P f each (x ∷ xs) = all_joined P (f x) (flat_map f xs) (each x) (all_
 
 -- CLRs
 
-module _ (h : Hierarchy) (past : List Step) (seats : List Seat) where
+module _ (h : Tables) (past : List Step) (seats : List Seat) where
   -- a CLR of an issued purge may be sent, and acknowledges nothing
 
   pub clear_right : (p : Purge) → length (purges past) ≤ 4294967295 → PurgeHasLineage past seats p → IsClear past (message.Htcp (clear p.number p.key))
@@ -40,37 +40,37 @@ module _ (h : Hierarchy) (past : List Step) (seats : List Seat) where
       let l : p.number - 1 < length (purges past) = slice_get_within (purges past) (p.number - 1) p.key is.issued_key.1 in
       record { number = p.number; key = p.key; is_clear = refl; issued_key = is.issued_key; small = omega (arith, l, short, is.issued_key.0); is_key = is.is_key }
 
-  to_right : (m : Htcp) → IsClear past (message.Htcp m) → (o : Option Member) → AllByRecursion (IsMastersRightly h past) (clear_to h.roster (Some m) o)
+  to_right : (m : Htcp) → IsClear past (message.Htcp m) → (o : Option Member) → AllByRecursion (IsMastersRightly h past) (clear_to h (Some m) o)
   to_right m is None = tt
   to_right m is (Some member) = ((λ from. is), tt)
 
-  to_obeyed : (number : ℕ) (key : List ℕ) (o : Option Member) → AllByRecursion (IsObeyed h past seats) (clear_to h.roster (Some (clear number key)) o)
+  to_obeyed : (number : ℕ) (key : List ℕ) (o : Option Member) → AllByRecursion (IsObeyed h past seats) (clear_to h (Some (clear number key)) o)
   to_obeyed number key None = tt
   to_obeyed number key (Some member) = ((λ to n acknowledges. absurd (none-some n acknowledges)), tt)
 
-  pub new_right : (number : ℕ) (key : List ℕ) → IsClear past (message.Htcp (clear number key)) → AllByRecursion (IsMastersRightly h past) (clears_of h.roster number key)
-  new_right number key is = all_flat (IsMastersRightly h past) (λ id. clear_to h.roster (Some (clear number key)) (member_of h.roster id)) (λ id. to_right (clear number key) is (member_of h.roster id)) (members_of h.roster)
+  pub new_right : (number : ℕ) (key : List ℕ) → IsClear past (message.Htcp (clear number key)) → AllByRecursion (IsMastersRightly h past) (clears_of h number key)
+  new_right number key is = all_flat (IsMastersRightly h past) (λ id. clear_to h (Some (clear number key)) (member_of h id)) (λ id. to_right (clear number key) is (member_of h id)) (members_of h)
 
-  pub new_obeyed : (number : ℕ) (key : List ℕ) → AllByRecursion (IsObeyed h past seats) (clears_of h.roster number key)
-  new_obeyed number key = all_flat (IsObeyed h past seats) (λ id. clear_to h.roster (Some (clear number key)) (member_of h.roster id)) (λ id. to_obeyed number key (member_of h.roster id)) (members_of h.roster)
+  pub new_obeyed : (number : ℕ) (key : List ℕ) → AllByRecursion (IsObeyed h past seats) (clears_of h number key)
+  new_obeyed number key = all_flat (IsObeyed h past seats) (λ id. clear_to h (Some (clear number key)) (member_of h id)) (λ id. to_obeyed number key (member_of h id)) (members_of h)
 
   module _ (master : PurgeList) where
     one_right : length (purges past) ≤ 4294967295 → AllByRecursion (PurgeHasLineage past seats) master.pending → (number : ℕ) (o : Option Purge) → pending_at master number ≡ o → (m : Option Member) →
-        AllByRecursion (IsMastersRightly h past) (clear_to h.roster (option_map (λ p. clear p.number p.key) o) m)
+        AllByRecursion (IsMastersRightly h past) (clear_to h (option_map (λ p. clear p.number p.key) o) m)
     one_right short all number None is m = tt
     one_right short all number (Some p) is m = to_right (clear p.number p.key) (clear_right p short (found (PurgeHasLineage past seats) (is_numbered number) master.pending p all is)) m
 
-    one_obeyed : (o : Option Purge) (m : Option Member) → AllByRecursion (IsObeyed h past seats) (clear_to h.roster (option_map (λ p. clear p.number p.key) o) m)
+    one_obeyed : (o : Option Purge) (m : Option Member) → AllByRecursion (IsObeyed h past seats) (clear_to h (option_map (λ p. clear p.number p.key) o) m)
     one_obeyed None m = tt
     one_obeyed (Some p) m = to_obeyed p.number p.key m
 
-    due_right : length (purges past) ≤ 4294967295 → AllByRecursion (PurgeHasLineage past seats) master.pending → AllByRecursion (IsMastersRightly h past) (clears_due h.roster master)
-    due_right short all = all_flat (IsMastersRightly h past) (λ d. clear_to h.roster (message_of master d.0) (member_of h.roster d.1)) (λ d. one_right short all d.0 (pending_at master d.0) refl (member_of h.roster d.1)) (due (members_of h.roster) master)
+    due_right : length (purges past) ≤ 4294967295 → AllByRecursion (PurgeHasLineage past seats) master.pending → AllByRecursion (IsMastersRightly h past) (clears_due h master)
+    due_right short all = all_flat (IsMastersRightly h past) (λ d. clear_to h (message_of master d.0) (member_of h d.1)) (λ d. one_right short all d.0 (pending_at master d.0) refl (member_of h d.1)) (due (members_of h) master)
 
-    due_obeyed : AllByRecursion (IsObeyed h past seats) (clears_due h.roster master)
-    due_obeyed = all_flat (IsObeyed h past seats) (λ d. clear_to h.roster (message_of master d.0) (member_of h.roster d.1)) (λ d. one_obeyed (pending_at master d.0) (member_of h.roster d.1)) (due (members_of h.roster) master)
+    due_obeyed : AllByRecursion (IsObeyed h past seats) (clears_due h master)
+    due_obeyed = all_flat (IsObeyed h past seats) (λ d. clear_to h (message_of master d.0) (member_of h d.1)) (λ d. one_obeyed (pending_at master d.0) (member_of h d.1)) (due (members_of h) master)
 
-module _ (h : Hierarchy) (past : List Step) (w : World) (lineage : HasLineage h past w) where
+module _ (h : Tables) (past : List Step) (w : World) (lineage : HasLineage h past w) where
   pub clock_keeps : (now : ℕ) → HasLineage h past (with_clock w now)
   clock_keeps now = record {
     last = lineage.last;
@@ -85,15 +85,15 @@ module _ (h : Hierarchy) (past : List Step) (w : World) (lineage : HasLineage h 
   }
 
   -- what is due is sent again
-  pub resend_keeps : HasLineage h past (with_sent w (clears_due h.roster w.master))
+  pub resend_keeps : HasLineage h past (with_sent w (clears_due h w.master))
   resend_keeps =
       let short : length (purges past) ≤ 4294967295 = omega (arith, lineage.last, lineage.small) in
       record {
         last = lineage.last;
         small = lineage.small;
         nodes = lineage.nodes;
-        masters = all_joined (IsMastersRightly h past) w.datagrams (clears_due h.roster w.master) lineage.masters (due_right h past w.seats w.master short lineage.pending);
-        obeyed = all_joined (IsObeyed h past w.seats) w.datagrams (clears_due h.roster w.master) lineage.obeyed (due_obeyed h past w.seats w.master);
+        masters = all_joined (IsMastersRightly h past) w.datagrams (clears_due h w.master) lineage.masters (due_right h past w.seats w.master short lineage.pending);
+        obeyed = all_joined (IsObeyed h past w.seats) w.datagrams (clears_due h w.master) lineage.obeyed (due_obeyed h past w.seats w.master);
         answers = lineage.answers;
         pending = lineage.pending;
         done = lineage.done;
@@ -118,7 +118,7 @@ module _ (h : Hierarchy) (past : List Step) (w : World) (lineage : HasLineage h 
     reported = lineage.reported;
   }
 
-  module _ (roster : IsRoster h.roster) (id number : ℕ) (raised : HasRaised past (node_at w.seats id) number) where
+  module _ (roster : IsRoster h) (id number : ℕ) (raised : HasRaised past (node_at w.seats id) number) where
     -- each marked member has raised its floor
     mark_raised : (p : Purge) → p.number ≡ number → PurgeHasLineage past w.seats p → (other : ℕ) → is_among other (with_id id p.marked) ≡ true → HasRaised past (node_at w.seats other) p.number
     mark_raised p same is other has = elim (mark_cases p.marked id other has) [
@@ -138,16 +138,16 @@ module _ (h : Hierarchy) (past : List Step) (w : World) (lineage : HasLineage h 
     )
 
     -- all have raised their floors where the marks are complete
-    complete_raised : (p : Purge) → p.number ≡ number → PurgeHasLineage past w.seats p → are_among (members_of h.roster) (with_id id p.marked) ≡ true → AllHaveRaised h past w.seats p.number
+    complete_raised : (p : Purge) → p.number ≡ number → PurgeHasLineage past w.seats p → are_among (members_of h) (with_id id p.marked) ≡ true → AllHaveRaised h past w.seats p.number
     complete_raised p same is complete other member =
-        mark_raised p same is other (among_has (members_of h.roster) (with_id id p.marked) other complete (member_counts h.roster roster.ranges other member))
+        mark_raised p same is other (among_has (members_of h) (with_id id p.marked) other complete (member_counts h roster.ranges other member))
 
-    counted_keeps : (o : Option Purge) → pending_at w.master number ≡ o → HasLineage h past (with_master w (counted (members_of h.roster) w.master id o).purges)
+    counted_keeps : (o : Option Purge) → pending_at w.master number ≡ o → HasLineage h past (with_master w (counted (members_of h) w.master id o).purges)
     counted_keeps None is = lineage
     counted_keeps (Some p) is =
         let same : p.number ≡ number = pending-found w.master.pending number p is in
         let was : PurgeHasLineage past w.seats p = found (PurgeHasLineage past w.seats) (is_numbered number) w.master.pending p lineage.pending is in
-        branches (λ (a : Acknowledged). HasLineage h past (with_master w a.purges)) (are_among (members_of h.roster) (with_id id p.marked))
+        branches (λ (a : Acknowledged). HasLineage h past (with_master w a.purges)) (are_among (members_of h) (with_id id p.marked))
         record { purges = without_purge w.master p.number; done = Some p.number } record { purges = with_mark w.master p.number id; done = None }
         (λ complete. alone_keeps (filter (λ q. not (is_numbered p.number q)) w.master.pending) (all_left (PurgeHasLineage past w.seats) (λ q. not (is_numbered p.number q)) w.master.pending lineage.pending)
         (λ other low high none. elim (ℕ_discrete other p.number) [
@@ -157,28 +157,28 @@ module _ (h : Hierarchy) (past : List Step) (w : World) (lineage : HasLineage h 
         (λ _. alone_keeps (map (λ q. cond (is_numbered p.number q) (marked_by id q) q) w.master.pending) (all_marked p.number same w.master.pending lineage.pending)
         (λ other low high none. lineage.done other low high (pending-none_of_marked w.master.pending p.number id other none)))
 
-  pub acknowledge_keeps : IsRoster h.roster → (id number code : ℕ) → (is_acknowledging code ≡ true → HasRaised past (node_at w.seats id) number) → HasLineage h past (with_master w (acknowledged (members_of h.roster) w.master id number code).purges)
+  pub acknowledge_keeps : IsRoster h → (id number code : ℕ) → (is_acknowledging code ≡ true → HasRaised past (node_at w.seats id) number) → HasLineage h past (with_master w (acknowledged (members_of h) w.master id number code).purges)
   acknowledge_keeps roster id number code raised =
-      branches (λ (a : Acknowledged). HasLineage h past (with_master w a.purges)) (is_acknowledging code && is_among id (members_of h.roster)) (counted (members_of h.roster) w.master id (pending_at w.master number)) (unchanged w.master)
-      (λ counts. counted_keeps roster id number (raised (and_parts (is_acknowledging code) (is_among id (members_of h.roster)) counts).0) (pending_at w.master number) refl) (λ _. lineage)
+      branches (λ (a : Acknowledged). HasLineage h past (with_master w a.purges)) (is_acknowledging code && is_among id (members_of h)) (counted (members_of h) w.master id (pending_at w.master number)) (unchanged w.master)
+      (λ counts. counted_keeps roster id number (raised (and_parts (is_acknowledging code) (is_among id (members_of h)) counts).0) (pending_at w.master number) refl) (λ _. lineage)
 
   -- What the master tells
 
-  none_by : (o : Option Purge) → status_by (members_of h.roster) o ≡ status.Done → o ≡ None
+  none_by : (o : Option Purge) → status_by (members_of h) o ≡ status.Done → o ≡ None
   none_by None e = refl
   none_by (Some p) e = cc
 
-  status_done : (number : ℕ) → status_of (members_of h.roster) w.master number ≡ status.Done → (1 ≤ number) × (number ≤ w.master.last) × (pending_at w.master number ≡ None)
+  status_done : (number : ℕ) → status_of (members_of h) w.master number ≡ status.Done → (1 ≤ number) × (number ≤ w.master.last) × (pending_at w.master number ≡ None)
   status_done number =
-      branches (λ s. s ≡ status.Done → (1 ≤ number) × (number ≤ w.master.last) × (pending_at w.master number ≡ None)) (nat_eq number 0 || nat_lt w.master.last number) status.Unknown (status_by (members_of h.roster) (pending_at w.master number))
+      branches (λ s. s ≡ status.Done → (1 ≤ number) × (number ≤ w.master.last) × (pending_at w.master number ≡ None)) (nat_eq number 0 || nat_lt w.master.last number) status.Unknown (status_by (members_of h) (pending_at w.master number))
       (λ _ e. cc) (λ known e. (grind (arith, known), grind (arith, known), none_by (pending_at w.master number) e))
 
-  told_by : (number : ℕ) (s : Status) → status_of (members_of h.roster) w.master number ≡ s → (told : ℕ) → TellsDone told (Told number s) → AllHaveRaised h past w.seats told
+  told_by : (number : ℕ) (s : Status) → status_of (members_of h) w.master number ≡ s → (told : ℕ) → TellsDone told (Told number s) → AllHaveRaised h past w.seats told
   told_by number status.Done is told e =
       let known = status_done number is in
       subst (AllHaveRaised h past w.seats) e (lineage.done number known.0 known.1 known.2)
   told_by number _ is told e = absurd e
 
   -- who tells that a purge is done tells right
-  pub told_raised : (number told : ℕ) → TellsDone told (Told number (status_of (members_of h.roster) w.master number)) → AllHaveRaised h past w.seats told
-  told_raised number told e = told_by number (status_of (members_of h.roster) w.master number) refl told e
+  pub told_raised : (number told : ℕ) → TellsDone told (Told number (status_of (members_of h) w.master number)) → AllHaveRaised h past w.seats told
+  told_raised number told e = told_by number (status_of (members_of h) w.master number) refl told e

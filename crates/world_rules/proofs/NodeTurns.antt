@@ -35,8 +35,9 @@ use Rattle.node_rules.specs.Effect.{copy_in, copy_in_serve, IsBareStatus, copy_s
 use Rattle.node_rules.specs.Lawful.{number_of_purge, HasOrGets, Lawful}
 use Rattle.node_rules.proofs.Cases.{same_Some, true_not_false}
 use Rattle.node_rules.proofs.Pendings.{all_mapped, all_joined, contained}
-use Rattle.key_texts.specs.KeyOf.{GivesKeys}
-use Rattle.world_rules.specs.Hierarchy.{Hierarchy, IsHierarchy, setting, udp_of}
+use Rattle.roster_tables.specs.declared.plain.Tables.{Tables}
+use Rattle.roster.specs.Judged.{IsRoster}
+use Rattle.world_rules.specs.Hierarchy.{setting, udp_of}
 use Rattle.world_rules.specs.World.{Seat, Datagram, PeerAsk, PeerAnswer, Waiting, World, node_at, with_node, datagrams_from, Answered, answer_of, mark_of, answer_to, asked_by, answers_in, reply_in, after_node}
 use Rattle.world_rules.specs.Turn.{with_seat}
 use Rattle.world_rules.specs.Run.{Step, IsItem, purges, issued}
@@ -48,8 +49,8 @@ use Rattle.world_rules.proofs.Numbers.{clear_is_purge}
 use Rattle.world_rules.proofs.Keys.{own_key}
 
 -- what the world knows of an event that comes to a node
-abbrev pub ComesRightly : Hierarchy → List Step → Event ℕ → Type 0
-ComesRightly h past (event.Datagram from m now) = is_master h.roster from ≡ true → IsClear past m
+abbrev pub ComesRightly : Tables → List Step → Event ℕ → Type 0
+ComesRightly h past (event.Datagram from m now) = is_master h from ≡ true → IsClear past m
 ComesRightly h past (event.PeerAnswer serial peer key answer tag now) = IsStampedAnswer past answer tag
 ComesRightly h past _ = Unit {0}
 
@@ -59,36 +60,36 @@ clear_issued past m is =
     let l : is.number - 1 < length (purges past) = slice_get_within (purges past) (is.number - 1) is.key is.issued_key.1 in
     omega (arith, is.issued_key.0)
 
-clear_brings : (h : Hierarchy) → GivesKeys h.key_of → (past : List Step) (id : ℕ) (from : Address) (m : Message) → is_master h.roster from ≡ true → (is : IsClear past m) → purge_in_message (setting h id) from m ≡ Some (is.key, is.number)
-clear_brings h keys past id from m master is =
+clear_brings : (h : Tables) → (past : List Step) (id : ℕ) (from : Address) (m : Message) → is_master h from ≡ true → (is : IsClear past m) → purge_in_message (setting h id) from m ≡ Some (is.key, is.number)
+clear_brings h past id from m master is =
     ap (λ (m : Message). purge_in_message (setting h id) from m) is.is_clear
-    ∙ clear_is_purge h id is.number is.key from master is.issued_key.0 is.small (own_key h keys is.key is.is_key)
+    ∙ clear_is_purge h id is.number is.key from master is.issued_key.0 is.small (own_key h is.key is.is_key)
 
 -- who is not the master brings no purge
-strange_purge : (h : Hierarchy) (id : ℕ) (from : Address) (trans : ℕ) → is_master h.roster from ≡ false → (key : Option (List ℕ)) (n : ℕ) → purge_of (setting h id) from trans key n ≡ None
+strange_purge : (h : Tables) (id : ℕ) (from : Address) (trans : ℕ) → is_master h from ≡ false → (key : Option (List ℕ)) (n : ℕ) → purge_of (setting h id) from trans key n ≡ None
 strange_purge h id from trans other None n = refl
 strange_purge h id from trans other (Some key) n = ap (λ b. cond (b && nat_eq n trans && nat_le 1 n) (Some (key, n)) None) other
 
-strange_line : (h : Hierarchy) (id : ℕ) (from : Address) (trans : ℕ) → is_master h.roster from ≡ false → (key : Option (List ℕ)) (line : Result (Option ℕ) HtcpFault) → purge_by_line (setting h id) from trans key line ≡ None
+strange_line : (h : Tables) (id : ℕ) (from : Address) (trans : ℕ) → is_master h from ≡ false → (key : Option (List ℕ)) (line : Result (Option ℕ) HtcpFault) → purge_by_line (setting h id) from trans key line ≡ None
 strange_line h id from trans other key (Ok None) = refl
 strange_line h id from trans other key (Ok (Some n)) = strange_purge h id from trans other key n
 strange_line h id from trans other key (Err fault) = refl
 
-strange_content : (h : Hierarchy) (id : ℕ) (from : Address) (trans : ℕ) → is_master h.roster from ≡ false → (c : Content) → purge_in_content (setting h id) from trans c ≡ None
+strange_content : (h : Tables) (id : ℕ) (from : Address) (trans : ℕ) → is_master h from ≡ false → (c : Content) → purge_in_content (setting h id) from trans c ≡ None
 strange_content h id from trans other (content.ClrAsk desired reason spec) = strange_line h id from trans other _ _
 strange_content h id from trans other _ = refl
 
-strange_message : (h : Hierarchy) (id : ℕ) (from : Address) → is_master h.roster from ≡ false → (m : Message) → purge_in_message (setting h id) from m ≡ None
+strange_message : (h : Tables) (id : ℕ) (from : Address) → is_master h from ≡ false → (m : Message) → purge_in_message (setting h id) from m ≡ None
 strange_message h id from other (message.Icp m) = refl
 strange_message h id from other (message.Htcp m) = strange_content h id from m.trans other m.content
 
-datagram_number : (h : Hierarchy) → GivesKeys h.key_of → (past : List Step) (id : ℕ) (from : Address) (m : Message) (b : Bool) → is_master h.roster from ≡ b → (is_master h.roster from ≡ true → IsClear past m) → number_of_purge (purge_in_message (setting h id) from m) ≤ length (purges past)
-datagram_number h keys past id from m true master comes =
+datagram_number : (h : Tables) → (past : List Step) (id : ℕ) (from : Address) (m : Message) (b : Bool) → is_master h from ≡ b → (is_master h from ≡ true → IsClear past m) → number_of_purge (purge_in_message (setting h id) from m) ≤ length (purges past)
+datagram_number h past id from m true master comes =
     let is : IsClear past m = comes master in
-    subst (λ o. number_of_purge o ≤ length (purges past)) (sym (clear_brings h keys past id from m master is)) (clear_issued past m is)
-datagram_number h keys past id from m false other comes = subst (λ o. number_of_purge o ≤ length (purges past)) (sym (strange_message h id from other m)) (omega arith)
+    subst (λ o. number_of_purge o ≤ length (purges past)) (sym (clear_brings h past id from m master is)) (clear_issued past m is)
+datagram_number h past id from m false other comes = subst (λ o. number_of_purge o ≤ length (purges past)) (sym (strange_message h id from other m)) (omega arith)
 
-module _ (h : Hierarchy) (keys : GivesKeys h.key_of) (past : List Step) (id : ℕ) (old : NodeState ℕ) (lineage : NodeHasLineage past old) where
+module _ (h : Tables) (past : List Step) (id : ℕ) (old : NodeState ℕ) (lineage : NodeHasLineage past old) where
   -- Stamps
 
   peer_stamped : (serial peer : ℕ) (key : List ℕ) (stamp : ℕ) (answer : AnswerText) (tag : ℕ) (p : Pending ℕ) (c : WebCopy ℕ) → IsFromPeer serial peer key stamp answer tag p c → (is_gateway_fault answer.status ≡ true) ⊎ IsStamped past stamp tag → IsStampedCopy past c
@@ -118,7 +119,7 @@ module _ (h : Hierarchy) (keys : GivesKeys h.key_of) (past : List Step) (id : �
   fetch_stamped outcome p Nowhere same is = tt
 
   number_issued : (e : Event ℕ) → ComesRightly h past e → number_of_purge (purge_in (setting h id) e) ≤ length (purges past)
-  number_issued (event.Datagram from m now) comes = datagram_number h keys past id from m (is_master h.roster from) refl comes
+  number_issued (event.Datagram from m now) comes = datagram_number h past id from m (is_master h from) refl comes
   number_issued _ comes = omega arith
 
   pub node_keeps : (e : Event ℕ) → ComesRightly h past e → (outcome : Result (Reply ℕ) StepFault) (next : NodeState ℕ) → Lawful (setting h id) old e (length past + 1) outcome next → NodeHasLineage past next
@@ -130,7 +131,7 @@ module _ (h : Hierarchy) (keys : GivesKeys h.key_of) (past : List Step) (id : �
 
 -- A member's node changes, and its floors do not fall
 
-module _ (h : Hierarchy) (past : List Step) (w : World) (lineage : HasLineage h past w) (id : ℕ) (s : NodeState ℕ) (floors : (key : List ℕ) → floor (node_at w.seats id).floors key ≤ floor s.floors key) (node : NodeHasLineage past s) where
+module _ (h : Tables) (past : List Step) (w : World) (lineage : HasLineage h past w) (id : ℕ) (s : NodeState ℕ) (floors : (key : List ℕ) → floor (node_at w.seats id).floors key ≤ floor s.floors key) (node : NodeHasLineage past s) where
   grown : Grows w.seats (with_node w.seats id s)
   grown = grows_by w.seats id s floors
 
@@ -171,20 +172,20 @@ htcp_only : (m : Message) (number : ℕ) → acknowledged m ≡ Some number → 
 htcp_only (message.Icp m) number e = absurd (none-some number e)
 htcp_only (message.Htcp m) number e = refl
 
-module _ (h : Hierarchy) (proper : IsHierarchy h) (past : List Step) (id : ℕ) (next : NodeState ℕ) where
+module _ (h : Tables) (proper : IsRoster h) (past : List Step) (id : ℕ) (next : NodeState ℕ) where
   -- who acknowledges the CLR of a purge has raised its floor
-  raised_by : (from : Address) (m : Message) (number : ℕ) → is_master h.roster from ≡ true → IsClear past m → effect.HasRaised next.floors (purge_in_message (setting h id) from m) number → HasRaised past next number
+  raised_by : (from : Address) (m : Message) (number : ℕ) → is_master h from ≡ true → IsClear past m → effect.HasRaised next.floors (purge_in_message (setting h id) from m) number → HasRaised past next number
   raised_by from m number master is raised =
-      let both = subst (λ o. effect.HasRaised next.floors o number) (clear_brings h proper.keys past id from m master is) raised in
+      let both = subst (λ o. effect.HasRaised next.floors o number) (clear_brings h past id from m master is) raised in
       (is.key, subst (λ n. IsItem (purges past) n is.key) both.0 is.issued_key, both.1)
 
-  event_raised : (e : Event ℕ) → ComesRightly h past e → (to : Address) (number : ℕ) → is_master h.roster to ≡ true → ComesFrom e to → effect.HasRaised next.floors (purge_in (setting h id) e) number → HasRaised past next number
+  event_raised : (e : Event ℕ) → ComesRightly h past e → (to : Address) (number : ℕ) → is_master h to ≡ true → ComesFrom e to → effect.HasRaised next.floors (purge_in (setting h id) e) number → HasRaised past next number
   event_raised (event.Datagram from m now) comes to number master same raised =
-      let from_master : is_master h.roster from ≡ true = subst (λ a. is_master h.roster a ≡ true) (sym same) master in
+      let from_master : is_master h from ≡ true = subst (λ a. is_master h a ≡ true) (sym same) master in
       raised_by from m number from_master (comes from_master) raised
   event_raised _ comes to number master same raised = absurd same
 
-  module _ (seats : List Seat) (at_id : node_at seats id ≡ next) (e : Event ℕ) (comes : ComesRightly h past e) (c : Member) (entry : member_of h.roster id ≡ Some c) where
+  module _ (seats : List Seat) (at_id : node_at seats id ≡ next) (e : Event ℕ) (comes : ComesRightly h past e) (c : Member) (entry : member_of h id ≡ Some c) where
     sent_datagram : Outgoing → Datagram
     sent_datagram o = record { sender = address_by (udp_of o.message) c.cache; receiver = o.to; message = o.message }
 
@@ -193,12 +194,12 @@ module _ (h : Hierarchy) (proper : IsHierarchy h) (past : List Step) (id : ℕ) 
     outgoing_obeyed o obeys to_master number acknowledges other from =
         let both = subst (Acknowledges (setting h id) e next.floors o.to) acknowledges obeys in
         let address : address_by (udp_of o.message) c.cache ≡ c.cache.htcp = ap (λ by. address_by by c.cache) (htcp_only o.message number acknowledges) in
-        let same : id ≡ other = same_Some id other (sym (proper.roster.own.found id c entry) ∙ ap (λ a. member_at h.roster a udp.Htcp) (sym address) ∙ from) in
+        let same : id ≡ other = same_Some id other (sym (proper.own.found id c entry) ∙ ap (λ a. member_at h a udp.Htcp) (sym address) ∙ from) in
         subst (λ n. HasRaised past (node_at seats n) number) same (subst (λ s. HasRaised past s number) (sym at_id) (event_raised e comes o.to number to_master both.0 both.1))
 
     outgoing_masters : (o : Outgoing) → IsMastersRightly h past (sent_datagram o)
     unfolding sent_datagram
-    outgoing_masters o from = absurd (true_not_false (sym from ∙ proper.roster.own.apart id c (udp_of o.message) entry))
+    outgoing_masters o from = absurd (true_not_false (sym from ∙ proper.own.apart id c (udp_of o.message) entry))
 
     all_obeyed : (sent : List Outgoing) → AllByRecursion (IsObedient (setting h id) e next.floors) sent → AllByRecursion (IsObeyed h past seats) (map sent_datagram sent)
     all_obeyed [] all = tt
@@ -209,12 +210,12 @@ module _ (h : Hierarchy) (proper : IsHierarchy h) (past : List Step) (id : ℕ) 
     all_masters (o ∷ sent) = (outgoing_masters o, all_masters sent)
 
   module _ (seats : List Seat) (at_id : node_at seats id ≡ next) (e : Event ℕ) (comes : ComesRightly h past e) (sent : List Outgoing) where
-    datagrams_obeyed : (o : Option Member) → member_of h.roster id ≡ o → AllByRecursion (IsObedient (setting h id) e next.floors) sent → AllByRecursion (IsObeyed h past seats) (datagrams_from o sent)
+    datagrams_obeyed : (o : Option Member) → member_of h id ≡ o → AllByRecursion (IsObedient (setting h id) e next.floors) sent → AllByRecursion (IsObeyed h past seats) (datagrams_from o sent)
     unfolding sent_datagram
     datagrams_obeyed None entry all = tt
     datagrams_obeyed (Some c) entry all = all_obeyed seats at_id e comes c entry sent all
 
-    datagrams_masters : (o : Option Member) → member_of h.roster id ≡ o → AllByRecursion (IsMastersRightly h past) (datagrams_from o sent)
+    datagrams_masters : (o : Option Member) → member_of h id ≡ o → AllByRecursion (IsMastersRightly h past) (datagrams_from o sent)
     unfolding sent_datagram
     datagrams_masters None entry = tt
     datagrams_masters (Some c) entry = all_masters seats at_id e comes c entry sent
@@ -235,16 +236,16 @@ answers_sent past waiting id e serial (Some serve) bare stamped = answer_sent pa
 
 -- A node's turn
 
-module _ (h : Hierarchy) (proper : IsHierarchy h) (past : List Step) (w : World) (lineage : HasLineage h past w) (id : ℕ) (e : Event ℕ) (comes : ComesRightly h past e) (serial : ℕ) where
+module _ (h : Tables) (proper : IsRoster h) (past : List Step) (w : World) (lineage : HasLineage h past w) (id : ℕ) (e : Event ℕ) (comes : ComesRightly h past e) (serial : ℕ) where
   result_keeps : (outcome : Result (Reply ℕ) StepFault) (next : NodeState ℕ) → Lawful (setting h id) (node_at w.seats id) e (length past + 1) outcome next →
-      AllByRecursion (IsObedient (setting h id) e next.floors) (reply_in outcome).send → IsBareInServe (reply_in outcome).serve → ((c : WebCopy ℕ) → copy_in_serve (reply_in outcome).serve ≡ Some c → IsStampedCopy past c) → HasLineage h past (after_node h.roster w id e serial outcome next)
+      AllByRecursion (IsObedient (setting h id) e next.floors) (reply_in outcome).send → IsBareInServe (reply_in outcome).serve → ((c : WebCopy ℕ) → copy_in_serve (reply_in outcome).serve ≡ Some c → IsStampedCopy past c) → HasLineage h past (after_node h w id e serial outcome next)
   result_keeps outcome next law obeys bare stamped =
       let at_id : node_at (with_node w.seats id next) id ≡ next = node_at-same w.seats id next in
-      seat_keeps h past w lineage id next law.floors (node_keeps h proper.keys past id (node_at w.seats id) (lineage.nodes id) e comes outcome next law) _ _ _ _
-      (datagrams_masters h proper past id next (with_node w.seats id next) at_id e comes (reply_in outcome).send (member_of h.roster id) refl)
-      (datagrams_obeyed h proper past id next (with_node w.seats id next) at_id e comes (reply_in outcome).send (member_of h.roster id) refl obeys)
+      seat_keeps h past w lineage id next law.floors (node_keeps h past id (node_at w.seats id) (lineage.nodes id) e comes outcome next law) _ _ _ _
+      (datagrams_masters h proper past id next (with_node w.seats id next) at_id e comes (reply_in outcome).send (member_of h id) refl)
+      (datagrams_obeyed h proper past id next (with_node w.seats id next) at_id e comes (reply_in outcome).send (member_of h id) refl obeys)
       (answers_sent past w.waiting id e serial (reply_in outcome).serve bare stamped)
 
-  pub takes_keeps : (outcome : Result (Reply ℕ) StepFault) (next : NodeState ℕ) → Lawful (setting h id) (node_at w.seats id) e (length past + 1) outcome next → HasLineage h past (after_node h.roster w id e serial outcome next)
-  takes_keeps (Ok reply) next law = result_keeps (Ok reply) next law law.acknowledges law.statuses (λ c is. copy_stamped h proper.keys past id (node_at w.seats id) (lineage.nodes id) e comes c (law.serves c is))
+  pub takes_keeps : (outcome : Result (Reply ℕ) StepFault) (next : NodeState ℕ) → Lawful (setting h id) (node_at w.seats id) e (length past + 1) outcome next → HasLineage h past (after_node h w id e serial outcome next)
+  takes_keeps (Ok reply) next law = result_keeps (Ok reply) next law law.acknowledges law.statuses (λ c is. copy_stamped h past id (node_at w.seats id) (lineage.nodes id) e comes c (law.serves c is))
   takes_keeps (Err fault) next law = result_keeps (Err fault) next law tt tt (λ c is. absurd (none-some c is))

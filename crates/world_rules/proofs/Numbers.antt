@@ -19,7 +19,9 @@ use Rattle.node_rules.specs.Relation.{purge_in_message, purge_by_line}
 use Rattle.node_rules.proofs.Cases.{true_not_false, or_true}
 use Rattle.node_rules.proofs.Pendings.{all_mapped, all_joined}
 use Rattle.purge_rules.specs.Clear.{number_line, clear}
-use Rattle.world_rules.specs.Hierarchy.{Hierarchy, setting}
+use Rattle.roster_tables.specs.declared.plain.Tables.{Tables}
+use Rattle.key_texts.specs.KeyOf.{key_of}
+use Rattle.world_rules.specs.Hierarchy.{setting}
 use Rattle.world_rules.proofs.Members.{all_tested}
 use Rattle.world_rules.proofs.Seats.{same_id, other_id, or_left}
 
@@ -168,9 +170,12 @@ number_read n small =
 all_three : (a b c : Bool) → a ≡ true → b ≡ true → c ≡ true → (a && b && c) ≡ true
 all_three a b c h i j = cc
 
+at_least_one : (n : ℕ) → 1 ≤ n → nat_le 1 n ≡ true
+at_least_one n positive = grind (arith, positive)
+
 -- the master's CLR brings its purge
-pub clear_is_purge : (h : Hierarchy) (id number : ℕ) (key : List ℕ) (from : Address) → is_master h.roster from ≡ true → 1 ≤ number → number ≤ 4294967295 → h.key_of key ≡ Some key → purge_in_message (setting h id) from (message.Htcp (clear number key)) ≡ Some (key, number)
+pub clear_is_purge : (h : Tables) (id number : ℕ) (key : List ℕ) (from : Address) → is_master h from ≡ true → 1 ≤ number → number ≤ 4294967295 → key_of key ≡ Some key → purge_in_message (setting h id) from (message.Htcp (clear number key)) ≡ Some (key, number)
 clear_is_purge h id number key from master positive small is_key =
     ap (λ o. purge_by_line (setting h id) from number o (number_in_text (number_line number) PurgeNumber)) is_key
     ∙ ap (λ line. purge_by_line (setting h id) from number (Some key) line) (number_read number small)
-    ∙ ap (λ b. cond b (Some (key, number)) None) (all_three (is_master h.roster from) (nat_eq number number) (nat_le 1 number) master (same_id number) (grind (arith, positive)))
+    ∙ ap (λ b. cond b (Some (key, number)) None) (all_three (is_master h from) (nat_eq number number) (nat_le 1 number) master (same_id number) (at_least_one number positive))

@@ -5,7 +5,8 @@ use Rattle.std.proofs.lemmas.Option.{same_Some}
 use Rattle.roster_tables.specs.declared.plain.Member.{Member}
 use Rattle.purge_numbers.proofs.MapLemmas.{seen_empty}
 use Rattle.node_rules.proofs.Cases.{branches}
-use Rattle.world_rules.specs.Hierarchy.{Hierarchy, IsHierarchy}
+use Rattle.roster_tables.specs.declared.plain.Tables.{Tables}
+use Rattle.roster.specs.Judged.{IsRoster}
 use Rattle.world_rules.specs.World.{World, new_node, new_world, node_at}
 use Rattle.world_rules.specs.declared.event.WorldEvent.{WorldEvent}
 use Rattle.world_rules.specs.Run.{Step, Run, Plays, Happens, IsItem}
@@ -24,11 +25,11 @@ nodes_are_new (m ∷ members) id =
     (λ _. node_is_new) (λ _. nodes_are_new members id)
 
 -- a new world has its lineage
-new_lineage : (h : Hierarchy) → HasLineage h [] (new_world h.roster)
+new_lineage : (h : Tables) → HasLineage h [] (new_world h)
 new_lineage h = record {
   last = refl;
   small = omega arith;
-  nodes = nodes_are_new h.roster.members;
+  nodes = nodes_are_new h.members;
   masters = tt;
   obeyed = tt;
   answers = tt;
@@ -40,7 +41,7 @@ new_lineage h = record {
 pub next_place : (past : List Step) (step : Step) → length (past ++ step ∷ []) + 1 ≡ length past + 1 + 1
 next_place past step = omega (arith, length-append past (step ∷ []))
 
-module _ (h : Hierarchy) (proper : IsHierarchy h) where
+module _ (h : Tables) (proper : IsRoster h) where
   run_on : (steps past : List Step) (old new : World) → HasLineage h past old → Run h (length past + 1) old steps new → HasLineage h (past ++ steps) new
   run_on [] past old new holds run = rw (append_nil past, run) holds
   run_on (step ∷ steps) past old new holds (next, happens, run) =
@@ -58,16 +59,16 @@ module _ (h : Hierarchy) (proper : IsHierarchy h) where
       (run_at steps (past ++ first ∷ []) next new (happens_keeps h proper past old holds first.event first.seen next happens) (rw next_place run) k step is)
 
   -- each run from a new world has its lineage
-  pub run_lineage : (steps : List Step) (w : World) → Run h 1 (new_world h.roster) steps w → HasLineage h steps w
-  run_lineage steps w run = run_on steps [] (new_world h.roster) w (new_lineage h) run
+  pub run_lineage : (steps : List Step) (w : World) → Run h 1 (new_world h) steps w → HasLineage h steps w
+  run_lineage steps w run = run_on steps [] (new_world h) w (new_lineage h) run
 
   -- and so has the part of it before the step at a place
-  pub lineage_before : (steps : List Step) (w : World) → Run h 1 (new_world h.roster) steps w → (place : ℕ) (step : Step) → IsItem steps place step →
+  pub lineage_before : (steps : List Step) (w : World) → Run h 1 (new_world h) steps w → (place : ℕ) (step : Step) → IsItem steps place step →
       (before after : World) × HasLineage h (take (place - 1) steps) before × Happens h (length (take (place - 1) steps) + 1) before step.event step.seen after
-  lineage_before steps w run place step is = run_at steps [] (new_world h.roster) w (new_lineage h) run (place - 1) step is.1
+  lineage_before steps w run place step is = run_at steps [] (new_world h) w (new_lineage h) run (place - 1) step is.1
 
 -- a list of events that is played is a run of those that were not refused
-pub plays_run : (h : Hierarchy) (place : ℕ) (old : World) (events : List WorldEvent) (steps : List Step) (new : World) → Plays h place old events steps new → Run h place old steps new
+pub plays_run : (h : Tables) (place : ℕ) (old : World) (events : List WorldEvent) (steps : List Step) (new : World) → Plays h place old events steps new → Run h place old steps new
 plays_run h place old [] steps new (none, same) = subst (λ s. Run h place old s new) (sym none) same
 plays_run h place old (event ∷ events) steps new (inl refused) = plays_run h place old events steps new refused.2
 plays_run h place old (event ∷ events) steps new (inr (seen, next, rest, happens, is, plays)) =

@@ -9,7 +9,9 @@ use Rattle.purge_numbers.specs.Floors.{floor}
 use Rattle.node_rules.specs.Effect.{copy_served}
 use Rattle.node_rules.specs.Questions.{BeginsNothing}
 use Rattle.node_rules.proofs.Lawful.{steps_are_lawful}
-use Rattle.world_rules.specs.Hierarchy.{Hierarchy, IsHierarchy, setting}
+use Rattle.roster_tables.specs.declared.plain.Tables.{Tables}
+use Rattle.roster.specs.Judged.{IsRoster}
+use Rattle.world_rules.specs.Hierarchy.{setting}
 use Rattle.purge_rules.specs.declared.fault.MasterFault.{MasterFault}
 use Rattle.purge_rules.specs.Calls.{issue_fault}
 use Rattle.roster.specs.Lookups.{is_member}
@@ -28,13 +30,13 @@ use Rattle.world_rules.proofs.Turns.{IsRight, turn_right}
 use Rattle.world_rules.proofs.Runs.{lineage_before}
 
 -- a copy that is served has its lineage, and no floor of a member that serves it is above its stamp
-record IsServedRightly (h : Hierarchy) (past : List Step) (w : World) (c : WebCopy ℕ) : Type 0 where
+record IsServedRightly (h : Tables) (past : List Step) (w : World) (c : WebCopy ℕ) : Type 0 where
   id : ℕ
-  member : is_member h.roster id ≡ true
+  member : is_member h id ≡ true
   current : floor (node_at w.seats id).floors c.key ≤ c.stamp
   stamped : IsStamped past c.stamp c.tag
 
-module _ (h : Hierarchy) (proper : IsHierarchy h) (past : List Step) (old : World) (lineage : HasLineage h past old) (event : WorldEvent) (seen : Seen) (new : World) (c : WebCopy ℕ) (serves : ServesCopy seen c) where
+module _ (h : Tables) (proper : IsRoster h) (past : List Step) (old : World) (lineage : HasLineage h past old) (event : WorldEvent) (seen : Seen) (new : World) (c : WebCopy ℕ) (serves : ServesCopy seen c) where
   turn_served : (t : Turn) → IsRight h past event t → Takes h (length past + 1) old t seen new → IsServedRightly h past old c
   turn_served (NodeSteps id e serial) right (outcome, next, steps, is_seen, is_new) =
       let law = steps_are_lawful (setting h id) (node_at old.seats id) e (length past + 1) outcome next steps in
@@ -43,20 +45,20 @@ module _ (h : Hierarchy) (proper : IsHierarchy h) (past : List Step) (old : Worl
         id = id;
         member = right.member;
         current = omega (arith, law.floors c.key, law.current c served);
-        stamped = copy_stamped h proper.keys past id (node_at old.seats id) (lineage.nodes id) e right.comes c (law.serves c served);
+        stamped = copy_stamped h past id (node_at old.seats id) (lineage.nodes id) e right.comes c (law.serves c served);
       }
   turn_served (Ends what world) right (is_seen, is_new) = absurd (right.serves_none c (subst (λ (s : Seen). ServesCopy s c) is_seen serves))
   turn_served (Refused fault) right takes = absurd takes
 
   served_rightly : Happens h (length past + 1) old event seen new → IsServedRightly h past old c
-  served_rightly (key, takes) = turn_served (turn h.roster old event) (turn_right h proper past old lineage event key) takes
+  served_rightly (key, takes) = turn_served (turn h old event) (turn_right h proper past old lineage event key) takes
 
 -- the number that an event gives is the next
 given_number : Seen → ℕ
 given_number (Issued number) = number
 given_number _ = 0
 
-issue_number : (h : Hierarchy) (place : ℕ) (old : World) (key : List ℕ) (number : ℕ) (new : World) (o : Option MasterFault) → Takes h place old (issue_by h.roster old key o) (Issued number) new → number ≡ old.master.last + 1
+issue_number : (h : Tables) (place : ℕ) (old : World) (key : List ℕ) (number : ℕ) (new : World) (o : Option MasterFault) → Takes h place old (issue_by h old key o) (Issued number) new → number ≡ old.master.last + 1
 unfolding given_number
 issue_number h place old key number new (Some fault) (is_seen, is_new) = cc
 issue_number h place old key number new None (is_seen, is_new) = ap given_number is_seen
@@ -69,7 +71,7 @@ issued_item steps part rest number key e f =
     let i : IsItem (purges steps) (length (purges part) + 1) key = rw g (item_later (purges part ++ key ∷ []) (purges rest) (length (purges part) + 1) key (item_pushed (purges part) key)) in
     subst (λ n. IsItem (purges steps) n key) (sym f) i
 
-module _ (h : Hierarchy) (proper : IsHierarchy h) (steps : List Step) (w : World) (run : Run h 1 (new_world h.roster) steps w) where
+module _ (h : Tables) (proper : IsRoster h) (steps : List Step) (w : World) (run : Run h 1 (new_world h) steps w) where
   -- a purge's number is one more than were issued before
   issued_number : (place number : ℕ) (key : List ℕ) → IsIssuedAt steps place number key → number ≡ issued steps place + 1
   issued_number place number key is =
@@ -108,7 +110,7 @@ abbrev pub seen_outcome : Seen → Result (Reply ℕ) StepFault → Result (Repl
 seen_outcome (Replied id outcome) other = outcome
 seen_outcome _ other = other
 
-pub siblings_ask_nothing : (h : Hierarchy) (steps : List Step) (w : World) → SiblingsAskNothing h steps w
+pub siblings_ask_nothing : (h : Tables) (steps : List Step) (w : World) → SiblingsAskNothing h steps w
 siblings_ask_nothing h steps w event id e serial outcome after is_turn asks (key, takes) =
     let (result, next, node_steps, is_seen, is_new) = subst (λ (t : Turn). Takes h (length steps + 1) w t (Replied id outcome) after) is_turn takes in
     let law = steps_are_lawful (setting h id) (node_at w.seats id) e (length steps + 1) result next node_steps in

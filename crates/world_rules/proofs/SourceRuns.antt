@@ -13,8 +13,9 @@ use Rattle.node_rules.specs.State.{served_age}
 use Rattle.node_rules.specs.Effect.{copy_in, copy_in_serve, copy_served}
 use Rattle.node_rules.proofs.Cases.{branches}
 use Rattle.node_rules.proofs.Lawful.{steps_are_lawful}
+use Rattle.roster_tables.specs.declared.plain.Tables.{Tables}
 use Rattle.world_rules.specs.declared.event.WorldEvent.{WorldEvent}
-use Rattle.world_rules.specs.Hierarchy.{Hierarchy, setting}
+use Rattle.world_rules.specs.Hierarchy.{setting}
 use Rattle.world_rules.specs.World.{World, new_node, new_world, node_at}
 use Rattle.world_rules.specs.Turn.{Seen, Replied, Turn, NodeSteps, Ends, Refused, turn}
 use Rattle.world_rules.specs.Run.{Step, Run, Takes, Happens, ServesCopy}
@@ -29,19 +30,19 @@ use Rattle.world_rules.proofs.Sourced.{source_later, sources_later, copy_source,
 use Rattle.world_rules.proofs.SourceTurns.{Knows, turn_known}
 
 -- a run goes on by what happens at the next place
-run_on : (h : Hierarchy) (past : List Step) (place : ℕ) (old mid new : World) (step : Step) → Run h place old past mid → Happens h (place + length past) mid step.event step.seen new → Run h place old (past ++ step ∷ []) new
+run_on : (h : Tables) (past : List Step) (place : ℕ) (old mid new : World) (step : Step) → Run h place old past mid → Happens h (place + length past) mid step.event step.seen new → Run h place old (past ++ step ∷ []) new
 run_on h [] place old mid new step run happens = (new, subst (λ (w : World). Happens h place w step.event step.seen new) run (subst (λ n. Happens h n mid step.event step.seen new) (omega arith) happens), refl)
 run_on h (first ∷ past) place old mid new step (next, happens, run) last =
     let e : place + length (first ∷ past) ≡ place + 1 + length past = omega arith in
     (next, happens, run_on h past (place + 1) next mid new step run (subst (λ n. Happens h n mid step.event step.seen new) e last))
 
 -- the run so far, and what holds after it
-pub record IsAfter (h : Hierarchy) (past : List Step) (w : World) : Type 0 where
-  pub runs : Run h 1 (new_world h.roster) past w
+pub record IsAfter (h : Tables) (past : List Step) (w : World) : Type 0 where
+  pub runs : Run h 1 (new_world h) past w
   pub sources : HasSources h past w
 
-module _ (h : Hierarchy) (past : List Step) (old : World) (after : IsAfter h past old) (cause : WorldEvent) (seen : Seen) (new : World) where
-  takes_sources : (t : Turn) → turn h.roster old cause ≡ t → Knows h past old t → Takes h (length past + 1) old t seen new → HasSources h (past ++ record { event = cause; seen = seen } ∷ []) new
+module _ (h : Tables) (past : List Step) (old : World) (after : IsAfter h past old) (cause : WorldEvent) (seen : Seen) (new : World) where
+  takes_sources : (t : Turn) → turn h old cause ≡ t → Knows h past old t → Takes h (length past + 1) old t seen new → HasSources h (past ++ record { event = cause; seen = seen } ∷ []) new
   takes_sources (NodeSteps id e serial) meets known (outcome, next, steps, is_seen, is_new) =
       rw (is_seen, is_new) (stepped_sources h past old after.runs after.sources cause id serial e meets known.knows outcome next steps)
   takes_sources (Ends what world) meets known (is_seen, is_new) = rw is_new (sources_later h past (record { event = cause; seen = seen } ∷ []) world known.sources)
@@ -49,12 +50,12 @@ module _ (h : Hierarchy) (past : List Step) (old : World) (after : IsAfter h pas
 
   pub after_one : Happens h (length past + 1) old cause seen new → IsAfter h (past ++ record { event = cause; seen = seen } ∷ []) new
   after_one happens = record {
-    runs = run_on h past 1 (new_world h.roster) old new record { event = cause; seen = seen } after.runs (subst (λ n. Happens h n old cause seen new) (omega arith) happens);
-    sources = takes_sources (turn h.roster old cause) refl (turn_known h past old after.sources cause) happens.1;
+    runs = run_on h past 1 (new_world h) old new record { event = cause; seen = seen } after.runs (subst (λ n. Happens h n old cause seen new) (omega arith) happens);
+    sources = takes_sources (turn h old cause) refl (turn_known h past old after.sources cause) happens.1;
   }
 
   -- a copy that is served has its source
-  takes_copy : (c : WebCopy ℕ) → ServesCopy seen c → (t : Turn) → turn h.roster old cause ≡ t → Knows h past old t → Takes h (length past + 1) old t seen new → IsSourcedCopy h (past ++ record { event = cause; seen = seen } ∷ []) c
+  takes_copy : (c : WebCopy ℕ) → ServesCopy seen c → (t : Turn) → turn h old cause ≡ t → Knows h past old t → Takes h (length past + 1) old t seen new → IsSourcedCopy h (past ++ record { event = cause; seen = seen } ∷ []) c
   takes_copy c serves (NodeSteps id e serial) meets known (outcome, next, steps, is_seen, is_new) =
       let law = steps_are_lawful (setting h id) (node_at old.seats id) e (length past + 1) outcome next steps in
       let served : copy_served outcome ≡ Some c = subst (λ (s : Seen). ServesCopy s c) is_seen serves in
@@ -63,11 +64,11 @@ module _ (h : Hierarchy) (past : List Step) (old : World) (after : IsAfter h pas
   takes_copy c serves (Refused fault) meets known takes = absurd takes
 
   pub copy_sourced : (c : WebCopy ℕ) → ServesCopy seen c → Happens h (length past + 1) old cause seen new → IsSourcedCopy h (past ++ record { event = cause; seen = seen } ∷ []) c
-  copy_sourced c serves happens = takes_copy c serves (turn h.roster old cause) refl (turn_known h past old after.sources cause) happens.1
+  copy_sourced c serves happens = takes_copy c serves (turn h old cause) refl (turn_known h past old after.sources cause) happens.1
 
 -- A new world
 
-nodes_are_new : (h : Hierarchy) (members : List Member) (id : ℕ) → NodeHasSources h [] id (node_at (map (λ (m : Member). record { id = m.cache.id; node = new_node }) members) id)
+nodes_are_new : (h : Tables) (members : List Member) (id : ℕ) → NodeHasSources h [] id (node_at (map (λ (m : Member). record { id = m.cache.id; node = new_node }) members) id)
 nodes_are_new h [] id = record { copies = λ is_open. tt; reads = tt }
 nodes_are_new h (m ∷ members) id =
     branches (NodeHasSources h [] id) (nat_eq m.cache.id id) new_node (node_at (map (λ (m : Member). record { id = m.cache.id; node = new_node }) members) id)
@@ -79,10 +80,10 @@ asks_are_new (m ∷ members) id =
     branches (NodeHasAsks [] id) (nat_eq m.cache.id id) new_node (node_at (map (λ (m : Member). record { id = m.cache.id; node = new_node }) members) id)
     (λ _. record { taken = tt; kept = tt }) (λ _. asks_are_new members id)
 
-new_after : (h : Hierarchy) → IsAfter h [] (new_world h.roster)
-new_after h = record { runs = refl; sources = record { nodes = nodes_are_new h h.roster.members; answers = tt; asks = λ id is_open. asks_are_new h.roster.members id } }
+new_after : (h : Tables) → IsAfter h [] (new_world h)
+new_after h = record { runs = refl; sources = record { nodes = nodes_are_new h h.members; answers = tt; asks = λ id is_open. asks_are_new h.members id } }
 
-module _ (h : Hierarchy) where
+module _ (h : Tables) where
   after_on : (steps past : List Step) (old new : World) → IsAfter h past old → Run h (length past + 1) old steps new → IsAfter h (past ++ steps) new
   after_on [] past old new after run = rw (append_nil past, run) after
   after_on (step ∷ steps) past old new after (next, happens, run) =
@@ -99,13 +100,13 @@ module _ (h : Hierarchy) where
       rw (← append_assoc past (first ∷ []) (take k steps))
       (after_at steps (past ++ first ∷ []) next new (after_one h past old after first.event first.seen next happens) (rw next_place run) k step is)
 
-  module _ (steps : List Step) (w : World) (run : Run h 1 (new_world h.roster) steps w) where
+  module _ (steps : List Step) (w : World) (run : Run h 1 (new_world h) steps w) where
     pub run_after : IsAfter h steps w
-    run_after = after_on steps [] (new_world h.roster) w (new_after h) run
+    run_after = after_on steps [] (new_world h) w (new_after h) run
 
     pub each_has_source : EachHasSource h steps
     each_has_source place c (step, is, serves) =
-        let (before, next, after, happens) = after_at steps [] (new_world h.roster) w (new_after h) run (place - 1) step is.1 in
+        let (before, next, after, happens) = after_at steps [] (new_world h) w (new_after h) run (place - 1) step is.1 in
         let t = parted steps (place - 1) step is.1 in
         rw t.1 (source_later h (take (place - 1) steps ++ step ∷ []) t.0 c.key c.tag c.answer (copy_sourced h (take (place - 1) steps) before after step.event step.seen next c serves happens))
 
@@ -126,4 +127,4 @@ module _ (h : Hierarchy) where
     age_by cause id reply serve c age next is_serve is_copy (Refused fault) known takes = absurd takes
 
     pub each_has_age : EachHasAge h steps w
-    each_has_age cause id reply serve c age next happens is_serve is_copy = age_by cause id reply serve c age next is_serve is_copy (turn h.roster w cause) (turn_known h steps w run_after.sources cause) happens.1
+    each_has_age cause id reply serve c age next happens is_serve is_copy = age_by cause id reply serve c age next is_serve is_copy (turn h w cause) (turn_known h steps w run_after.sources cause) happens.1

@@ -22,10 +22,11 @@ use Rattle.node_rules.proofs.Cases.{branches, true_not_false}
 use Rattle.purge_rules.specs.declared.fault.MasterFault.{MasterFault}
 use Rattle.purge_rules.specs.Purges.{PurgeList}
 use Rattle.purge_rules.specs.Calls.{issue_fault}
+use Rattle.roster_tables.specs.declared.plain.Tables.{Tables}
 use Rattle.world_rules.specs.declared.event.WorldEvent.{WorldEvent}
 use Rattle.world_rules.specs.declared.event.WorldEvent.TheVariants as world
 use Rattle.world_rules.specs.declared.outcome.WorldFault.TheVariants.{NoSuchPacket, NotPending}
-use Rattle.world_rules.specs.Hierarchy.{Hierarchy, is_own, udp_of}
+use Rattle.world_rules.specs.Hierarchy.{is_own, udp_of}
 use Rattle.world_rules.specs.World.{Datagram, PeerAsk, PeerAnswer, Waiting, World, item, node_at}
 use Rattle.world_rules.specs.Turn.{Seen, Nothing, Turn, NodeSteps, Ends, Refused, at_member, with_clock, with_master, with_sent, with_seat, closed_node, issue_by, acknowledged_by, master_hears_htcp, master_hears, delivered_to, delivered, ask_delivered, answer_delivered, origin_by, origin_to, foreign_by, foreign_to, fetching_at, turn}
 use Rattle.world_rules.specs.Run.{Step, ServesCopy}
@@ -36,22 +37,22 @@ use Rattle.world_rules.proofs.Sourced.{KnowsSource, each_but}
 use Rattle.world_rules.proofs.Waiting.{others_restart, own_restart}
 
 -- what an event's turn comes to: a node's step on an event of this moment whose source is known, or a world with its sources
-pub record IsKnown (h : Hierarchy) (past : List Step) (w : World) (e : Event ℕ) : Type 0 where
+pub record IsKnown (h : Tables) (past : List Step) (w : World) (e : Event ℕ) : Type 0 where
   pub at : moment e ≡ w.clock
   pub knows : KnowsSource h past e
 
-pub record EndsKnown (h : Hierarchy) (past : List Step) (seen : Seen) (w : World) : Type 0 where
+pub record EndsKnown (h : Tables) (past : List Step) (seen : Seen) (w : World) : Type 0 where
   pub sources : HasSources h past w
   pub serves_none : (c : WebCopy ℕ) → ServesCopy seen c → ⊥
 
-abbrev pub Knows : Hierarchy → List Step → World → Turn → Type 0
+abbrev pub Knows : Tables → List Step → World → Turn → Type 0
 Knows h past w (NodeSteps id e serial) = IsKnown h past w e
 Knows h past w (Ends seen new) = EndsKnown h past seen new
 Knows h past w (Refused fault) = Unit {0}
 
-module _ (h : Hierarchy) (past : List Step) (w : World) (sources : HasSources h past w) where
-  at_member_known : (id : ℕ) (t : Turn) → Knows h past w t → Knows h past w (at_member h.roster id t)
-  at_member_known id t known = branches (Knows h past w) (is_member h.roster id) t (Refused NoSuchPacket) (λ _. known) (λ _. tt)
+module _ (h : Tables) (past : List Step) (w : World) (sources : HasSources h past w) where
+  at_member_known : (id : ℕ) (t : Turn) → Knows h past w t → Knows h past w (at_member h id t)
+  at_member_known id t known = branches (Knows h past w) (is_member h id) t (Refused NoSuchPacket) (λ _. known) (λ _. tt)
 
   plainly_known : (e : Event ℕ) → moment e ≡ w.clock → KnowsSource h past e → IsKnown h past w e
   plainly_known e at knows = record { at = at; knows = knows }
@@ -69,15 +70,15 @@ module _ (h : Hierarchy) (past : List Step) (w : World) (sources : HasSources h 
   clock_known : (now : ℕ) → HasSources h past (with_clock w now)
   clock_known now = record { nodes = sources.nodes; answers = sources.answers; asks = sources.asks }
 
-  acknowledged_known : (number code : ℕ) (o : Option ℕ) → Knows h past w (acknowledged_by h.roster w number code o)
+  acknowledged_known : (number code : ℕ) (o : Option ℕ) → Knows h past w (acknowledged_by h w number code o)
   acknowledged_known number code None = same_known Nothing w sources (λ c s. absurd s)
   acknowledged_known number code (Some id) = same_known _ _ (master_known _) (λ c s. absurd s)
 
-  htcp_known : (sender : Address) (trans : ℕ) (c : Content) → Knows h past w (master_hears_htcp h.roster w sender trans c)
-  htcp_known sender trans (content.ClrAnswer code) = acknowledged_known trans code (member_at h.roster sender udp.Htcp)
+  htcp_known : (sender : Address) (trans : ℕ) (c : Content) → Knows h past w (master_hears_htcp h w sender trans c)
+  htcp_known sender trans (content.ClrAnswer code) = acknowledged_known trans code (member_at h sender udp.Htcp)
   htcp_known sender trans _ = same_known Nothing w sources (λ c s. absurd s)
 
-  hears_known : (sender : Address) (m : Message) → Knows h past w (master_hears h.roster w sender m)
+  hears_known : (sender : Address) (m : Message) → Knows h past w (master_hears h w sender m)
   hears_known sender (message.Icp m) = same_known Nothing w sources (λ c s. absurd s)
   hears_known sender (message.Htcp m) = htcp_known sender m.trans m.content
 
@@ -85,17 +86,17 @@ module _ (h : Hierarchy) (past : List Step) (w : World) (sources : HasSources h 
   to_known sender m None = tt
   to_known sender m (Some id) = plainly_known (event.Datagram sender m w.clock) refl tt
 
-  delivered_known : (o : Option Datagram) → Knows h past w (delivered h.roster w o)
+  delivered_known : (o : Option Datagram) → Knows h past w (delivered h w o)
   delivered_known None = tt
   delivered_known (Some d) =
-      branches (Knows h past w) (is_master h.roster d.receiver) (master_hears h.roster w d.sender d.message) (delivered_to w d.sender d.message (member_at h.roster d.receiver (udp_of d.message)))
-      (λ _. hears_known d.sender d.message) (λ _. to_known d.sender d.message (member_at h.roster d.receiver (udp_of d.message)))
+      branches (Knows h past w) (is_master h d.receiver) (master_hears h w d.sender d.message) (delivered_to w d.sender d.message (member_at h d.receiver (udp_of d.message)))
+      (λ _. hears_known d.sender d.message) (λ _. to_known d.sender d.message (member_at h d.receiver (udp_of d.message)))
 
-  ask_known : (o : Option PeerAsk) → Knows h past w (ask_delivered h.roster w o)
+  ask_known : (o : Option PeerAsk) → Knows h past w (ask_delivered h w o)
   ask_known None = tt
   ask_known (Some a) = at_member_known a.receiver _ (plainly_known (event.PeerAsk a.sender a.ask w.clock) refl tt)
 
-  answer_known : (number : ℕ) (serial : Option ℕ) (o : Option PeerAnswer) → item w.answers number ≡ o → Knows h past w (answer_delivered h.roster w serial o)
+  answer_known : (number : ℕ) (serial : Option ℕ) (o : Option PeerAnswer) → item w.answers number ≡ o → Knows h past w (answer_delivered h w serial o)
   answer_known number serial None is = tt
   answer_known number serial (Some a) is =
       at_member_known a.receiver _ (plainly_known (event.PeerAnswer (unwrap_or serial a.serial) a.sender a.key a.answer a.mark w.clock) refl (all_item (AnswerHasSource h past) w.answers number a sources.answers is))
@@ -120,7 +121,7 @@ module _ (h : Hierarchy) (past : List Step) (w : World) (sources : HasSources h 
   foreign_known id serial answer None = tt
   foreign_known id serial answer (Some p) = foreign_by_known id serial answer p.ask.key p.fetch
 
-  issue_known : (key : List ℕ) (o : Option MasterFault) → Knows h past w (issue_by h.roster w key o)
+  issue_known : (key : List ℕ) (o : Option MasterFault) → Knows h past w (issue_by h w key o)
   issue_known key (Some fault) = same_known _ w sources (λ c s. absurd s)
   issue_known key None = same_known _ _ (sent_known _ _) (λ c s. absurd s)
 
@@ -134,7 +135,7 @@ module _ (h : Hierarchy) (past : List Step) (w : World) (sources : HasSources h 
             (λ is_open. own_restart id w.waiting s empty) (λ other ne is_open. others_restart id w.waiting other (node_at w.seats other) ne (sources.asks other is_open));
       }) (λ c s. absurd s)
 
-  pub turn_known : (cause : WorldEvent) → Knows h past w (turn h.roster w cause)
+  pub turn_known : (cause : WorldEvent) → Knows h past w (turn h w cause)
   turn_known (world.Clock now) = same_known Nothing (with_clock w now) (clock_known now) (λ c s. absurd s)
   turn_known (world.Client id ask) = at_member_known id _ (plainly_known (event.Client ask w.clock) refl tt)
   turn_known (world.Datagram number) = delivered_known (item w.datagrams number)
@@ -143,7 +144,7 @@ module _ (h : Hierarchy) (past : List Step) (w : World) (sources : HasSources h 
   turn_known (world.Origin id serial answer) = at_member_known id _ (origin_known id serial answer (fetching_at w id serial))
   turn_known (world.Foreign id serial answer) = at_member_known id _ (foreign_known id serial answer (fetching_at w id serial))
   turn_known (world.Strange to sender m) =
-      branches (Knows h past w) (is_own h.roster sender) (Refused NoSuchPacket) (delivered_to w sender m (member_at h.roster to (udp_of m))) (λ _. tt) (λ _. to_known sender m (member_at h.roster to (udp_of m)))
+      branches (Knows h past w) (is_own h sender) (Refused NoSuchPacket) (delivered_to w sender m (member_at h to (udp_of m))) (λ _. tt) (λ _. to_known sender m (member_at h to (udp_of m)))
   turn_known (world.Fail id serial) = at_member_known id _ (plainly_known (event.FetchFailed serial w.clock) refl tt)
   turn_known (world.Expire id serial) = at_member_known id _ (plainly_known (event.Expired serial w.clock) refl tt)
   turn_known (world.Fault id) = at_member_known id _ (seat_known id (closed_node (node_at w.seats id)) record { copies = λ is_open. absurd (true_not_false is_open); reads = tt } refl)

@@ -27,8 +27,9 @@ use Rattle.node_rules.specs.Lawful.{HasOrGets, Lawful}
 use Rattle.node_rules.proofs.Cases.{true_not_false, same_Some}
 use Rattle.node_rules.proofs.Pendings.{all_mapped, all_joined, contained}
 use Rattle.node_rules.proofs.Lawful.{steps_are_lawful}
+use Rattle.roster_tables.specs.declared.plain.Tables.{Tables}
 use Rattle.world_rules.specs.declared.event.WorldEvent.{WorldEvent}
-use Rattle.world_rules.specs.Hierarchy.{Hierarchy, setting}
+use Rattle.world_rules.specs.Hierarchy.{setting}
 use Rattle.world_rules.specs.World.{Seat, PeerAnswer, World, new_world, node_at, with_node, Answered, answer_of, mark_of, answer_to, asked_before, asked_by, answers_in, reply_in, after_node}
 use Rattle.world_rules.specs.Turn.{Replied, NodeSteps, turn}
 use Rattle.world_rules.specs.Run.{Step, Run}
@@ -42,7 +43,7 @@ use Rattle.world_rules.proofs.Waiting.{asks_after, others_after}
 
 -- Sources stay as the run goes on
 
-module _ (h : Hierarchy) (past more : List Step) where
+module _ (h : Tables) (past more : List Step) where
   node_step_later : {place id : ℕ} {e : Event ℕ} {outcome : Result (Reply ℕ) StepFault} → NodeStepAt h past place id e outcome → NodeStepAt h (past ++ more) place id e outcome
   node_step_later s = record {
     past = s.past;
@@ -112,7 +113,7 @@ module _ (h : Hierarchy) (past more : List Step) where
   sources_later w is = record { nodes = λ id. node_sources_later id (node_at w.seats id) (is.nodes id); answers = answers_sourced_later w.answers is.answers; asks = is.asks }
 
 -- what the world knows of an event that comes to a node
-abbrev pub KnowsSource : Hierarchy → List Step → Event ℕ → Type 0
+abbrev pub KnowsSource : Tables → List Step → Event ℕ → Type 0
 KnowsSource h past (event.PeerAnswer serial peer key answer tag now) = (is_gateway_fault answer.status ≡ true) ⊎ HasSource h past key tag answer
 KnowsSource h past (event.ForeignAnswer serial peer key answer tag now) = tag ≡ 0
 KnowsSource h past _ = Unit {0}
@@ -127,11 +128,11 @@ each_but P seats id s this those each = elim (ℕ_discrete each id) [
 same_content : (answer held : AnswerText) → held ≡ answer → HasContent answer held
 same_content answer held e = record { status = ap (λ (a : AnswerText). a.status) e; fields = ap (λ (a : AnswerText). a.fields) e; body = ap (λ (a : AnswerText). a.body) e }
 
-module _ (h : Hierarchy) (past : List Step) (old : World) (runs : Run h 1 (new_world h.roster) past old) (sources : HasSources h past old) (cause : WorldEvent) (id serial : ℕ) (outcome : Result (Reply ℕ) StepFault) where
+module _ (h : Tables) (past : List Step) (old : World) (runs : Run h 1 (new_world h) past old) (sources : HasSources h past old) (cause : WorldEvent) (id serial : ℕ) (outcome : Result (Reply ℕ) StepFault) where
   abbrev pub Now : List Step
   Now = past ++ record { event = cause; seen = Replied id outcome } ∷ []
 
-  this_step : (e : Event ℕ) → turn h.roster old cause ≡ NodeSteps id e serial → NodeStepAt h Now (length past + 1) id e outcome
+  this_step : (e : Event ℕ) → turn h old cause ≡ NodeSteps id e serial → NodeStepAt h Now (length past + 1) id e outcome
   this_step e meets = record { past = past; before = old; cause = cause; serial = serial; rest = []; place_is = refl; parts = sym (append_nil _); runs = runs; meets = meets }
 
   -- Copies
@@ -148,7 +149,7 @@ module _ (h : Hierarchy) (past : List Step) (old : World) (runs : Run h 1 (new_w
       subst (λ k. HasSource h Now k c.tag c.answer) (sym (is.key_same ∙ is.waits.key_same))
       (subst (λ n. HasSource h Now key n c.answer) (sym is.tag_same) (subst (HasSource h Now key tag) (sym is.answer_same) has))
 
-  answer_source : (e : Event ℕ) → turn h.roster old cause ≡ NodeSteps id e serial → KnowsSource h past e → (c : WebCopy ℕ) → IsAnswerOf (node_at old.seats id) e c → IsSourcedCopy h Now c
+  answer_source : (e : Event ℕ) → turn h old cause ≡ NodeSteps id e serial → KnowsSource h past e → (c : WebCopy ℕ) → IsAnswerOf (node_at old.seats id) e c → IsSourcedCopy h Now c
   unfolding this_step
   answer_source (event.OriginAnswer read_serial key answer now) meets knows c (p, has, is) =
       subst (λ k. HasSource h Now k c.tag c.answer) (sym (is.key_same ∙ is.waits.key_same))
@@ -189,7 +190,7 @@ module _ (h : Hierarchy) (past : List Step) (old : World) (runs : Run h 1 (new_w
       })
   answer_source _ meets knows c is = absurd is.2
 
-  pub copy_source : (e : Event ℕ) → turn h.roster old cause ≡ NodeSteps id e serial → KnowsSource h past e → (c : WebCopy ℕ) → HasOrGets (node_at old.seats id) e c → IsSourcedCopy h Now c
+  pub copy_source : (e : Event ℕ) → turn h old cause ≡ NodeSteps id e serial → KnowsSource h past e → (c : WebCopy ℕ) → HasOrGets (node_at old.seats id) e c → IsSourcedCopy h Now c
   copy_source e meets knows c has = elim has.1 [
     | inl held ↦ source_later h past (record { event = cause; seen = Replied id outcome } ∷ []) c.key c.tag c.answer (contained (IsSourcedCopy h past) (node_at old.seats id).copies c ((sources.nodes id).copies has.0) held)
     | inr gets ↦ answer_source e meets knows c gets
@@ -197,7 +198,7 @@ module _ (h : Hierarchy) (past : List Step) (old : World) (runs : Run h 1 (new_w
 
   -- Reads
 
-  read_source : (e : Event ℕ) → turn h.roster old cause ≡ NodeSteps id e serial → (p : Pending ℕ) (fetch : Fetch ℕ) → p.fetch ≡ fetch → IsReadFrom (node_at old.seats id) (length past + 1) outcome p fetch → FetchHasBegun h Now id (fetch_serial p) p.ask.key fetch
+  read_source : (e : Event ℕ) → turn h old cause ≡ NodeSteps id e serial → (p : Pending ℕ) (fetch : Fetch ℕ) → p.fetch ≡ fetch → IsReadFrom (node_at old.seats id) (length past + 1) outcome p fetch → FetchHasBegun h Now id (fetch_serial p) p.ask.key fetch
   read_source e meets p (AtOrigin stamp asked mark) same is = elim is [
     | inl was ↦ read_at was.was (fetch_serial p) p.ask.key stamp asked mark was.waits was.serial (ap (λ (a : Ask). a.key) was.ask) (was.fetch ∙ same)
     | inr begins ↦ subst (λ n. BeginsReadAt h Now n id (fetch_serial p) p.ask.key) (sym begins.mark_same) record { e = e; outcome = outcome; step = this_step e meets; ask = origin_ask p.ask; begins = begins.begins; asks = refl }
@@ -205,7 +206,7 @@ module _ (h : Hierarchy) (past : List Step) (old : World) (runs : Run h 1 (new_w
   read_source e meets p (AtPeer peer asked) same is = tt
   read_source e meets p Nowhere same is = tt
 
-  node_sources : (e : Event ℕ) → turn h.roster old cause ≡ NodeSteps id e serial → KnowsSource h past e → (next : NodeState ℕ) → Lawful (setting h id) (node_at old.seats id) e (length past + 1) outcome next → NodeHasSources h Now id next
+  node_sources : (e : Event ℕ) → turn h old cause ≡ NodeSteps id e serial → KnowsSource h past e → (next : NodeState ℕ) → Lawful (setting h id) (node_at old.seats id) e (length past + 1) outcome next → NodeHasSources h Now id next
   node_sources e meets knows next law = record {
     copies = λ is_open. all_mapped (HasOrGets (node_at old.seats id) e) (IsSourcedCopy h Now) (copy_source e meets knows) next.copies (law.held is_open);
     reads = all_mapped (IsReadOf (node_at old.seats id) (length past + 1) outcome) (ReadHasBegun h Now id) (λ p is. read_source e meets p p.fetch refl is) next.pending law.reads;
@@ -276,10 +277,10 @@ module _ (h : Hierarchy) (past : List Step) (old : World) (runs : Run h 1 (new_w
 
 -- The world after the step
 
-module _ (h : Hierarchy) (past : List Step) (old : World) (runs : Run h 1 (new_world h.roster) past old) (sources : HasSources h past old) (cause : WorldEvent) (id serial : ℕ) (e : Event ℕ) (meets : turn h.roster old cause ≡ NodeSteps id e serial) (knows : KnowsSource h past e) where
+module _ (h : Tables) (past : List Step) (old : World) (runs : Run h 1 (new_world h) past old) (sources : HasSources h past old) (cause : WorldEvent) (id serial : ℕ) (e : Event ℕ) (meets : turn h old cause ≡ NodeSteps id e serial) (knows : KnowsSource h past e) where
   step_sources : (outcome : Result (Reply ℕ) StepFault) (next : NodeState ℕ) → Lawful (setting h id) (node_at old.seats id) e (length past + 1) outcome next → AnswersAsks (node_at old.seats id) e outcome next →
       IsBareInServe (reply_in outcome).serve → ((c : WebCopy ℕ) → copy_in_serve (reply_in outcome).serve ≡ Some c → ((node_at old.seats id).closed ≡ false) × IsSourcedCopy h (past ++ record { event = cause; seen = Replied id outcome } ∷ []) c) →
-      IsRightlyIn (node_at old.seats id) e (reply_in outcome).serve → HasSources h (past ++ record { event = cause; seen = Replied id outcome } ∷ []) (after_node h.roster old id e serial outcome next)
+      IsRightlyIn (node_at old.seats id) e (reply_in outcome).serve → HasSources h (past ++ record { event = cause; seen = Replied id outcome } ∷ []) (after_node h old id e serial outcome next)
   step_sources outcome next law asked bare source rightly = record {
     nodes = each_node (λ each (s : NodeState ℕ). NodeHasSources h (past ++ record { event = cause; seen = Replied id outcome } ∷ []) each s) old.seats id next
         (node_sources h past old runs sources cause id serial outcome e meets knows next law)
@@ -287,13 +288,13 @@ module _ (h : Hierarchy) (past : List Step) (old : World) (runs : Run h 1 (new_w
     answers = all_joined (AnswerHasSource h (past ++ record { event = cause; seen = Replied id outcome } ∷ [])) old.answers (answers_in old.waiting id e serial (reply_in outcome).serve)
         (answers_sourced_later h past (record { event = cause; seen = Replied id outcome } ∷ []) old.answers sources.answers)
         (all_sourced h past old runs sources cause id serial outcome e (reply_in outcome).serve bare source rightly);
-    asks = each_but (λ each (s : NodeState ℕ). s.closed ≡ false → NodeHasAsks (after_node h.roster old id e serial outcome next).waiting each s) old.seats id next
+    asks = each_but (λ each (s : NodeState ℕ). s.closed ≡ false → NodeHasAsks (after_node h old id e serial outcome next).waiting each s) old.seats id next
         (λ is_open. (let was = asked.blocks is_open in asks_after old.waiting id (node_at old.seats id) e serial next (sources.asks id was.0) was.1 asked.asks))
         (λ other ne is_open. others_after old.waiting id (node_at old.seats id) e serial next other (node_at old.seats other) ne (sources.asks other is_open));
   }
 
   pub stepped_sources : (outcome : Result (Reply ℕ) StepFault) (next : NodeState ℕ) → Steps (setting h id) (node_at old.seats id) e (length past + 1) outcome next →
-      HasSources h (past ++ record { event = cause; seen = Replied id outcome } ∷ []) (after_node h.roster old id e serial outcome next)
+      HasSources h (past ++ record { event = cause; seen = Replied id outcome } ∷ []) (after_node h old id e serial outcome next)
   stepped_sources (Ok reply) next steps =
       let law = steps_are_lawful (setting h id) (node_at old.seats id) e (length past + 1) (Ok reply) next steps in
       let asked = steps_answer_asks (setting h id) (node_at old.seats id) (length past + 1) e (Ok reply) next steps in

@@ -29,7 +29,9 @@ use Rattle.purge_rules.specs.Members.{members_of}
 use Rattle.purge_rules.specs.Calls.{is_acknowledging, issue_fault, acknowledged, status_of}
 use Rattle.node_rules.proofs.Cases.{branches, same_Some, true_not_false}
 use Rattle.node_rules.proofs.Lawful.{steps_are_lawful}
-use Rattle.world_rules.specs.Hierarchy.{Hierarchy, IsHierarchy, setting, is_own, udp_of}
+use Rattle.roster_tables.specs.declared.plain.Tables.{Tables}
+use Rattle.roster.specs.Judged.{IsRoster}
+use Rattle.world_rules.specs.Hierarchy.{setting, is_own, udp_of}
 use Rattle.world_rules.specs.World.{Datagram, PeerAsk, PeerAnswer, World, item, node_at, after_node}
 use Rattle.world_rules.specs.declared.event.WorldEvent.{WorldEvent}
 use Rattle.world_rules.specs.declared.event.WorldEvent.TheVariants as world
@@ -43,15 +45,15 @@ use Rattle.world_rules.proofs.MasterTurns.{clock_keeps, resend_keeps, acknowledg
 use Rattle.world_rules.proofs.Counting.{with_step, as_step, counted, left_number, issue_keeps}
 
 -- what an event's turn comes to: a node's step on what came rightly, or a world with its lineage
-pub record IsRightStep (h : Hierarchy) (past : List Step) (id : ℕ) (e : Event ℕ) : Type 0 where
+pub record IsRightStep (h : Tables) (past : List Step) (id : ℕ) (e : Event ℕ) : Type 0 where
   pub comes : ComesRightly h past e
-  pub member : is_member h.roster id ≡ true
+  pub member : is_member h id ≡ true
 
-pub record IsRightEnd (h : Hierarchy) (past : List Step) (event : WorldEvent) (seen : Seen) (w : World) : Type 0 where
+pub record IsRightEnd (h : Tables) (past : List Step) (event : WorldEvent) (seen : Seen) (w : World) : Type 0 where
   pub lineage : HasLineage h (with_step past event seen) w
   pub serves_none : (c : WebCopy ℕ) → ServesCopy seen c → ⊥
 
-abbrev pub IsRight : Hierarchy → List Step → WorldEvent → Turn → Type 0
+abbrev pub IsRight : Tables → List Step → WorldEvent → Turn → Type 0
 IsRight h past event (NodeSteps id e serial) = IsRightStep h past id e
 IsRight h past event (Ends seen w) = IsRightEnd h past event seen w
 IsRight h past event (Refused fault) = Unit {0}
@@ -70,17 +72,17 @@ member_by : (members : List Member) (test : Member → Bool) (o : Option Member)
 member_by members test None id is e = absurd (none-some id e)
 member_by members test (Some c) id is e = subst (λ n. is_some (find (λ m. nat_eq m.cache.id n) members) ≡ true) (same_Some c.cache.id id e) (found_known members test c is)
 
-member_at_known : (h : Hierarchy) (by : Udp) (address : Address) (id : ℕ) → member_at h.roster address by ≡ Some id → is_member h.roster id ≡ true
-member_at_known h by address id e = member_by h.roster.members (λ c. same_address address (address_by by c.cache)) _ id refl e
+member_at_known : (h : Tables) (by : Udp) (address : Address) (id : ℕ) → member_at h address by ≡ Some id → is_member h id ≡ true
+member_at_known h by address id e = member_by h.members (λ c. same_address address (address_by by c.cache)) _ id refl e
 
 or_false : (a b : Bool) → (a || b) ≡ false → a ≡ false
 or_false true b h = h
 or_false false b h = refl
 
-module _ (h : Hierarchy) (proper : IsHierarchy h) (past : List Step) (w : World) (lineage : HasLineage h past w) where
+module _ (h : Tables) (proper : IsRoster h) (past : List Step) (w : World) (lineage : HasLineage h past w) where
   -- an event at a member is right if it is where it is one
-  at_member_right : (event : WorldEvent) (id : ℕ) (t : Turn) → (is_member h.roster id ≡ true → IsRight h past event t) → IsRight h past event (at_member h.roster id t)
-  at_member_right event id t right = branches (IsRight h past event) (is_member h.roster id) t (Refused NoSuchPacket) right (λ _. tt)
+  at_member_right : (event : WorldEvent) (id : ℕ) (t : Turn) → (is_member h id ≡ true → IsRight h past event t) → IsRight h past event (at_member h id t)
+  at_member_right event id t right = branches (IsRight h past event) (is_member h id) t (Refused NoSuchPacket) right (λ _. tt)
 
   -- an end that issues nothing
   end_right : (event : WorldEvent) (seen : Seen) (new : World) → purged_by event seen ≡ None → HasLineage h past new → ((number : ℕ) → TellsDone number seen → AllHaveRaised h past new.seats number) → ((c : WebCopy ℕ) → ServesCopy seen c → ⊥) → IsRight h past event (Ends seen new)
@@ -91,46 +93,46 @@ module _ (h : Hierarchy) (proper : IsHierarchy h) (past : List Step) (w : World)
 
   -- The master
 
-  told_right : (event : WorldEvent) (number : ℕ) (new : World) → ((s : Seen) → purged_by event (Told number (status_of (members_of h.roster) new.master number)) ≡ None) → HasLineage h past new → IsRight h past event (told h.roster new number)
-  told_right event number new silent kept = end_right event (Told number (status_of (members_of h.roster) new.master number)) new (silent Nothing) kept (λ n t. told_raised h past new kept number n t) (λ c s. absurd s)
+  told_right : (event : WorldEvent) (number : ℕ) (new : World) → ((s : Seen) → purged_by event (Told number (status_of (members_of h) new.master number)) ≡ None) → HasLineage h past new → IsRight h past event (told h new number)
+  told_right event number new silent kept = end_right event (Told number (status_of (members_of h) new.master number)) new (silent Nothing) kept (λ n t. told_raised h past new kept number n t) (λ c s. absurd s)
 
-  acknowledged_right : (which : ℕ) (number code : ℕ) (o : Option ℕ) → ((id : ℕ) → o ≡ Some id → is_acknowledging code ≡ true → HasRaised past (node_at w.seats id) number) → IsRight h past (world.Datagram which) (acknowledged_by h.roster w number code o)
+  acknowledged_right : (which : ℕ) (number code : ℕ) (o : Option ℕ) → ((id : ℕ) → o ≡ Some id → is_acknowledging code ≡ true → HasRaised past (node_at w.seats id) number) → IsRight h past (world.Datagram which) (acknowledged_by h w number code o)
   acknowledged_right which number code None raised = quiet_right (world.Datagram which) w refl lineage
   acknowledged_right which number code (Some id) raised =
-      told_right (world.Datagram which) number (with_master w (acknowledged (members_of h.roster) w.master id number code).purges) (λ s. refl) (acknowledge_keeps h past w lineage proper.roster id number code (raised id refl))
+      told_right (world.Datagram which) number (with_master w (acknowledged (members_of h) w.master id number code).purges) (λ s. refl) (acknowledge_keeps h past w lineage proper id number code (raised id refl))
 
-  master_htcp_right : (which : ℕ) (sender : Address) (minor trans : ℕ) (c : Content) → ((number : ℕ) → acknowledged_by_message (message.Htcp record { minor = minor; trans = trans; content = c }) ≡ Some number → (id : ℕ) → member_at h.roster sender udp.Htcp ≡ Some id → HasRaised past (node_at w.seats id) number) → IsRight h past (world.Datagram which) (master_hears_htcp h.roster w sender trans c)
+  master_htcp_right : (which : ℕ) (sender : Address) (minor trans : ℕ) (c : Content) → ((number : ℕ) → acknowledged_by_message (message.Htcp record { minor = minor; trans = trans; content = c }) ≡ Some number → (id : ℕ) → member_at h sender udp.Htcp ≡ Some id → HasRaised past (node_at w.seats id) number) → IsRight h past (world.Datagram which) (master_hears_htcp h w sender trans c)
   master_htcp_right which sender minor trans (content.ClrAnswer code) raised =
-      acknowledged_right which trans code (member_at h.roster sender udp.Htcp) (λ id from counts. raised trans (ap (λ b. cond b (Some trans) None) counts) id from)
+      acknowledged_right which trans code (member_at h sender udp.Htcp) (λ id from counts. raised trans (ap (λ b. cond b (Some trans) None) counts) id from)
   master_htcp_right which sender minor trans _ raised = quiet_right (world.Datagram which) w refl lineage
 
-  master_right : (which : ℕ) (sender : Address) (m : Message) → ((number : ℕ) → acknowledged_by_message m ≡ Some number → (id : ℕ) → member_at h.roster sender udp.Htcp ≡ Some id → HasRaised past (node_at w.seats id) number) → IsRight h past (world.Datagram which) (master_hears h.roster w sender m)
+  master_right : (which : ℕ) (sender : Address) (m : Message) → ((number : ℕ) → acknowledged_by_message m ≡ Some number → (id : ℕ) → member_at h sender udp.Htcp ≡ Some id → HasRaised past (node_at w.seats id) number) → IsRight h past (world.Datagram which) (master_hears h w sender m)
   master_right which sender (message.Icp m) raised = quiet_right (world.Datagram which) w refl lineage
   master_right which sender (message.Htcp m) raised = master_htcp_right which sender m.minor m.trans m.content raised
 
-  issue_right : (key : List ℕ) → IsKey key → (o : Option MasterFault) → issue_fault w.master ≡ o → IsRight h past (world.Issue key) (issue_by h.roster w key o)
+  issue_right : (key : List ℕ) → IsKey key → (o : Option MasterFault) → issue_fault w.master ≡ o → IsRight h past (world.Issue key) (issue_by h w key o)
   issue_right key is_key (Some fault) left = end_right (world.Issue key) (NotIssued fault) w refl lineage (λ number t. absurd t) (λ c s. absurd s)
   issue_right key is_key None left = record { lineage = issue_keeps h past w lineage key is_key (left_number w.master left); serves_none = λ c s. absurd s }
 
   -- Deliveries
 
-  to_right : (event : WorldEvent) (sender : Address) (m : Message) (by : Udp) (address : Address) → (is_master h.roster sender ≡ true → IsClear past m) → (o : Option ℕ) → member_at h.roster address by ≡ o → IsRight h past event (delivered_to w sender m o)
+  to_right : (event : WorldEvent) (sender : Address) (m : Message) (by : Udp) (address : Address) → (is_master h sender ≡ true → IsClear past m) → (o : Option ℕ) → member_at h address by ≡ o → IsRight h past event (delivered_to w sender m o)
   to_right event sender m by address right None at = tt
   to_right event sender m by address right (Some id) at = record { comes = right; member = member_at_known h by address id at }
 
-  delivered_right : (which : ℕ) (o : Option Datagram) → item w.datagrams which ≡ o → IsRight h past (world.Datagram which) (delivered h.roster w o)
+  delivered_right : (which : ℕ) (o : Option Datagram) → item w.datagrams which ≡ o → IsRight h past (world.Datagram which) (delivered h w o)
   delivered_right which None is = tt
   delivered_right which (Some d) is =
       let masters : IsMastersRightly h past d = all_item (IsMastersRightly h past) w.datagrams which d lineage.masters is in
       let obeyed : IsObeyed h past w.seats d = all_item (IsObeyed h past w.seats) w.datagrams which d lineage.obeyed is in
-      branches (IsRight h past (world.Datagram which)) (is_master h.roster d.receiver) (master_hears h.roster w d.sender d.message) (delivered_to w d.sender d.message (member_at h.roster d.receiver (udp_of d.message)))
-      (λ to_master. master_right which d.sender d.message (obeyed to_master)) (λ _. to_right (world.Datagram which) d.sender d.message (udp_of d.message) d.receiver masters (member_at h.roster d.receiver (udp_of d.message)) refl)
+      branches (IsRight h past (world.Datagram which)) (is_master h d.receiver) (master_hears h w d.sender d.message) (delivered_to w d.sender d.message (member_at h d.receiver (udp_of d.message)))
+      (λ to_master. master_right which d.sender d.message (obeyed to_master)) (λ _. to_right (world.Datagram which) d.sender d.message (udp_of d.message) d.receiver masters (member_at h d.receiver (udp_of d.message)) refl)
 
-  ask_right : (which : ℕ) (o : Option PeerAsk) → IsRight h past (world.Ask which) (ask_delivered h.roster w o)
+  ask_right : (which : ℕ) (o : Option PeerAsk) → IsRight h past (world.Ask which) (ask_delivered h w o)
   ask_right which None = tt
   ask_right which (Some a) = at_member_right (world.Ask which) a.receiver (NodeSteps a.receiver (event.PeerAsk a.sender a.ask w.clock) a.serial) (λ member. record { comes = tt; member = member })
 
-  answer_right : (which : ℕ) (serial : Option ℕ) (o : Option PeerAnswer) → item w.answers which ≡ o → IsRight h past (world.Answer which serial) (answer_delivered h.roster w serial o)
+  answer_right : (which : ℕ) (serial : Option ℕ) (o : Option PeerAnswer) → item w.answers which ≡ o → IsRight h past (world.Answer which serial) (answer_delivered h w serial o)
   answer_right which serial None is = tt
   answer_right which serial (Some a) is =
       at_member_right (world.Answer which serial) a.receiver (NodeSteps a.receiver (event.PeerAnswer (unwrap_or serial a.serial) a.sender a.key a.answer a.mark w.clock) 0)
@@ -138,22 +140,22 @@ module _ (h : Hierarchy) (proper : IsHierarchy h) (past : List Step) (w : World)
 
   -- Answers from outside
 
-  origin_by_right : (id serial : ℕ) (answer : AnswerText) (key : List ℕ) (fetch : Fetch ℕ) → is_member h.roster id ≡ true → IsRight h past (world.Origin id serial answer) (origin_by w id serial answer key fetch)
+  origin_by_right : (id serial : ℕ) (answer : AnswerText) (key : List ℕ) (fetch : Fetch ℕ) → is_member h id ≡ true → IsRight h past (world.Origin id serial answer) (origin_by w id serial answer key fetch)
   origin_by_right id serial answer key (AtOrigin stamp asked mark) member = record { comes = tt; member = member }
   origin_by_right id serial answer key (AtPeer peer asked) member = tt
   origin_by_right id serial answer key Nowhere member = tt
 
-  origin_right : (id serial : ℕ) (answer : AnswerText) (o : Option (Pending ℕ)) → is_member h.roster id ≡ true → IsRight h past (world.Origin id serial answer) (origin_to w id serial answer o)
+  origin_right : (id serial : ℕ) (answer : AnswerText) (o : Option (Pending ℕ)) → is_member h id ≡ true → IsRight h past (world.Origin id serial answer) (origin_to w id serial answer o)
   origin_right id serial answer None member = tt
   origin_right id serial answer (Some p) member = origin_by_right id serial answer p.ask.key p.fetch member
 
-  foreign_by_right : (id serial : ℕ) (answer : AnswerText) (key : List ℕ) (fetch : Fetch ℕ) → is_member h.roster id ≡ true → IsRight h past (world.Foreign id serial answer) (foreign_by w id serial answer key fetch)
+  foreign_by_right : (id serial : ℕ) (answer : AnswerText) (key : List ℕ) (fetch : Fetch ℕ) → is_member h id ≡ true → IsRight h past (world.Foreign id serial answer) (foreign_by w id serial answer key fetch)
   foreign_by_right id serial answer key (AtPeer peer asked) member =
       branches (IsRight h past (world.Foreign id serial answer)) (is_foreign_id peer) _ _ (λ _. record { comes = tt; member = member }) (λ _. tt)
   foreign_by_right id serial answer key (AtOrigin stamp asked mark) member = tt
   foreign_by_right id serial answer key Nowhere member = tt
 
-  foreign_right : (id serial : ℕ) (answer : AnswerText) (o : Option (Pending ℕ)) → is_member h.roster id ≡ true → IsRight h past (world.Foreign id serial answer) (foreign_to w id serial answer o)
+  foreign_right : (id serial : ℕ) (answer : AnswerText) (o : Option (Pending ℕ)) → is_member h id ≡ true → IsRight h past (world.Foreign id serial answer) (foreign_to w id serial answer o)
   foreign_right id serial answer None member = tt
   foreign_right id serial answer (Some p) member = foreign_by_right id serial answer p.ask.key p.fetch member
 
@@ -166,7 +168,7 @@ module _ (h : Hierarchy) (proper : IsHierarchy h) (past : List Step) (w : World)
   opened_right id = record { seen_issued = (lineage.nodes id).seen_issued; copies = λ is_open. tt; reads = tt }
 
   -- each event is right
-  pub turn_right : (event : WorldEvent) → IsOfKey event → IsRight h past event (turn h.roster w event)
+  pub turn_right : (event : WorldEvent) → IsOfKey event → IsRight h past event (turn h w event)
   turn_right (world.Clock now) key = quiet_right (world.Clock now) (with_clock w now) refl (clock_keeps h past w lineage now)
   turn_right (world.Client id ask) key = at_member_right (world.Client id ask) id (NodeSteps id (event.Client ask w.clock) 0) (λ member. record { comes = tt; member = member })
   turn_right (world.Datagram number) key = delivered_right number (item w.datagrams number) refl
@@ -183,23 +185,23 @@ module _ (h : Hierarchy) (proper : IsHierarchy h) (past : List Step) (w : World)
   turn_right (world.Status number) key = told_right (world.Status number) number w (λ s. refl) lineage
   turn_right world.RestartMaster key = quiet_right world.RestartMaster w refl lineage
   turn_right (world.Strange to sender m) key =
-      branches (IsRight h past (world.Strange to sender m)) (is_own h.roster sender) (Refused NoSuchPacket) _ (λ _. tt)
-      (λ strange. to_right (world.Strange to sender m) sender m (udp_of m) to (λ master. absurd (true_not_false (sym master ∙ or_false (is_master h.roster sender) _ strange))) (member_at h.roster to (udp_of m)) refl)
+      branches (IsRight h past (world.Strange to sender m)) (is_own h sender) (Refused NoSuchPacket) _ (λ _. tt)
+      (λ strange. to_right (world.Strange to sender m) sender m (udp_of m) to (λ master. absurd (true_not_false (sym master ∙ or_false (is_master h sender) _ strange))) (member_at h to (udp_of m)) refl)
 
 -- a node's step issues no purge
 issues_nothing : (event : WorldEvent) (id : ℕ) (outcome : Result (Reply ℕ) StepFault) → purged_by event (Replied id outcome) ≡ None
 issues_nothing (world.Issue key) id outcome = refl
 issues_nothing _ id outcome = refl
 
-module _ (h : Hierarchy) (proper : IsHierarchy h) (past : List Step) (old : World) (lineage : HasLineage h past old) (event : WorldEvent) (seen : Seen) (new : World) where
+module _ (h : Tables) (proper : IsRoster h) (past : List Step) (old : World) (lineage : HasLineage h past old) (event : WorldEvent) (seen : Seen) (new : World) where
   takes_on : (t : Turn) → IsRight h past event t → Takes h (length past + 1) old t seen new → HasLineage h (with_step past event seen) new
   takes_on (NodeSteps id e serial) right (outcome, next, steps, is_seen, is_new) =
       let law = steps_are_lawful (setting h id) (node_at old.seats id) e (length past + 1) outcome next steps in
-      let kept : HasLineage h past (after_node h.roster old id e serial outcome next) = takes_keeps h proper past old lineage id e right.comes serial outcome next law in
-      rw (is_seen, is_new) (counted h past event (Replied id outcome) (after_node h.roster old id e serial outcome next) (issues_nothing event id outcome) record { lineage = kept; tells = λ number t. absurd t })
+      let kept : HasLineage h past (after_node h old id e serial outcome next) = takes_keeps h proper past old lineage id e right.comes serial outcome next law in
+      rw (is_seen, is_new) (counted h past event (Replied id outcome) (after_node h old id e serial outcome next) (issues_nothing event id outcome) record { lineage = kept; tells = λ number t. absurd t })
   takes_on (Ends what world) right (is_seen, is_new) = rw (is_seen, is_new) right.lineage
   takes_on (Refused fault) right takes = absurd takes
 
   -- each event keeps the lineage of the world
   pub happens_keeps : Happens h (length past + 1) old event seen new → HasLineage h (past ++ record { event = event; seen = seen } ∷ []) new
-  happens_keeps (key, takes) = subst (λ steps. HasLineage h steps new) (as_step past event seen) (takes_on (turn h.roster old event) (turn_right h proper past old lineage event key) takes)
+  happens_keeps (key, takes) = subst (λ steps. HasLineage h steps new) (as_step past event seen) (takes_on (turn h old event) (turn_right h proper past old lineage event key) takes)

@@ -8,12 +8,13 @@ use Rattle.node_rules.specs.declared.reply.StepFault.{StepFault}
 use Rattle.node_rules.specs.State.{Stepped, quiet}
 use Rattle.node_rules.specs.Step.{step}
 use Rattle.purge_rules.specs.declared.calls.Status.{Status}
+use Rattle.roster_tables.specs.declared.plain.Tables.{Tables}
 use Rattle.world_rules.specs.declared.event.WorldEvent.{WorldEvent}
 use Rattle.world_rules.specs.declared.outcome.Outcome.{Outcome}
 use Rattle.world_rules.specs.declared.outcome.ActorFault.{ActorFault}
 use Rattle.world_rules.specs.declared.outcome.ActorFault.TheVariants as actor
 use Rattle.world_rules.specs.declared.outcome.WorldFault.{WorldFault}
-use Rattle.world_rules.specs.Hierarchy.{Hierarchy, setting}
+use Rattle.world_rules.specs.Hierarchy.{setting}
 use Rattle.world_rules.specs.World.{World, node_at, reply_in, after_node}
 use Rattle.world_rules.specs.Turn.{Seen, Replied, Issued, NotIssued, Told, Turn, NodeSteps, Ends, Refused, turn}
 use Rattle.world_rules.specs.Run.{Happens}
@@ -87,20 +88,20 @@ abbrev pub did : World → Seen → World → Applied
 did old seen new = Did (outcome_of old new seen) new
 
 -- applied as this step of a node
-abbrev pub did_step : Hierarchy → World → ℕ → Event ℕ → ℕ → Stepped ℕ → Applied
-did_step h w id e serial r = did w (Replied id r.outcome) (after_node h.roster w id e serial r.outcome r.state)
+abbrev pub did_step : Tables → World → ℕ → Event ℕ → ℕ → Stepped ℕ → Applied
+did_step roster w id e serial r = did w (Replied id r.outcome) (after_node roster w id e serial r.outcome r.state)
 
 -- what a turn comes to where nothing fails
-abbrev pub by_turn : Hierarchy → ℕ → World → Turn → Applied
-by_turn h place w (NodeSteps id e serial) = did_step h w id e serial (step (setting h id) (node_at w.seats id) e place)
-by_turn h place w (Ends seen new) = did w seen new
-by_turn h place w (Refused fault) = DidNot fault
+abbrev pub by_turn : Tables → ℕ → World → Turn → Applied
+by_turn roster place w (NodeSteps id e serial) = did_step roster w id e serial (step (setting roster id) (node_at w.seats id) e place)
+by_turn roster place w (Ends seen new) = did w seen new
+by_turn roster place w (Refused fault) = DidNot fault
 
 -- one event, at this place
-abbrev pub apply : Hierarchy → ℕ → World → WorldEvent → Applied
-apply h place w event = by_turn h place w (turn h.roster w event)
+abbrev pub apply : Tables → ℕ → World → WorldEvent → Applied
+apply roster place w event = by_turn roster place w (turn roster w event)
 
 -- what the function does of an event is one way that it may happen, and it refuses just what is no event
-abbrev pub IsDone : Hierarchy → ℕ → World → WorldEvent → Applied → Type 0
-IsDone h place w event (Did outcome new) = (seen : Seen) × Happens h place w event seen new × (outcome ≡ outcome_of w new seen)
-IsDone h place w event (DidNot fault) = turn h.roster w event ≡ Refused fault
+abbrev pub IsDone : Tables → ℕ → World → WorldEvent → Applied → Type 0
+IsDone roster place w event (Did outcome new) = (seen : Seen) × Happens roster place w event seen new × (outcome ≡ outcome_of w new seen)
+IsDone roster place w event (DidNot fault) = turn roster w event ≡ Refused fault

@@ -19,7 +19,7 @@ use Rattle.purge_rules.specs.declared.purges.Purge.{Purge}
 use Rattle.purge_rules.specs.Members.{is_among}
 use Rattle.purge_rules.specs.Purges.{pending_at}
 use Rattle.purge_rules.specs.Clear.{clear}
-use Rattle.world_rules.specs.Hierarchy.{Hierarchy}
+use Rattle.roster_tables.specs.declared.plain.Tables.{Tables}
 use Rattle.world_rules.specs.World.{Seat, Datagram, PeerAnswer, World, node_at}
 use Rattle.world_rules.specs.Run.{Step, IsItem, purges, issued, IsReportedAt}
 
@@ -63,14 +63,14 @@ pub record IsClear (past : List Step) (m : Message) : Type 0 where
   pub is_key : IsKey key
 
 -- what comes from the master's address is a CLR
-abbrev pub IsMastersRightly : Hierarchy → List Step → Datagram → Type 0
-IsMastersRightly h past d = is_master h.roster d.sender ≡ true → IsClear past d.message
+abbrev pub IsMastersRightly : Tables → List Step → Datagram → Type 0
+IsMastersRightly roster past d = is_master roster d.sender ≡ true → IsClear past d.message
 
 -- a member that acknowledges a purge to the master has raised its floor
-abbrev pub IsObeyed : Hierarchy → List Step → List Seat → Datagram → Type 0
-IsObeyed h past seats d =
-    is_master h.roster d.receiver ≡ true → (number : ℕ) → acknowledged d.message ≡ Some number →
-    (id : ℕ) → member_at h.roster d.sender udp.Htcp ≡ Some id → HasRaised past (node_at seats id) number
+abbrev pub IsObeyed : Tables → List Step → List Seat → Datagram → Type 0
+IsObeyed roster past seats d =
+    is_master roster d.receiver ≡ true → (number : ℕ) → acknowledged d.message ≡ Some number →
+    (id : ℕ) → member_at roster d.sender udp.Htcp ≡ Some id → HasRaised past (node_at seats id) number
 
 -- what holds of a node
 pub record NodeHasLineage (past : List Step) (s : NodeState ℕ) : Type 0 where
@@ -86,17 +86,17 @@ pub record PurgeHasLineage (past : List Step) (seats : List Seat) (p : Purge) : 
   pub marked : (id : ℕ) → is_among id p.marked ≡ true → HasRaised past (node_at seats id) p.number
 
 -- each member has raised its floor
-abbrev pub AllHaveRaised : Hierarchy → List Step → List Seat → ℕ → Type 0
-AllHaveRaised h past seats number = (id : ℕ) → is_member h.roster id ≡ true → HasRaised past (node_at seats id) number
+abbrev pub AllHaveRaised : Tables → List Step → List Seat → ℕ → Type 0
+AllHaveRaised roster past seats number = (id : ℕ) → is_member roster id ≡ true → HasRaised past (node_at seats id) number
 
 -- what holds of the world after the steps of the past
-pub record HasLineage (h : Hierarchy) (past : List Step) (w : World) : Type 0 where
+pub record HasLineage (roster : Tables) (past : List Step) (w : World) : Type 0 where
   pub last : w.master.last ≡ length (purges past)
   pub small : w.master.last ≤ 4294967295
   pub nodes : (id : ℕ) → NodeHasLineage past (node_at w.seats id)
-  pub masters : AllByRecursion (IsMastersRightly h past) w.datagrams
-  pub obeyed : AllByRecursion (IsObeyed h past w.seats) w.datagrams
+  pub masters : AllByRecursion (IsMastersRightly roster past) w.datagrams
+  pub obeyed : AllByRecursion (IsObeyed roster past w.seats) w.datagrams
   pub answers : AllByRecursion (IsSentAnswer past) w.answers
   pub pending : AllByRecursion (PurgeHasLineage past w.seats) w.master.pending
-  pub done : (number : ℕ) → 1 ≤ number → number ≤ w.master.last → pending_at w.master number ≡ None → AllHaveRaised h past w.seats number
-  pub reported : (place number : ℕ) → IsReportedAt past place number → AllHaveRaised h past w.seats number
+  pub done : (number : ℕ) → 1 ≤ number → number ≤ w.master.last → pending_at w.master number ≡ None → AllHaveRaised roster past w.seats number
+  pub reported : (place number : ℕ) → IsReportedAt past place number → AllHaveRaised roster past w.seats number

@@ -15,14 +15,14 @@ use Rattle.node_rules.specs.declared.reply.Reply.{Reply}
 use Rattle.node_rules.specs.declared.reply.StepFault.{StepFault}
 use Rattle.node_rules.specs.State.{fetch_serial, served_age}
 use Rattle.node_rules.specs.Questions.{begun}
+use Rattle.roster_tables.specs.declared.plain.Tables.{Tables}
 use Rattle.world_rules.specs.declared.event.WorldEvent.{WorldEvent}
-use Rattle.world_rules.specs.Hierarchy.{Hierarchy}
 use Rattle.world_rules.specs.World.{World, new_world, node_at}
 use Rattle.world_rules.specs.Turn.{Replied, NodeSteps, turn}
 use Rattle.world_rules.specs.Run.{Step, Run, Happens, IsServedAt}
 
 -- a step that a member's node took in a run: its event as the node met it, its outcome, and the world before it
-pub record NodeStepAt (h : Hierarchy) (steps : List Step) (place id : ℕ) (e : Event ℕ) (outcome : Result (Reply ℕ) StepFault) : Type 0 where
+pub record NodeStepAt (roster : Tables) (steps : List Step) (place id : ℕ) (e : Event ℕ) (outcome : Result (Reply ℕ) StepFault) : Type 0 where
   pub past : List Step
   pub before : World
   pub cause : WorldEvent
@@ -30,8 +30,8 @@ pub record NodeStepAt (h : Hierarchy) (steps : List Step) (place id : ℕ) (e : 
   pub rest : List Step
   pub place_is : place ≡ length past + 1
   pub parts : steps ≡ (past ++ record { event = cause; seen = Replied id outcome } ∷ []) ++ rest
-  pub runs : Run h 1 (new_world h.roster) past before
-  pub meets : turn h.roster before cause ≡ NodeSteps id e serial
+  pub runs : Run roster 1 (new_world roster) past before
+  pub meets : turn roster before cause ≡ NodeSteps id e serial
 
 -- what is held has the status, the fields and the body of the answer
 pub record HasContent (answer held : AnswerText) : Type 0 where
@@ -40,24 +40,24 @@ pub record HasContent (answer held : AnswerText) : Type 0 where
   pub body : held.body ≡ answer.body
 
 -- at this place the member began to read the key from its origin, under this serial
-pub record BeginsReadAt (h : Hierarchy) (steps : List Step) (place id serial : ℕ) (key : List ℕ) : Type 0 where
+pub record BeginsReadAt (roster : Tables) (steps : List Step) (place id serial : ℕ) (key : List ℕ) : Type 0 where
   pub e : Event ℕ
   pub outcome : Result (Reply ℕ) StepFault
-  pub step : NodeStepAt h steps place id e outcome
+  pub step : NodeStepAt roster steps place id e outcome
   pub ask : Ask
   pub begins : begun outcome ≡ Some (begin.Read serial ask)
   pub asks : ask.key ≡ key
 
 -- one origin's answer, for the key, to the read that began at the mark and was pending as the answer came
-pub record IsFromOrigin (h : Hierarchy) (steps : List Step) (key : List ℕ) (mark : ℕ) (held : AnswerText) : Type 0 where
+pub record IsFromOrigin (roster : Tables) (steps : List Step) (key : List ℕ) (mark : ℕ) (held : AnswerText) : Type 0 where
   pub id : ℕ
   pub serial : ℕ
-  pub begins : BeginsReadAt h steps mark id serial key
+  pub begins : BeginsReadAt roster steps mark id serial key
   pub place : ℕ
   pub answer : AnswerText
   pub now : ℕ
   pub outcome : Result (Reply ℕ) StepFault
-  pub comes : NodeStepAt h steps place id (event.OriginAnswer serial key answer now) outcome
+  pub comes : NodeStepAt roster steps place id (event.OriginAnswer serial key answer now) outcome
   pub read : Pending ℕ
   pub waits : Contains (node_at comes.before.seats id).pending read
   pub as_serial : fetch_serial read ≡ serial
@@ -67,7 +67,7 @@ pub record IsFromOrigin (h : Hierarchy) (steps : List Step) (key : List ℕ) (ma
   pub content : HasContent answer held
 
 -- one foreign cache's answer, for the key; its mark is 0
-pub record IsFromForeign (h : Hierarchy) (steps : List Step) (key : List ℕ) (mark : ℕ) (held : AnswerText) : Type 0 where
+pub record IsFromForeign (roster : Tables) (steps : List Step) (key : List ℕ) (mark : ℕ) (held : AnswerText) : Type 0 where
   pub id : ℕ
   pub serial : ℕ
   pub peer : ℕ
@@ -76,26 +76,26 @@ pub record IsFromForeign (h : Hierarchy) (steps : List Step) (key : List ℕ) (m
   pub now : ℕ
   pub outcome : Result (Reply ℕ) StepFault
   pub unmarked : mark ≡ 0
-  pub comes : NodeStepAt h steps place id (event.ForeignAnswer serial peer key answer 0 now) outcome
+  pub comes : NodeStepAt roster steps place id (event.ForeignAnswer serial peer key answer 0 now) outcome
   pub content : HasContent answer held
 
 -- what is held for a key under a mark is one of these
-abbrev pub HasSource : Hierarchy → List Step → List ℕ → ℕ → AnswerText → Type 0
-HasSource h steps key mark held = IsFromOrigin h steps key mark held ⊎ IsFromForeign h steps key mark held
+abbrev pub HasSource : Tables → List Step → List ℕ → ℕ → AnswerText → Type 0
+HasSource roster steps key mark held = IsFromOrigin roster steps key mark held ⊎ IsFromForeign roster steps key mark held
 
 -- the copy's content has a source, for its key under its mark
-abbrev pub IsSourcedCopy : Hierarchy → List Step → WebCopy ℕ → Type 0
-IsSourcedCopy h steps c = HasSource h steps c.key c.tag c.answer
+abbrev pub IsSourcedCopy : Tables → List Step → WebCopy ℕ → Type 0
+IsSourcedCopy roster steps c = HasSource roster steps c.key c.tag c.answer
 
 -- each copy that a member begins to serve has the status, the fields and the body of one origin's answer to the read that began at
 -- its mark, for its key, or of one foreign cache's answer for its key
-abbrev pub EachHasSource : Hierarchy → List Step → Type 0
-EachHasSource h steps = (place : ℕ) (c : WebCopy ℕ) → IsServedAt steps place c → IsSourcedCopy h steps c
+abbrev pub EachHasSource : Tables → List Step → Type 0
+EachHasSource roster steps = (place : ℕ) (c : WebCopy ℕ) → IsServedAt steps place c → IsSourcedCopy roster steps c
 
 -- In the world that the steps lead to, a copy that an event has a member serve is served with its answer's age and the time since
 -- it was asked for, at most 2147483648 seconds.
-abbrev pub EachHasAge : Hierarchy → List Step → World → Type 0
-EachHasAge h steps before =
+abbrev pub EachHasAge : Tables → List Step → World → Type 0
+EachHasAge roster steps before =
     (cause : WorldEvent) (id : ℕ) (reply : Reply ℕ) (serve : Serve ℕ) (c : WebCopy ℕ) (age : ℕ) (after : World) →
-    Happens h (length steps + 1) before cause (Replied id (Ok reply)) after → reply.serve ≡ Some serve → serve.served ≡ Copy c age →
+    Happens roster (length steps + 1) before cause (Replied id (Ok reply)) after → reply.serve ≡ Some serve → serve.served ≡ Copy c age →
     age ≡ served_age c before.clock

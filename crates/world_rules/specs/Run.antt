@@ -8,22 +8,23 @@ use Rattle.node_rules.specs.declared.reply.StepFault.{StepFault}
 use Rattle.node_rules.specs.Relation.{Steps}
 use Rattle.node_rules.specs.Effect.{copy_served}
 use Rattle.purge_rules.specs.declared.calls.Status.TheVariants.{Done}
+use Rattle.roster_tables.specs.declared.plain.Tables.{Tables}
 use Rattle.world_rules.specs.declared.event.WorldEvent.{WorldEvent}
 use Rattle.world_rules.specs.declared.event.WorldEvent.TheVariants.{Issue}
 use Rattle.world_rules.specs.declared.outcome.WorldFault.{WorldFault}
-use Rattle.world_rules.specs.Hierarchy.{Hierarchy, setting}
+use Rattle.world_rules.specs.Hierarchy.{setting}
 use Rattle.world_rules.specs.World.{World, node_at, after_node}
 use Rattle.world_rules.specs.Turn.{Seen, Replied, Issued, Told, Turn, NodeSteps, Ends, Refused, turn}
 
 -- A turn at this place of the run may be seen so, and leave this world. Only a node's step leaves a choice: it may want memory,
 -- or its floor store may fail. The place is its mark.
-abbrev pub Takes : Hierarchy → ℕ → World → Turn → Seen → World → Type 0
-Takes h place old (NodeSteps id e serial) seen new =
+abbrev pub Takes : Tables → ℕ → World → Turn → Seen → World → Type 0
+Takes roster place old (NodeSteps id e serial) seen new =
     (outcome : Result (Reply ℕ) StepFault) × (next : NodeState ℕ)
-    × Steps (setting h id) (node_at old.seats id) e place outcome next
-    × (seen ≡ Replied id outcome) × (new ≡ after_node h.roster old id e serial outcome next)
-Takes h place old (Ends what world) seen new = (seen ≡ what) × (new ≡ world)
-Takes h place old (Refused fault) seen new = ⊥
+    × Steps (setting roster id) (node_at old.seats id) e place outcome next
+    × (seen ≡ Replied id outcome) × (new ≡ after_node roster old id e serial outcome next)
+Takes roster place old (Ends what world) seen new = (seen ≡ what) × (new ≡ world)
+Takes roster place old (Refused fault) seen new = ⊥
 
 -- what is purged is the key of a URL
 abbrev pub IsOfKey : WorldEvent → Type 0
@@ -31,8 +32,8 @@ IsOfKey (Issue key) = IsKey key
 IsOfKey _ = Unit {0}
 
 -- The event may happen in the old world at this place, be seen so, and leave the new world.
-abbrev pub Happens : Hierarchy → ℕ → World → WorldEvent → Seen → World → Type 0
-Happens h place old event seen new = IsOfKey event × Takes h place old (turn h.roster old event) seen new
+abbrev pub Happens : Tables → ℕ → World → WorldEvent → Seen → World → Type 0
+Happens roster place old event seen new = IsOfKey event × Takes roster place old (turn roster old event) seen new
 
 -- one event with what was seen of it
 pub record Step : Type 0 where
@@ -40,17 +41,17 @@ pub record Step : Type 0 where
   pub seen : Seen
 
 -- these steps, the first of them at the place, lead from the old world to the new
-abbrev pub Run : Hierarchy → ℕ → World → List Step → World → Type 0
-Run h place old [] new = new ≡ old
-Run h place old (step ∷ steps) new = (next : World) × Happens h place old step.event step.seen next × Run h (place + 1) next steps new
+abbrev pub Run : Tables → ℕ → World → List Step → World → Type 0
+Run roster place old [] new = new ≡ old
+Run roster place old (step ∷ steps) new = (next : World) × Happens roster place old step.event step.seen next × Run roster (place + 1) next steps new
 
 -- This list of events, any of which may be refused, leads through these steps. What is refused changes nothing and has no place.
-abbrev pub Plays : Hierarchy → ℕ → World → List WorldEvent → List Step → World → Type 0
-Plays h place old [] steps new = (steps ≡ []) × (new ≡ old)
-Plays h place old (event ∷ events) steps new =
-    ((fault : WorldFault) × (turn h.roster old event ≡ Refused fault) × Plays h place old events steps new)
-    ⊎ ((seen : Seen) × (next : World) × (rest : List Step) × Happens h place old event seen next
-    × (steps ≡ record { event = event; seen = seen } ∷ rest) × Plays h (place + 1) next events rest new)
+abbrev pub Plays : Tables → ℕ → World → List WorldEvent → List Step → World → Type 0
+Plays roster place old [] steps new = (steps ≡ []) × (new ≡ old)
+Plays roster place old (event ∷ events) steps new =
+    ((fault : WorldFault) × (turn roster old event ≡ Refused fault) × Plays roster place old events steps new)
+    ⊎ ((seen : Seen) × (next : World) × (rest : List Step) × Happens roster place old event seen next
+    × (steps ≡ record { event = event; seen = seen } ∷ rest) × Plays roster (place + 1) next events rest new)
 
 -- the item with this number, where items are counted from 1
 abbrev pub IsItem : {A : Type 0} → List A → ℕ → A → Type 0

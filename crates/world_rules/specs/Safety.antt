@@ -5,8 +5,9 @@ use Rattle.node_rules.specs.declared.event.Event.{Event}
 use Rattle.node_rules.specs.declared.reply.Reply.{Reply}
 use Rattle.node_rules.specs.declared.reply.StepFault.{StepFault}
 use Rattle.node_rules.specs.Questions.{is_from_sibling, BeginsNothing}
+use Rattle.roster_tables.specs.declared.plain.Tables.{Tables}
 use Rattle.world_rules.specs.declared.event.WorldEvent.{WorldEvent}
-use Rattle.world_rules.specs.Hierarchy.{Hierarchy, setting}
+use Rattle.world_rules.specs.Hierarchy.{setting}
 use Rattle.world_rules.specs.World.{World, node_at}
 use Rattle.world_rules.specs.Turn.{Replied, NodeSteps, turn}
 use Rattle.world_rules.specs.Run.{Step, Happens, IsIssuedAt, IsReportedAt, IsServedAt}
@@ -21,9 +22,9 @@ NothingOldIsServed steps =
 
 -- In the world that the steps lead to, an event that brings a member a sibling's ask, a QUERY or a TST begins no round, no
 -- fetch and no read, and leaves no ask waiting.
-abbrev pub SiblingsAskNothing : Hierarchy → List Step → World → Type 0
-SiblingsAskNothing h steps before =
+abbrev pub SiblingsAskNothing : Tables → List Step → World → Type 0
+SiblingsAskNothing roster steps before =
     (event : WorldEvent) (id : ℕ) (e : Event ℕ) (serial : ℕ) (outcome : Result (Reply ℕ) StepFault) (after : World) →
-    turn h.roster before event ≡ NodeSteps id e serial → is_from_sibling (setting h id) e ≡ true →
-    Happens h (length steps + 1) before event (Replied id outcome) after →
+    turn roster before event ≡ NodeSteps id e serial → is_from_sibling (setting roster id) e ≡ true →
+    Happens roster (length steps + 1) before event (Replied id outcome) after →
     BeginsNothing (node_at before.seats id) outcome (node_at after.seats id)

@@ -7,29 +7,29 @@ use Rattle.node_rules.specs.declared.state.Pending.{Pending}
 use Rattle.node_rules.specs.declared.state.NodeState.{NodeState}
 use Rattle.node_rules.specs.State.{fetch_serial}
 use Rattle.node_rules.specs.Arrivals.{is_gateway_fault}
-use Rattle.world_rules.specs.Hierarchy.{Hierarchy}
+use Rattle.roster_tables.specs.declared.plain.Tables.{Tables}
 use Rattle.world_rules.specs.World.{PeerAnswer, Waiting, World, node_at, Answered, asked_before}
 use Rattle.world_rules.specs.Run.{Step}
 use Rattle.world_rules.specs.Provenance.{BeginsReadAt, HasSource, IsSourcedCopy}
 
 -- a read that is under way began at its mark
-abbrev pub FetchHasBegun : Hierarchy → List Step → ℕ → ℕ → List ℕ → Fetch ℕ → Type 0
-FetchHasBegun h past id serial key (AtOrigin stamp asked mark) = BeginsReadAt h past mark id serial key
-FetchHasBegun h past id serial key (AtPeer peer asked) = Unit {0}
-FetchHasBegun h past id serial key Nowhere = Unit {0}
+abbrev pub FetchHasBegun : Tables → List Step → ℕ → ℕ → List ℕ → Fetch ℕ → Type 0
+FetchHasBegun roster past id serial key (AtOrigin stamp asked mark) = BeginsReadAt roster past mark id serial key
+FetchHasBegun roster past id serial key (AtPeer peer asked) = Unit {0}
+FetchHasBegun roster past id serial key Nowhere = Unit {0}
 
 -- so did the read of an ask
-abbrev pub ReadHasBegun : Hierarchy → List Step → ℕ → Pending ℕ → Type 0
-ReadHasBegun h past id p = FetchHasBegun h past id (fetch_serial p) p.ask.key p.fetch
+abbrev pub ReadHasBegun : Tables → List Step → ℕ → Pending ℕ → Type 0
+ReadHasBegun roster past id p = FetchHasBegun roster past id (fetch_serial p) p.ask.key p.fetch
 
 -- a peer's answer is one that no peer uses, or has a source
-abbrev pub AnswerHasSource : Hierarchy → List Step → PeerAnswer → Type 0
-AnswerHasSource h past a = (is_gateway_fault a.answer.status ≡ true) ⊎ HasSource h past a.key a.mark a.answer
+abbrev pub AnswerHasSource : Tables → List Step → PeerAnswer → Type 0
+AnswerHasSource roster past a = (is_gateway_fault a.answer.status ≡ true) ⊎ HasSource roster past a.key a.mark a.answer
 
 -- what holds of a node: its copies have sources, and its reads began
-pub record NodeHasSources (h : Hierarchy) (past : List Step) (id : ℕ) (s : NodeState ℕ) : Type 0 where
-  pub copies : s.closed ≡ false → AllByRecursion (IsSourcedCopy h past) s.copies
-  pub reads : AllByRecursion (ReadHasBegun h past id) s.pending
+pub record NodeHasSources (roster : Tables) (past : List Step) (id : ℕ) (s : NodeState ℕ) : Type 0 where
+  pub copies : s.closed ≡ false → AllByRecursion (IsSourcedCopy roster past) s.copies
+  pub reads : AllByRecursion (ReadHasBegun roster past id) s.pending
 
 -- a block of this node is below its next
 abbrev pub IsTaken : ℕ → ℕ → Waiting → Type 0
@@ -45,7 +45,7 @@ pub record NodeHasAsks (waiting : List Waiting) (id : ℕ) (s : NodeState ℕ) :
   pub kept : AllByRecursion (IsKept waiting id) s.pending
 
 -- what holds of the world after the steps of the past
-pub record HasSources (h : Hierarchy) (past : List Step) (w : World) : Type 0 where
-  pub nodes : (id : ℕ) → NodeHasSources h past id (node_at w.seats id)
-  pub answers : AllByRecursion (AnswerHasSource h past) w.answers
+pub record HasSources (roster : Tables) (past : List Step) (w : World) : Type 0 where
+  pub nodes : (id : ℕ) → NodeHasSources roster past id (node_at w.seats id)
+  pub answers : AllByRecursion (AnswerHasSource roster past) w.answers
   pub asks : (id : ℕ) → (node_at w.seats id).closed ≡ false → NodeHasAsks w.waiting id (node_at w.seats id)

@@ -7,8 +7,9 @@ ghost use Rattle.node_rules.specs.declared.reply.Reply.{Reply};
 ghost use Rattle.node_rules.specs.declared.reply.StepFault.{StepFault};
 ghost use Rattle.node_rules.specs.State.{Setting};
 ghost use Rattle.node_rules.specs.Relation.{Steps};
+ghost use Rattle.roster_tables.specs.declared.plain.Tables.{Tables};
+ghost use Rattle.roster.specs.Judged.{IsRoster};
 ghost use Rattle.world_rules.specs.declared.event.WorldEvent.{WorldEvent};
-ghost use Rattle.world_rules.specs.Hierarchy.{Hierarchy, IsHierarchy};
 ghost use Rattle.world_rules.specs.World.{World, new_world};
 ghost use Rattle.world_rules.specs.Run.{Step, Plays, IsOfKey};
 ghost use Rattle.world_rules.specs.Safety.{NothingOldIsServed, SiblingsAskNothing};
@@ -20,16 +21,16 @@ ghost use Rattle.world_rules.specs.Apply.{apply, IsDone};
 /// The safety of purges, for every roster and every list of events of its members, its master and its network: nothing old is served
 /// once a purge is reported done, no request to a sibling begins anything, and the lineage that both rest on holds at every place.
 pub fn purges_are_safe()
-    ensures served { (h : Hierarchy) (events : List WorldEvent) (steps : List Step) (w : World) → IsHierarchy h → Plays h 1 (new_world h.roster) events steps w → NothingOldIsServed steps }
-    ensures siblings { (h : Hierarchy) (events : List WorldEvent) (steps : List Step) (w : World) → Plays h 1 (new_world h.roster) events steps w → SiblingsAskNothing h steps w }
-    ensures lineage { (h : Hierarchy) (events : List WorldEvent) (steps : List Step) (w : World) → IsHierarchy h → Plays h 1 (new_world h.roster) events steps w → HasLineage h steps w }
+    ensures served { (roster : Tables) (events : List WorldEvent) (steps : List Step) (w : World) → IsRoster roster → Plays roster 1 (new_world roster) events steps w → NothingOldIsServed steps }
+    ensures siblings { (roster : Tables) (events : List WorldEvent) (steps : List Step) (w : World) → Plays roster 1 (new_world roster) events steps w → SiblingsAskNothing roster steps w }
+    ensures lineage { (roster : Tables) (events : List WorldEvent) (steps : List Step) (w : World) → IsRoster roster → Plays roster 1 (new_world roster) events steps w → HasLineage roster steps w }
 {}
 
 /// Each copy that a member begins to serve has the status, the fields and the body of one origin's answer to the read that began at
 /// the copy's mark, for its key, or of one foreign cache's answer for its key; and it is served with its age (RFC 9111, section 4.2.3).
 pub fn copies_have_sources()
-    ensures sources { (h : Hierarchy) (events : List WorldEvent) (steps : List Step) (w : World) → Plays h 1 (new_world h.roster) events steps w → EachHasSource h steps }
-    ensures ages { (h : Hierarchy) (events : List WorldEvent) (steps : List Step) (w : World) → Plays h 1 (new_world h.roster) events steps w → EachHasAge h steps w }
+    ensures sources { (roster : Tables) (events : List WorldEvent) (steps : List Step) (w : World) → Plays roster 1 (new_world roster) events steps w → EachHasSource roster steps }
+    ensures ages { (roster : Tables) (events : List WorldEvent) (steps : List Step) (w : World) → Plays roster 1 (new_world roster) events steps w → EachHasAge roster steps w }
 {}
 
 /// Each step of a node serves what was asked: to the event's own ask or to one that waits, a copy of its key with its age.
@@ -40,10 +41,10 @@ pub fn nodes_answer_what_is_asked<T>()
 
 /// What the function does of an event may happen in the world.
 pub fn applied_events_happen()
-    ensures { (h : Hierarchy) (place : ℕ) (w : World) (event : WorldEvent) → IsOfKey event → IsDone h place w event (apply h place w event) }
+    ensures { (roster : Tables) (place : ℕ) (w : World) (event : WorldEvent) → IsOfKey event → IsDone roster place w event (apply roster place w event) }
 {}
 
 /// Every list of events is played.
 pub fn each_list_is_played()
-    ensures { (h : Hierarchy) (events : List WorldEvent) → AllByRecursion IsOfKey events → (steps : List Step) × (w : World) × Plays h 1 (new_world h.roster) events steps w }
+    ensures { (roster : Tables) (events : List WorldEvent) → AllByRecursion IsOfKey events → (steps : List Step) × (w : World) × Plays roster 1 (new_world roster) events steps w }
 {}

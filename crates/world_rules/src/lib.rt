@@ -20,8 +20,8 @@
 //! - An origin's answer comes to the read that asked for it, and no connection outlives its node's restart: `Origin` and `Foreign`
 //!   reach only a read or a fetch that is pending now, and a restart or a fault leaves none pending.
 //!
-//! The laws are of any roster that can be read (`IsRoster`) and any reading of texts that gives the keys that they have
-//! (`GivesKeys`); what is purged is a key (`IsKey`). Not promised: that a purge is ever done, and that nothing old is served before.
+//! The laws are of any roster that can be read (`IsRoster`); what is purged is a key (`IsKey`), and a text has the key that `key_texts`
+//! gives it. Not promised: that a purge is ever done, and that nothing old is served before.
 //!
 //! Also proved: what holds of the world at every place (`specs/Lineage`: no stamp is greater than the number of purges issued before
 //! the mark, no floor is above what was issued, and who acknowledges a purge has raised its floor); where each served copy's content

@@ -1,11 +1,15 @@
-use Rattle.std.proofs.Common.{[], refl}
-use Rattle.cache_program.specs.declared.fault.RunFault.TheVariants.{NoMemory}
-use Rattle.cache_program.specs.Answer.{LineAnswers, first_store}
-use Rattle.cache_program.proofs.PlayLemmas.{playing_start, playing_stops, nothing_written, other_fault, not_spent}
+use Rattle.std.proofs.Common.{◌≡◌, ◌⊎◌, inl, inr, Err, List, ℕ, Option, refl, ap}
+use Rattle.cache_program.specs.declared.fault.RunFault.{RunFault}
+use Rattle.cache_program.specs.declared.fault.RunFault.TheVariants.{NoMemory, NoFirstNode}
+use Rattle.cache_program.specs.Answered.{HasNotBegun}
 use Rattle.cache_program.proofs.answer.run_answer.Goals as goal
 
+not_begun : (writer : Option (List ℕ)) (fault : RunFault) → (fault ≡ NoMemory) ⊎ (fault ≡ NoFirstNode) → HasNotBegun writer writer (Err fault)
+not_begun writer fault (inl e) = record { refused = inl (ap Err e); unwritten = refl }
+not_begun writer fault (inr e) = record { refused = inr (ap Err e); unwritten = refl }
+
+pub returns : goal.returns
+returns g c = inl record { start = c.in-Ok.node; end = c.play.new.script; first = c.in-Ok.ensures.ok; played = c.play.ensures }
+
 pub returns-in-Err : goal.returns-in-Err
-returns-in-Err g c =
-    let input = g.R.Read.remaining c.args.reader.now in
-    let first = g.W.Write.contents c.args.writer.now in
-    (first_store, rw c.in-Err.ensures.err (playing_stops LineAnswers first_store first_store input [] input first first first [] NoMemory first_store (playing_start LineAnswers first_store input [] [] first refl refl) (nothing_written LineAnswers first_store first []) (other_fault LineAnswers first_store [] input NoMemory (λ e. cc)) (not_spent input NoMemory (λ e. cc))))
+returns-in-Err g c = inr (not_begun (g.W.Write.contents c.args.writer.now) c.in-Err.fault c.in-Err.ensures.err)

@@ -8,7 +8,7 @@ pub returns-then-holds_older-clause-removed : goal.returns-then-holds_older-clau
 returns-then-holds_older-clause-removed g c =
     let copies = c.args.self.now.copies in
     let key = c.args.key.now in
-    let one : OneEach copies = rw (← c.self.view_is) c.self.invariant.is_store.one_each in
+    let one : OneEach copies = rw (← c.self.view_is) c.self.invariant.0.is_store.one_each in
     let older : is_older_than c.args.stamp (copy_of key copies) ≡ true = grind rules in
     c.remove.ensures.removed
     ∙ ap (with_copies c.args.self.now) (sym (cleared key c.args.stamp copies one ∙ ap (λ b. cond b (without key copies) copies) older))
@@ -17,6 +17,6 @@ pub returns-else-holds_older-clause-removed : goal.returns-else-holds_older-clau
 returns-else-holds_older-clause-removed g c =
     let copies = c.args.self.now.copies in
     let key = c.args.key.now in
-    let one : OneEach copies = rw (← c.self.view_is) c.self.invariant.is_store.one_each in
+    let one : OneEach copies = rw (← c.self.view_is) c.self.invariant.0.is_store.one_each in
     let older : is_older_than c.args.stamp (copy_of key copies) ≡ false = grind rules in
     ap (with_copies c.args.self.now) (sym (cleared key c.args.stamp copies one ∙ ap (λ b. cond b (without key copies) copies) older))

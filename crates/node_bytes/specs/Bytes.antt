@@ -1,0 +1,47 @@
+-- What octets say to a node, and the octets of what it says.
+use Rattle.std.specs.Prelude.{◌≡◌, ℕ, List, Option, Some, None}
+use Rattle.icp_wire.specs.declared.message.Icp.{Icp}
+use Rattle.icp_wire.specs.declared.fault.IcpFault.{IcpFault}
+use Rattle.icp_wire.specs.Grammar as icp_grammar
+use Rattle.icp_wire.specs.Faults as icp_faults
+use Rattle.icp_wire.specs.Written as icp_text
+use Rattle.htcp_wire.specs.declared.message.Htcp.{Htcp}
+use Rattle.htcp_wire.specs.declared.fault.HtcpFault.{HtcpFault}
+use Rattle.htcp_wire.specs.Grammar as htcp_grammar
+use Rattle.htcp_wire.specs.Faults as htcp_faults
+use Rattle.htcp_wire.specs.Written as htcp_text
+use Rattle.roster_tables.specs.declared.plain.Address.{Address}
+use Rattle.roster_tables.specs.declared.plain.Udp.{Udp}
+use Rattle.roster_tables.specs.declared.plain.Udp.TheVariants as udp
+use Rattle.node_rules.specs.declared.message.Message.{Message}
+use Rattle.node_rules.specs.declared.message.Message.TheVariants as message
+use Rattle.node_rules.specs.declared.event.Event.{Event}
+use Rattle.node_rules.specs.declared.event.Event.TheVariants as event
+
+-- the written text of a message of either codec (RFC 2186, RFC 2756)
+abbrev pub text_of : Message → List ℕ
+text_of (message.Icp m) = icp_text.written m
+text_of (message.Htcp m) = htcp_text.written m
+
+-- the octets spell an ICP message, and this is that message
+abbrev pub IsIcp : List ℕ → Message → Type 0
+IsIcp octets m = (icp : Icp) × (m ≡ message.Icp icp) × icp_grammar.Spells octets icp
+
+-- the same of HTCP
+abbrev pub IsHtcp : List ℕ → Message → Type 0
+IsHtcp octets m = (htcp : Htcp) × (m ≡ message.Htcp htcp) × htcp_grammar.Spells octets htcp
+
+-- the octets spell the message by this protocol
+abbrev pub SpellsBy : Udp → List ℕ → Message → Type 0
+SpellsBy udp.Icp octets m = IsIcp octets m
+SpellsBy udp.Htcp octets m = IsHtcp octets m
+
+-- the codec of this protocol has a first fault for the octets
+abbrev pub HasFault : Udp → List ℕ → Type 0
+HasFault udp.Icp octets = (fault : IcpFault) × (icp_faults.first_fault octets ≡ Some fault)
+HasFault udp.Htcp octets = (fault : HtcpFault) × (htcp_faults.first_fault octets ≡ Some fault)
+
+-- the event of octets that came from an address at a moment: that of the message that they spell, and none where they have a fault
+abbrev pub IsEventOf : {X : Type 0} → Udp → Address → List ℕ → ℕ → Option (Event X) → Type 0
+IsEventOf by from octets now None = HasFault by octets
+IsEventOf by from octets now (Some e) = (m : Message) × SpellsBy by octets m × (e ≡ event.Datagram from m now)

@@ -1,0 +1,63 @@
+//! What octets say.
+ghost use Rattle.std.specs.Prelude.{◌≡◌, ◌≢◌, Some, IfOk, IfErr};
+ghost use Rattle.icp_wire.specs.Faults as icp_faults;
+ghost use Rattle.htcp_wire.specs.Faults as htcp_faults;
+ghost use Rattle.node_bytes.specs.Bytes.{IsIcp, IsHtcp, IsEventOf};
+
+use htcp_wire::HtcpFault;
+use icp_wire::IcpFault;
+use node_rules::{Event, Message, Received};
+use roster::{Address, Udp};
+use std::alloc::{AllocError, Global};
+
+/// The ICP message that a datagram spells (RFC 2186), as one that came, or its first fault.
+///
+/// A refusal takes no memory: `NoMemory` comes only where the octets spell a message.
+pub fn read_icp(alloc: Global, octets: &[u8]) -> Result<Received, IcpFault>
+    ensures ok { IfOk result (IsIcp octets.now) }
+    ensures err { IfErr result (λ fault. fault ≢ IcpFault.NoMemory → icp_faults.first_fault octets.now ≡ Some fault) }
+{
+    match icp_wire::decode(alloc, octets) {
+        Ok(message) => Ok(Received::new(Message::Icp(message))),
+        Err(fault) => Err(fault),
+    }
+}
+
+/// The HTCP message that a datagram spells (RFC 2756), as one that came, or its first fault.
+///
+/// A refusal takes no memory: `NoMemory` comes only where the octets spell a message.
+pub fn read_htcp(alloc: Global, octets: &[u8]) -> Result<Received, HtcpFault>
+    ensures ok { IfOk result (IsHtcp octets.now) }
+    ensures err { IfErr result (λ fault. fault ≢ HtcpFault.NoMemory → htcp_faults.first_fault octets.now ≡ Some fault) }
+{
+    match htcp_wire::decode(alloc, octets) {
+        Ok(message) => Ok(Received::new(Message::Htcp(message))),
+        Err(fault) => Err(fault),
+    }
+}
+
+/// What a node meets as octets come from an address by a protocol, at a moment in seconds: the datagram that they spell, or none
+/// where the protocol's codec refuses them for another cause than memory.
+pub fn event_of<T>(
+    alloc: Global,
+    by: Udp,
+    from: Address,
+    octets: &[u8],
+    now: u64,
+) -> Result<Option<Event<T>>, AllocError>
+    ensures { IfOk result (IsEventOf by from octets.now now) }
+{
+    let message = match by {
+        Udp::Icp => match read_icp(alloc, octets) {
+            Ok(message) => message,
+            Err(IcpFault::NoMemory) => return Err(AllocError),
+            Err(_) => return Ok(None),
+        },
+        Udp::Htcp => match read_htcp(alloc, octets) {
+            Ok(message) => message,
+            Err(HtcpFault::NoMemory) => return Err(AllocError),
+            Err(_) => return Ok(None),
+        },
+    };
+    Ok(Some(Event::Datagram { from, message, now }))
+}

@@ -1,0 +1,22 @@
+//! The octets of what is sent.
+ghost use Rattle.std.specs.Prelude.{◌≡◌, IfOk};
+ghost use Rattle.node_bytes.specs.Bytes.{text_of};
+
+use node_rules::{Message, Outgoing};
+use std::alloc::{AllocError, Global};
+
+/// The written text of a message that is sent, by the codec of its protocol, or the want of memory for it.
+pub fn octets_of(alloc: Global, sent: &Outgoing) -> Result<Vec<u8>, AllocError>
+    ensures { IfOk result (λ octets. octets.items ≡ text_of sent.now.message) }
+{
+    match sent.message.message() {
+        Message::Icp(message) => match icp_wire::encode(alloc, message) {
+            Ok(octets) => Ok(octets),
+            Err(_) => Err(AllocError),
+        },
+        Message::Htcp(message) => match htcp_wire::encode(alloc, message) {
+            Ok(octets) => Ok(octets),
+            Err(_) => Err(AllocError),
+        },
+    }
+}

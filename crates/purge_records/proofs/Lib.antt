@@ -1,0 +1,14 @@
+pub mod CheckLemmas
+pub mod Texts
+pub mod StepLemmas
+pub mod MakeLemmas
+pub mod OrderLemmas
+pub mod MarkLemmas
+pub mod RowLemmas
+pub mod AnswerLemmas
+pub mod WriteLemmas
+pub mod CallLemmas
+pub mod LoadLemmas
+pub mod ReadLemmas
+pub mod ExistLemmas
+pub mod OpenLemmas

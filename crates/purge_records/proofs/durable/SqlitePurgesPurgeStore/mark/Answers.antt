@@ -1,0 +1,7 @@
+use Rattle.purge_records.proofs.durable.SqlitePurgesPurgeStore.mark.Goals as goal
+
+pub returns-in-Err-StoreFault-clause-crash : goal.returns-in-Err-StoreFault-clause-crash
+returns-in-Err-StoreFault-clause-crash g c clean usable found may = rw (← c.self.view_is) (c.mark.ensures.crash clean found may)
+
+pub returns-in-Err-clause-crash : goal.returns-in-Err-clause-crash
+returns-in-Err-clause-crash g c clean usable found may = rw (← c.self.view_is) (c.mark.ensures.crash clean found may)

@@ -1,0 +1,20 @@
+use Rattle.std.proofs.Common.{◌≡◌, [], ◌∷◌, ◌++◌, refl, sym, ap, ◌∙◌, codes, arith}
+use Rattle.std.specs.Fmt.{decimal}
+use Rattle.std.proofs.lemmas.Fmt.{decimal_digit}
+use Rattle.sqlite_schema.specs.declared.schema.Index.{Index}
+use Rattle.purge_numbers.proofs.TableLemmas.{same_index}
+use Rattle.purge_records.specs.Tables.{ack_index}
+use Rattle.purge_records.proofs.tables.is_ack_index.Goals as goal
+
+one_digit : decimal 1 ≡ 49 ∷ []
+one_digit = decimal_digit 1 (omega arith)
+
+pub returns-clause-yes : goal.returns-clause-yes
+returns-clause-yes c unique =
+    let i = c.args.index.now in
+    let order : i.order ≡ record { digits = 0 } = λ k. record { digits = (let zero : i.order.digits ≡ 0 = omega arith in zero) k } in
+    same_index i ack_index (c.if-not-is_named.ensures.yes refl ∙ c.as_slice.ensures ∙ ap (λ d. codes "sqlite_autoindex_acks_" ++ d) (sym one_digit)) (omega arith) (omega arith) (c.if-not-is_pair.ensures.yes refl) order unique
+
+pub returns-then-not-is_named-clause-no : goal.returns-then-not-is_named-clause-no
+returns-then-not-is_named-clause-no c refused is =
+    c.if-not-is_named.ensures.no refl (ap (λ (i : Index). i.name) is ∙ ap (λ d. codes "sqlite_autoindex_acks_" ++ d) one_digit ∙ sym c.as_slice.ensures)

@@ -1,0 +1,5 @@
+pub mod Tables
+pub mod Rows
+pub mod Store
+pub mod Making
+pub mod Writing

@@ -1,0 +1,49 @@
+-- How a file gets its tables, and which files are opened.
+use Rattle.std.specs.Prelude.{◌≡◌, ◌≤◌, ◌⊎◌, [], false, length}
+use Rattle.sqlite.specs.Effect.{Database}
+use Rattle.sqlite.specs.State.{State, HasCleanDisk}
+use Rattle.purge_numbers.specs.Making.{IsBlank}
+use Rattle.purge_numbers.specs.Rows.{HasVersionOne}
+use Rattle.purge_rules.specs.Purges.{PurgeList, no_purges}
+use Rattle.purge_records.specs.Tables.{last_schema, pending_schema, master_schema, IsLast}
+use Rattle.purge_records.specs.Store.{IsMaster, MayFind, committed_purges}
+
+-- it has the first two tables, without a row
+abbrev pub HasLast : Database → Type 0
+HasLast db = (db.schema ≡ last_schema) × (db.trees 0 ≡ []) × (db.trees 1 ≡ [])
+
+-- it has the first three tables, without a row
+abbrev pub HasPending : Database → Type 0
+HasPending db = (db.schema ≡ pending_schema) × (db.trees 0 ≡ []) × (db.trees 1 ≡ []) × (db.trees 2 ≡ [])
+
+-- it has the tables of a master, without a row
+abbrev pub IsUnversioned : Database → Type 0
+IsUnversioned db = (db.schema ≡ master_schema) × (db.trees 0 ≡ []) × (db.trees 1 ≡ []) × (db.trees 2 ≡ []) × (db.trees 3 ≡ [])
+
+-- it has the tables of a master, the one version 1, and no other row
+abbrev pub IsUnnumbered : Database → Type 0
+IsUnnumbered db = (db.schema ≡ master_schema) × HasVersionOne (db.trees 0) × (db.trees 1 ≡ []) × (db.trees 2 ≡ []) × (db.trees 3 ≡ [])
+
+-- it has the tables of a master, the one version 1, the last number 0, and no purge
+abbrev pub IsUnused : Database → Type 0
+IsUnused db = (db.schema ≡ master_schema) × HasVersionOne (db.trees 0) × IsLast 0 (db.trees 1) × (db.trees 2 ≡ []) × (db.trees 3 ≡ [])
+
+-- an unused file, with all of it committed and no transaction open
+pub record IsMade (file : State) : Type 0 where
+  pub autocommit : file.in_transaction ≡ false
+  pub committed : file.committed ≡ file.now
+  pub unused : IsUnused file.now
+
+-- it has just the tables of a master, in version 1, with at most 1,024 purges, and no transaction is open
+pub record IsMasterFile (file : State) : Type 0 where
+  pub autocommit : file.in_transaction ≡ false
+  pub master : IsMaster file.now
+  pub few : length (file.now.trees 2) ≤ 1024
+
+-- a file with nothing in it has no purges, and a master's file has those that were committed
+abbrev pub OpensWith : State → PurgeList → Type 0
+OpensWith file purges = (IsBlank file.now × (purges ≡ no_purges)) ⊎ (IsMasterFile file × (purges ≡ committed_purges file))
+
+-- a crash leaves what it may have left before, or no purges where the file had nothing in it
+abbrev pub LeavesNoOther : State → State → Type 0
+LeavesNoOther old new = HasCleanDisk new → (left : PurgeList) → MayFind new left → MayFind old left ⊎ (IsBlank old.now × (left ≡ no_purges))

@@ -1,0 +1,165 @@
+//! Purges in a file of SQLite.
+ghost use Rattle.std.specs.Prelude.{◌≡◌, ◌≢◌, false, IsTrue, IfOk, IfErr};
+ghost use Rattle.sqlite.specs.State.{HasCleanDisk};
+ghost use Rattle.sqlite.specs.Held.{state};
+ghost use Rattle.purge_numbers.specs.Making.{IsBlank};
+ghost use Rattle.purge_records.specs.Making.{IsMasterFile, LeavesNoOther, OpensWith};
+ghost use Rattle.purge_records.specs.Store.{MayFind, committed_purges};
+
+use crate::opening::open_file;
+use crate::writing::{add, finish, mark};
+use purge_rules::{PurgeFault, PurgeStore, Purges};
+use sqlite::{Alter, Connection};
+use std::alloc::Global;
+use std::marker::Model;
+use url_key::Key;
+
+/// Purges in the tables of a connection, with a copy in memory that a load hands out.
+///
+/// A caller adds no purge while 1,024 are pending: the file would hold more than an open reads.
+///
+/// A contract sees the connection, that copy, whether no call has failed, and how many calls were answered with `StoreFault`.
+#[derive(Drop)]
+pub struct SqlitePurges<S: Alter> {
+    conn: Connection<S>,
+    purges: Purges,
+    is_usable: bool,
+    failures: u64,
+}
+
+impl<S: Alter> Model for SqlitePurges<S> {
+    ghost use Rattle.purge_records.specs.Store.{Durable, durable_code, IsKept};
+
+    ghost Value = { Durable S };
+
+    ghost coded = { durable_code S.code };
+
+    ghost view = { λ it. record { conn = it.conn; purges = it.purges; is_usable = it.is_usable; failures = it.failures } };
+
+    ghost invariant = { λ it. IsKept S.Store it.conn it.purges it.is_usable };
+}
+
+impl<S: Alter> SqlitePurges<S> {
+    /// Opens a master's file: makes the tables where there are none, and reads the purges.
+    ///
+    /// `BadTable` comes where the connection has an open transaction, where the tables are not those of a master, where the
+    /// version is not 1, where there is no row with the last number (0 to 4294967295), where a row is no pending purge (a number
+    /// of 1 to the last one, a text that is its own key) or no ack (the number of a pending purge, a member of 1 to 16), and where
+    /// there are more than 1,024 purges. A file with nothing in it is never answered so, unless a transaction is open.
+    /// `StoreFault` and `NoMemory` come where the connection fails so.
+    pub fn open(
+        alloc: Global,
+        mut conn: Connection<S>,
+    ) -> Result<SqlitePurges<S>, (Connection<S>, PurgeFault)>
+        ensures found { IfOk result (λ it. HasCleanDisk (state S.Store it.conn) → OpensWith (state S.Store conn) (committed_purges (state S.Store it.conn))) }
+        ensures usable { IfOk result (λ it. IsTrue it.is_usable × (it.failures ≡ 0)) }
+        ensures crash { IfOk result (λ it. LeavesNoOther (state S.Store conn) (state S.Store it.conn)) }
+        ensures bad { IfErr result (λ e. e.1 ≡ PurgeFault.BadTable → HasCleanDisk (state S.Store e.0) → ¬ IsMasterFile (state S.Store conn)) }
+        ensures blank { IfErr result (λ e. IsBlank (state S.Store conn).now → (state S.Store conn).in_transaction ≡ false → HasCleanDisk (state S.Store e.0) → e.1 ≢ PurgeFault.BadTable) }
+        ensures fails { IfErr result (λ e. LeavesNoOther (state S.Store conn) (state S.Store e.0)) }
+    {
+        match open_file(&mut conn, alloc) {
+            Ok(purges) => Ok(SqlitePurges {
+                conn,
+                purges,
+                is_usable: true,
+                failures: 0,
+            }),
+            Err(fault) => Err((conn, fault)),
+        }
+    }
+
+    /// The connection, which can be closed or opened again.
+    pub fn into_connection(self) -> Connection<S>
+        ensures { result ≡ self.conn }
+    {
+        let SqlitePurges {
+            conn,
+            purges: _,
+            is_usable: _,
+            failures: _,
+        } = self;
+        conn
+    }
+}
+
+impl<S: Alter> PurgeStore for SqlitePurges<S> {
+    ghost content = { λ it. committed_purges (state S.Store it.conn) };
+
+    ghost may_find = { λ it. MayFind (state S.Store it.conn) };
+
+    ghost is_honest = { λ it. HasCleanDisk (state S.Store it.conn) };
+
+    ghost is_usable = { λ it. it.is_usable };
+
+    ghost failed = { λ it. it.failures };
+
+    fn load(&mut self, alloc: Global) -> Result<Purges, PurgeFault> {
+        if !self.is_usable {
+            self.failures = self.failures.saturating_add(1);
+            return Err(PurgeFault::StoreFault);
+        }
+        Ok(self.purges.copy(alloc)?)
+    }
+
+    fn add(&mut self, alloc: Global, number: u32, key: &Key) -> Result<(), PurgeFault> {
+        if !self.is_usable {
+            self.failures = self.failures.saturating_add(1);
+            return Err(PurgeFault::StoreFault);
+        }
+        match add(&mut self.conn, &mut self.purges, alloc, number, key) {
+            Ok(()) => Ok(()),
+            Err(PurgeFault::StoreFault) => {
+                self.is_usable = false;
+                self.failures = self.failures.saturating_add(1);
+                Err(PurgeFault::StoreFault)
+            }
+            Err(_) => {
+                self.is_usable = false;
+                Err(PurgeFault::NoMemory)
+            }
+        }
+    }
+
+    fn mark(&mut self, _alloc: Global, number: u32, member: u8) -> Result<(), PurgeFault> {
+        if !self.is_usable {
+            self.failures = self.failures.saturating_add(1);
+            return Err(PurgeFault::StoreFault);
+        }
+        match mark(&mut self.conn, &mut self.purges, number, member) {
+            Ok(()) => Ok(()),
+            Err(PurgeFault::StoreFault) => {
+                self.is_usable = false;
+                self.failures = self.failures.saturating_add(1);
+                Err(PurgeFault::StoreFault)
+            }
+            Err(_) => {
+                self.is_usable = false;
+                Err(PurgeFault::NoMemory)
+            }
+        }
+    }
+
+    fn finish(&mut self, _alloc: Global, number: u32) -> Result<(), PurgeFault> {
+        if !self.is_usable {
+            self.failures = self.failures.saturating_add(1);
+            return Err(PurgeFault::StoreFault);
+        }
+        match finish(&mut self.conn, &mut self.purges, number) {
+            Ok(()) => Ok(()),
+            Err(PurgeFault::StoreFault) => {
+                self.is_usable = false;
+                self.failures = self.failures.saturating_add(1);
+                Err(PurgeFault::StoreFault)
+            }
+            Err(_) => {
+                self.is_usable = false;
+                Err(PurgeFault::NoMemory)
+            }
+        }
+    }
+
+    fn failures(&self) -> u64 {
+        self.failures
+    }
+}

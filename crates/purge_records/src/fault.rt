@@ -1,0 +1,15 @@
+//! Faults of the store.
+ghost use Rattle.std.specs.Prelude.{◌≡◌, ◌⊎◌};
+
+use purge_rules::PurgeFault;
+use sqlite::{Error, ErrorCode};
+
+/// What a failure of the connection is told as.
+pub(crate) fn fault_of(error: Error) -> PurgeFault
+    ensures { (result ≡ PurgeFault.NoMemory) ⊎ (result ≡ PurgeFault.StoreFault) }
+{
+    match error {
+        Error::SqliteFailure(ErrorCode::OutOfMemory) => PurgeFault::NoMemory,
+        _ => PurgeFault::StoreFault,
+    }
+}

@@ -1,0 +1,238 @@
+//! Opening a master's file.
+ghost use Rattle.std.specs.Prelude.{◌≡◌, ◌≢◌, ◌≤◌, ◌∷◌, [], ℕ, false, pos, map, IsPermutation, IsTrue, IfOk, IfSome, OnOk, None, Err};
+ghost use Rattle.sqlite.specs.State.{HasCleanDisk, Survives, IsUnchanged};
+ghost use Rattle.sqlite.specs.Held.{state};
+ghost use Rattle.sqlite.specs.declared.types.Value.TheVariants.{Int};
+ghost use Rattle.purge_numbers.specs.Making.{IsBlank};
+ghost use Rattle.purge_numbers.specs.Rows.{HasVersionOne, shown_version};
+ghost use Rattle.purge_rules.specs.Purges.{PurgeList};
+ghost use Rattle.purge_records.specs.Making.{IsMasterFile, LeavesNoOther, OpensWith};
+ghost use Rattle.purge_records.specs.Rows.{HasAdded, HasUnmarked, HasMarked, IsRead, RisesFrom, shown_pending, shown_ack};
+ghost use Rattle.purge_records.specs.Store.{AreIn, IsMaster, committed_purges};
+ghost use Rattle.purge_records.specs.Tables.{IsLast, master_schema, purges_of, purges_in, shown_last};
+
+use crate::fault::fault_of;
+use crate::making::make_where_blank;
+use crate::rows::{mark_all, number_in, purges_of};
+use crate::tables::is_master_schema;
+use purge_rules::{MOST_PENDING, PurgeFault, Purges};
+use sqlite::{Alter, Connection, Error, Row};
+use sqlite_value::value::ValueRef;
+use std::alloc::Global;
+
+/// All rows of the table of versions.
+fn version_rows<S: Alter>(conn: &mut Connection<S>) -> Result<Vec<Row>, Error>
+    requires { HasCleanDisk (state S.Store conn.old) → (state S.Store conn.old).now.schema ≡ master_schema }
+    ensures rows { IfOk result (λ rows. HasCleanDisk (state S.Store conn.new) → IsPermutation (map shown_version ((state S.Store conn.old).now.trees 0)) rows.items) }
+    ensures same { OnOk result (HasCleanDisk (state S.Store conn.new) → IsUnchanged (state S.Store conn.old) (state S.Store conn.new)) }
+    ensures survives { Survives (state S.Store conn.old) (state S.Store conn.new) (λ _. ⊥) }
+{
+    conn.query_all("SELECT version FROM form", &[])
+}
+
+/// All rows of the table of the last number.
+fn last_rows<S: Alter>(conn: &mut Connection<S>) -> Result<Vec<Row>, Error>
+    requires { HasCleanDisk (state S.Store conn.old) → (state S.Store conn.old).now.schema ≡ master_schema }
+    ensures rows { IfOk result (λ rows. HasCleanDisk (state S.Store conn.new) → IsPermutation (map shown_last ((state S.Store conn.old).now.trees 1)) rows.items) }
+    ensures same { OnOk result (HasCleanDisk (state S.Store conn.new) → IsUnchanged (state S.Store conn.old) (state S.Store conn.new)) }
+    ensures survives { Survives (state S.Store conn.old) (state S.Store conn.new) (λ _. ⊥) }
+{
+    conn.query_all("SELECT id, number FROM last", &[])
+}
+
+/// All rows of the table of pending purges, by number.
+fn pending_rows<S: Alter>(conn: &mut Connection<S>) -> Result<Vec<Row>, Error>
+    requires { HasCleanDisk (state S.Store conn.old) → (state S.Store conn.old).now.schema ≡ master_schema }
+    ensures rows { IfOk result (λ rows. HasCleanDisk (state S.Store conn.new) → RisesFrom (map shown_pending ((state S.Store conn.old).now.trees 2)) rows.items) }
+    ensures same { OnOk result (HasCleanDisk (state S.Store conn.new) → IsUnchanged (state S.Store conn.old) (state S.Store conn.new)) }
+    ensures survives { Survives (state S.Store conn.old) (state S.Store conn.new) (λ _. ⊥) }
+{
+    conn.query_all(
+        "SELECT rowid, number, url FROM pending ORDER BY number",
+        &[],
+    )
+}
+
+/// All rows of the table of acks, by rowid.
+fn ack_rows<S: Alter>(conn: &mut Connection<S>) -> Result<Vec<Row>, Error>
+    requires { HasCleanDisk (state S.Store conn.old) → (state S.Store conn.old).now.schema ≡ master_schema }
+    ensures rows { IfOk result (λ rows. HasCleanDisk (state S.Store conn.new) → RisesFrom (map shown_ack ((state S.Store conn.old).now.trees 3)) rows.items) }
+    ensures same { OnOk result (HasCleanDisk (state S.Store conn.new) → IsUnchanged (state S.Store conn.old) (state S.Store conn.new)) }
+    ensures survives { Survives (state S.Store conn.old) (state S.Store conn.new) (λ _. ⊥) }
+{
+    conn.query_all("SELECT rowid, number, member FROM acks ORDER BY rowid", &[])
+}
+
+/// The one version that stands there is 1.
+fn is_version_one(rows: &[Row]) -> bool
+    ensures yes { IsTrue result → rows.now ≡ (Int (pos 1) ∷ []) ∷ [] }
+    ensures no { result ≡ false → rows.now ≢ (Int (pos 1) ∷ []) ∷ [] }
+{
+    let [row] = rows else {
+        return false;
+    };
+    if row.column_count() != 1 {
+        return false;
+    }
+    match row.get_ref(0) {
+        Ok(ValueRef::Int(version)) => version == 1,
+        _ => false,
+    }
+}
+
+/// The number of the one row that stands there, which has the id 1.
+fn last_of(rows: &[Row]) -> Option<u32>
+    ensures some { IfSome result (λ number. rows.now ≡ (Int (pos 1) ∷ Int (pos number) ∷ []) ∷ []) }
+    ensures none { result ≡ None → (number : ℕ) → number ≤ 4294967295 → rows.now ≢ (Int (pos 1) ∷ Int (pos number) ∷ []) ∷ [] }
+{
+    let [row] = rows else {
+        return None;
+    };
+    if row.column_count() != 2 {
+        return None;
+    }
+    match row.get_ref(0) {
+        Ok(ValueRef::Int(1)) => number_in(row, 1),
+        _ => None,
+    }
+}
+
+/// Refuses a file whose version is another, or that has none.
+fn check_version<S: Alter>(conn: &mut Connection<S>) -> Result<(), PurgeFault>
+    requires { HasCleanDisk (state S.Store conn.old) → (state S.Store conn.old).now.schema ≡ master_schema }
+    ensures version { OnOk result (HasCleanDisk (state S.Store conn.new) → HasVersionOne ((state S.Store conn.old).now.trees 0)) }
+    ensures bad { result ≡ Err PurgeFault.BadTable → HasCleanDisk (state S.Store conn.new) → ¬ HasVersionOne ((state S.Store conn.old).now.trees 0) }
+    ensures same { OnOk result (HasCleanDisk (state S.Store conn.new) → IsUnchanged (state S.Store conn.old) (state S.Store conn.new)) }
+    ensures survives { Survives (state S.Store conn.old) (state S.Store conn.new) (λ _. ⊥) }
+{
+    match version_rows(conn) {
+        Ok(rows) if is_version_one(&rows) => Ok(()),
+        Ok(_) => Err(PurgeFault::BadTable),
+        Err(error) => Err(fault_of(error)),
+    }
+}
+
+/// Reads the last number that was given.
+fn read_last<S: Alter>(conn: &mut Connection<S>) -> Result<u32, PurgeFault>
+    requires { HasCleanDisk (state S.Store conn.old) → (state S.Store conn.old).now.schema ≡ master_schema }
+    ensures last { IfOk result (λ number. HasCleanDisk (state S.Store conn.new) → IsLast number ((state S.Store conn.old).now.trees 1)) }
+    ensures bad { result ≡ Err PurgeFault.BadTable → HasCleanDisk (state S.Store conn.new) → (number : ℕ) → number ≤ 4294967295 → ¬ IsLast number ((state S.Store conn.old).now.trees 1) }
+    ensures same { OnOk result (HasCleanDisk (state S.Store conn.new) → IsUnchanged (state S.Store conn.old) (state S.Store conn.new)) }
+    ensures survives { Survives (state S.Store conn.old) (state S.Store conn.new) (λ _. ⊥) }
+{
+    match last_rows(conn) {
+        Ok(rows) => match last_of(&rows) {
+            Some(last) => Ok(last),
+            None => Err(PurgeFault::BadTable),
+        },
+        Err(error) => Err(fault_of(error)),
+    }
+}
+
+/// Reads the pending purges, with no member marked.
+fn read_pending<S: Alter>(conn: &mut Connection<S>, alloc: Global) -> Result<Purges, PurgeFault>
+    requires { HasCleanDisk (state S.Store conn.old) → (state S.Store conn.old).now.schema ≡ master_schema }
+    ensures added { IfOk result (λ purges. HasCleanDisk (state S.Store conn.new) → HasAdded ((state S.Store conn.old).now.trees 2) purges) }
+    ensures bad { result ≡ Err PurgeFault.BadTable → HasCleanDisk (state S.Store conn.new) → ¬ IsMasterFile (state S.Store conn.old) }
+    ensures same { OnOk result (HasCleanDisk (state S.Store conn.new) → IsUnchanged (state S.Store conn.old) (state S.Store conn.new)) }
+    ensures survives { Survives (state S.Store conn.old) (state S.Store conn.new) (λ _. ⊥) }
+{
+    match pending_rows(conn) {
+        Ok(rows) if rows.len() <= MOST_PENDING => purges_of(alloc, &rows),
+        Ok(_) => Err(PurgeFault::BadTable),
+        Err(error) => Err(fault_of(error)),
+    }
+}
+
+/// Reads the last number and the pending purges, with no member marked.
+fn read_unmarked<S: Alter>(conn: &mut Connection<S>, alloc: Global) -> Result<Purges, PurgeFault>
+    requires { HasCleanDisk (state S.Store conn.old) → (state S.Store conn.old).now.schema ≡ master_schema }
+    ensures unmarked { IfOk result (λ purges. HasCleanDisk (state S.Store conn.new) → HasUnmarked (state S.Store conn.old).now.trees purges) }
+    ensures bad { result ≡ Err PurgeFault.BadTable → HasCleanDisk (state S.Store conn.new) → ¬ IsMasterFile (state S.Store conn.old) }
+    ensures same { OnOk result (HasCleanDisk (state S.Store conn.new) → IsUnchanged (state S.Store conn.old) (state S.Store conn.new)) }
+    ensures survives { Survives (state S.Store conn.old) (state S.Store conn.new) (λ _. ⊥) }
+{
+    let last = read_last(conn)?;
+    let mut purges = read_pending(conn, alloc)?;
+    if last < purges.last() {
+        return Err(PurgeFault::BadTable);
+    }
+    purges.give(last);
+    Ok(purges)
+}
+
+/// Reads the acks, and marks the members of the purges by them.
+fn read_acks<S: Alter>(conn: &mut Connection<S>, purges: &mut Purges) -> Result<(), PurgeFault>
+    requires { HasCleanDisk (state S.Store conn.old) → (state S.Store conn.old).now.schema ≡ master_schema }
+    ensures marked { OnOk result (HasCleanDisk (state S.Store conn.new) → HasMarked ((state S.Store conn.old).now.trees 3) purges.old purges.new) }
+    ensures bad { result ≡ Err PurgeFault.BadTable → HasCleanDisk (state S.Store conn.new) → IsMaster (state S.Store conn.old).now
+        → purges.old ≢ purges_of ((state S.Store conn.old).now.trees 1) ((state S.Store conn.old).now.trees 2) [] }
+    ensures same { OnOk result (HasCleanDisk (state S.Store conn.new) → IsUnchanged (state S.Store conn.old) (state S.Store conn.new)) }
+    ensures survives { Survives (state S.Store conn.old) (state S.Store conn.new) (λ _. ⊥) }
+{
+    match ack_rows(conn) {
+        Ok(rows) => mark_all(purges, &rows),
+        Err(error) => Err(fault_of(error)),
+    }
+}
+
+/// Reads the purges.
+fn read_purges<S: Alter>(conn: &mut Connection<S>, alloc: Global) -> Result<Purges, PurgeFault>
+    requires { HasCleanDisk (state S.Store conn.old) → (state S.Store conn.old).now.schema ≡ master_schema }
+    ensures read { IfOk result (λ purges. HasCleanDisk (state S.Store conn.new) → IsRead (state S.Store conn.old).now.trees purges) }
+    ensures bad { result ≡ Err PurgeFault.BadTable → HasCleanDisk (state S.Store conn.new) → ¬ IsMasterFile (state S.Store conn.old) }
+    ensures same { OnOk result (HasCleanDisk (state S.Store conn.new) → IsUnchanged (state S.Store conn.old) (state S.Store conn.new)) }
+    ensures survives { Survives (state S.Store conn.old) (state S.Store conn.new) (λ _. ⊥) }
+{
+    let mut purges = read_unmarked(conn, alloc)?;
+    read_acks(conn, &mut purges)?;
+    Ok(purges)
+}
+
+/// Reads the purges of a file that has the tables of a master, in their one version.
+fn read_tables<S: Alter>(conn: &mut Connection<S>, alloc: Global) -> Result<Purges, PurgeFault>
+    requires { HasCleanDisk (state S.Store conn.old) → (state S.Store conn.old).now.schema ≡ master_schema }
+    ensures read { IfOk result (λ purges. HasCleanDisk (state S.Store conn.new) → HasVersionOne ((state S.Store conn.old).now.trees 0) × IsRead (state S.Store conn.old).now.trees purges) }
+    ensures bad { result ≡ Err PurgeFault.BadTable → HasCleanDisk (state S.Store conn.new) → ¬ IsMasterFile (state S.Store conn.old) }
+    ensures same { OnOk result (HasCleanDisk (state S.Store conn.new) → IsUnchanged (state S.Store conn.old) (state S.Store conn.new)) }
+    ensures survives { Survives (state S.Store conn.old) (state S.Store conn.new) (λ _. ⊥) }
+{
+    check_version(conn)?;
+    read_purges(conn, alloc)
+}
+
+/// Reads the purges of a master's file.
+fn read_file<S: Alter>(conn: &mut Connection<S>, alloc: Global) -> Result<Purges, PurgeFault>
+    ensures kept { IfOk result (λ purges. HasCleanDisk (state S.Store conn.new) → AreIn (state S.Store conn.new) purges) }
+    ensures file { OnOk result (HasCleanDisk (state S.Store conn.new) → IsMasterFile (state S.Store conn.old)) }
+    ensures same { OnOk result (HasCleanDisk (state S.Store conn.new) → committed_purges (state S.Store conn.new) ≡ committed_purges (state S.Store conn.old)) }
+    ensures bad { result ≡ Err PurgeFault.BadTable → HasCleanDisk (state S.Store conn.new) → ¬ IsMasterFile (state S.Store conn.old) }
+    ensures survives { Survives (state S.Store conn.old) (state S.Store conn.new) (λ _. ⊥) }
+{
+    if !conn.is_autocommit() {
+        return Err(PurgeFault::BadTable);
+    }
+    if !is_master_schema(conn.schema()) {
+        return Err(PurgeFault::BadTable);
+    }
+    read_tables(conn, alloc)
+}
+
+/// Makes the tables where there are none, and reads the purges.
+pub(crate) fn open_file<S: Alter>(
+    conn: &mut Connection<S>,
+    alloc: Global,
+) -> Result<Purges, PurgeFault>
+    ensures kept { IfOk result (λ purges. HasCleanDisk (state S.Store conn.new) → AreIn (state S.Store conn.new) purges) }
+    ensures found { OnOk result (HasCleanDisk (state S.Store conn.new) → OpensWith (state S.Store conn.old) (committed_purges (state S.Store conn.new))) }
+    ensures bad { result ≡ Err PurgeFault.BadTable → HasCleanDisk (state S.Store conn.new) → ¬ IsMasterFile (state S.Store conn.old) }
+    ensures blank { IsBlank (state S.Store conn.old).now → (state S.Store conn.old).in_transaction ≡ false → HasCleanDisk (state S.Store conn.new) → result ≢ Err PurgeFault.BadTable }
+    ensures crash { LeavesNoOther (state S.Store conn.old) (state S.Store conn.new) }
+{
+    conn.set_step_limit(None);
+    if !conn.is_autocommit() {
+        return Err(PurgeFault::BadTable);
+    }
+    make_where_blank(conn)?;
+    read_file(conn, alloc)
+}

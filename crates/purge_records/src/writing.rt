@@ -1,0 +1,199 @@
+//! The calls of the database that write purges.
+ghost use Rattle.std.specs.Prelude.{◌≡◌, ◌≢◌, ◌≤◌, ◌<◌, OnOk, Err};
+ghost use Rattle.sqlite.specs.State.{HasCleanDisk, Survives};
+ghost use Rattle.sqlite.specs.Held.{state};
+ghost use Rattle.url_key.specs.Key.{IsKey};
+ghost use Rattle.purge_numbers.specs.Making.{Makes};
+ghost use Rattle.purge_rules.specs.Purges.{PurgeList, with_purge, with_mark, without_purge};
+ghost use Rattle.purge_rules.specs.Store.{IsEither, Misses};
+ghost use Rattle.purge_records.specs.Tables.{purges_in};
+ghost use Rattle.purge_records.specs.Store.{AreIn, IsReady, committed_purges, MayFind};
+ghost use Rattle.purge_records.specs.Writing.{Holds, HasGiven, HasNoAcks, Commits};
+
+use crate::fault::fault_of;
+use crate::rows::is_missed;
+use purge_rules::{PurgeFault, Purges};
+use sqlite::types::ToSql;
+use sqlite::{Alter, Connection, Error, Transaction};
+use sqlite_value::value::ValueRef;
+use std::alloc::Global;
+use url_key::Key;
+
+/// Makes the number the last one that was given.
+fn give_number<S: Alter>(tx: &mut Transaction<'_, S>, number: u32) -> Result<usize, Error>
+    ensures same_reference { tx.new.conn.ghost_name ≡ tx.old.conn.ghost_name }
+    ensures made { OnOk result (HasCleanDisk (state S.Store tx.new.conn.now) → (before : PurgeList) → before.last < number → Makes (Holds before) (HasGiven before number) (state S.Store tx.old.conn.now) (state S.Store tx.new.conn.now)) }
+    ensures survives { Survives (state S.Store tx.old.conn.now) (state S.Store tx.new.conn.now) (λ _. ⊥) }
+{
+    tx.execute("UPDATE last SET number = ?1", &[number.to_sql()])
+}
+
+/// Adds the purge of the last number.
+fn put_purge<S: Alter>(tx: &mut Transaction<'_, S>, number: u32, url: &[u8]) -> Result<usize, Error>
+    ensures same_reference { tx.new.conn.ghost_name ≡ tx.old.conn.ghost_name }
+    ensures made { OnOk result (HasCleanDisk (state S.Store tx.new.conn.now) → (before : PurgeList) → 1 ≤ number → IsKey url.now → Makes (HasGiven before number) (Holds (with_purge before number url.now)) (state S.Store tx.old.conn.now) (state S.Store tx.new.conn.now)) }
+    ensures survives { Survives (state S.Store tx.old.conn.now) (state S.Store tx.new.conn.now) (λ _. ⊥) }
+{
+    tx.execute(
+        "INSERT INTO pending (number, url) VALUES (?1, ?2)",
+        &[number.to_sql(), ValueRef::Text(url)],
+    )
+}
+
+/// Gives the number to a purge of the url.
+fn write_purge<S: Alter>(tx: &mut Transaction<'_, S>, number: u32, url: &[u8]) -> Result<(), Error>
+    ensures same_reference { tx.new.conn.ghost_name ≡ tx.old.conn.ghost_name }
+    ensures made { OnOk result (HasCleanDisk (state S.Store tx.new.conn.now) → (before : PurgeList) → before.last < number → IsKey url.now → Makes (Holds before) (Holds (with_purge before number url.now)) (state S.Store tx.old.conn.now) (state S.Store tx.new.conn.now)) }
+    ensures survives { Survives (state S.Store tx.old.conn.now) (state S.Store tx.new.conn.now) (λ _. ⊥) }
+{
+    give_number(tx, number)?;
+    put_purge(tx, number, url)?;
+    Ok(())
+}
+
+/// Commits a purge of the url under the number, in one transaction.
+fn add_purge<S: Alter>(conn: &mut Connection<S>, number: u32, url: &[u8]) -> Result<(), Error>
+    ensures made { OnOk result (HasCleanDisk (state S.Store conn.new) → (before : PurgeList) → before.last < number → IsKey url.now → Holds before (state S.Store conn.old).now → Commits (with_purge before number url.now) (state S.Store conn.new)) }
+    ensures survives { Survives (state S.Store conn.old) (state S.Store conn.new) (λ trees. (before : PurgeList) → before.last < number → IsKey url.now → Holds before (state S.Store conn.old).now → purges_in trees ≡ with_purge before number url.now) }
+{
+    if !conn.is_autocommit() {
+        return Err(Error::InvalidQuery);
+    }
+    let mut tx = conn.transaction();
+    write_purge(&mut tx, number, url)?;
+    tx.commit()
+}
+
+/// Commits that the member has acknowledged the purge, in one statement.
+fn put_mark<S: Alter>(conn: &mut Connection<S>, number: u32, member: u8) -> Result<usize, Error>
+    requires ready { HasCleanDisk (state S.Store conn.old) → IsReady (state S.Store conn.old) }
+    requires missing { HasCleanDisk (state S.Store conn.old) → Misses (committed_purges (state S.Store conn.old)) number member }
+    requires id { (1 ≤ member) × (member ≤ 16) }
+    ensures honest { HasCleanDisk (state S.Store conn.new) → HasCleanDisk (state S.Store conn.old) }
+    ensures ready { OnOk result (HasCleanDisk (state S.Store conn.new) → IsReady (state S.Store conn.new)) }
+    ensures marked { OnOk result (HasCleanDisk (state S.Store conn.new) → committed_purges (state S.Store conn.new) ≡ with_mark (committed_purges (state S.Store conn.old)) number member) }
+    ensures crash { HasCleanDisk (state S.Store conn.new) → (found : PurgeList) → MayFind (state S.Store conn.new) found
+        → IsEither (committed_purges (state S.Store conn.old)) (with_mark (committed_purges (state S.Store conn.old)) number member) found }
+{
+    conn.execute(
+        "INSERT INTO acks (number, member) VALUES (?1, ?2)",
+        &[number.to_sql(), u32::from(member).to_sql()],
+    )
+}
+
+/// Takes out the acks of the purge.
+fn clear_acks<S: Alter>(tx: &mut Transaction<'_, S>, number: u32) -> Result<usize, Error>
+    ensures same_reference { tx.new.conn.ghost_name ≡ tx.old.conn.ghost_name }
+    ensures made { OnOk result (HasCleanDisk (state S.Store tx.new.conn.now) → (before : PurgeList) → Makes (Holds before) (HasNoAcks before number) (state S.Store tx.old.conn.now) (state S.Store tx.new.conn.now)) }
+    ensures survives { Survives (state S.Store tx.old.conn.now) (state S.Store tx.new.conn.now) (λ _. ⊥) }
+{
+    tx.execute("DELETE FROM acks WHERE number = ?1", &[number.to_sql()])
+}
+
+/// Takes out the purge, which has no ack.
+fn drop_purge<S: Alter>(tx: &mut Transaction<'_, S>, number: u32) -> Result<usize, Error>
+    ensures same_reference { tx.new.conn.ghost_name ≡ tx.old.conn.ghost_name }
+    ensures made { OnOk result (HasCleanDisk (state S.Store tx.new.conn.now) → (before : PurgeList) → Makes (HasNoAcks before number) (Holds (without_purge before number)) (state S.Store tx.old.conn.now) (state S.Store tx.new.conn.now)) }
+    ensures survives { Survives (state S.Store tx.old.conn.now) (state S.Store tx.new.conn.now) (λ _. ⊥) }
+{
+    tx.execute("DELETE FROM pending WHERE number = ?1", &[number.to_sql()])
+}
+
+/// Takes out the purge with its acks.
+fn erase<S: Alter>(tx: &mut Transaction<'_, S>, number: u32) -> Result<(), Error>
+    ensures same_reference { tx.new.conn.ghost_name ≡ tx.old.conn.ghost_name }
+    ensures made { OnOk result (HasCleanDisk (state S.Store tx.new.conn.now) → (before : PurgeList) → Makes (Holds before) (Holds (without_purge before number)) (state S.Store tx.old.conn.now) (state S.Store tx.new.conn.now)) }
+    ensures survives { Survives (state S.Store tx.old.conn.now) (state S.Store tx.new.conn.now) (λ _. ⊥) }
+{
+    clear_acks(tx, number)?;
+    drop_purge(tx, number)?;
+    Ok(())
+}
+
+/// Commits that the purge is pending no longer, in one transaction.
+fn erase_purge<S: Alter>(conn: &mut Connection<S>, number: u32) -> Result<(), Error>
+    ensures made { OnOk result (HasCleanDisk (state S.Store conn.new) → (before : PurgeList) → Holds before (state S.Store conn.old).now → Commits (without_purge before number) (state S.Store conn.new)) }
+    ensures survives { Survives (state S.Store conn.old) (state S.Store conn.new) (λ trees. (before : PurgeList) → Holds before (state S.Store conn.old).now → purges_in trees ≡ without_purge before number) }
+{
+    if !conn.is_autocommit() {
+        return Err(Error::InvalidQuery);
+    }
+    let mut tx = conn.transaction();
+    erase(&mut tx, number)?;
+    tx.commit()
+}
+
+/// Adds the purge in the file and in the purges beside it.
+pub(crate) fn add<S: Alter>(
+    conn: &mut Connection<S>,
+    purges: &mut Purges,
+    alloc: Global,
+    number: u32,
+    key: &Key,
+) -> Result<(), PurgeFault>
+    requires held { HasCleanDisk (state S.Store conn.old) → AreIn (state S.Store conn.old) purges.old }
+    requires above { HasCleanDisk (state S.Store conn.old) → (committed_purges (state S.Store conn.old)).last < number }
+    ensures honest { HasCleanDisk (state S.Store conn.new) → HasCleanDisk (state S.Store conn.old) }
+    ensures kept { OnOk result (HasCleanDisk (state S.Store conn.new) → AreIn (state S.Store conn.new) purges.new) }
+    ensures added { OnOk result (HasCleanDisk (state S.Store conn.new) → committed_purges (state S.Store conn.new) ≡ with_purge (committed_purges (state S.Store conn.old)) number key.now) }
+    ensures crash { HasCleanDisk (state S.Store conn.new) → (found : PurgeList) → MayFind (state S.Store conn.new) found
+        → IsEither (committed_purges (state S.Store conn.old)) (with_purge (committed_purges (state S.Store conn.old)) number key.now) found }
+    ensures named { result ≢ Err PurgeFault.BadTable }
+{
+    if number <= purges.last() {
+        return Err(PurgeFault::StoreFault);
+    }
+    purges.add(alloc, number, key)?;
+    match add_purge(conn, number, key.text()) {
+        Ok(()) => Ok(()),
+        Err(error) => Err(fault_of(error)),
+    }
+}
+
+/// Marks the purge in the file and in the purges beside it.
+pub(crate) fn mark<S: Alter>(
+    conn: &mut Connection<S>,
+    purges: &mut Purges,
+    number: u32,
+    member: u8,
+) -> Result<(), PurgeFault>
+    requires held { HasCleanDisk (state S.Store conn.old) → AreIn (state S.Store conn.old) purges.old }
+    requires missing { HasCleanDisk (state S.Store conn.old) → Misses (committed_purges (state S.Store conn.old)) number member }
+    requires id { (1 ≤ member) × (member ≤ 16) }
+    ensures honest { HasCleanDisk (state S.Store conn.new) → HasCleanDisk (state S.Store conn.old) }
+    ensures kept { OnOk result (HasCleanDisk (state S.Store conn.new) → AreIn (state S.Store conn.new) purges.new) }
+    ensures marked { OnOk result (HasCleanDisk (state S.Store conn.new) → committed_purges (state S.Store conn.new) ≡ with_mark (committed_purges (state S.Store conn.old)) number member) }
+    ensures crash { HasCleanDisk (state S.Store conn.new) → (found : PurgeList) → MayFind (state S.Store conn.new) found
+        → IsEither (committed_purges (state S.Store conn.old)) (with_mark (committed_purges (state S.Store conn.old)) number member) found }
+    ensures named { result ≢ Err PurgeFault.BadTable }
+{
+    if !is_missed(purges, number, member) {
+        return Err(PurgeFault::StoreFault);
+    }
+    purges.mark(number, member);
+    match put_mark(conn, number, member) {
+        Ok(_) => Ok(()),
+        Err(error) => Err(fault_of(error)),
+    }
+}
+
+/// Takes the purge out of the file and of the purges beside it.
+pub(crate) fn finish<S: Alter>(
+    conn: &mut Connection<S>,
+    purges: &mut Purges,
+    number: u32,
+) -> Result<(), PurgeFault>
+    requires held { HasCleanDisk (state S.Store conn.old) → AreIn (state S.Store conn.old) purges.old }
+    ensures honest { HasCleanDisk (state S.Store conn.new) → HasCleanDisk (state S.Store conn.old) }
+    ensures kept { OnOk result (HasCleanDisk (state S.Store conn.new) → AreIn (state S.Store conn.new) purges.new) }
+    ensures finished { OnOk result (HasCleanDisk (state S.Store conn.new) → committed_purges (state S.Store conn.new) ≡ without_purge (committed_purges (state S.Store conn.old)) number) }
+    ensures crash { HasCleanDisk (state S.Store conn.new) → (found : PurgeList) → MayFind (state S.Store conn.new) found
+        → IsEither (committed_purges (state S.Store conn.old)) (without_purge (committed_purges (state S.Store conn.old)) number) found }
+    ensures named { result ≢ Err PurgeFault.BadTable }
+{
+    purges.finish(number);
+    match erase_purge(conn, number) {
+        Ok(()) => Ok(()),
+        Err(error) => Err(fault_of(error)),
+    }
+}
