@@ -1,5 +1,5 @@
 -- What the calls that write do to a connection.
-use Rattle.std.proofs.Common.{◌≡◌, ◌⊎◌, inl, inr, ℕ, Bool, true, false, List, [], None, Ok, Err, Result, IsTrue, OnOk, refl, sym, ap, subst, ◌∙◌, append-nil, arith, ◌≤◌}
+use Rattle.std.proofs.Common.{◌≡◌, inl, inr, ℕ, false, [], None, Ok, Err, Result, IsTrue, OnOk, sym, ap, subst, ◌∙◌, append-nil, arith, ◌≤◌}
 use Rattle.sqlite_trees.specs.Tree.{Trees}
 use Rattle.sqlite_trees.specs.declared.store.Store.{Ghosts}
 use Rattle.sqlite.specs.Listing.{understood}

@@ -20,7 +20,7 @@ use Rattle.sqlite.specs.Effect.{Database}
 use Rattle.sqlite.specs.Listing.{understood}
 use Rattle.sqlite.specs.State.{State, HasCleanDisk, Writes, Executes, ExecutesInside, mode_of}
 use Rattle.sqlite.proofs.Callers.{IsPlain, command_of, statement_of, runs_as}
-use Rattle.purge_numbers.specs.Tables.{form_table, empty_schema, form_schema}
+use Rattle.purge_numbers.specs.Tables.{form_table, form_schema}
 use Rattle.purge_numbers.specs.Making.{IsFormed, Makes}
 use Rattle.purge_numbers.specs.Rows.{shown_version}
 use Rattle.purge_numbers.proofs.PutLemmas.{went, same_value, cast_int}

@@ -1,22 +1,19 @@
 -- A file that was read is ready, and one that is refused is no master's.
-use Rattle.std.proofs.Common.{◌≡◌, ◌≢◌, ◌<◌, ◌≤◌, ℕ, length, pos, inl, inr, subst, arith, List, [], ◌∷◌, map, false, IsTrue, None, Ok, Err, Result, IfOk, OnOk, OnErr, IsErrAnd, sym, ap, ◌∙◌}
-use Rattle.std.specs.List.{AllByRecursion}
+use Rattle.std.proofs.Common.{◌≡◌, ◌≢◌, ◌<◌, ◌≤◌, ℕ, length, pos, inl, inr, subst, arith, List, [], ◌∷◌, map, None, Ok, Err, Result, IfOk, OnErr, IsErrAnd, sym}
 use Rattle.std.specs.List.Sorted.{IsPermutation}
 use Rattle.std.proofs.lemmas.List.Sorted.{IsPermutation-sym, length_permutation}
 use Rattle.std.proofs.lemmas.List.{length-map}
 use Rattle.sqlite.specs.declared.types.Value.TheVariants.{Int}
 use Rattle.sqlite_value.specs.Order.{Row}
-use Rattle.sqlite_trees.specs.Tree.{Trees}
 use Rattle.sqlite.specs.Effect.{Database}
-use Rattle.sqlite.specs.State.{State, HasCleanDisk, IsUnchanged, Survives}
+use Rattle.sqlite.specs.State.{State, Survives}
 use Rattle.sqlite.proofs.Callers.{one_permutation}
 use Rattle.purge_rules.specs.declared.fault.PurgeFault.{PurgeFault}
 use Rattle.purge_rules.specs.Purges.{PurgeList, no_purges}
-use Rattle.purge_records.specs.Tables.{last_in, number_of, purges_of, shown_last, IsLast, IsPending, AreRows}
+use Rattle.purge_records.specs.Tables.{last_in, number_of, purges_of, shown_last, IsLast, IsPending}
 use Rattle.purge_records.specs.Rows.{Adds, Marks, RisesFrom, HasAdded, HasUnmarked, HasMarked, IsRead, shown_pending, shown_ack}
 use Rattle.purge_records.specs.Making.{IsMasterFile, LeavesNoOther}
 use Rattle.purge_records.specs.Store.{IsMaster}
-use Rattle.purge_records.proofs.RowLemmas.{all_map}
 use Rattle.purge_records.proofs.ReadLemmas.{permuted_all, to_shown, adds_within, last_is, unmarked_is, all_read}
 use Rattle.purge_records.proofs.ExistLemmas.{can_read, can_read_acks}
 

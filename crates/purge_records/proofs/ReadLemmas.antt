@@ -1,33 +1,27 @@
 -- What reading the rows in turn makes.
-use Rattle.std.proofs.Common.{◌≡◌, ◌⊎◌, inl, inr, ℕ, ℤ, zero, suc, pos, ◌+◌, ◌<◌, ◌≤◌, ◌==◌, nat_lt, Bool, true, false, not, ◌&&◌, ◌||◌, cond, List, [], ◌∷◌, ◌++◌, map, filter, find, length, get_or, All, Option, Some, None, refl, sym, ap, subst, ◌∙◌, append-nil, append_assoc, arith}
+use Rattle.std.proofs.Common.{◌≡◌, ◌⊎◌, inl, inr, ℕ, ℤ, pos, ◌<◌, ◌≤◌, ◌==◌, nat_lt, Bool, true, false, ◌&&◌, ◌||◌, List, [], ◌∷◌, ◌++◌, map, Option, Some, None, refl, sym, ap, subst, ◌∙◌, append-nil, append_assoc, arith}
 use Rattle.std.specs.List.{AllByRecursion, list_any, IsDistinct}
-use Rattle.std.specs.List.Sorted.{IsPermutation, IsSorted}
-use Rattle.std.specs.Ordering.{is_eq, is_lt, int_cmp}
+use Rattle.std.specs.List.Sorted.{IsPermutation}
+use Rattle.std.specs.Ordering.{is_eq}
 use Rattle.std.specs.Cmp.{eq_by_cmp_equiv}
-use Rattle.std.specs.declared.cmp.Ordering.{Ordering}
-use Rattle.std.specs.declared.cmp.Ordering.TheVariants.{Less, Equal, Greater}
-use Rattle.std.proofs.lemmas.Bool.{cases_Bool, cases_order, eq-eqb, ne_eqb, eqb-true, eqb-false, ltb-true, ltb-false, and_parts, false_from_ne_true, both_ways}
-use Rattle.std.proofs.lemmas.List.{length-map}
-use Rattle.std.proofs.lemmas.List.Sorted.{IsPermutation-map, IsPermutation-sym, Contains-permutation, All-permutation, list_any-IsPermutation, length_permutation}
+use Rattle.std.specs.declared.cmp.Ordering.TheVariants.{Less}
+use Rattle.std.proofs.lemmas.Bool.{cases_Bool, cases_order, eq-eqb, ne_eqb, eqb-true, eqb-false, ltb-true, ltb-false, both_ways}
+use Rattle.std.proofs.lemmas.List.Sorted.{IsPermutation-map, IsPermutation-sym, Contains-permutation, All-permutation, list_any-IsPermutation}
 use Rattle.std.proofs.lemmas.List.Elements.{All-from_recursion, recursion_from_All}
 use Rattle.std.proofs.lemmas.Map.Keys.{IsDistinct-IsPermutation}
-use Rattle.sqlite.specs.declared.types.Value.TheVariants.{Int, Text as Words}
+use Rattle.sqlite.specs.declared.types.Value.TheVariants.{Int}
 use Rattle.sqlite_value.specs.Order.{Row, column, value_cmp}
-use Rattle.sqlite_value.proofs.OrderLemmas.{value_cmp-Int, value_cmp_total}
+use Rattle.sqlite_value.proofs.OrderLemmas.{value_cmp_total}
 use Rattle.sqlite_trees.specs.Tree.{Trees, rowid, IsAscending}
 use Rattle.sqlite_rules.specs.Lists.{Has}
 use Rattle.sqlite_rules.proofs.ListLemmas.{all_has, all_from, has_contained, contains_had}
-use Rattle.sqlite_rules.proofs.ProbeLemmas.{has_mapped, mapped_has}
-use Rattle.url_key.specs.Key.{IsKey}
 use Rattle.purge_rules.specs.declared.purges.Purge.{Purge}
-use Rattle.purge_rules.specs.Members.{is_among}
-use Rattle.purge_rules.specs.Purges.{PurgeList, no_purges, is_numbered, pending_at, unmarked, with_purge, with_mark}
+use Rattle.purge_rules.specs.Purges.{PurgeList, no_purges, unmarked, with_purge, with_mark}
 use Rattle.purge_rules.specs.Places.{given_to}
-use Rattle.purge_rules.specs.Store.{Misses, IsUnmarkedBy}
-use Rattle.purge_records.specs.Tables.{number_of, url_of, ack_number, ack_member, is_ack, is_purge, marks_in, purge_in, in_place, by_number, last_in, purges_of, purges_in, IsLast, IsPending, IsAck, HasOwnIds, HasOwnAcks, AreRows}
-use Rattle.purge_records.specs.Rows.{IsPurgeRow, IsAckRow, IsAbove, Adds, Marks, RisesFrom, HasAdded, HasUnmarked, HasMarked, IsRead, shown_pending, shown_ack}
+use Rattle.purge_records.specs.Tables.{number_of, url_of, ack_number, ack_member, is_ack, is_purge, marks_in, purge_in, in_place, by_number, last_in, purges_of, IsLast, IsPending, IsAck, HasOwnIds, HasOwnAcks}
+use Rattle.purge_records.specs.Rows.{IsPurgeRow, IsAckRow, Adds, Marks, HasAdded, HasUnmarked, HasMarked, IsRead, shown_pending, shown_ack}
 use Rattle.sqlite_trees.specs.Objects.{number_in}
-use Rattle.purge_records.proofs.RowLemmas.{all_map, map_push, marks_one, missed}
+use Rattle.purge_records.proofs.RowLemmas.{all_map, marks_one, missed}
 use Rattle.purge_records.proofs.MarkLemmas.{same_marks}
 use Rattle.purge_records.proofs.OrderLemmas.{by_number_has, has_by_number}
 use Rattle.purge_records.proofs.AnswerLemmas.{tied_number}

@@ -1,5 +1,5 @@
 -- What a row more or less makes of the purges.
-use Rattle.std.proofs.Common.{◌≡◌, ◌⊎◌, inl, inr, ℕ, ℤ, pos, ◌<◌, ◌≤◌, ◌==◌, Bool, true, false, not, ◌&&◌, ◌||◌, cond, List, [], ◌∷◌, ◌++◌, map, filter, find, Option, Some, None, refl, sym, ap, subst, ◌∙◌, arith}
+use Rattle.std.proofs.Common.{◌≡◌, inl, inr, ℕ, ℤ, pos, ◌<◌, ◌≤◌, ◌==◌, Bool, true, false, not, ◌&&◌, ◌||◌, cond, List, [], ◌∷◌, ◌++◌, map, filter, Option, Some, None, refl, sym, ap, subst, ◌∙◌, arith}
 use Rattle.std.specs.List.{AllByRecursion, list_any}
 use Rattle.std.specs.Ordering.{is_eq, match_ordering, int_cmp}
 use Rattle.std.specs.FinMap.{int_cmp-IsAntisymmetric}
@@ -7,22 +7,21 @@ use Rattle.std.specs.declared.cmp.Ordering.{Ordering}
 use Rattle.std.specs.declared.cmp.Ordering.TheVariants.{Less, Equal, Greater}
 use Rattle.std.proofs.lemmas.Bool.{cases_Bool, eq-eqb, ne_eqb, eqb-true, eqb-false, and_parts, false_from_ne_true, both_ways}
 use Rattle.sqlite.specs.declared.types.Value.TheVariants.{Null, Int, Text as Words}
-use Rattle.sqlite_value.specs.Order.{Row, column, value_cmp}
+use Rattle.sqlite_value.specs.Order.{Row, value_cmp}
 use Rattle.sqlite_value.proofs.OrderLemmas.{value_cmp-Int}
 use Rattle.sqlite_trees.specs.Tree.{rowid, put_row, IsAscending}
-use Rattle.sqlite_trees.specs.Objects.{number_in}
 use Rattle.sqlite_trees.proofs.TreeLemmas.{all-put_row}
 use Rattle.sqlite_rules.specs.Edit.{is_taken}
 use Rattle.sqlite_rules.specs.Lists.{Has}
-use Rattle.sqlite_rules.proofs.ListLemmas.{all_has, all_from, has_filtered, has_found}
+use Rattle.sqlite_rules.proofs.ListLemmas.{all_has, all_from, has_found}
 use Rattle.sqlite_rules.proofs.ProbeLemmas.{has_mapped}
 use Rattle.sqlite_catalog.proofs.LayoutLemmas.{ascending_filter}
 use Rattle.url_key.specs.Key.{IsKey}
 use Rattle.purge_rules.specs.declared.purges.Purge.{Purge}
 use Rattle.purge_rules.specs.Members.{is_among, with_id}
-use Rattle.purge_rules.specs.Purges.{PurgeList, is_numbered, pending_at, unmarked, marked_by, with_purge, with_mark, without_purge}
+use Rattle.purge_rules.specs.Purges.{is_numbered, pending_at, unmarked, marked_by, with_mark, without_purge}
 use Rattle.purge_rules.specs.Store.{Misses, IsUnmarkedBy}
-use Rattle.purge_records.specs.Tables.{number_of, url_of, ack_number, ack_member, is_ack, is_purge, marks_in, purge_in, by_number, last_in, purges_of, shown_last, IsLast, IsPending, IsAck, HasOwnIds, HasOwnAcks, AreRows}
+use Rattle.purge_records.specs.Tables.{number_of, url_of, ack_number, ack_member, is_ack, is_purge, marks_in, purge_in, by_number, last_in, purges_of, IsLast, IsPending, IsAck, AreRows}
 use Rattle.purge_records.proofs.OrderLemmas.{by_number_push, by_number_map, by_number_kept, has_by_number}
 use Rattle.purge_records.proofs.MarkLemmas.{same_marks, no_marks, marks_more, unmarked_has_none}
 

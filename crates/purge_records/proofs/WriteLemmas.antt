@@ -1,6 +1,6 @@
 -- What the statements that write purges do to a master's database.
 use Rattle.std.proofs.Common.{◌≡◌, ℕ, ℤ, pos, ◌<◌, ◌≤◌, ◌==◌, ◌^◌, Bool, true, false, not, ◌&&◌, cond, List, [], ◌∷◌, map, filter, length, Option, None, Ok, Err, Result, OnOk, IsTrue, refl, sym, ap, subst, ◌∙◌, arith}
-use Rattle.std.specs.List.{AllByRecursion, list_any, flat_map}
+use Rattle.std.specs.List.{AllByRecursion}
 use Rattle.std.specs.List.Sorted.{IsPermutation}
 use Rattle.sqlite.specs.declared.types.Value.{Value}
 use Rattle.sqlite.specs.declared.types.Value.TheVariants.{Null, Int, Text as Words}
@@ -8,16 +8,15 @@ use Rattle.sqlite_value.specs.Order.{Row, column}
 use Rattle.sqlite_trees.specs.Tree.{Trees, rowid, put_row}
 use Rattle.sqlite_sql.specs.Ops.{unary}
 use Rattle.sqlite_rules.specs.Cast.{cast}
-use Rattle.sqlite_rules.specs.Edit.{edit_of, edited, left_by, is_taken, are_fresh, next_rowid, without_all, Applies}
+use Rattle.sqlite_rules.specs.Edit.{edit_of, edited, left_by, is_taken, are_fresh, next_rowid, without_all}
 use Rattle.sqlite_rules.specs.Calls.{ids_of}
 use Rattle.sqlite_rules.specs.declared.error.Rowids.TheVariants.{Chosen, Given}
 use Rattle.sqlite_rules.proofs.ListLemmas.{all_from, all_has}
 use Rattle.sqlite.specs.Kind.TheVariants.{Integer}
 use Rattle.sqlite.specs.Source.TheVariants.{Values}
 use Rattle.sqlite.specs.Term.{lit, col, holds}
-use Rattle.sqlite.specs.Query.{IsAnswer, output, Output}
+use Rattle.sqlite.specs.Query.{IsAnswer, output}
 use Rattle.sqlite.specs.Program.{overlay}
-use Rattle.sqlite_schema.specs.declared.schema.Keys.{Keys}
 use Rattle.sqlite.specs.Effect.{Database}
 use Rattle.sqlite.specs.Does.{Does, Tally}
 use Rattle.sqlite.specs.declared.run.Mode.{Mode}
@@ -32,7 +31,7 @@ use Rattle.purge_numbers.specs.Rows.{HasVersionOne}
 use Rattle.purge_numbers.proofs.PutLemmas.{cast_int}
 use Rattle.purge_rules.specs.Purges.{PurgeList, with_purge, with_mark, without_purge}
 use Rattle.purge_rules.specs.Store.{Misses}
-use Rattle.purge_records.specs.Tables.{last_table, pending_table, acks_table, master_schema, last_in, number_of, ack_number, is_ack, is_purge, purges_in, purges_of, shown_last, IsLast, IsPending, IsAck, AreRows, AreTables}
+use Rattle.purge_records.specs.Tables.{last_table, pending_table, acks_table, master_schema, last_in, number_of, ack_number, purges_in, shown_last, IsLast, IsPending, IsAck, AreRows, AreTables}
 use Rattle.purge_records.specs.Store.{IsMaster}
 use Rattle.purge_records.specs.Writing.{Holds, HasGiven, HasNoAcks}
 use Rattle.purge_records.proofs.StepLemmas.{base, task_on, concluded, inserted, deleted, updated, inside}

@@ -1,5 +1,5 @@
 -- What reading the rows of a master's file gives.
-use Rattle.std.specs.Prelude.{◌≡◌, ◌≤◌, ◌<◌, ◌⊎◌, ℕ, ℤ, pos, Option, Some, None, Result, IfErr, List, [], ◌∷◌, map, length, IsPermutation, IsSorted, ⊤}
+use Rattle.std.specs.Prelude.{◌≡◌, ◌≤◌, ◌<◌, ◌⊎◌, ℤ, pos, Option, Some, None, Result, IfErr, List, [], ◌∷◌, map, length, IsPermutation, IsSorted, ⊤}
 use Rattle.std.specs.declared.cmp.Ordering.TheVariants.{Less}
 use Rattle.sqlite.specs.declared.types.Value.TheVariants.{Int, Text as Words}
 use Rattle.sqlite_value.specs.Order.{Row, column, value_cmp}

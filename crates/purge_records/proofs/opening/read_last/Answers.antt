@@ -1,4 +1,4 @@
-use Rattle.std.proofs.Common.{◌∙◌, ◌≡◌, sym, refl}
+use Rattle.std.proofs.Common.{◌∙◌, refl}
 use Rattle.sqlite.specs.Held.{state}
 use Rattle.purge_records.proofs.OpenLemmas.{one_last, no_last}
 use Rattle.purge_records.proofs.opening.read_last.Goals as goal
