@@ -1,5 +1,1 @@
-pub mod Digits
-pub mod Counting
-pub mod LineLemmas
-pub mod PlayLemmas
 pub mod Outcomes

@@ -1,5 +1,5 @@
 -- What `cache answer` answers to a line: a node places a copy by hand, or takes a step with a datagram.
-use Rattle.std.specs.Prelude.{◌≡◌, ℕ, ◌⊎◌, Bool, true, false, bytes_eq, List, [], ◌∷◌, flat_map, codes, Option, Some, None, Result, Ok, Err, if◌then◌else◌}
+use Rattle.std.specs.Prelude.{◌≡◌, ℕ, ◌^◌, ◌⊎◌, Bool, true, false, bytes_eq, List, [], ◌∷◌, flat_map, codes, Option, Some, None, Result, Ok, Err, if◌then◌else◌}
 use Rattle.std.specs.FinMap.{empty}
 use Rattle.hex.specs.Hex.{decode_of, encode_lower}
 use Rattle.hex.specs.declared.error.FromHexError.{FromHexError}
@@ -37,7 +37,7 @@ use Rattle.node_bytes.specs.Bytes.{text_of, SpellsBy}
 use Rattle.cache_program.specs.declared.first.TheConstants.{ROSTER}
 use Rattle.cache_program.specs.declared.answer.Line.{Line}
 use Rattle.cache_program.specs.declared.answer.Line.TheVariants as lines
-use Rattle.cache_program.specs.Words.{split_word, is_word, number_of}
+use Rattle.script_lines.specs.Words.{split_word, is_word, decimal_below}
 
 -- the node that answers: its copies have no tags, and its floors are in memory
 abbrev pub Answering : Type 0
@@ -75,7 +75,7 @@ store_stamped url (Some stamp) = StoreLine url (Some stamp)
 abbrev pub store_words : List ℕ → Option (List ℕ) → Command
 store_words [] stamp = BadLine
 store_words url None = StoreLine url None
-store_words url (Some stamp) = store_stamped url (number_of stamp)
+store_words url (Some stamp) = store_stamped url (decimal_below (2 ^ 32) stamp)
 
 abbrev pub store_of : List ℕ × Option (List ℕ) → Command
 store_of (url, stamp) = store_words url stamp

@@ -1,16 +1,21 @@
 -- A run of `cache answer` over an input.
 use Rattle.std.specs.Prelude.{◌≡◌, ℕ, ◌⊎◌, List, Option, Result, Err}
-use Rattle.cache_program.specs.declared.fault.RunFault.{RunFault}
-use Rattle.cache_program.specs.declared.fault.RunFault.TheVariants.{NoMemory, NoFirstNode}
-use Rattle.cache_program.specs.Script.{HasPlayed}
-use Rattle.cache_program.specs.Answer.{Answering, IsFirst, LineAnswers}
+use Rattle.script_lines.specs.declared.fault.RunFault.{RunFault}
+use Rattle.script_lines.specs.declared.fault.RunFault.TheVariants.{NoMemory, NoFirstNode}
+use Rattle.script_lines.specs.Script.{HasPlayed}
+use Rattle.cache_program.specs.declared.answer.Answerer.{Answerer}
+use Rattle.cache_program.specs.Answer.{IsFirst, LineAnswers}
+
+-- the answer to a line, and the node after it
+abbrev pub AnswererAnswers : Answerer → List ℕ → List ℕ → Answerer → Type 0
+AnswererAnswers old line text new = LineAnswers old.node line text new.node
 
 -- the lines are answered one after another, from the first node on
 pub record HasBegun (input old new : Option (List ℕ)) (r : Result (Unit {0}) RunFault) : Type 0 where
-  pub start : Answering
-  pub end : Answering
-  pub first : IsFirst start
-  pub played : HasPlayed LineAnswers start input old new r end
+  pub start : Answerer
+  pub end : Answerer
+  pub first : IsFirst start.node
+  pub played : HasPlayed AnswererAnswers start input old new r end
 
 -- there was no first node, and nothing is written
 pub record HasNotBegun (old new : Option (List ℕ)) (r : Result (Unit {0}) RunFault) : Type 0 where

@@ -1,9 +1,3 @@
-pub mod Lines
-pub mod Fault
-pub mod Reading
-pub mod Script
-pub mod Playing
-pub mod Words
 pub mod Answer
 pub mod Answered
 pub mod Wire

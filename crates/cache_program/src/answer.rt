@@ -2,15 +2,11 @@
 ghost use Rattle.std.specs.Prelude.{◌≡◌, ℕ, List, ◌++◌, OnOk, Ok};
 ghost use Rattle.hex.specs.Hex.{decode_of};
 ghost use Rattle.node_rules.specs.declared.event.Event.TheVariants as event;
-ghost use Rattle.cache_program.specs.Words.{split_word as split_words};
-ghost use Rattle.cache_program.specs.Answered.{HasAnswered};
-ghost use Rattle.cache_program.specs.Answer.{StoreLine, command_of, command_text, datagram_of as datagram_words, store_of, placed_text, sent_text, StepAnswers, DatagramAnswers, CommandAnswers, LineAnswers};
+ghost use Rattle.script_lines.specs.Words.{split_word as split_words};
+ghost use Rattle.cache_program.specs.Answer.{StoreLine, command_of, command_text, datagram_of as datagram_words, store_of, placed_text, sent_text, StepAnswers, DatagramAnswers, CommandAnswers};
+ghost use Rattle.cache_program.specs.Answered.{AnswererAnswers, HasAnswered};
 
-use crate::decimal::number_of;
-use crate::fault::RunFault;
 use crate::first::{Answering, first_node};
-use crate::script::{Script, play};
-use crate::words::{is_word, split_word};
 use hex::FromHexError;
 use htcp_wire::HtcpFault;
 use icp_wire::IcpFault;
@@ -18,6 +14,7 @@ use node_bytes::{octets_of, read_htcp, read_icp};
 use node_core::{PlaceFault, Placed};
 use node_rules::{Event, Outgoing, Received, StepFault};
 use roster::{Address, Udp};
+use script_lines::{RunFault, Script, decimal_u32, is_word, play, split_word};
 use std::alloc::{AllocError, Global};
 use std::io::{Read, Write};
 use url_key::{Key, KeyFault};
@@ -45,6 +42,12 @@ const STRANGER: Address = Address {
     ip: 0x7f00_0009,
     port: 9,
 };
+
+/// A node that answers lines.
+#[derive(Drop)]
+struct Answerer {
+    node: Answering,
+}
 
 /// A line of the input.
 pub(crate) enum Line<'a> {
@@ -77,23 +80,25 @@ pub fn run_answer<R: Read, W: Write>(
 ) -> Result<(), RunFault>
     ensures { HasAnswered (R.remaining reader.old) (W.contents writer.old) (W.contents writer.new) result }
 {
-    let mut node = match first_node(alloc) {
+    let node = match first_node(alloc) {
         Ok(node) => node,
         Err(fault) => return Err(fault),
     };
-    play(alloc, &mut node, reader, writer)
+    let mut answerer = Answerer { node };
+    play(alloc, &mut answerer, reader, writer)
 }
 
-impl Script for Answering {
-    ghost answers = { LineAnswers };
+impl Script for Answerer {
+    ghost answers = { AnswererAnswers };
 
     fn answer(&mut self, alloc: Global, line: &[u8], text: &mut Vec<u8>) -> Result<(), AllocError> {
+        let node = &mut self.node;
         match line_of(line) {
-            Line::Store { url, stamp } => place(alloc, self, url, stamp, text),
-            Line::Icp { hex } => answer_hex(alloc, self, Udp::Icp, SIBLING_BY_ICP, hex, text),
-            Line::Htcp { hex } => answer_hex(alloc, self, Udp::Htcp, SIBLING_BY_HTCP, hex, text),
-            Line::Master { hex } => answer_hex(alloc, self, Udp::Htcp, MASTER, hex, text),
-            Line::Stranger { hex } => answer_hex(alloc, self, Udp::Htcp, STRANGER, hex, text),
+            Line::Store { url, stamp } => place(alloc, node, url, stamp, text),
+            Line::Icp { hex } => answer_hex(alloc, node, Udp::Icp, SIBLING_BY_ICP, hex, text),
+            Line::Htcp { hex } => answer_hex(alloc, node, Udp::Htcp, SIBLING_BY_HTCP, hex, text),
+            Line::Master { hex } => answer_hex(alloc, node, Udp::Htcp, MASTER, hex, text),
+            Line::Stranger { hex } => answer_hex(alloc, node, Udp::Htcp, STRANGER, hex, text),
             Line::Bad => text.extend_from_slice(b"bad line"),
         }
     }
@@ -126,7 +131,7 @@ fn store_line(text: &[u8]) -> Line<'_>
     let Some(stamp) = stamp else {
         return Line::Store { url, stamp: None };
     };
-    match number_of(stamp) {
+    match decimal_u32(stamp) {
         Some(stamp) => Line::Store {
             url,
             stamp: Some(stamp),

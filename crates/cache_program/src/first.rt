@@ -2,10 +2,10 @@
 ghost use Rattle.std.specs.Prelude.{◌≡◌, ◌⊎◌, IfOk, IfErr};
 ghost use Rattle.cache_program.specs.Answer.{IsFirst};
 
-use crate::fault::RunFault;
 use node_core::{Node, OpenFault};
 use purge_numbers::{FloorFault, MemoryFloors};
 use roster::{Roster, RosterFault};
+use script_lines::RunFault;
 use std::alloc::Global;
 
 /// The roster of the program: two members that are siblings, and the origin of `http://o/`.

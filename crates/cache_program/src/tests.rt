@@ -1,9 +1,7 @@
 //! Worked rows: whole inputs and what must be written for them.
 use crate::answer::run_answer;
-use crate::fault::RunFault;
 use crate::wire::{Codec, run_wire};
-use std::io;
-use std::io::{Error, ErrorKind, Read, Write};
+use script_lines::RunFault;
 use std::test::Fail;
 
 /// Twelve and sixteen zero octets, in hex.
@@ -381,115 +379,13 @@ fn short_htcp_datagrams(rt: HostRuntime) -> Result<(), Fail> {
     Ok(())
 }
 
-/// A reader of one octet a call, which fails where no octet is left.
-#[derive(Drop)]
-struct Failing<'a>(&'a [u8]);
-
-impl Read for Failing<'_> {
-    fn read(&mut self, buffer: &mut [u8]) -> io::Result<usize> {
-        let (Some((octet, rest)), Some(place)) = (self.0.split_first(), buffer.first_mut()) else {
-            return Err(Error::from(ErrorKind::Other));
-        };
-        *place = *octet;
-        self.0 = rest;
-        Ok(1)
-    }
-}
-
-/// A writer that takes one octet a call, and then fails.
-#[derive(Drop)]
-struct Narrow {
-    taken: Vec<u8>,
-    room: usize,
-}
-
-impl Write for Narrow {
-    fn write(&mut self, buffer: &[u8]) -> io::Result<usize> {
-        match buffer.first() {
-            Some(octet) if self.room > 0 => {
-                self.taken.push(*octet)?;
-                self.room = self.room.saturating_sub(1);
-                Ok(1)
-            }
-            Some(_) => Err(Error::from(ErrorKind::Other)),
-            None => Ok(0),
-        }
-    }
-
-    fn flush(&mut self) -> io::Result<()> {
-        Ok(())
-    }
-}
-
 #[test]
-fn a_reader_that_fails(rt: HostRuntime) -> Result<(), Fail> {
+fn what_stops_a_run(rt: HostRuntime) -> Result<(), Fail> {
+    let longer = "a".repeat(rt.alloc(), 140_001)?;
+    let input = format!(in rt.alloc(); "store http://o/\n{longer}\nstore http://o/\n")?;
     let mut written = Vec::new(rt.alloc());
-    let mut reader = Failing(b"store http://o/a\nstore http");
-    let done = run_answer(rt.alloc(), &mut reader, &mut written);
-    assert!(rt; done == Err(RunFault::Io));
-    assert_eq!(rt; written.as_slice(), b"stored\n".as_slice());
-    Ok(())
-}
-
-#[test]
-fn a_writer_that_fails(rt: HostRuntime) -> Result<(), Fail> {
-    for room in 0..16 {
-        let mut writer = Narrow {
-            taken: Vec::new(rt.alloc()),
-            room,
-        };
-        let mut input = b"store http://o/a\nicp\nicp 0\n".as_slice();
-        let done = run_answer(rt.alloc(), &mut input, &mut writer);
-        assert!(rt; done == Err(RunFault::Io));
-        assert_eq!(rt;
-            writer.taken.as_slice(),
-            &b"stored\nbad line\nbad hex\n".as_slice()[..room]
-        );
-    }
-    Ok(())
-}
-
-#[test]
-fn long_lines(rt: HostRuntime) -> Result<(), Fail> {
-    let longest = "a".repeat(rt.alloc(), 140_000)?;
-    assert_eq!(rt; answers(&rt, longest.as_str())?.as_str(), "bad line\n");
-    let mut written = Vec::new(rt.alloc());
-    let longer = format!(in rt.alloc(); "store http://o/\n{longest}a\nstore http://o/\n")?;
-    let done = run_answer(rt.alloc(), &mut longer.as_bytes(), &mut written);
+    let done = run_answer(rt.alloc(), &mut input.as_bytes(), &mut written);
     assert!(rt; done == Err(RunFault::LineTooLong));
     assert_eq!(rt; written.as_slice(), b"stored\n".as_slice());
-    // The same where the line's end never comes.
-    let mut written = Vec::new(rt.alloc());
-    let longer = format!(in rt.alloc(); "store http://o/\n{longest}a")?;
-    let done = run_answer(rt.alloc(), &mut longer.as_bytes(), &mut written);
-    assert!(rt; done == Err(RunFault::LineTooLong));
-    assert_eq!(rt; written.as_slice(), b"stored\n".as_slice());
-    Ok(())
-}
-
-/// A reader of one octet a call, without an end.
-#[derive(Drop)]
-struct Endless;
-
-impl Read for Endless {
-    fn read(&mut self, buffer: &mut [u8]) -> io::Result<usize> {
-        match buffer.first_mut() {
-            Some(place) => {
-                *place = b'\n';
-                Ok(1)
-            }
-            None => Ok(0),
-        }
-    }
-}
-
-#[test]
-fn an_input_without_an_end(rt: HostRuntime) -> Result<(), Fail> {
-    let mut written = Vec::new(rt.alloc());
-    let done = run_wire(rt.alloc(), Codec::Icp, &mut Endless, &mut written);
-    assert!(rt; done == Err(RunFault::TooManyTurns));
-    assert_eq!(rt; written.len(), 70_000 * "bad line\n".len());
-    assert_eq!(rt; RunFault::TooManyTurns.name(), "TooManyTurns");
-    assert_eq!(rt; RunFault::NoFirstNode.name(), "NoFirstNode");
     Ok(())
 }

@@ -3,13 +3,11 @@ mod htcp;
 mod icp;
 
 ghost use Rattle.std.specs.Prelude.{◌≡◌, ◌++◌, OnOk};
-ghost use Rattle.cache_program.specs.Script.{HasPlayed};
+ghost use Rattle.script_lines.specs.Script.{HasPlayed};
 ghost use Rattle.cache_program.specs.Wire.{shown, WireAnswers};
 ghost use Rattle.cache_program.specs.declared.wire.Codec.{Codec as TheCodec};
 
-use crate::fault::RunFault;
-use crate::script::{Script, play};
-use crate::words::is_word;
+use script_lines::{RunFault, Script, is_word, play};
 use std::alloc::{AllocError, Global};
 use std::io::{Read, Write};
 

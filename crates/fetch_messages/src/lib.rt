@@ -9,8 +9,6 @@ mod ask;
 mod body;
 mod fault;
 mod fields;
-#[cfg(test)]
-mod tests;
 
 pub use answer::Answer;
 pub use ask::Ask;

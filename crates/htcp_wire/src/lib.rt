@@ -12,8 +12,6 @@ mod laws;
 mod message;
 mod numbers;
 mod reading;
-#[cfg(test)]
-mod tests;
 mod writing;
 
 pub use fault::HtcpFault;

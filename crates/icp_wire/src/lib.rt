@@ -9,8 +9,6 @@ mod fault;
 mod laws;
 mod message;
 mod reading;
-#[cfg(test)]
-mod tests;
 mod writing;
 
 pub use fault::IcpFault;

@@ -16,8 +16,6 @@ mod purges;
 mod questions;
 mod replies;
 mod step;
-#[cfg(test)]
-mod tests;
 
 pub use node::Node;
 pub use opening::OpenFault;

@@ -5,8 +5,6 @@
 mod known;
 mod questions;
 mod replies;
-#[cfg(test)]
-mod tests;
 
 pub use known::{has_origin, is_foreign, is_known, peer_at};
 pub use questions::queries;

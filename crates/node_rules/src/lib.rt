@@ -9,8 +9,6 @@ pub mod laws;
 mod message;
 mod reply;
 mod state;
-#[cfg(test)]
-mod tests;
 
 pub use event::Event;
 pub use message::{Message, Outgoing, Received, Sent, can_be_answered, fits};

@@ -10,8 +10,6 @@
 
 pub mod laws;
 mod progress;
-#[cfg(test)]
-mod tests;
 mod waiting;
 
 pub use progress::Progress;

@@ -13,8 +13,6 @@ mod copy;
 mod hashing;
 pub mod laws;
 mod store;
-#[cfg(test)]
-mod tests;
 
 pub use copy::{WebCopy, size};
 // A crate can name a store in a contract only if the types of its fields are exported.

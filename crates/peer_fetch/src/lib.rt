@@ -7,8 +7,6 @@
 #![tactic(auto)]
 
 pub mod laws;
-#[cfg(test)]
-mod tests;
 
 pub use fetch_messages::{Answer, Ask, Body, FetchFault, Field, Fields};
 pub use peer_reading::{read_answer, read_ask};

@@ -13,8 +13,6 @@ mod directives;
 mod fields;
 mod framing;
 mod kept;
-#[cfg(test)]
-mod tests;
 
 pub use answer::{age, stamp};
 pub use ask::{Host, has_credentials, host_of, member};

@@ -10,8 +10,6 @@
 mod answer;
 mod ask;
 mod body;
-#[cfg(test)]
-mod tests;
 mod told;
 
 pub use answer::read_answer;

@@ -32,7 +32,7 @@ pub fn write_answer<W: Write>(writer: &mut W, answer: &Answer, via: &[u8]) -> Re
 }
 
 /// Writes the status line and the kept fields.
-fn write_first_lines<W: Write>(
+pub(crate) fn write_first_lines<W: Write>(
     writer: &mut W,
     status: u16,
     fields: &[Field],

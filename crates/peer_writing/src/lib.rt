@@ -11,9 +11,9 @@ mod answer;
 mod ask;
 mod lines;
 mod name;
-#[cfg(test)]
-mod tests;
+mod served;
 
 pub use answer::write_answer;
 pub use ask::{AskForm, write_ask};
 pub use name::is_name;
+pub use served::{write_served, write_status};

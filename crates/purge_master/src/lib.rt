@@ -9,8 +9,6 @@ mod book;
 mod master;
 mod news;
 mod opening;
-#[cfg(test)]
-mod tests;
 mod twice;
 
 pub use book::{MOST_ENTRIES, MasterBook, MasterEntry};

@@ -12,8 +12,6 @@ mod opening;
 mod rows;
 mod store;
 mod tables;
-#[cfg(test)]
-mod tests;
 mod writing;
 
 pub use durable::SqliteFloors;

@@ -7,8 +7,6 @@ mod making;
 mod opening;
 mod rows;
 mod tables;
-#[cfg(test)]
-mod tests;
 mod writing;
 
 pub use durable::SqlitePurges;

@@ -13,8 +13,6 @@ mod memory;
 mod purges;
 mod sending;
 mod store;
-#[cfg(test)]
-mod tests;
 
 pub use calls::{MasterAnswer, MasterCall, Status};
 pub use fault::{MasterFault, PurgeFault};

@@ -9,8 +9,6 @@
 mod directive;
 mod freshness;
 mod lifetimes;
-#[cfg(test)]
-mod tests;
 
 pub use freshness::is_fresh;
 pub use lifetimes::lifetime;

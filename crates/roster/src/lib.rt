@@ -11,8 +11,6 @@ mod fault;
 mod judge;
 mod loops;
 mod roster;
-#[cfg(test)]
-mod tests;
 
 pub use crate::fault::{RosterError, RosterFault};
 pub use crate::roster::Roster;

@@ -11,8 +11,6 @@ mod listed;
 mod place;
 mod plain;
 mod read;
-#[cfg(test)]
-mod tests;
 
 pub use fault::TablesFault;
 pub use listed::Listed;

@@ -7,8 +7,6 @@
 
 mod counted;
 mod octets;
-#[cfg(test)]
-mod tests;
 
 pub use counted::split_counted;
 pub use octets::Octets;

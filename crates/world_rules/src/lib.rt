@@ -37,8 +37,6 @@
 mod event;
 pub mod laws;
 mod outcome;
-#[cfg(test)]
-mod tests;
 
 pub use event::WorldEvent;
 pub use outcome::{ActorFault, Outcome, WorldFault};

@@ -1,0 +1,26 @@
+-- What applying an event leaves, where the parts have taken its turn.
+use Rattle.std.proofs.Common.{◌≡◌, Bool, true, false, IsTrue, ◌↔◌, Result, Ok, Err, refl, ◌∙◌, ap}
+use Rattle.world_rules.specs.declared.event.WorldEvent.{WorldEvent}
+use Rattle.world_rules.specs.declared.outcome.Outcome.{Outcome}
+use Rattle.world_rules.specs.declared.outcome.WorldFault.{WorldFault}
+use Rattle.world_rules.specs.declared.outcome.WorldFault.TheVariants as fault
+use Rattle.hierarchy_world.specs.declared.parts.Parts.{Parts}
+use Rattle.hierarchy_world.specs.View.{IsApplied}
+use Rattle.hierarchy_world.specs.Parts.{IsMade, world_of, view_of}
+use Rattle.hierarchy_world.proofs.Refusing.{not_for_places}
+
+-- no other fault spoils the world
+not_spoilt : (spoilt : Bool) (answer : Result Outcome WorldFault) → (IsTrue spoilt ↔ (answer ≡ Err fault.NoMemory)) → (answer ≡ Err fault.NoMemory → ⊥) → spoilt ≡ false
+not_spoilt true answer is none = absurd (none (is.0 refl))
+not_spoilt false answer is none = refl
+
+same_view : (old new : Parts) (spoilt : Bool) → new ≡ old → spoilt ≡ false → view_of new spoilt ≡ view_of old false
+same_view old new spoilt same usable = ap (λ (p : Parts). view_of p spoilt) same ∙ ap (λ (b : Bool). view_of old b) usable
+
+pub made_applied : (old new : Parts) (event : WorldEvent) (answer : Result Outcome WorldFault) (spoilt : Bool) → (IsTrue spoilt ↔ (answer ≡ Err fault.NoMemory)) → IsMade old event answer new →
+    IsApplied (view_of old false) event answer (view_of new spoilt)
+made_applied old new event (Ok outcome) spoilt is made = made.1
+made_applied old new event (Err fault.NoSuchPacket) spoilt is made = (made.0, same_view old new spoilt made.1 (not_spoilt spoilt _ is (λ e. cc)))
+made_applied old new event (Err fault.NotPending) spoilt is made = (made.0, same_view old new spoilt made.1 (not_spoilt spoilt _ is (λ e. cc)))
+made_applied old new event (Err fault.NoMemory) spoilt is made = tt
+made_applied old new event (Err fault.PlacesSpent) spoilt is made = absurd (not_for_places old.roster (world_of old) event made.0)

@@ -1,0 +1,17 @@
+pub mod Places
+pub mod Steps
+pub mod Serving
+pub mod Writing
+pub mod Outcomes
+pub mod Members
+pub mod Runs
+pub mod Seating
+pub mod Taking
+pub mod Reseating
+pub mod Answerable
+pub mod Numbers
+pub mod Starting
+pub mod Happening
+pub mod Reaching
+pub mod Refusing
+pub mod Applying

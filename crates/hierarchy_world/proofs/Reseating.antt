@@ -1,0 +1,47 @@
+-- Another node at a member's place, where what waited there waits no more: a fault, or a restart.
+use Rattle.std.proofs.Common.{◌≡◌, ℕ, not, List, filter, set, slice_get, nat_eq, Some, sym, ◌∙◌, ap}
+use Rattle.node_rules.specs.declared.state.NodeState.{NodeState}
+use Rattle.node_core.specs.View.{IsSameNode}
+use Rattle.node_core.specs.Closing.{closing}
+use Rattle.world_rules.specs.World.{node_at}
+use Rattle.world_rules.specs.Turn.{with_seat}
+use Rattle.hierarchy_world.specs.declared.parts.Parts.{Parts}
+use Rattle.hierarchy_world.specs.Parts.{MemberNode, seats_of, world_of, IsStored, IsSound, IsPlace, IsSeatChanged}
+use Rattle.hierarchy_world.proofs.Seating.{same_world, was_state, still_sound, seats_are}
+
+-- a change of the nodes, and then of what waits
+pub then_forgets : (old mid new : Parts) (nodes : List MemberNode) (id : ℕ) → IsSeatChanged old mid nodes old.waiting.items →
+    IsSeatChanged mid new mid.nodes.items (filter (λ w. not (nat_eq w.node id)) mid.waiting.items) → IsSeatChanged old new nodes (filter (λ w. not (nat_eq w.node id)) old.waiting.items)
+then_forgets old mid new nodes id first last = record {
+  roster = last.roster ∙ first.roster;
+  nodes = last.nodes ∙ first.nodes;
+  master = last.master ∙ first.master;
+  clock = last.clock ∙ first.clock;
+  place = last.place ∙ first.place;
+  datagrams = last.datagrams ∙ first.datagrams;
+  asks = last.asks ∙ first.asks;
+  answers = last.answers ∙ first.answers;
+  waiting = last.waiting ∙ ap (filter (λ w. not (nat_eq w.node id))) first.waiting;
+}
+
+module _ (old new : Parts) (before n : MemberNode) (id place : ℕ) (sound : IsSound old) (is_place : IsPlace old.nodes.items id place) (at : slice_get old.nodes.items place ≡ Some before)
+    (changed : IsSeatChanged old new (set old.nodes.items place n) (filter (λ w. not (nat_eq w.node id)) old.waiting.items)) where
+  module _ (same_id : n.id ≡ before.id) (same_roster : n.roster ≡ before.roster) (stored : IsStored n) where
+    pub seat_sound : IsSound new
+    seat_sound = still_sound old new before n id place sound is_place at changed.roster changed.master changed.nodes same_id same_roster stored
+
+    seat_is_now : world_of new ≡ with_seat (world_of old) id n.state
+    seat_is_now = same_world (world_of new) (with_seat (world_of old) id n.state)
+        (seats_are old new before n id place sound is_place at changed.roster changed.master changed.nodes same_id same_roster stored)
+        (ap (λ m. m.state.purges) changed.master) changed.clock changed.datagrams changed.asks changed.answers changed.waiting
+
+    -- the state that the node had
+    seat_was : node_at (seats_of old.nodes.items) id ≡ before.state
+    seat_was = was_state old before id place sound is_place at
+
+    pub seat_by : (next : NodeState ℕ → NodeState ℕ) → n.state ≡ next before.state → world_of new ≡ with_seat (world_of old) id (next (node_at (seats_of old.nodes.items) id))
+    seat_by next is = seat_is_now ∙ ap (with_seat (world_of old) id) (is ∙ ap next (sym seat_was))
+
+-- a node that closes keeps what is stored
+pub closing_stored : (before n : MemberNode) → IsStored before → IsSameNode before n → n.state ≡ closing before.state → IsStored n
+closing_stored before n stored same is = same.store ∙ stored ∙ ap (λ s. s.floors) (sym is)

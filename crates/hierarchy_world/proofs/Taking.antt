@@ -1,0 +1,123 @@
+-- A node's step, and all that it sends, in their world.
+use Rattle.std.proofs.Common.{◌≡◌, ℕ, List, [], ◌++◌, map, set, slice_get, Option, Some, None, refl, sym, ◌∙◌, ap, subst}
+use Rattle.std.specs.List.{AllByRecursion}
+use Rattle.purge_rules.specs.Members.{members_of}
+use Rattle.roster.specs.Lookups.{member_of}
+use Rattle.node_rules.specs.declared.event.Event.{Event}
+use Rattle.node_rules.specs.declared.reply.Serve.{Serve}
+use Rattle.node_rules.specs.Relation.{Steps}
+use Rattle.world_rules.specs.Hierarchy.{setting}
+use Rattle.world_rules.specs.World.{Datagram, PeerAsk, PeerAnswer, Waiting, Answered, node_at, datagrams_from, asks_in, answers_in, waits_now, asked_by, asked_now, answer_to, reply_in, after_node}
+use Rattle.world_rules.specs.Turn.{NodeSteps}
+use Rattle.world_rules.proofs.Items.{append_nil}
+use Rattle.hierarchy_world.specs.declared.parts.Parts.{Parts}
+use Rattle.hierarchy_world.specs.declared.seats.Stepped.{Stepped}
+use Rattle.hierarchy_world.specs.declared.telling.Seen.TheVariants as here
+use Rattle.hierarchy_world.specs.Parts.{MemberNode, seats_of, world_of, IsSeated, IsSound, IsPlace, IsStep, HasStepped, with_state, Adds, IsSeatChanged, HasTaken}
+use Rattle.hierarchy_world.specs.Posted.{answered, answers_by, waits_by, serial_of}
+use Rattle.hierarchy_world.proofs.Seating.{same_world, was_id, was_seated, was_state, still_sound, seats_are}
+use Rattle.hierarchy_world.proofs.Serving.{waits_here}
+
+-- A node's step at its place
+module _ (old new : Parts) (before n : MemberNode) (id place : ℕ) (e : Event ℕ) (s : Stepped) (sound : IsSound old) (is_place : IsPlace old.nodes.items id place)
+    (at : slice_get old.nodes.items place ≡ Some before) (changed : IsSeatChanged old new (set old.nodes.items place n) old.waiting.items) (is : IsStep before old.place e s n) where
+  is_state : node_at (seats_of old.nodes.items) id ≡ before.state
+  is_state = was_state old before id place sound is_place at
+
+  steps_here : Steps (setting old.roster id) (node_at (seats_of old.nodes.items) id) e old.place s.outcome n.state
+  steps_here =
+      subst (λ x. Steps (setting old.roster id) x e old.place s.outcome n.state) (sym is_state)
+      (subst (λ i. Steps (setting old.roster i) before.state e old.place s.outcome n.state)
+      (was_id old before id place sound is_place at)
+      (subst (λ r. Steps (setting r before.id) before.state e old.place s.outcome n.state)
+      (was_seated old before id place sound is_place at).roster is.steps))
+
+  pub has_stepped : HasStepped old id e s new
+  has_stepped = record {
+    sound = still_sound old new before n id place sound is_place at changed.roster changed.master changed.nodes is.id is.roster is.stored;
+    roster = changed.roster;
+    place = changed.place;
+    next = n.state;
+    steps = steps_here;
+    next_before = is.next_before ∙ ap (λ x. x.next) (sym is_state);
+    next_after = is.next_after;
+    world = same_world (world_of new) (with_state (world_of old) id n.state)
+        (seats_are old new before n id place sound is_place at changed.roster changed.master changed.nodes is.id is.roster is.stored)
+        (ap (λ m. m.state.purges) changed.master) changed.clock changed.datagrams changed.asks changed.answers changed.waiting;
+  }
+
+-- what is only added to leaves the parts sound
+pub adds_sound : (a b : Parts) (datagrams : List Datagram) (asks : List PeerAsk) (answers : List PeerAnswer) (waiting : List Waiting) →
+    Adds a b datagrams asks answers waiting → IsSound a → IsSound b
+adds_sound a b datagrams asks answers waiting adds sound = record {
+  nodes = subst (λ l. AllByRecursion (IsSeated b.roster) l) (sym adds.nodes) (subst (λ r. AllByRecursion (IsSeated r) a.nodes.items) (sym adds.roster) sound.nodes);
+  ids = ap (map (λ n. n.id)) adds.nodes ∙ sound.ids ∙ ap (λ r. map (λ m. m.cache.id) r.members) (sym adds.roster);
+  master = record {
+    members = ap (λ m. m.members) adds.master ∙ sound.master.members ∙ ap members_of (sym adds.roster);
+    is_open = ap (λ m. m.state.closed) adds.master ∙ sound.master.is_open;
+  };
+}
+
+-- the ask that is answered, and the answer, are those of the event
+answered_here : (waiting : List Waiting) (id : ℕ) (e : Event ℕ) (serial : ℕ) (asked : Option Answered) (waiter : Option ℕ) → asked ≡ asked_now e serial → answered waiting id asked waiter ≡ asked_by waiting id e serial waiter
+answered_here waiting id e serial asked None is = is
+answered_here waiting id e serial asked (Some block) is = refl
+
+answers_here : (waiting : List Waiting) (id : ℕ) (e : Event ℕ) (serial : ℕ) (asked : Option Answered) (serve : Option (Serve ℕ)) → asked ≡ asked_now e serial → answers_by waiting id asked serve ≡ answers_in waiting id e serial serve
+answers_here waiting id e serial asked None is = refl
+answers_here waiting id e serial asked (Some serve) is = ap (answer_to id serve.asker serve.served) (answered_here waiting id e serial asked serve.waiter is)
+
+-- A node's step, all that it sends, and what waits then
+module _ (old mid sent new : Parts) (id : ℕ) (e : Event ℕ) (asked : Option Answered) (s : Stepped) (h : HasStepped old id e s mid) (is : asked ≡ asked_now e (serial_of asked))
+    (first : Adds mid sent (datagrams_from (member_of mid.roster id) (reply_in s.outcome).send) (asks_in id (reply_in s.outcome).begin) (answers_by mid.waiting.items id asked (reply_in s.outcome).serve) [])
+    (last : Adds sent new [] [] [] (waits_by id asked s.before s.after)) where
+  datagrams_are : new.datagrams.items ≡ old.datagrams.items ++ datagrams_from (member_of old.roster id) (reply_in s.outcome).send
+  datagrams_are =
+      last.datagrams ∙ append_nil sent.datagrams.items ∙ first.datagrams
+      ∙ ap (λ l. l ++ datagrams_from (member_of mid.roster id) (reply_in s.outcome).send) (ap (λ w. w.datagrams) h.world)
+      ∙ ap (λ r. old.datagrams.items ++ datagrams_from (member_of r id) (reply_in s.outcome).send) h.roster
+
+  asks_are : new.asks.items ≡ old.asks.items ++ asks_in id (reply_in s.outcome).begin
+  asks_are =
+      last.asks ∙ append_nil sent.asks.items ∙ first.asks
+      ∙ ap (λ l. l ++ asks_in id (reply_in s.outcome).begin) (ap (λ w. w.asks) h.world)
+
+  waiting_was : mid.waiting.items ≡ old.waiting.items
+  waiting_was = ap (λ w. w.waiting) h.world
+
+  answers_are : new.answers.items ≡ old.answers.items ++ answers_in old.waiting.items id e (serial_of asked) (reply_in s.outcome).serve
+  answers_are =
+      last.answers ∙ append_nil sent.answers.items ∙ first.answers
+      ∙ ap (λ l. l ++ answers_by mid.waiting.items id asked (reply_in s.outcome).serve) (ap (λ w. w.answers) h.world)
+      ∙ ap (λ l. old.answers.items ++ answers_by l id asked (reply_in s.outcome).serve) waiting_was
+      ∙ ap (λ l. old.answers.items ++ l) (answers_here old.waiting.items id e (serial_of asked) asked (reply_in s.outcome).serve is)
+
+  waits_are : waits_by id asked s.before s.after ≡ waits_now id e (serial_of asked) (node_at (seats_of old.nodes.items) id) h.next
+  waits_are =
+      ap (λ a. waits_by id a s.before s.after) is
+      ∙ ap (λ b. waits_by id (asked_now e (serial_of asked)) b s.after) h.next_before
+      ∙ ap (λ b. waits_by id (asked_now e (serial_of asked)) (node_at (seats_of old.nodes.items) id).next b) h.next_after
+      ∙ sym (waits_here e id (serial_of asked) (node_at (seats_of old.nodes.items) id) h.next)
+
+  waiting_is : new.waiting.items ≡ old.waiting.items ++ waits_now id e (serial_of asked) (node_at (seats_of old.nodes.items) id) h.next
+  waiting_is =
+      last.waiting ∙ ap (λ l. l ++ waits_by id asked s.before s.after) (first.waiting ∙ append_nil mid.waiting.items ∙ waiting_was)
+      ∙ ap (λ l. old.waiting.items ++ l) waits_are
+
+  pub step_taken : HasTaken old (NodeSteps id e (serial_of asked)) (here.Replied id s.outcome) new
+  step_taken = record {
+    sound = adds_sound sent new _ _ _ _ last (adds_sound mid sent _ _ _ _ first h.sound);
+    roster = last.roster ∙ first.roster ∙ h.roster;
+    place = last.place ∙ first.place ∙ h.place;
+    takes = (
+      s.outcome,
+      h.next,
+      h.steps,
+      refl,
+      same_world (world_of new) (after_node old.roster (world_of old) id e (serial_of asked) s.outcome h.next)
+          (ap seats_of (last.nodes ∙ first.nodes) ∙ ap (λ w. w.seats) h.world)
+          (ap (λ m. m.state.purges) (last.master ∙ first.master) ∙ ap (λ w. w.master) h.world)
+          (last.clock ∙ first.clock ∙ ap (λ w. w.clock) h.world)
+          datagrams_are asks_are answers_are waiting_is,
+    );
+  }

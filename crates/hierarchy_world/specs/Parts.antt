@@ -1,0 +1,160 @@
+-- The parts of a world, what holds of them, and what a turn does to them.
+use Rattle.std.specs.Prelude.{◌≡◌, ℕ, suc, Bool, ◌==◌, false, List, [], ◌∷◌, ◌++◌, map, option_map, Option, Some, None, Result, Ok, Err, if◌then◌else◌}
+use Rattle.std.specs.List.{AllByRecursion}
+use Rattle.purge_numbers.specs.Floors.{FloorMap}
+use Rattle.roster_tables.specs.declared.plain.Tables.{Tables}
+use Rattle.purge_rules.specs.Members.{members_of}
+use Rattle.purge_rules.specs.Purges.{PurgeList}
+use Rattle.purge_master.specs.View.{MasterView}
+use Rattle.node_rules.specs.declared.state.NodeState.{NodeState}
+use Rattle.node_rules.specs.declared.event.Event.{Event}
+use Rattle.node_rules.specs.Relation.{Steps}
+use Rattle.node_core.specs.View.{NodeText}
+use Rattle.world_rules.specs.declared.event.WorldEvent.{WorldEvent}
+use Rattle.world_rules.specs.declared.outcome.Outcome.{Outcome}
+use Rattle.world_rules.specs.declared.outcome.WorldFault.{WorldFault}
+use Rattle.world_rules.specs.declared.outcome.WorldFault.TheVariants as fault
+use Rattle.world_rules.specs.Hierarchy.{setting}
+use Rattle.world_rules.specs.World.{Seat, Datagram, PeerAsk, PeerAnswer, Waiting, World, node_at, with_node}
+use Rattle.world_rules.specs.Turn.{Seen, Replied, Issued, NotIssued, Told, Nothing, Turn, Refused, turn}
+use Rattle.world_rules.specs.Run.{Takes, IsOfKey}
+use Rattle.hierarchy_world.specs.declared.parts.Parts.{Parts}
+use Rattle.hierarchy_world.specs.declared.seats.Stepped.{Stepped}
+use Rattle.hierarchy_world.specs.declared.telling.Seen.{Seen as SeenHere}
+use Rattle.hierarchy_world.specs.declared.telling.Seen.TheVariants as here
+use Rattle.hierarchy_world.specs.View.{WorldView, HasHappened}
+
+-- a member's node, over floors in memory
+abbrev pub MemberNode : Type 0
+MemberNode = NodeText ℕ FloorMap
+
+abbrev pub seat_of : MemberNode → Seat
+seat_of n = record { id = n.id; node = n.state }
+
+abbrev pub seats_of : List MemberNode → List Seat
+seats_of nodes = map seat_of nodes
+
+-- the world that they are
+abbrev pub world_of : Parts → World
+world_of p = record {
+  seats = seats_of p.nodes.items;
+  master = p.master.state.purges;
+  clock = p.clock;
+  datagrams = p.datagrams.items;
+  asks = p.asks.items;
+  answers = p.answers.items;
+  waiting = p.waiting.items;
+}
+
+-- with the roster and the place, and whether a growth was refused
+abbrev pub view_of : Parts → Bool → WorldView
+view_of p spoilt = record { roster = p.roster; place = p.place; spoilt = spoilt; world = world_of p }
+
+-- the store has the node's floors, whether it is open or closed
+abbrev pub IsStored : MemberNode → Type 0
+IsStored n = n.store ≡ n.state.floors
+
+-- the node has this roster, and its store has its floors
+pub record IsSeated (tables : Tables) (n : MemberNode) : Type 0 where
+  pub roster : n.roster ≡ tables
+  pub stored : IsStored n
+
+-- the master is the roster's, and open
+pub record IsInOffice (roster : Tables) (m : MasterView PurgeList) : Type 0 where
+  pub members : m.members ≡ members_of roster
+  pub is_open : m.state.closed ≡ false
+
+-- each member has its node, in the roster's order
+pub record IsSound (p : Parts) : Type 0 where
+  pub nodes : AllByRecursion (IsSeated p.roster) p.nodes.items
+  pub ids : map (λ n. n.id) p.nodes.items ≡ map (λ m. m.cache.id) p.roster.members
+  pub master : IsInOffice p.roster p.master
+
+-- the place of the first of these ids that is this one
+abbrev pub place_of : ℕ → List ℕ → Option ℕ
+place_of id [] = None
+place_of id (i ∷ ids) = if i == id then Some 0 else option_map suc (place_of id ids)
+
+-- the place of the member's node
+abbrev pub IsPlace : List MemberNode → ℕ → ℕ → Type 0
+IsPlace nodes id place = place_of id (map (λ n. n.id) nodes) ≡ Some place
+
+-- what is seen, as the world's definitions say it
+abbrev pub seen_of : SeenHere → Seen
+seen_of (here.Replied node outcome) = Replied node outcome
+seen_of (here.Issued number) = Issued number
+seen_of (here.NotIssued f) = NotIssued f
+seen_of (here.Told number status) = Told number status
+seen_of here.Nothing = Nothing
+
+-- A node has taken this step under this mark.
+pub record IsStep (before : MemberNode) (mark : ℕ) (e : Event ℕ) (s : Stepped) (after : MemberNode) : Type 0 where
+  pub roster : after.roster ≡ before.roster
+  pub id : after.id ≡ before.id
+  pub stored : IsStored after
+  pub steps : Steps (setting before.roster before.id) before.state e mark s.outcome after.state
+  pub next_before : s.before ≡ before.state.next
+  pub next_after : s.after ≡ after.state.next
+
+-- the member's node has this state, and all else is the same
+abbrev pub with_state : World → ℕ → NodeState ℕ → World
+with_state w id next = record { seats = with_node w.seats id next; master = w.master; clock = w.clock; datagrams = w.datagrams; asks = w.asks; answers = w.answers; waiting = w.waiting }
+
+-- The member's node has taken this step at its place in the run, and nothing is sent yet.
+pub record HasStepped (old : Parts) (id : ℕ) (e : Event ℕ) (s : Stepped) (new : Parts) : Type 0 where
+  pub sound : IsSound new
+  pub roster : new.roster ≡ old.roster
+  pub place : new.place ≡ old.place
+  pub next : NodeState ℕ
+  pub steps : Steps (setting old.roster id) (node_at (world_of old).seats id) e old.place s.outcome next
+  pub next_before : s.before ≡ (node_at (world_of old).seats id).next
+  pub next_after : s.after ≡ next.next
+  pub world : world_of new ≡ with_state (world_of old) id next
+
+-- the turn is taken, and this is seen
+pub record HasTaken (old : Parts) (t : Turn) (seen : SeenHere) (new : Parts) : Type 0 where
+  pub sound : IsSound new
+  pub roster : new.roster ≡ old.roster
+  pub place : new.place ≡ old.place
+  pub takes : Takes old.roster old.place (world_of old) t (seen_of seen) (world_of new)
+
+-- A turn is taken, or it is refused and changes nothing. Of want of memory nothing is said.
+abbrev pub IsTaken : Parts → Turn → Result SeenHere WorldFault → Parts → Type 0
+IsTaken old t (Ok seen) new = HasTaken old t seen new
+IsTaken old t (Err fault.NoMemory) new = Unit {0}
+IsTaken old t (Err f) new = (t ≡ Refused f) × (new ≡ old)
+
+-- Only these are added to what was sent and to what waits.
+pub record Adds (old new : Parts) (more_datagrams : List Datagram) (more_asks : List PeerAsk) (more_answers : List PeerAnswer) (more_waiting : List Waiting) : Type 0 where
+  pub roster : new.roster ≡ old.roster
+  pub nodes : new.nodes.items ≡ old.nodes.items
+  pub master : new.master ≡ old.master
+  pub clock : new.clock ≡ old.clock
+  pub place : new.place ≡ old.place
+  pub datagrams : new.datagrams.items ≡ old.datagrams.items ++ more_datagrams
+  pub asks : new.asks.items ≡ old.asks.items ++ more_asks
+  pub answers : new.answers.items ≡ old.answers.items ++ more_answers
+  pub waiting : new.waiting.items ≡ old.waiting.items ++ more_waiting
+
+-- Only these nodes stand there now, and this waits.
+pub record IsSeatChanged (old new : Parts) (nodes_now : List MemberNode) (waiting_now : List Waiting) : Type 0 where
+  pub roster : new.roster ≡ old.roster
+  pub nodes : new.nodes.items ≡ nodes_now
+  pub master : new.master ≡ old.master
+  pub clock : new.clock ≡ old.clock
+  pub place : new.place ≡ old.place
+  pub datagrams : new.datagrams.items ≡ old.datagrams.items
+  pub asks : new.asks.items ≡ old.asks.items
+  pub answers : new.answers.items ≡ old.answers.items
+  pub waiting : new.waiting.items ≡ waiting_now
+
+-- where something is seen, what is purged is the key of a URL
+abbrev pub IsKeyed : WorldEvent → Result SeenHere WorldFault → Type 0
+IsKeyed event (Ok seen) = IsOfKey event
+IsKeyed event (Err f) = Unit {0}
+
+-- The event has happened at its place, or it is refused and changes nothing. Of want of memory nothing is said.
+abbrev pub IsMade : Parts → WorldEvent → Result Outcome WorldFault → Parts → Type 0
+IsMade old event (Ok outcome) new = IsSound new × HasHappened (view_of old false) event outcome (view_of new false)
+IsMade old event (Err fault.NoMemory) new = Unit {0}
+IsMade old event (Err f) new = (turn old.roster (world_of old) event ≡ Refused f) × (new ≡ old)

@@ -1,0 +1,66 @@
+-- What may be served, and what an answer to a CLR says.
+use Rattle.std.specs.Prelude.{◌≡◌, ℕ, ◌≤◌, ◌==◌, true, List, [], ◌∷◌, Option, Some, None, Result, if◌then◌else◌}
+use Rattle.htcp_wire.specs.declared.message.Content.{Content}
+use Rattle.htcp_wire.specs.declared.message.Content.TheVariants as content
+use Rattle.roster_tables.specs.declared.plain.Address.{Address}
+use Rattle.roster_tables.specs.declared.plain.Udp.TheVariants as udp
+use Rattle.roster_tables.specs.declared.plain.Tables.{Tables}
+use Rattle.roster.specs.Lookups.{member_at}
+use Rattle.node_rules.specs.declared.message.Message.{Message}
+use Rattle.node_rules.specs.declared.message.Message.TheVariants as message
+use Rattle.node_rules.specs.declared.reply.Served.{Served}
+use Rattle.node_rules.specs.declared.reply.Served.TheVariants.{Copy, Status}
+use Rattle.node_rules.specs.declared.reply.Serve.{Serve}
+use Rattle.node_rules.specs.Arrivals.{is_gateway_fault}
+use Rattle.node_rules.specs.declared.reply.Reply.{Reply}
+use Rattle.node_rules.specs.declared.reply.StepFault.{StepFault}
+use Rattle.world_rules.specs.World.{World, Waiting, PeerAnswer, Answered, asked_before, answer_to, reply_in}
+use Rattle.world_rules.specs.Turn.{Turn, Ends, Nothing, acknowledged_by}
+
+-- a copy has an age that can be written, and a bare status is a gateway's
+abbrev pub IsWritten : Served ℕ → Type 0
+IsWritten (Copy c age) = age ≤ 2147483648
+IsWritten (Status status) = is_gateway_fault status ≡ true
+
+-- so it is with what is served, if anything is
+abbrev pub IsWrittenIn : Option (Serve ℕ) → Type 0
+IsWrittenIn None = Unit {0}
+IsWrittenIn (Some serve) = IsWritten serve.served
+
+abbrev pub clear_answer_in : ℕ → Content → Option (ℕ × ℕ)
+clear_answer_in trans (content.ClrAnswer code) = Some (trans, code)
+clear_answer_in trans _ = None
+
+-- the TRANS-ID and the code of a CLR's answer, if the message is one
+abbrev pub clear_answer : Message → Option (ℕ × ℕ)
+clear_answer (message.Icp m) = None
+clear_answer (message.Htcp m) = clear_answer_in m.trans m.content
+
+-- the master hears such an answer, or nothing
+abbrev pub heard_by : Tables → World → Address → Option (ℕ × ℕ) → Turn
+heard_by roster w sender None = Ends Nothing w
+heard_by roster w sender (Some x) = acknowledged_by roster w x.0 x.1 (member_at roster sender udp.Htcp)
+
+-- the ask that is answered: the one that waited as the block, or else the event, which is this ask of a member, if it is one
+abbrev pub answered : List Waiting → ℕ → Option Answered → Option ℕ → Option Answered
+answered waiting id asked None = asked
+answered waiting id asked (Some block) = asked_before waiting id block
+
+-- the answer that is sent to a member, where the event is this ask of a member, if it is one
+abbrev pub answers_by : List Waiting → ℕ → Option Answered → Option (Serve ℕ) → List PeerAnswer
+answers_by waiting id asked None = []
+answers_by waiting id asked (Some serve) = answer_to id serve.asker serve.served (answered waiting id asked serve.waiter)
+
+-- so it is with what an outcome serves
+abbrev pub IsWrittenBy : Result (Reply ℕ) StepFault → Type 0
+IsWrittenBy outcome = IsWrittenIn (reply_in outcome).serve
+
+-- the serial of a member's ask, 0 where there is none
+abbrev pub serial_of : Option Answered → ℕ
+serial_of None = 0
+serial_of (Some a) = a.serial
+
+-- this ask of a member has begun to wait, where the node has taken a block
+abbrev pub waits_by : ℕ → Option Answered → ℕ → ℕ → List Waiting
+waits_by id None before after = []
+waits_by id (Some a) before after = if before == after then [] else record { node = id; block = before; serial = a.serial; key = a.key } ∷ []

@@ -1,0 +1,32 @@
+-- A world as contracts see it, and what applying an event does to it.
+use Rattle.std.specs.Prelude.{◌≡◌, ℕ, ◌+◌, ◌-◌, ◌^◌, Bool, Result, Ok, Err}
+use Rattle.roster_tables.specs.declared.plain.Tables.{Tables}
+use Rattle.world_rules.specs.declared.event.WorldEvent.{WorldEvent}
+use Rattle.world_rules.specs.declared.outcome.Outcome.{Outcome}
+use Rattle.world_rules.specs.declared.outcome.WorldFault.{WorldFault}
+use Rattle.world_rules.specs.declared.outcome.WorldFault.TheVariants as fault
+use Rattle.world_rules.specs.World.{World}
+use Rattle.world_rules.specs.Turn.{Seen, Refused, turn}
+use Rattle.world_rules.specs.Run.{Happens}
+use Rattle.world_rules.specs.Apply.{outcome_of}
+
+-- the roster, the place of the next event, whether a growth was refused, and the world, which is what the events made it until then
+pub record WorldView : Type 0 where
+  pub roster : Tables
+  pub place : ℕ
+  pub spoilt : Bool
+  pub world : World
+
+-- the event has happened at the old place, and this is told of it
+abbrev pub HasHappened : WorldView → WorldEvent → Outcome → WorldView → Type 0
+HasHappened old event outcome new =
+    (new.roster ≡ old.roster) × (new.place ≡ old.place + 1)
+    × (seen : Seen) × Happens old.roster old.place old.world event seen new.world × (outcome ≡ outcome_of old.world new.world seen)
+
+-- An event is applied; or it is none, or no place is left, and nothing changes. Of want of memory nothing is said.
+abbrev pub IsApplied : WorldView → WorldEvent → Result Outcome WorldFault → WorldView → Type 0
+IsApplied old event (Ok outcome) new = HasHappened old event outcome new
+IsApplied old event (Err fault.NoSuchPacket) new = (turn old.roster old.world event ≡ Refused fault.NoSuchPacket) × (new ≡ old)
+IsApplied old event (Err fault.NotPending) new = (turn old.roster old.world event ≡ Refused fault.NotPending) × (new ≡ old)
+IsApplied old event (Err fault.PlacesSpent) new = (old.place ≡ 2 ^ 64 - 1) × (new ≡ old)
+IsApplied old event (Err fault.NoMemory) new = Unit {0}

@@ -1,0 +1,243 @@
+//! What comes to a member or to the master.
+ghost use Rattle.std.specs.Prelude.{◌≡◌, true, Some};
+ghost use Rattle.node_rules.specs.declared.event.Event.TheVariants as events;
+ghost use Rattle.node_rules.specs.State.{opened};
+ghost use Rattle.roster.specs.Lookups.{is_member};
+ghost use Rattle.world_rules.specs.World.{item as item_of, node_at};
+ghost use Rattle.world_rules.specs.Turn as turns;
+ghost use Rattle.hierarchy_world.specs.Parts.{IsSound, IsTaken, world_of};
+
+use crate::network::Asked;
+use crate::parts::{Parts, is_foreign, is_master, is_own, item, udp_of};
+use crate::posting::copy_of_message;
+use crate::purging::clear_answer;
+use crate::telling::Seen;
+use fetch_messages::{Answer, Ask};
+use node_rules::{Event, Fetch, Received};
+use roster::Address;
+use world_rules::WorldFault;
+
+impl Parts {
+    /// A client asks a member.
+    pub(crate) fn client(&mut self, id: u8, ask: Ask) -> Result<Seen, WorldFault>
+        requires { IsSound self.old }
+        ensures { IsTaken self.old (turns.at_member self.old.roster id (turns.NodeSteps id (events.Client ask self.old.clock) 0)) result self.new }
+    {
+        let Some(place) = self.place_of(id) else {
+            return Err(WorldFault::NoSuchPacket);
+        };
+        let now = self.clock;
+        self.step(place, id, Event::Client { ask, now }, None)
+    }
+
+    /// A datagram comes to a member.
+    fn hear(&mut self, id: u8, from: Address, message: Received) -> Result<Seen, WorldFault>
+        requires sound { IsSound self.old }
+        requires member { is_member self.old.roster id ≡ true }
+        ensures { IsTaken self.old (turns.delivered_to (world_of self.old) from message (Some id)) result self.new }
+    {
+        let Some(place) = self.place_of(id) else {
+            return Err(WorldFault::NoSuchPacket);
+        };
+        let now = self.clock;
+        self.step(place, id, Event::Datagram { from, message, now }, None)
+    }
+
+    /// A datagram that was sent comes.
+    #[tactic(auto, using(crate::proofs::Members::reached_member, crate::proofs::Answerable::sendable_answerable))]
+    pub(crate) fn datagram(&mut self, number: u64) -> Result<Seen, WorldFault>
+        requires { IsSound self.old }
+        ensures { IsTaken self.old (turns.delivered self.old.roster (world_of self.old) (item_of self.old.datagrams.items number)) result self.new }
+    {
+        let Some(datagram) = item(self.datagrams.as_slice(), number) else {
+            return Err(WorldFault::NoSuchPacket);
+        };
+        let sender = datagram.sender;
+        let message = datagram.message.message();
+        if is_master(&self.roster, datagram.receiver) {
+            let answer = clear_answer(message);
+            return self.master_hears(sender, answer);
+        }
+        let Some(id) = self.roster.member_at(datagram.receiver, udp_of(message)) else {
+            return Err(WorldFault::NoSuchPacket);
+        };
+        let message = Received::new(copy_of_message(self.alloc, message)?);
+        self.hear(id, sender, message)
+    }
+
+    /// A datagram comes from an address that is neither a member's nor the master's.
+    #[tactic(auto, using(crate::proofs::Members::reached_member))]
+    pub(crate) fn strange(
+        &mut self,
+        to: Address,
+        from: Address,
+        message: Received,
+    ) -> Result<Seen, WorldFault>
+        requires { IsSound self.old }
+        ensures { IsTaken self.old (turns.strange_comes self.old.roster (world_of self.old) to from message) result self.new }
+    {
+        if is_own(&self.roster, from) {
+            return Err(WorldFault::NoSuchPacket);
+        }
+        match self.roster.member_at(to, udp_of(message.message())) {
+            Some(id) => self.hear(id, from, message),
+            None => Err(WorldFault::NoSuchPacket),
+        }
+    }
+
+    /// An ask that a member sent to a member comes.
+    pub(crate) fn peer_ask(&mut self, number: u64) -> Result<Seen, WorldFault>
+        requires { IsSound self.old }
+        ensures { IsTaken self.old (turns.ask_delivered self.old.roster (world_of self.old) (item_of self.old.asks.items number)) result self.new }
+    {
+        let Some(sent) = item(self.asks.as_slice(), number) else {
+            return Err(WorldFault::NoSuchPacket);
+        };
+        let id = sent.receiver;
+        let Some(place) = self.place_of(id) else {
+            return Err(WorldFault::NoSuchPacket);
+        };
+        let asked = Asked {
+            serial: sent.serial,
+            key: sent.ask.key.copy(self.alloc)?,
+        };
+        let event = Event::PeerAsk {
+            asker: sent.sender,
+            ask: sent.ask.copy(self.alloc)?,
+            now: self.clock,
+        };
+        self.step(place, id, event, Some(asked))
+    }
+
+    /// An answer that a member sent to a member comes, under this serial or else under that of its ask.
+    pub(crate) fn peer_answer(
+        &mut self,
+        number: u64,
+        serial: Option<u32>,
+    ) -> Result<Seen, WorldFault>
+        requires { IsSound self.old }
+        ensures { IsTaken self.old (turns.answer_delivered self.old.roster (world_of self.old) serial (item_of self.old.answers.items number)) result self.new }
+    {
+        let Some(sent) = item(self.answers.as_slice(), number) else {
+            return Err(WorldFault::NoSuchPacket);
+        };
+        let id = sent.receiver;
+        let Some(place) = self.place_of(id) else {
+            return Err(WorldFault::NoSuchPacket);
+        };
+        let event = Event::PeerAnswer {
+            serial: serial.unwrap_or(sent.serial),
+            peer: sent.sender,
+            key: sent.key.copy(self.alloc)?,
+            answer: sent.answer.copy()?,
+            tag: sent.mark,
+            now: self.clock,
+        };
+        self.step(place, id, event, None)
+    }
+
+    /// The origin answers a read.
+    pub(crate) fn origin(&mut self, id: u8, serial: u32, answer: Answer) -> Result<Seen, WorldFault>
+        requires { IsSound self.old }
+        ensures { IsTaken self.old (turns.at_member self.old.roster id (turns.origin_to (world_of self.old) id serial answer (turns.fetching_at (world_of self.old) id serial))) result self.new }
+    {
+        let Some(place) = self.place_of(id) else {
+            return Err(WorldFault::NoSuchPacket);
+        };
+        let Some(pending) = self.nodes[place].fetching(serial) else {
+            return Err(WorldFault::NotPending);
+        };
+        let key = match &pending.fetch {
+            Fetch::AtOrigin { .. } => pending.ask.key.copy(self.alloc)?,
+            _ => return Err(WorldFault::NotPending),
+        };
+        let now = self.clock;
+        let event = Event::OriginAnswer {
+            serial,
+            key,
+            answer,
+            now,
+        };
+        self.step(place, id, event, None)
+    }
+
+    /// A foreign cache answers a fetch.
+    pub(crate) fn foreign(
+        &mut self,
+        id: u8,
+        serial: u32,
+        answer: Answer,
+    ) -> Result<Seen, WorldFault>
+        requires { IsSound self.old }
+        ensures { IsTaken self.old (turns.at_member self.old.roster id (turns.foreign_to (world_of self.old) id serial answer (turns.fetching_at (world_of self.old) id serial))) result self.new }
+    {
+        let Some(place) = self.place_of(id) else {
+            return Err(WorldFault::NoSuchPacket);
+        };
+        let Some(pending) = self.nodes[place].fetching(serial) else {
+            return Err(WorldFault::NotPending);
+        };
+        let peer = match &pending.fetch {
+            Fetch::AtPeer { peer, .. } if is_foreign(*peer) => *peer,
+            _ => return Err(WorldFault::NotPending),
+        };
+        let key = pending.ask.key.copy(self.alloc)?;
+        let event = Event::ForeignAnswer {
+            serial,
+            peer,
+            key,
+            answer,
+            tag: 0,
+            now: self.clock,
+        };
+        self.step(place, id, event, None)
+    }
+
+    /// A member's fetch fails.
+    pub(crate) fn fail(&mut self, id: u8, serial: u32) -> Result<Seen, WorldFault>
+        requires { IsSound self.old }
+        ensures { IsTaken self.old (turns.at_member self.old.roster id (turns.NodeSteps id (events.FetchFailed serial self.old.clock) 0)) result self.new }
+    {
+        let Some(place) = self.place_of(id) else {
+            return Err(WorldFault::NoSuchPacket);
+        };
+        let now = self.clock;
+        self.step(place, id, Event::FetchFailed { serial, now }, None)
+    }
+
+    /// A member's round has waited for its time.
+    pub(crate) fn expire(&mut self, id: u8, serial: u32) -> Result<Seen, WorldFault>
+        requires { IsSound self.old }
+        ensures { IsTaken self.old (turns.at_member self.old.roster id (turns.NodeSteps id (events.Expired serial self.old.clock) 0)) result self.new }
+    {
+        let Some(place) = self.place_of(id) else {
+            return Err(WorldFault::NoSuchPacket);
+        };
+        let now = self.clock;
+        self.step(place, id, Event::Expired { serial, now }, None)
+    }
+
+    /// A member's store of floors fails, and the member closes.
+    pub(crate) fn fault(&mut self, id: u8) -> Result<Seen, WorldFault>
+        requires { IsSound self.old }
+        ensures { IsTaken self.old (turns.at_member self.old.roster id (turns.Ends turns.Nothing (turns.with_seat (world_of self.old) id (turns.closed_node (node_at (world_of self.old).seats id))))) result self.new }
+    {
+        let Some(place) = self.place_of(id) else {
+            return Err(WorldFault::NoSuchPacket);
+        };
+        self.close_at(place, id);
+        Ok(Seen::Nothing)
+    }
+
+    /// A member starts again.
+    pub(crate) fn restart(&mut self, id: u8) -> Result<Seen, WorldFault>
+        requires { IsSound self.old }
+        ensures { IsTaken self.old (turns.at_member self.old.roster id (turns.Ends turns.Nothing (turns.with_seat (world_of self.old) id (opened (node_at (world_of self.old).seats id).floors)))) result self.new }
+    {
+        let Some(place) = self.place_of(id) else {
+            return Err(WorldFault::NoSuchPacket);
+        };
+        self.restart_at(place, id)?;
+        Ok(Seen::Nothing)
+    }
+}

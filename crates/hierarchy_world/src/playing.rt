@@ -1,0 +1,173 @@
+//! A world, and whole runs of it.
+ghost use Rattle.std.specs.Prelude.{◌≡◌, ◌≢◌, ◌↔◌, ◌^◌, ◌-◌, map, true, false, IsTrue, IfOk, IfErr, OnOk, Err};
+ghost use Rattle.world_rules.specs.declared.outcome.WorldFault.TheVariants.{NoMemory, PlacesSpent};
+ghost use Rattle.world_rules.specs.World.{new_world};
+ghost use Rattle.node_rules.specs.State.{opened};
+ghost use Rattle.std.specs.FinMap.{empty};
+ghost use Rattle.roster.specs.Judged.{IsRoster};
+ghost use Rattle.hierarchy_world.specs.View.{IsApplied};
+ghost use Rattle.hierarchy_world.specs.Runs.{HasRun, HasStopped};
+ghost use Rattle.hierarchy_world.specs.Parts.{IsSound, world_of};
+
+use crate::network::Datagram;
+use crate::parts::Parts;
+use node_core::Node;
+use purge_master::Master;
+use purge_numbers::MemoryFloors;
+use purge_rules::MemoryPurges;
+use roster::{Listed, Roster};
+use std::alloc::{AllocError, Global};
+use std::marker::Model;
+use world_rules::{Outcome, WorldEvent, WorldFault};
+
+/// The world of a hierarchy: each member's node, the master of purges, a clock, and the network, which is all that was ever sent.
+#[derive(Drop)]
+pub struct World {
+    parts: Parts,
+    spoilt: bool,
+}
+
+impl Model for World {
+    ghost use Rattle.std.specs.Prelude.{◌≡◌, false};
+    ghost use Rattle.std.specs.Coded.{codes, coded_list, coded_ℕ};
+    ghost use Rattle.std.specs.FinMap.{code as map_code};
+    ghost use Rattle.std.specs.Ordering.{nat_cmp};
+    ghost use Rattle.std.specs.Cmp.Lexicographic.{slice_cmp};
+    ghost use Rattle.hierarchy_world.specs.View.{WorldView};
+    ghost use Rattle.hierarchy_world.specs.Parts.{IsSound, world_of};
+
+    ghost Value = { WorldView };
+
+    ghost coded = { Prim.hlevel (codes, map_code {R = slice_cmp nat_cmp} (coded_list coded_ℕ) coded_ℕ) };
+
+    ghost view = { λ w. record { roster = w.parts.roster; place = w.parts.place; spoilt = w.spoilt; world = world_of w.parts } };
+
+    ghost invariant = { λ w. w.spoilt ≡ false → IsSound w.parts };
+}
+
+/// Whether a growth was refused.
+fn is_spoiling(answer: &Result<Outcome, WorldFault>) -> bool
+    ensures { IsTrue result ↔ (answer.now ≡ Err NoMemory) }
+{
+    matches!(answer, Err(WorldFault::NoMemory))
+}
+
+/// The node of a member, with nothing.
+fn new_node(alloc: Global, roster: &Roster, id: u8) -> Result<Node<u64, MemoryFloors>, WorldFault>
+    ensures made { IfOk result (λ node. node ≡ record { roster = roster.now; id = id; state = opened empty; store = empty }) }
+    ensures fault { IfErr result (λ fault. fault ≡ NoMemory) }
+{
+    let copy = roster.copy(alloc)?;
+    match Node::open(alloc, copy, id, MemoryFloors::new(alloc)) {
+        Ok(node) => Ok(node),
+        Err(_) => Err(WorldFault::NoMemory),
+    }
+}
+
+/// The nodes of all members, with nothing.
+fn new_nodes(alloc: Global, roster: &Roster) -> Result<Vec<Node<u64, MemoryFloors>>, WorldFault>
+    ensures made { IfOk result (λ nodes. nodes.items ≡ map (λ m. record { roster = roster.now; id = m.cache.id; state = opened empty; store = empty }) roster.now.members) }
+    ensures fault { IfErr result (λ fault. fault ≡ NoMemory) }
+{
+    let members = roster.members();
+    let mut nodes = Vec::with_capacity(alloc, members.len())?;
+    for member in members {
+        let node = new_node(alloc, roster, member.cache.id)?;
+        if nodes.push(node).is_err() {
+            return Err(WorldFault::NoMemory);
+        }
+    }
+    Ok(nodes)
+}
+
+/// The parts of a world in which nothing is stored and nothing is sent.
+fn new_parts(alloc: Global, roster: &Roster) -> Result<Parts, WorldFault>
+    ensures sound { IfOk result IsSound }
+    ensures roster { IfOk result (λ parts. (parts.roster ≡ roster.now) × (parts.place ≡ 1)) }
+    ensures valid { IfOk result (λ parts. IsRoster parts.roster) }
+    ensures world { IfOk result (λ parts. world_of parts ≡ new_world roster.now) }
+    ensures fault { IfErr result (λ fault. fault ≡ NoMemory) }
+{
+    let nodes = new_nodes(alloc, roster)?;
+    let Ok(master) = Master::open(alloc, roster, MemoryPurges::new(alloc)) else {
+        return Err(WorldFault::NoMemory);
+    };
+    Ok(Parts {
+        alloc,
+        roster: roster.copy(alloc)?,
+        nodes,
+        master,
+        clock: 0,
+        datagrams: Vec::new(alloc),
+        asks: Vec::new(alloc),
+        answers: Vec::new(alloc),
+        waiting: Vec::new(alloc),
+        place: 1,
+    })
+}
+
+impl World {
+    /// A world in which nothing is stored and nothing is sent, at moment 0.
+    ///
+    /// Faults: `NoMemory`.
+    pub fn new(alloc: Global, roster: &Roster) -> Result<World, WorldFault>
+        ensures made { IfOk result (λ w. w ≡ record { roster = roster.now; place = 1; spoilt = false; world = new_world roster.now }) }
+        ensures valid { IfOk result (λ w. IsRoster w.roster) }
+        ensures fault { IfErr result (λ fault. fault ≡ NoMemory) }
+    {
+        Ok(World {
+            parts: new_parts(alloc, roster)?,
+            spoilt: false,
+        })
+    }
+
+    /// Applies an event: one turn of one actor, or a passing of time.
+    ///
+    /// Faults: `PlacesSpent` before anything else, where the next place is the greatest number; `NoSuchPacket` and `NotPending` as the event says.
+    /// These change nothing. `NoMemory` where a growth was refused: the world is to be made anew, and answers `NoMemory` from then on.
+    pub fn apply(&mut self, event: WorldEvent) -> Result<Outcome, WorldFault>
+        ensures applied { IsApplied self.old event result self.new }
+        ensures spent { self.old.place ≡ 2 ^ 64 - 1 → result ≡ Err PlacesSpent }
+        ensures spoilt { self.old.spoilt ≡ true → (self.new ≡ self.old) × (self.old.place ≢ 2 ^ 64 - 1 → result ≡ Err NoMemory) }
+        ensures spoils { result ≡ Err NoMemory → self.new.spoilt ≡ true }
+        ensures usable { OnOk result (self.new.spoilt ≡ false) }
+    {
+        if self.parts.place == u64::MAX {
+            return Err(WorldFault::PlacesSpent);
+        }
+        if self.spoilt {
+            return Err(WorldFault::NoMemory);
+        }
+        let answer = self.parts.happen(event);
+        self.spoilt = is_spoiling(&answer);
+        answer
+    }
+
+    /// All datagrams ever sent, in order.
+    pub fn datagrams(&self) -> &[Datagram]
+        ensures { result.now ≡ self.now.world.datagrams }
+    {
+        self.parts.datagrams.as_slice()
+    }
+
+    /// The world after these events from a new one, with what is told of each. It stops at the first fault, and answers it. The run that it answers is safe: nothing
+    /// old is served once a purge is reported done, and no request to a sibling begins anything.
+    pub fn run(
+        alloc: Global,
+        roster: &Roster,
+        events: Vec<WorldEvent>,
+    ) -> Result<(World, Listed<Outcome>), WorldFault>
+        ensures run { IfOk result (λ done. HasRun roster.now events.items done.0 done.1) }
+        ensures stopped { IfErr result (HasStopped roster.now events.items) }
+    {
+        let mut world = World::new(alloc, roster)?;
+        let mut outcomes = Vec::with_capacity(alloc, events.len())?;
+        for event in events {
+            let outcome = world.apply(event)?;
+            if outcomes.push(outcome).is_err() {
+                return Err(WorldFault::NoMemory);
+            }
+        }
+        Ok((world, Listed::new(outcomes)))
+    }
+}

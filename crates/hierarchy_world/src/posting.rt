@@ -1,0 +1,341 @@
+//! A node's step, and what its reply sends.
+ghost use Rattle.std.specs.Prelude.{◌≡◌, ◌≤◌, ◌<◌, length, ◌==◌, ◌&&◌, ℕ, true, [], ◌∷◌, map, find, option_map, Option, Some, None, IfOk, OnOk};
+ghost use Rattle.std.specs.List.{cons_option};
+ghost use Rattle.fetch_messages.specs.Field.{field_text};
+ghost use Rattle.roster.specs.Lookups.{member_of as member_by_id, address_by as address_for};
+ghost use Rattle.node_rules.specs.Texts.{IsSendable};
+ghost use Rattle.node_rules.specs.Arrivals.{is_gateway_fault};
+ghost use Rattle.world_rules.specs.Hierarchy.{udp_of as udp_of_text};
+ghost use Rattle.world_rules.specs.World as world;
+ghost use Rattle.world_rules.specs.Turn.{NodeSteps};
+ghost use Rattle.hierarchy_world.specs.Parts.{IsSound, IsPlace, IsTaken, Adds};
+ghost use Rattle.hierarchy_world.specs.Posted.{IsWritten, IsWrittenIn, IsWrittenBy, answered as answered_by, answers_by, waits_by, serial_of};
+
+use crate::network::{Asked, Datagram, PeerAnswer, PeerAsk, Waiting};
+use crate::parts::{Parts, is_foreign, member_of, udp_of};
+use crate::seats::Stepped;
+use crate::telling::Seen;
+use fetch_messages::{Answer, Body, Field, Fields};
+use node_rules::{Begin, Event, Message, Outgoing, Reply, Sent, Serve, Served, StepFault};
+use object_store::WebCopy;
+use roster::{Address, Cache, Udp};
+use std::alloc::{AllocError, Global};
+use url_key::Key;
+use world_rules::WorldFault;
+
+/// The same message once more.
+pub(crate) fn copy_of_message(alloc: Global, message: &Message) -> Result<Message, AllocError>
+    ensures { IfOk result (λ copy. copy ≡ message.now) }
+{
+    Ok(match message {
+        Message::Icp(message) => Message::Icp(message.copy(alloc)?),
+        Message::Htcp(message) => Message::Htcp(message.copy(alloc)?),
+    })
+}
+
+/// Where a cache answers a protocol.
+fn address_by(by: Udp, cache: &Cache) -> Address
+    ensures { result ≡ address_for by cache.now }
+{
+    match by {
+        Udp::Icp => cache.icp,
+        Udp::Htcp => cache.htcp,
+    }
+}
+
+/// The datagram of a member that a message to be sent makes.
+fn datagram_from(alloc: Global, cache: &Cache, sent: &Outgoing) -> Result<Datagram, AllocError>
+    ensures { IfOk result (λ made. made ≡ record { sender = address_for (udp_of_text sent.now.message) cache.now; receiver = sent.now.to; message = sent.now.message }) }
+{
+    let message = sent.message.message();
+    Ok(Datagram {
+        sender: address_by(udp_of(message), cache),
+        receiver: sent.to,
+        message: Sent::new(copy_of_message(alloc, message)?),
+    })
+}
+
+/// The datagrams of a member that messages to be sent make.
+fn datagrams_from(
+    alloc: Global,
+    cache: &Cache,
+    sent: &[Outgoing],
+) -> Result<Vec<Datagram>, AllocError>
+    ensures { IfOk result (λ made. made.items ≡ map (λ o. record { sender = address_for (udp_of_text o.message) cache.now; receiver = o.to; message = o.message }) sent.now) }
+{
+    let mut made = Vec::with_capacity(alloc, sent.len())?;
+    for outgoing in sent {
+        made.push(datagram_from(alloc, cache, outgoing)?)?;
+    }
+    Ok(made)
+}
+
+/// The same fields once more.
+fn copy_of_fields(alloc: Global, fields: &[Field]) -> Result<Fields, AllocError>
+    ensures { IfOk result (λ copy. copy ≡ map field_text fields.now) }
+{
+    let mut copy = Vec::with_capacity(alloc, fields.len())?;
+    for field in fields {
+        copy.push(field.copy()?)?;
+    }
+    Ok(Fields::new(alloc, copy)?)
+}
+
+/// The answer that a copy of this age is written as.
+#[tactic(auto, using(crate::proofs::Writing::writable_aged))]
+fn answer_of_copy(alloc: Global, copy: &WebCopy<u64>, age: u64) -> Result<Answer, AllocError>
+    requires { age ≤ 2147483648 }
+    ensures { IfOk result (λ answer. answer ≡ world.answer_of_copy copy.now age) }
+{
+    let fields = copy_of_fields(alloc, copy.answer.fields())?;
+    let body = Body::from_slice(alloc, copy.answer.body())?;
+    let status = copy.answer.status();
+    match Answer::new(status, fields, Some(age as u32), Some(copy.stamp), body) {
+        Some(answer) => Ok(answer),
+        None => unreachable!(),
+    }
+}
+
+/// The answer that a bare status is written as.
+#[tactic(auto, using(crate::proofs::Writing::writable_status))]
+fn answer_of_status(alloc: Global, status: u16) -> Result<Answer, AllocError>
+    requires { is_gateway_fault status ≡ true }
+    ensures { IfOk result (λ answer. answer ≡ world.answer_of_status status) }
+{
+    let fields = Fields::new(alloc, Vec::new(alloc))?;
+    match Answer::new(status, fields, None, None, Body::empty()) {
+        Some(answer) => Ok(answer),
+        None => unreachable!(),
+    }
+}
+
+/// What is served as it is written to a member.
+fn answer_of(alloc: Global, served: &Served<u64>) -> Result<Answer, AllocError>
+    requires { IsWritten served.now }
+    ensures { IfOk result (λ answer. answer ≡ world.answer_of served.now) }
+{
+    match served {
+        Served::Copy { copy, age } => answer_of_copy(alloc, copy, *age),
+        Served::Status(status) => answer_of_status(alloc, *status),
+    }
+}
+
+/// The mark of the copy that is served, or 0.
+fn mark_of(served: &Served<u64>) -> u64
+    ensures { result ≡ world.mark_of served.now }
+{
+    match served {
+        Served::Copy { copy, .. } => copy.tag,
+        Served::Status(_) => 0,
+    }
+}
+
+/// The ask that waited at the node as this block.
+fn asked_before(
+    alloc: Global,
+    waiting: &[Waiting],
+    id: u8,
+    block: u32,
+) -> Result<Option<Asked>, AllocError>
+    ensures { IfOk result (λ asked. asked ≡ world.asked_before waiting.now id block) }
+{
+    match waiting
+        .iter()
+        .find(|waiting| waiting.node == id && waiting.block == block)
+    {
+        Some(waiting) => Ok(Some(Asked {
+            serial: waiting.serial,
+            key: waiting.key.copy(alloc)?,
+        })),
+        None => Ok(None),
+    }
+}
+
+/// The same ask that is answered once more.
+fn copy_of_asked(alloc: Global, asked: &Option<Asked>) -> Result<Option<Asked>, AllocError>
+    ensures { IfOk result (λ copy. copy ≡ asked.now) }
+{
+    match asked {
+        Some(asked) => Ok(Some(Asked {
+            serial: asked.serial,
+            key: asked.key.copy(alloc)?,
+        })),
+        None => Ok(None),
+    }
+}
+
+/// The answer to the member that asked, if a member did.
+fn answer_to(
+    alloc: Global,
+    id: u8,
+    serve: &Serve<u64>,
+    asked: Option<Asked>,
+) -> Result<Option<PeerAnswer>, AllocError>
+    requires { IsWritten serve.now.served }
+    ensures { IfOk result (λ answer. world.answer_to id serve.now.asker serve.now.served asked ≡ cons_option answer []) }
+{
+    match (serve.asker, asked) {
+        (Some(asker), Some(asked)) => Ok(Some(PeerAnswer {
+            sender: id,
+            receiver: asker,
+            serial: asked.serial,
+            key: asked.key,
+            answer: answer_of(alloc, &serve.served)?,
+            mark: mark_of(&serve.served),
+        })),
+        _ => Ok(None),
+    }
+}
+
+/// The ask that a reply sends to a member, if it does.
+fn ask_in(alloc: Global, id: u8, begin: &Option<Begin>) -> Result<Option<PeerAsk>, AllocError>
+    ensures { IfOk result (λ ask. world.asks_in id begin.now ≡ cons_option ask []) }
+{
+    match begin {
+        Some(Begin::Peer { serial, peer, ask }) => {
+            if is_foreign(*peer) {
+                return Ok(None);
+            }
+            Ok(Some(PeerAsk {
+                sender: id,
+                receiver: *peer,
+                serial: *serial,
+                ask: ask.copy(alloc)?,
+            }))
+        }
+        _ => Ok(None),
+    }
+}
+
+impl Parts {
+    /// The ask that a member's node answers: the one that waited as the block, or else the event, which is this ask of a member, if it is one.
+    fn answered(
+        &self,
+        id: u8,
+        asked: &Option<Asked>,
+        waiter: Option<u32>,
+    ) -> Result<Option<Asked>, AllocError>
+        ensures { IfOk result (λ found. found ≡ answered_by self.now.waiting.items id asked.now waiter) }
+    {
+        match waiter {
+            Some(block) => asked_before(self.alloc, self.waiting.as_slice(), id, block),
+            None => copy_of_asked(self.alloc, asked),
+        }
+    }
+
+    /// Sends a member's datagrams.
+    fn send(&mut self, id: u8, sent: &[Outgoing]) -> Result<(), AllocError>
+        ensures { OnOk result (Adds self.old self.new (world.datagrams_from (member_by_id self.old.roster id) sent.now) [] [] []) }
+    {
+        if let Some(member) = member_of(&self.roster, id) {
+            let mut made = datagrams_from(self.alloc, &member.cache, sent)?;
+            self.datagrams.append(&mut made)?;
+        }
+        Ok(())
+    }
+
+    /// Sends a member's ask, if it begins a fetch from a member.
+    fn ask(&mut self, id: u8, begin: &Option<Begin>) -> Result<(), AllocError>
+        ensures { OnOk result (Adds self.old self.new [] (world.asks_in id begin.now) [] []) }
+    {
+        if let Some(ask) = ask_in(self.alloc, id, begin)? {
+            self.asks.push(ask)?;
+        }
+        Ok(())
+    }
+
+    /// Sends a member's answer, if it serves a member.
+    fn answer(
+        &mut self,
+        id: u8,
+        asked: &Option<Asked>,
+        serve: &Option<Serve<u64>>,
+    ) -> Result<(), AllocError>
+        requires { IsWrittenIn serve.now }
+        ensures { OnOk result (Adds self.old self.new [] [] (answers_by self.old.waiting.items id asked.now serve.now) []) }
+    {
+        let Some(serve) = serve else {
+            return Ok(());
+        };
+        let asked = self.answered(id, asked, serve.waiter)?;
+        if let Some(answer) = answer_to(self.alloc, id, serve, asked)? {
+            self.answers.push(answer)?;
+        }
+        Ok(())
+    }
+
+    /// Sends all that a reply sends.
+    fn post(&mut self, id: u8, asked: &Option<Asked>, reply: &Reply<u64>) -> Result<(), AllocError>
+        requires { IsWrittenIn reply.now.serve }
+        ensures { OnOk result (Adds self.old self.new (world.datagrams_from (member_by_id self.old.roster id) reply.now.send) (world.asks_in id reply.now.begin) (answers_by self.old.waiting.items id asked.now reply.now.serve) []) }
+    {
+        self.send(id, reply.send.as_slice())?;
+        self.ask(id, &reply.begin)?;
+        self.answer(id, asked, &reply.serve)
+    }
+
+    /// Sends all that an outcome sends. A refused step sends nothing.
+    fn post_outcome(
+        &mut self,
+        id: u8,
+        asked: &Option<Asked>,
+        outcome: &Result<Reply<u64>, StepFault>,
+    ) -> Result<(), AllocError>
+        requires { IsWrittenBy outcome.now }
+        ensures { OnOk result (Adds self.old self.new (world.datagrams_from (member_by_id self.old.roster id) (world.reply_in outcome.now).send)
+            (world.asks_in id (world.reply_in outcome.now).begin) (answers_by self.old.waiting.items id asked.now (world.reply_in outcome.now).serve) []) }
+    {
+        match outcome {
+            Ok(reply) => self.post(id, asked, reply),
+            Err(_) => Ok(()),
+        }
+    }
+
+    /// A peer's ask has begun to wait where the node has taken a block.
+    fn wait(
+        &mut self,
+        id: u8,
+        asked: Option<Asked>,
+        before: u32,
+        after: u32,
+    ) -> Result<(), AllocError>
+        ensures { OnOk result (Adds self.old self.new [] [] [] (waits_by id asked before after)) }
+    {
+        if let Some(asked) = asked {
+            if before != after {
+                self.waiting.push(Waiting {
+                    node: id,
+                    block: before,
+                    serial: asked.serial,
+                    key: asked.key,
+                })?;
+            }
+        }
+        Ok(())
+    }
+
+    /// A step of the node of a place, which is this member's, by an event that is this ask of a member, if it is one.
+    #[tactic(auto, using(crate::proofs::Serving::outcome_written, crate::proofs::Taking::step_taken))]
+    pub(crate) fn step(
+        &mut self,
+        place: usize,
+        id: u8,
+        event: Event<u64>,
+        asked: Option<Asked>,
+    ) -> Result<Seen, WorldFault>
+        requires sound { IsSound self.old }
+        requires place { IsPlace self.old.nodes.items id place }
+        requires below { place < length self.old.nodes.items }
+        requires asked { asked ≡ world.asked_now event (serial_of asked) }
+        ensures { IsTaken self.old (NodeSteps id event (serial_of asked)) result self.new }
+    {
+        let Stepped {
+            before,
+            outcome,
+            after,
+        } = self.step_at(place, id, event)?;
+        self.post_outcome(id, &asked, &outcome)?;
+        self.wait(id, asked, before, after)?;
+        Ok(Seen::Replied { node: id, outcome })
+    }
+}

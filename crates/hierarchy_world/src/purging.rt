@@ -1,0 +1,231 @@
+//! The master's turns.
+ghost use Rattle.std.specs.Prelude.{◌≡◌, ◌+◌, [], ◌∷◌, Option, Some, None, option_map, Result, Ok, IfOk, OnOk};
+ghost use Rattle.std.specs.List.{cons_option, flat_map};
+ghost use Rattle.url_key.specs.Key.{IsKey};
+ghost use Rattle.htcp_wire.specs.Written.{Fits};
+ghost use Rattle.node_rules.specs.declared.message.Message.TheVariants as messages;
+ghost use Rattle.roster.specs.Lookups.{member_of as member_by_id, member_at};
+ghost use Rattle.roster_tables.specs.declared.plain.Udp.TheVariants as udp;
+ghost use Rattle.purge_rules.specs.Clear.{clear as clear_of, message_of};
+ghost use Rattle.purge_rules.specs.Calls.{issue_fault};
+ghost use Rattle.world_rules.specs.Turn as turns;
+ghost use Rattle.hierarchy_world.specs.Parts.{IsSound, IsTaken, Adds, world_of};
+ghost use Rattle.hierarchy_world.specs.Posted.{clear_answer as clear_answer_of, heard_by};
+
+use crate::network::Datagram;
+use crate::parts::{Parts, member_of};
+use crate::telling::Seen;
+use htcp_wire::{Content, Htcp};
+use node_rules::{Message, Sent};
+use purge_master::Master;
+use purge_rules::{MasterFault, MemoryPurges, clear};
+use roster::{Address, Roster, Udp};
+use std::alloc::{AllocError, Global};
+use std::mem::replace;
+use url_key::Key;
+use world_rules::WorldFault;
+
+/// The CLR as a datagram from the master to a member.
+fn clear_to(master: Address, receiver: Address, message: Htcp) -> Datagram
+    requires { Fits message }
+    ensures { result ≡ record { sender = master; receiver = receiver; message = messages.Htcp message } }
+{
+    Datagram {
+        sender: master,
+        receiver,
+        message: Sent::new(Message::Htcp(message)),
+    }
+}
+
+/// The TRANS-ID and the code of a CLR's answer, if the message is one.
+pub(crate) fn clear_answer(message: &Message) -> Option<(u32, u8)>
+    ensures { result ≡ clear_answer_of message.now }
+{
+    match message {
+        Message::Htcp(message) => match &message.content {
+            Content::ClrAnswer { code } => Some((message.trans, *code)),
+            _ => None,
+        },
+        Message::Icp(_) => None,
+    }
+}
+
+/// Where the member of this id answers HTCP.
+fn htcp_of(roster: &Roster, id: u8) -> Option<Address>
+    ensures { result ≡ option_map (λ m. m.cache.htcp) (member_by_id roster.now id) }
+{
+    match member_of(roster, id) {
+        Some(member) => Some(member.cache.htcp),
+        None => None,
+    }
+}
+
+/// The CLR of a new purge to the member of this id, if there is one.
+fn new_clear(
+    alloc: Global,
+    roster: &Roster,
+    id: u8,
+    number: u32,
+    key: &Key,
+) -> Result<Option<Datagram>, AllocError>
+    ensures { IfOk result (λ made. turns.clear_to roster.now (Some (clear_of number key.now)) (member_by_id roster.now id) ≡ cons_option made []) }
+{
+    match htcp_of(roster, id) {
+        Some(address) => {
+            let message = clear(alloc, number, key)?;
+            Ok(Some(clear_to(roster.master(), address, message)))
+        }
+        None => Ok(None),
+    }
+}
+
+/// The CLRs of a new purge: one to each member, by id.
+#[tactic(auto, using(crate::proofs::Numbers::clears_to_all))]
+fn new_clears(
+    alloc: Global,
+    roster: &Roster,
+    number: u32,
+    key: &Key,
+) -> Result<Vec<Datagram>, AllocError>
+    ensures { IfOk result (λ made. made.items ≡ turns.clears_of roster.now number key.now) }
+{
+    let ids = [1u8, 2, 3, 4, 5, 6, 7, 8, 9, 10, 11, 12, 13, 14, 15, 16];
+    let mut made = Vec::with_capacity(alloc, ids.len())?;
+    for id in &ids {
+        if let Some(datagram) = new_clear(alloc, roster, *id, number, key)? {
+            made.push(datagram)?;
+        }
+    }
+    Ok(made)
+}
+
+/// The CLR of a pending purge to the member of this id, if there are both.
+fn due_clear(
+    roster: &Roster,
+    master: &Master<MemoryPurges>,
+    number: u32,
+    id: u8,
+) -> Result<Option<Datagram>, AllocError>
+    ensures { IfOk result (λ made. turns.clear_to roster.now (message_of master.now.state.purges number) (member_by_id roster.now id) ≡ cons_option made []) }
+{
+    match (master.message(number)?, htcp_of(roster, id)) {
+        (Some(message), Some(address)) => { Ok(Some(clear_to(roster.master(), address, message))) }
+        _ => Ok(None),
+    }
+}
+
+/// The CLRs of these pending purges to these members.
+fn due_clears(
+    alloc: Global,
+    roster: &Roster,
+    master: &Master<MemoryPurges>,
+    due: &[(u32, u8)],
+) -> Result<Vec<Datagram>, AllocError>
+    ensures { IfOk result (λ made. made.items ≡ flat_map (λ d. turns.clear_to roster.now (message_of master.now.state.purges d.0) (member_by_id roster.now d.1)) due.now) }
+{
+    let mut made = Vec::with_capacity(alloc, due.len())?;
+    for pair in due {
+        if let Some(datagram) = due_clear(roster, master, pair.0, pair.1)? {
+            made.push(datagram)?;
+        }
+    }
+    Ok(made)
+}
+
+impl Parts {
+    /// Sends the CLR of a new purge to each member, by id.
+    fn send_clears(&mut self, number: u32, key: &Key) -> Result<(), AllocError>
+        ensures { OnOk result (Adds self.old self.new (turns.clears_of self.old.roster number key.now) [] [] []) }
+    {
+        let mut made = new_clears(self.alloc, &self.roster, number, key)?;
+        self.datagrams.append(&mut made)
+    }
+
+    /// A purge is issued, and its CLRs are sent.
+    pub(crate) fn issue(&mut self, key: &Key) -> Result<Seen, WorldFault>
+        requires { IsSound self.old }
+        ensures taken { IsTaken self.old (turns.issue_by self.old.roster (world_of self.old) key.now (issue_fault self.old.master.state.purges)) result self.new }
+        ensures key { IsKey key.now }
+    {
+        let _text = key.text();
+        match self.master.issue(key) {
+            Ok(number) => {
+                self.send_clears(number, key)?;
+                Ok(Seen::Issued(number))
+            }
+            Err(fault) => match fault {
+                MasterFault::NumbersSpent | MasterFault::TooManyPending => {
+                    Ok(Seen::NotIssued(fault))
+                }
+                _ => Err(WorldFault::NoMemory),
+            },
+        }
+    }
+
+    /// The master sends again what is due.
+    pub(crate) fn resend(&mut self) -> Result<Seen, WorldFault>
+        requires { IsSound self.old }
+        ensures { IsTaken self.old (turns.Ends turns.Nothing (turns.with_sent (world_of self.old) (turns.clears_due self.old.roster self.old.master.state.purges))) result self.new }
+    {
+        let Ok(due) = self.master.due() else {
+            return Err(WorldFault::NoMemory);
+        };
+        let mut made = due_clears(self.alloc, &self.roster, &self.master, due.as_slice())?;
+        self.datagrams.append(&mut made)?;
+        Ok(Seen::Nothing)
+    }
+
+    /// The master tells how far a purge is.
+    pub(crate) fn status(&self, number: u32) -> Seen
+        requires { IsSound self.now }
+        ensures { IsTaken self.now (turns.told self.now.roster (world_of self.now) number) (Ok result) self.now }
+    {
+        Seen::Told(number, self.master.status(number))
+    }
+
+    /// A member has answered the CLR of the purge of this number with this code.
+    fn acknowledge(&mut self, id: u8, number: u32, code: u8) -> Result<Seen, WorldFault>
+        requires { IsSound self.old }
+        ensures { IsTaken self.old (turns.acknowledged_by self.old.roster (world_of self.old) number code (Some id)) result self.new }
+    {
+        match self.master.acknowledge(id, number, code) {
+            Ok(_) => Ok(self.status(number)),
+            Err(_) => Err(WorldFault::NoMemory),
+        }
+    }
+
+    /// A datagram comes to the master.
+    pub(crate) fn master_hears(
+        &mut self,
+        sender: Address,
+        answer: Option<(u32, u8)>,
+    ) -> Result<Seen, WorldFault>
+        requires { IsSound self.old }
+        ensures { IsTaken self.old (heard_by self.old.roster (world_of self.old) sender answer) result self.new }
+    {
+        let Some((number, code)) = answer else {
+            return Ok(Seen::Nothing);
+        };
+        match self.roster.member_at(sender, Udp::Htcp) {
+            Some(id) => self.acknowledge(id, number, code),
+            None => Ok(Seen::Nothing),
+        }
+    }
+
+    /// The master starts again, with the purges that its store kept.
+    pub(crate) fn restart_master(&mut self) -> Result<Seen, WorldFault>
+        requires { IsSound self.old }
+        ensures { IsTaken self.old (turns.Ends turns.Nothing (world_of self.old)) result self.new }
+    {
+        let alloc = self.alloc;
+        let Ok(none) = Master::open(alloc, &self.roster, MemoryPurges::new(alloc)) else {
+            return Err(WorldFault::NoMemory);
+        };
+        let store = replace(&mut self.master, none).into_store();
+        let Ok(master) = Master::open(alloc, &self.roster, store) else {
+            return Err(WorldFault::NoMemory);
+        };
+        self.master = master;
+        Ok(Seen::Nothing)
+    }
+}

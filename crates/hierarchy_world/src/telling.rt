@@ -1,0 +1,125 @@
+//! What is seen of an event, and what is told of it.
+ghost use Rattle.std.specs.Prelude.{◌≡◌, ◌-◌, IfOk};
+ghost use Rattle.world_rules.specs.Turn as turns;
+ghost use Rattle.world_rules.specs.Apply as applies;
+ghost use Rattle.hierarchy_world.specs.Parts.{seen_of};
+ghost use Rattle.hierarchy_world.specs.Told.{outcome_by};
+
+use node_rules::{Begin, Reply, StepFault};
+use purge_rules::{MasterFault, Status};
+use roster::Listed;
+use std::alloc::{AllocError, Global};
+use world_rules::{ActorFault, Outcome};
+
+/// What is seen of an event.
+#[derive(Drop)]
+pub(crate) enum Seen {
+    /// A member's node took a step, with this outcome.
+    Replied {
+        node: u8,
+        outcome: Result<Reply<u64>, StepFault>,
+    },
+    /// The master gave a purge this number.
+    Issued(u32),
+    /// It gave none.
+    NotIssued(MasterFault),
+    /// The master told how far a purge is.
+    Told(u32, Status),
+    /// Nothing.
+    Nothing,
+}
+
+/// How much was sent.
+#[derive(Clone, Copy)]
+pub(crate) struct Counts {
+    pub datagrams: u64,
+    pub asks: u64,
+    pub answers: u64,
+}
+
+/// So many numbers after this one.
+#[tactic(auto, using(crate::proofs::Numbers::numbers_more))]
+fn numbers_after(alloc: Global, first: u64, last: u64) -> Result<Listed<u64>, AllocError>
+    ensures { IfOk result (λ numbers. numbers ≡ applies.numbers_after first (last - first)) }
+{
+    let mut numbers = Vec::new(alloc);
+    for number in first..last {
+        numbers.push(number + 1)?;
+    }
+    Ok(Listed::new(numbers))
+}
+
+/// The number of the item that was sent, if one was.
+fn new_item(before: u64, after: u64) -> Option<u64>
+    ensures { result ≡ applies.new_item before after }
+{
+    if before < after { Some(after) } else { None }
+}
+
+/// The serial of a round that begins.
+fn round_in(begin: &Option<Begin>) -> Option<u32>
+    ensures { result ≡ applies.round_in begin.now }
+{
+    match begin {
+        Some(Begin::Round { serial }) => Some(*serial),
+        _ => None,
+    }
+}
+
+/// The serial of a read that begins.
+fn read_in(begin: &Option<Begin>) -> Option<u32>
+    ensures { result ≡ applies.read_in begin.now }
+{
+    match begin {
+        Some(Begin::Read { serial, .. }) => Some(*serial),
+        _ => None,
+    }
+}
+
+/// An outcome of which nothing is told but what was sent.
+fn plain(alloc: Global, before: Counts, after: Counts) -> Result<Outcome, AllocError>
+    ensures { IfOk result (λ outcome. outcome ≡ outcome_by before after turns.Nothing) }
+{
+    Ok(Outcome {
+        serve: None,
+        answer: new_item(before.answers, after.answers),
+        purge: None,
+        status: None,
+        round: None,
+        sent: numbers_after(alloc, before.datagrams, after.datagrams)?,
+        ask: new_item(before.asks, after.asks),
+        read: None,
+        fault: None,
+    })
+}
+
+/// What is told of what was seen, where so much was sent before and after it.
+pub(crate) fn tell(
+    alloc: Global,
+    before: Counts,
+    after: Counts,
+    seen: Seen,
+) -> Result<Outcome, AllocError>
+    ensures { IfOk result (λ outcome. outcome ≡ outcome_by before after (seen_of seen)) }
+{
+    let mut outcome = plain(alloc, before, after)?;
+    match seen {
+        Seen::Replied {
+            outcome: Ok(reply),
+            ..
+        } => {
+            outcome.round = round_in(&reply.begin);
+            outcome.read = read_in(&reply.begin);
+            outcome.serve = reply.serve;
+        }
+        Seen::Replied {
+            outcome: Err(fault),
+            ..
+        } => outcome.fault = Some(ActorFault::Step(fault)),
+        Seen::Issued(number) => outcome.purge = Some(number),
+        Seen::NotIssued(fault) => outcome.fault = Some(ActorFault::Master(fault)),
+        Seen::Told(number, status) => outcome.status = Some((number, status)),
+        Seen::Nothing => {}
+    }
+    Ok(outcome)
+}

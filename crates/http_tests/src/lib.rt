@@ -1,0 +1,11 @@
+//! Tests of asks and answers over HTTP by their public calls: what fields say, messages as they are read and written, and both ways.
+#![tactic(auto)]
+
+#[cfg(test)]
+mod fetching;
+#[cfg(test)]
+mod fields;
+#[cfg(test)]
+mod reading;
+#[cfg(test)]
+mod writing;

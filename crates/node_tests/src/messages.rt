@@ -1,0 +1,265 @@
+//! What no clause says: that each call can be made, with ample memory, over a roster that was read.
+ghost use Rattle.std.specs.Prelude.{◌≡◌, ◌==◌, find, option_map};
+
+use icp_wire::{Icp, IcpOp, fits};
+use node_messages::{
+    clr_answer, has_origin, icp_answer, is_foreign, is_known, nop_answer, overall_answer, peer_at,
+    queries, tst_answer,
+};
+use node_rules::{Message, Outgoing};
+use peer_chooser::Round;
+use roster::{Address, Listed, Member, Roster, Udp};
+use std::test::Fail;
+use url_key::Key;
+use wire_octets::Octets;
+
+const TEXT: &str = "default_lifetime = 60
+copies = 10
+bytes = 1000
+query_wait = 2000
+[master]
+address = \"127.0.0.1\"
+htcp = 4827
+[[node]]
+id = 1
+name = \"n1\"
+address = \"127.0.0.1\"
+http = 8001
+icp = 3001
+htcp = 4001
+[[node.peer]]
+id = 2
+role = \"sibling\"
+by = \"icp\"
+[[node.peer]]
+id = 3
+role = \"parent\"
+by = \"htcp\"
+[[node.peer]]
+id = 101
+role = \"parent\"
+by = \"icp\"
+[[node]]
+id = 2
+name = \"n2\"
+address = \"127.0.0.1\"
+http = 8002
+icp = 3002
+htcp = 4002
+[[node]]
+id = 3
+name = \"n3\"
+address = \"127.0.0.1\"
+http = 8003
+icp = 3003
+htcp = 4003
+[[foreign]]
+id = 101
+name = \"f1\"
+address = \"127.0.0.1\"
+http = 8101
+icp = 3101
+htcp = 4101
+[[foreign]]
+id = 102
+name = \"f2\"
+address = \"127.0.0.1\"
+http = 8102
+icp = 3102
+htcp = 4102
+[[origin]]
+host = \"o\"
+port = 80
+address = \"127.0.0.1\"
+connect = 8080
+";
+
+fn at(port: u16) -> Address {
+    Address {
+        ip: 0x7f00_0001,
+        port,
+    }
+}
+
+fn roster_of(rt: &HostRuntime) -> Result<Roster, Fail> {
+    match Roster::read(rt.alloc(), TEXT) {
+        Ok(roster) => Ok(roster),
+        Err(error) => Err(error.fault.name().into()),
+    }
+}
+
+fn key_of(rt: &HostRuntime, text: &[u8]) -> Result<Key, Fail> {
+    Ok(Key::read(rt.alloc(), text)?)
+}
+
+fn member_of(members: &[Member], id: u8) -> Option<&Member>
+    ensures { option_map (λ m. m.now) result ≡ find (λ m. m.cache.id == id) members.now }
+{
+    members.iter().find(|member| member.cache.id == id)
+}
+
+/// The octets of a message that is sent.
+fn octets_of(rt: &HostRuntime, sent: &Outgoing) -> Result<Vec<u8>, Fail> {
+    match sent.message.message() {
+        Message::Icp(message) => Ok(icp_wire::encode(rt.alloc(), message)?),
+        Message::Htcp(message) => Ok(htcp_wire::encode(rt.alloc(), message)?),
+    }
+}
+
+fn known_by_one(roster: &Roster, by: Udp, from: Address) -> bool {
+    match member_of(roster.members(), 1) {
+        Some(_) => is_known(roster, 1, by, from),
+        None => false,
+    }
+}
+
+/// By member 1: the other members by each protocol at its own address, and the foreign cache that its entry names.
+#[test]
+fn known_senders(rt: HostRuntime) -> Result<(), Fail> {
+    let roster = roster_of(&rt)?;
+    let table = [
+        (3002, Udp::Icp, true),
+        (3003, Udp::Icp, true),
+        (4002, Udp::Htcp, true),
+        (3101, Udp::Icp, true),
+        (4101, Udp::Htcp, true),
+        (3002, Udp::Htcp, false),
+        (4002, Udp::Icp, false),
+        (3001, Udp::Icp, false),
+        (3102, Udp::Icp, false),
+        (4827, Udp::Htcp, false),
+    ];
+    for (port, by, expected) in table {
+        assert!(rt; known_by_one(&roster, by, at(port)) == expected, "{port}");
+    }
+    assert!(rt; !known_by_one(&roster, Udp::Icp, Address { ip: 1, port: 3002 }));
+    Ok(())
+}
+
+fn round_of_one(roster: &Roster) -> Option<Round> {
+    match member_of(roster.members(), 1) {
+        Some(_) => Some(Round::start(roster, 1, 0)),
+        None => None,
+    }
+}
+
+#[test]
+fn peers_of_a_round(rt: HostRuntime) -> Result<(), Fail> {
+    let roster = roster_of(&rt)?;
+    let round = round_of_one(&roster).ok_or("member")?;
+    let table = [
+        (3002, Udp::Icp, Some(2)),
+        (4003, Udp::Htcp, Some(3)),
+        (3101, Udp::Icp, Some(101)),
+        (4002, Udp::Htcp, None),
+        (3003, Udp::Icp, None),
+        (3102, Udp::Icp, None),
+    ];
+    for (port, by, expected) in table {
+        let found = peer_at(&roster, by, at(port), &round);
+        assert!(rt; found.map(|peer| peer.id) == expected, "{port}");
+    }
+    Ok(())
+}
+
+#[test]
+fn origins_by_host_and_port(rt: HostRuntime) -> Result<(), Fail> {
+    let roster = roster_of(&rt)?;
+    let table: [(&[u8], bool); 3] = [
+        (b"http://o/a", true),
+        (b"http://o:81/a", false),
+        (b"http://p/a", false),
+    ];
+    for (text, expected) in table {
+        assert!(rt;
+            has_origin(&roster, &key_of(&rt, text)?) == expected,
+            "{text:?}"
+        );
+    }
+    assert!(rt; is_foreign(101) && is_foreign(108) && !is_foreign(100) && !is_foreign(109));
+    Ok(())
+}
+
+/// The questions of a round for `http://o/a` under the number 7.
+fn questions(rt: &HostRuntime, roster: &Roster) -> Result<Listed<Outgoing>, Fail> {
+    let round = round_of_one(roster).ok_or("member")?;
+    let key = key_of(rt, b"http://o/a")?;
+    Ok(queries(rt.alloc(), roster, 7, &key, round.asked())?)
+}
+
+/// An ICP query (RFC 2186) and a TST (RFC 2756) under the number 7, each to its peer's address.
+#[test]
+fn questions_of_a_round(rt: HostRuntime) -> Result<(), Fail> {
+    let sent = questions(&rt, &roster_of(&rt)?)?;
+    let icp: &[u8] =
+        b"\x01\x02\x00\x23\x00\x00\x00\x07\0\0\0\0\0\0\0\0\0\0\0\0\0\0\0\0http://o/a\0";
+    let htcp: &[u8] =
+        b"\x00\x2b\x00\x00\x00\x25\x10\x02\x00\x00\x00\x07\x00\x03GET\x00\x0ahttp://o/a\x00\x08HTTP/1.1\x00\x00\x00\x02";
+    let table = [(3002, icp), (4003, htcp), (3101, icp)];
+    assert!(rt; sent.as_slice().len() == table.len());
+    for (question, (port, expected)) in sent.as_slice().iter().zip(table) {
+        assert!(rt; question.to == at(port), "{port}");
+        assert!(rt; octets_of(&rt, question)?.as_slice() == expected, "{port}");
+    }
+    Ok(())
+}
+
+/// Whether these octets are sent to port 1.
+fn is_sent(rt: &HostRuntime, sent: &Outgoing, expected: &[u8]) -> Result<bool, Fail> {
+    let octets = octets_of(rt, sent)?;
+    Ok(sent.to == at(1) && octets.as_slice() == expected)
+}
+
+/// The answers to a TST under TRANS-ID 7 (RFC 2756).
+#[test]
+fn answers_to_questions(rt: HostRuntime) -> Result<(), Fail> {
+    let table: [(Option<u32>, &[u8]); 3] = [
+        (
+            None,
+            b"\x00\x10\x00\x00\x00\x0a\x11\x01\x00\x00\x00\x07\x00\x00\x00\x02",
+        ),
+        (
+            Some(3),
+            b"\x00\x26\x00\x00\x00\x20\x10\x01\x00\x00\x00\x07\x00\x00\x00\x00\x00\x12X-Purge-Stamp: 3\r\n\x00\x02",
+        ),
+        (
+            Some(u32::MAX),
+            b"\x00\x2f\x00\x00\x00\x29\x10\x01\x00\x00\x00\x07\x00\x00\x00\x00\x00\x1bX-Purge-Stamp: 4294967295\r\n\x00\x02",
+        ),
+    ];
+    for (stamp, expected) in table {
+        let sent = tst_answer(rt.alloc(), at(1), 7, stamp)?;
+        assert!(rt; is_sent(&rt, &sent, expected)?, "{stamp:?}");
+    }
+    Ok(())
+}
+
+/// The short answers under TRANS-ID 7: a header, opcode and code, flags, the TRANS-ID and an empty AUTH (RFC 2756).
+#[test]
+fn short_answers(rt: HostRuntime) -> Result<(), Fail> {
+    let nop: &[u8] = b"\x00\x0e\x00\x00\x00\x08\x00\x01\x00\x00\x00\x07\x00\x02";
+    let overall: &[u8] = b"\x00\x0e\x00\x00\x00\x08\x15\x03\x00\x00\x00\x07\x00\x02";
+    let gone: &[u8] = b"\x00\x0e\x00\x00\x00\x08\x40\x01\x00\x00\x00\x07\x00\x02";
+    let absent: &[u8] = b"\x00\x0e\x00\x00\x00\x08\x42\x01\x00\x00\x00\x07\x00\x02";
+    assert!(rt; is_sent(&rt, &nop_answer(at(1), 7), nop)?);
+    assert!(rt; is_sent(&rt, &overall_answer(at(1), 7, 1, 5), overall)?);
+    assert!(rt; is_sent(&rt, &clr_answer(at(1), 7, true), gone)?);
+    assert!(rt; is_sent(&rt, &clr_answer(at(1), 7, false), absent)?);
+    Ok(())
+}
+
+/// The answer to an ICP query repeats its number and its URL (RFC 2186).
+#[test]
+fn answers_by_icp(rt: HostRuntime) -> Result<(), Fail> {
+    let miss = Icp {
+        op: IcpOp::Miss,
+        number: 7,
+        url: Octets::from_slice(rt.alloc(), b"u")?,
+        object: Octets::new(rt.alloc()),
+    };
+    assert!(rt; fits(&miss));
+    let sent = icp_answer(rt.alloc(), at(1), IcpOp::Denied, miss.number, miss.url);
+    let expected: &[u8] = b"\x16\x02\x00\x16\x00\x00\x00\x07\0\0\0\0\0\0\0\0\0\0\0\0u\0";
+    assert!(rt; is_sent(&rt, &sent, expected)?);
+    Ok(())
+}

@@ -1,0 +1,289 @@
+//! Calls over files that stop after so many calls of the disk.
+use super::{add, loaded, mark, want};
+use purge_records::SqlitePurges;
+use purge_rules::{PurgeFault, PurgeStore};
+use sqlite::{Connection, FileStore, Files, Options};
+use sqlite_disk::{Crash, Disk, Fuse, Memory};
+use std::alloc::Global;
+use std::test::Fail;
+
+type Disks = Fuse<Memory>;
+
+type Stored = SqlitePurges<FileStore<Disks>>;
+
+/// The call that is stopped.
+#[derive(Clone, Copy)]
+enum Step {
+    Add,
+    Mark,
+    Finish,
+}
+
+/// What became of a call.
+#[derive(Clone, Copy, PartialEq, Eq)]
+enum End {
+    /// The file did not open, so the call was not made.
+    Unopened,
+    /// The call was refused.
+    Stopped,
+    /// The call was answered Ok.
+    Went,
+}
+
+fn files(log: Memory, db: Memory, log_calls: u64, db_calls: u64) -> Files<Disks> {
+    Files {
+        log: Fuse::new(log, log_calls),
+        db: Fuse::new(db, db_calls),
+    }
+}
+
+/// The files as a close leaves them, whatever they answer.
+fn files_of(conn: Connection<FileStore<Disks>>) -> Files<Disks> {
+    conn.into_store().close()
+}
+
+/// A connection to the files, or what is left of them.
+fn connected(
+    alloc: Global,
+    files: Files<Disks>,
+) -> Result<Connection<FileStore<Disks>>, Files<Disks>> {
+    if !files.may_be_used() {
+        return Err(files);
+    }
+    match Connection::open_files(alloc, files, Options::new(7)) {
+        Ok(conn) => Ok(conn),
+        Err((_, left)) => Err(left.into_files()),
+    }
+}
+
+/// Opens the store of a connection, or hands back what is left of its files.
+fn stored(alloc: Global, conn: Connection<FileStore<Disks>>) -> Result<Stored, Files<Disks>> {
+    match SqlitePurges::open(alloc, conn) {
+        Ok(store) => Ok(store),
+        Err((conn, _)) => Err(files_of(conn)),
+    }
+}
+
+/// Opens the files, or hands back what is left of them.
+fn open(alloc: Global, files: Files<Disks>) -> Result<Stored, Files<Disks>> {
+    stored(alloc, connected(alloc, files)?)
+}
+
+/// The files of a store that is closed.
+fn closed(store: Stored) -> Result<Files<Disks>, Fail> {
+    Ok(store.into_connection().close_files().ok().ok_or("close")?)
+}
+
+/// Adds the purges 1, which one member acknowledges, and 2.
+fn fill<P: PurgeStore>(store: &mut P, alloc: Global) -> Result<(), Fail> {
+    want(add(store, alloc, 1, "http://a/")? == Ok(()), "first")?;
+    want(add(store, alloc, 2, "http://b/")? == Ok(()), "second")?;
+    want(mark(store, alloc, 1, 5)? == Ok(()), "marked")
+}
+
+/// A file with these purges.
+fn first_files(alloc: Global) -> Result<Files<Disks>, Fail> {
+    let new = files(Memory::new(alloc), Memory::new(alloc), u64::MAX, u64::MAX);
+    let mut store = open(alloc, new).ok().ok_or("first open")?;
+    fill(&mut store, alloc)?;
+    closed(store)
+}
+
+fn copy(alloc: Global, disk: &Disks) -> Result<Memory, Fail> {
+    let mut copy = Memory::new(alloc);
+    copy.write_at(0, disk.inner().bytes())?;
+    copy.sync()?;
+    Ok(copy)
+}
+
+/// The files as a crash leaves them.
+fn crashed(alloc: Global, left: Files<Disks>) -> Result<Files<Disks>, Fail> {
+    let Files { mut log, mut db } = left;
+    log.crash();
+    db.crash();
+    Ok(files(copy(alloc, &log)?, copy(alloc, &db)?, u64::MAX, u64::MAX))
+}
+
+fn call<P: PurgeStore>(
+    store: &mut P,
+    alloc: Global,
+    step: Step,
+) -> Result<Result<(), PurgeFault>, Fail> {
+    match step {
+        Step::Add => add(store, alloc, 7, "http://c/"),
+        Step::Mark => mark(store, alloc, 1, 6),
+        Step::Finish => Ok(store.finish(alloc, 1)),
+    }
+}
+
+/// Makes the call, and answers how it ended. A store that failed fails from then on.
+fn called<P: PurgeStore>(store: &mut P, alloc: Global, step: Step) -> Result<End, Fail> {
+    let done = call(store, alloc, step)?;
+    if done == Ok(()) {
+        return Ok(End::Went);
+    }
+    want(done == Err(PurgeFault::StoreFault), "a store fault")?;
+    want(store.failures() == 1, "one failure")?;
+    let later = store.finish(alloc, 2);
+    want(later == Err(PurgeFault::StoreFault), "a store fault again")?;
+    want(store.failures() == 2, "two failures")?;
+    Ok(End::Stopped)
+}
+
+/// What tells the purges from before the call and after it: the last number, how many are pending, how many members have acknowledged
+/// the first, and whether member 5 has.
+type Seen = (u32, usize, u8, bool);
+
+fn seen<P: PurgeStore>(store: &mut P, alloc: Global) -> Result<Seen, Fail> {
+    let purges = loaded(store, alloc)?;
+    let (marked, by_fifth) = match purges.find(1) {
+        Some(purge) => (purge.marked.count(), purge.marked.has(5)),
+        None => (0, false),
+    };
+    Ok((purges.last(), purges.len(), marked, by_fifth))
+}
+
+const BEFORE: Seen = (2, 2, 1, true);
+
+fn after(step: Step) -> Seen {
+    match step {
+        Step::Add => (7, 3, 1, true),
+        Step::Mark => (2, 2, 2, true),
+        Step::Finish => (2, 1, 0, false),
+    }
+}
+
+/// A copy of the files that stops after so many calls of the log, or of the main file.
+fn stopping(
+    alloc: Global,
+    first: &Files<Disks>,
+    log_calls: u64,
+    db_calls: u64,
+) -> Result<Files<Disks>, Fail> {
+    let log = copy(alloc, &first.log)?;
+    let db = copy(alloc, &first.db)?;
+    Ok(files(log, db, log_calls, db_calls))
+}
+
+/// Makes the call, and answers how it ended and what is left of the files.
+fn called_once(alloc: Global, mut store: Stored, step: Step) -> Result<(End, Files<Disks>), Fail> {
+    let end = called(&mut store, alloc, step)?;
+    Ok((end, files_of(store.into_connection())))
+}
+
+/// The same over files that may not open.
+fn tried(alloc: Global, files: Files<Disks>, step: Step) -> Result<(End, Files<Disks>), Fail> {
+    match open(alloc, files) {
+        Ok(store) => called_once(alloc, store, step),
+        Err(left) => Ok((End::Unopened, left)),
+    }
+}
+
+/// The store that a crash leaves, opened again.
+fn reopened(alloc: Global, files: Files<Disks>) -> Result<Stored, Fail> {
+    Ok(open(alloc, files).ok().ok_or("open after the crash")?)
+}
+
+/// What is seen of the purges that files hold.
+fn seen_in(alloc: Global, files: Files<Disks>) -> Result<Seen, Fail> {
+    let mut store = reopened(alloc, files)?;
+    seen(&mut store, alloc)
+}
+
+/// Makes the call over a copy of the files that stops, and answers how it ended and what a crash leaves.
+fn stopped(
+    alloc: Global,
+    first: &Files<Disks>,
+    step: Step,
+    log_calls: u64,
+    db_calls: u64,
+) -> Result<(End, Seen), Fail> {
+    let (end, left) = tried(alloc, stopping(alloc, first, log_calls, db_calls)?, step)?;
+    Ok((end, seen_in(alloc, crashed(alloc, left)?)?))
+}
+
+/// Stops the log, or the main file, after so many calls. What a crash leaves are the purges from before or after the call, and those after
+/// it where it was answered Ok: so the last number is then no less than the one that was given.
+fn stop_at(
+    alloc: Global,
+    first: &Files<Disks>,
+    step: Step,
+    main_file: bool,
+    calls: u64,
+) -> Result<End, Fail> {
+    let (log_calls, db_calls) = if main_file {
+        (u64::MAX, calls)
+    } else {
+        (calls, u64::MAX)
+    };
+    let (end, seen) = stopped(alloc, first, step, log_calls, db_calls)?;
+    let is_before = seen == BEFORE && end != End::Went;
+    want(
+        is_before || (seen == after(step) && end != End::Unopened),
+        "purges from before or after",
+    )?;
+    Ok(end)
+}
+
+/// With so many calls of either file it does not open yet, and with one more it does.
+const OPENING: u64 = 27;
+
+/// Stops the call at each of its calls of the disk: from one at which the file does not open, to one at which the call has gone and its close
+/// is stopped.
+fn stops_of(alloc: Global, step: Step, main_file: bool, stops: u64) -> Result<(), Fail> {
+    let first = first_files(alloc)?;
+    let begun = stop_at(alloc, &first, step, main_file, OPENING)?;
+    want(begun == End::Unopened, "a file that does not open")?;
+    let mut end = begun;
+    for more in 1..=stops {
+        end = stop_at(alloc, &first, step, main_file, OPENING.saturating_add(more))?;
+    }
+    want(end == End::Went, "a call that goes")
+}
+
+#[test]
+fn an_add_whose_log_stops(rt: HostRuntime) -> Result<(), Fail> {
+    stops_of(rt.alloc(), Step::Add, false, 8)
+}
+
+#[test]
+fn a_mark_whose_log_stops(rt: HostRuntime) -> Result<(), Fail> {
+    stops_of(rt.alloc(), Step::Mark, false, 8)
+}
+
+#[test]
+fn a_finish_whose_log_stops(rt: HostRuntime) -> Result<(), Fail> {
+    stops_of(rt.alloc(), Step::Finish, false, 8)
+}
+
+#[test]
+fn an_add_whose_main_file_stops(rt: HostRuntime) -> Result<(), Fail> {
+    stops_of(rt.alloc(), Step::Add, true, 4)
+}
+
+#[test]
+fn a_mark_whose_main_file_stops(rt: HostRuntime) -> Result<(), Fail> {
+    stops_of(rt.alloc(), Step::Mark, true, 4)
+}
+
+#[test]
+fn a_finish_whose_main_file_stops(rt: HostRuntime) -> Result<(), Fail> {
+    stops_of(rt.alloc(), Step::Finish, true, 4)
+}
+
+#[test]
+fn opens_that_stop(rt: HostRuntime) -> Result<(), Fail> {
+    let first = first_files(rt.alloc())?;
+    for (main_file, calls) in [
+        (false, 0),
+        (false, 9),
+        (false, 18),
+        (true, 0),
+        (true, 9),
+        (true, 18),
+    ] {
+        let end = stop_at(rt.alloc(), &first, Step::Finish, main_file, calls)?;
+        assert!(rt; end == End::Unopened);
+    }
+    Ok(())
+}

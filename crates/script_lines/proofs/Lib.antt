@@ -1,0 +1,5 @@
+pub mod Digits
+pub mod Counting
+pub mod LineLemmas
+pub mod PlayLemmas
+pub mod WordLemmas

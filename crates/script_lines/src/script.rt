@@ -1,0 +1,74 @@
+//! Scripts: inputs whose lines are answered one after another, each answer in a line of its own.
+ghost use Rattle.std.specs.Prelude.{◌≡◌, ℕ, List, [], ◌∷◌, ◌++◌, OnOk, OnErr};
+ghost use Rattle.script_lines.specs.Script.{HasPlayed};
+
+use crate::fault::RunFault;
+use crate::lines::LineReader;
+use crate::write::write_text;
+use std::alloc::{AllocError, Global};
+use std::io::{Read, Write};
+
+/// The most octets of answers that are kept before they are written.
+const MOST_UNWRITTEN: usize = 65_536;
+
+/// What answers the lines of a script.
+pub trait Script {
+    /// From the first state, the line may be answered with the text, and the second state is left.
+    ghost answers: { Self → List ℕ → List ℕ → Self → Type 0 };
+
+    /// Writes the answer to a line behind what `text` holds, without a line's end.
+    fn answer(&mut self, alloc: Global, line: &[u8], text: &mut Vec<u8>) -> Result<(), AllocError>
+        ensures { OnOk result ((answer : List ℕ) × answers self.old line.now answer self.new
+            × (text.new.items ≡ text.old.items ++ answer)) };
+}
+
+/// Answers all lines of an input. What is answered is written before more is read, so a person who types a line
+/// sees its answer at once. After a fault a front of the answers is written.
+pub fn play<S: Script, R: Read, W: Write>(
+    alloc: Global,
+    script: &mut S,
+    reader: &mut R,
+    writer: &mut W,
+) -> Result<(), RunFault>
+    ensures { HasPlayed S.answers script.old (R.remaining reader.old) (W.contents writer.old)
+        (W.contents writer.new) result script.new }
+{
+    let mut source = match LineReader::new(alloc) {
+        Ok(source) => source,
+        Err(_) => return Err(RunFault::NoMemory),
+    };
+    let mut line = Vec::new(alloc);
+    let mut text = Vec::new(alloc);
+    'lines: loop {
+        match source.next_line(reader, &mut line) {
+            Ok(true) => {}
+            Ok(false) => return write_text(writer, &text),
+            Err(fault) => return Err(fault),
+        }
+        if let Err(_) = answer_line(alloc, script, &line, &mut text) {
+            return Err(RunFault::NoMemory);
+        }
+        let is_due = !source.holds_line() || text.len() > MOST_UNWRITTEN;
+        if is_due {
+            match write_text(writer, &text) {
+                Ok(()) => text.clear(),
+                Err(fault) => return Err(fault),
+            }
+        }
+    }
+}
+
+/// Writes the answer to a line, and a line's end.
+fn answer_line<S: Script>(
+    alloc: Global,
+    script: &mut S,
+    line: &[u8],
+    text: &mut Vec<u8>,
+) -> Result<(), AllocError>
+    ensures { OnOk result ((answer : List ℕ) × S.answers script.old line.now answer script.new
+        × (text.new.items ≡ text.old.items ++ (answer ++ 10 ∷ []))) }
+{
+    script.answer(alloc, line, text)?;
+    text.push(b'\n')?;
+    Ok(())
+}
