@@ -1,6 +1,5 @@
 //! The command line of `cache`.
-use crate::answer::run_answer;
-use crate::wire::{Codec, run_wire};
+use answer_script::run_answer;
 use clap::{Arg, ArgMatches, Command, Error};
 use roster::{Roster, RosterFault};
 use script_lines::RunFault;
@@ -9,6 +8,7 @@ use std::io::{BufRead, Write};
 use std::process::ExitCode;
 use std::rt::{Env, Files};
 use std::{env, fs, io};
+use wire_script::{Codec, run_wire};
 use world_script::run_world;
 
 /// The status where the command line is at fault.

@@ -1,6 +1,7 @@
 mod stops;
 
-use purge_numbers::{FloorFault, FloorStore, Floors, MemoryFloors, SqliteFloors};
+use floor_rules::{FloorFault, FloorStore, Floors, MemoryFloors};
+use purge_numbers::SqliteFloors;
 use sqlite::{Connection, MemStore};
 use std::alloc::Global;
 use std::test::Fail;

@@ -13,7 +13,8 @@
 
 ghost use Rattle.std.specs.Prelude.{◌≡◌, ◌<◌, ◌%◌};
 
-use purge_numbers::{FloorFault, FloorStore, Floors, SqliteFloors};
+use floor_rules::{FloorFault, FloorStore, Floors};
+use purge_numbers::SqliteFloors;
 use sqlite::{Connection, File, FileStore};
 use std::alloc::Global;
 use std::io::{BufRead, BufReader};

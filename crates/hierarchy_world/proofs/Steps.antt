@@ -11,7 +11,7 @@ use Rattle.node_rules.specs.Relation.{Steps}
 use Rattle.node_rules.specs.Effect.{Effect, Stays, Serves, Brings, Purges, Drops}
 use Rattle.node_rules.specs.Step.{step, step_if}
 use Rattle.node_rules.proofs.Effects.{step_does}
-use Rattle.purge_numbers.specs.Store.{HaveRisen}
+use Rattle.floor_rules.specs.Store.{HaveRisen}
 use Rattle.node_core.specs.Closing.{KeepsStore, FailsWithCause}
 use Rattle.node_core.specs.View.{IsSameMember, IsTied, setting_of}
 use Rattle.key_texts.specs.KeyOf.{GivesKeys, key_of}

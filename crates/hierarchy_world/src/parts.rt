@@ -6,10 +6,10 @@ ghost use Rattle.world_rules.specs.World.{item as item_of};
 ghost use Rattle.world_rules.specs.Hierarchy.{udp_of as protocol_of, is_own as is_own_address};
 
 use crate::network::{Datagram, PeerAnswer, PeerAsk, Waiting};
+use floor_rules::MemoryFloors;
 use node_core::Node;
 use node_rules::Message;
 use purge_master::Master;
-use purge_numbers::MemoryFloors;
 use purge_rules::MemoryPurges;
 use roster::{Address, Member, Roster, Udp};
 use std::alloc::Global;

@@ -11,9 +11,9 @@ ghost use Rattle.hierarchy_world.specs.Parts.{IsSound, world_of};
 
 use crate::network::Datagram;
 use crate::parts::Parts;
+use floor_rules::MemoryFloors;
 use node_core::Node;
 use purge_master::Master;
-use purge_numbers::MemoryFloors;
 use purge_rules::MemoryPurges;
 use roster::{Listed, Roster};
 use std::alloc::{AllocError, Global};

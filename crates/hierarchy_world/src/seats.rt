@@ -8,9 +8,9 @@ ghost use Rattle.world_rules.specs.Turn.{with_seat, closed_node};
 ghost use Rattle.hierarchy_world.specs.Parts.{IsSound, IsStored, IsStep, HasStepped, IsPlace, place_of as place_of_id, world_of, IsSeatChanged};
 
 use crate::parts::Parts;
+use floor_rules::MemoryFloors;
 use node_core::Node;
 use node_rules::{Event, Reply, StepFault};
-use purge_numbers::MemoryFloors;
 use std::alloc::AllocError;
 use world_rules::WorldFault;
 

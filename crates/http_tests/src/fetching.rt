@@ -119,6 +119,34 @@ fn holds_fields(answer: &Answer, lines: &[(&[u8], &[u8])]) -> bool {
     all
 }
 
+/// An answer's status, fields, age, stamp and body.
+type Row<'a> = (
+    u16,
+    &'a [(&'a [u8], &'a [u8])],
+    Option<u32>,
+    Option<u32>,
+    &'a [u8],
+);
+
+/// The text of an answer, and these octets behind it.
+fn written(rt: &HostRuntime, row: Row<'_>, behind: &[u8]) -> Result<Vec<u8>, Fail> {
+    let (status, lines, age, stamp, body) = row;
+    let answer = answer_of(rt, status, lines, age, stamp, body)?.ok_or("no answer")?;
+    let mut text = Vec::new(rt.alloc());
+    write_answer(&mut text, &answer, b"n1")?;
+    text.extend_from_slice(behind)?;
+    Ok(text)
+}
+
+/// Whether the answer is read from the text, so many octets a call.
+fn is_read_back(rt: &HostRuntime, text: &[u8], length: usize, row: Row<'_>) -> Result<bool, Fail> {
+    let (status, lines, age, stamp, body) = row;
+    let mut reader = Pieces { rest: text, length };
+    let read = read_answer(rt.alloc(), &mut reader)?;
+    let has_parts = (read.status(), read.age(), read.stamp()) == (status, age, stamp);
+    Ok(has_parts && holds_fields(&read, lines) && read.body() == body)
+}
+
 #[test]
 fn answers_are_read_back(rt: HostRuntime) -> Result<(), Fail> {
     let two: [(&[u8], &[u8]); 2] = [
@@ -126,7 +154,7 @@ fn answers_are_read_back(rt: HostRuntime) -> Result<(), Fail> {
         (b"x-b", b""),
     ];
     let long = [b'\r'; 4419];
-    let table: [(u16, &[(&[u8], &[u8])], Option<u32>, Option<u32>, &[u8]); 8] = [
+    let table: [Row<'_>; 8] = [
         (304, &[], None, None, b""),
         (304, two.as_slice(), Some(0), Some(0), b""),
         (204, &[], Some(2_147_483_648), None, b""),
@@ -136,24 +164,11 @@ fn answers_are_read_back(rt: HostRuntime) -> Result<(), Fail> {
         (404, &[], Some(1), None, long.as_slice()),
         (200, two.as_slice(), Some(1), Some(1), long.as_slice()),
     ];
-    for (status, lines, age, stamp, body) in table {
-        let Some(answer) = answer_of(&rt, status, lines, age, stamp, body)? else {
-            return Err(Fail::from("no answer"));
-        };
+    for row in table {
         for behind in BEHIND {
-            let mut text = Vec::new(rt.alloc());
-            write_answer(&mut text, &answer, b"n1")?;
-            text.extend_from_slice(behind)?;
+            let text = written(&rt, row, behind)?;
             for length in LENGTHS {
-                let mut reader = Pieces {
-                    rest: text.as_slice(),
-                    length,
-                };
-                let read = read_answer(rt.alloc(), &mut reader)?;
-                assert!(rt; read.status() == status, "{status}");
-                assert!(rt; holds_fields(&read, lines), "{status}");
-                assert!(rt; (read.age(), read.stamp()) == (age, stamp), "{status}");
-                assert!(rt; read.body() == body, "{status}");
+                assert!(rt; is_read_back(&rt, &text, length, row)?, "{}", row.0);
             }
         }
     }

@@ -6,6 +6,12 @@ mod fetching;
 #[cfg(test)]
 mod fields;
 #[cfg(test)]
+mod intake;
+#[cfg(test)]
 mod reading;
+#[cfg(test)]
+mod texts;
+#[cfg(test)]
+mod values;
 #[cfg(test)]
 mod writing;

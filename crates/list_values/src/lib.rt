@@ -9,8 +9,6 @@
 mod blanks;
 mod laws;
 mod members;
-#[cfg(test)]
-mod tests;
 
 pub use blanks::trim;
 pub use laws::members_are_exact;

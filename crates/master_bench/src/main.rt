@@ -136,18 +136,22 @@ fn master_of<S: PurgeStore + Drop>(alloc: Global, store: S) -> io::Result<Master
     }
 }
 
-/// The purges of the file, or why it does not open.
-fn stored(rt: &HostRuntime, path: &str) -> io::Result<Stored> {
-    let conn = match Connection::open(rt, path) {
-        Ok(conn) => conn,
+/// A connection over the file, or why it does not open.
+fn connection(rt: &HostRuntime, path: &str) -> io::Result<Connection<FileStore<File>>> {
+    match Connection::open(rt, path) {
+        Ok(conn) => Ok(conn),
         Err(error) => {
             let words = format!(in rt.alloc(); "{error}")?;
-            return Err(io::Error::other(words.as_str()));
+            Err(io::Error::other(words.as_str()))
         }
-    };
-    match SqlitePurges::open(rt.alloc(), conn) {
+    }
+}
+
+/// The purges of the file, or why it does not open.
+fn stored(rt: &HostRuntime, path: &str) -> io::Result<Stored> {
+    match SqlitePurges::open(rt.alloc(), connection(rt, path)?) {
         Ok(store) => Ok(store),
-        Err((_, fault)) => Err(failed(fault.name())),
+        Err(refused) => Err(failed(refused.1.name())),
     }
 }
 
@@ -326,18 +330,23 @@ fn time_rounds<S: PurgeStore>(
     tell(rt, "finish", spent.finish)
 }
 
-/// Opens a master over the file, and adds how long that took.
-fn time_open(rt: &HostRuntime, path: &str, spent: &mut Spent) -> io::Result<Master<Stored>> {
-    let start = Instant::now(rt)?;
-    let master = master_of(rt.alloc(), stored(rt, path)?)?;
-    spent.add(1, nanos_since(rt, start)?);
+/// Opens a master over the store, and prints how long that took since this moment.
+fn time_open<S: PurgeStore + Drop>(
+    rt: &HostRuntime,
+    store: S,
+    start: Instant,
+) -> io::Result<Master<S>> {
+    let master = master_of(rt.alloc(), store)?;
+    let mut open = Spent::new();
+    open.add(1, nanos_since(rt, start)?);
+    tell(rt, "open", open)?;
     Ok(master)
 }
 
 /// Acknowledges one purge, and adds how long that took to the marks or to the finishes.
-fn time_one(
+fn time_one<S: PurgeStore>(
     rt: &HostRuntime,
-    master: &mut Master<Stored>,
+    master: &mut Master<S>,
     number: u32,
     member: u8,
     spent: &mut Kinds,
@@ -356,10 +365,12 @@ fn time_one(
     Ok(())
 }
 
-/// Opens a master over the file, acknowledges so many of the purges that are due, and prints what that took.
-fn time_left(rt: &HostRuntime, path: &str, count: u32) -> io::Result<()> {
-    let mut open = Spent::new();
-    let mut master = time_open(rt, path, &mut open)?;
+/// Acknowledges so many of the purges that are due, and says how long that took.
+fn acknowledge_left<S: PurgeStore>(
+    rt: &HostRuntime,
+    master: &mut Master<S>,
+    count: u32,
+) -> io::Result<Kinds> {
     let pairs = match master.due() {
         Ok(pairs) => pairs,
         Err(fault) => return Err(refused(fault)),
@@ -368,10 +379,19 @@ fn time_left(rt: &HostRuntime, path: &str, count: u32) -> io::Result<()> {
     for turn in 0..count {
         let place = usize::try_from(turn).unwrap_or(usize::MAX);
         if let Some((number, member)) = pairs.as_slice().get(place) {
-            time_one(rt, &mut master, *number, *member, &mut spent)?;
+            time_one(rt, master, *number, *member, &mut spent)?;
         }
     }
-    tell(rt, "open", open)?;
+    Ok(spent)
+}
+
+/// Acknowledges so many of the purges that are due, and prints what that took.
+fn time_left<S: PurgeStore>(
+    rt: &HostRuntime,
+    master: &mut Master<S>,
+    count: u32,
+) -> io::Result<()> {
+    let spent = acknowledge_left(rt, master, count)?;
     tell(rt, "mark", spent.mark)?;
     tell(rt, "finish", spent.finish)
 }
@@ -384,7 +404,7 @@ fn is_in_turn(place: usize, turn: u32) -> bool
 }
 
 /// Issues a purge, and prints it once that is answered.
-fn issue_one(rt: &HostRuntime, master: &mut Master<Stored>, turn: u32) -> io::Result<()> {
+fn issue_one<S: PurgeStore>(rt: &HostRuntime, master: &mut Master<S>, turn: u32) -> io::Result<()> {
     let url = url_of(rt.alloc(), turn)?;
     match master.issue(&key_of(rt.alloc(), url.as_str())?) {
         Ok(number) => println!(rt; "issue {number} {url}"),
@@ -393,9 +413,9 @@ fn issue_one(rt: &HostRuntime, master: &mut Master<Stored>, turn: u32) -> io::Re
 }
 
 /// Acknowledges a purge, and prints that once it is answered.
-fn acknowledge_one(
+fn acknowledge_one<S: PurgeStore>(
     rt: &HostRuntime,
-    master: &mut Master<Stored>,
+    master: &mut Master<S>,
     number: u32,
     member: u8,
 ) -> io::Result<()> {
@@ -407,7 +427,11 @@ fn acknowledge_one(
 }
 
 /// Acknowledges a tenth of what is due.
-fn acknowledge_some(rt: &HostRuntime, master: &mut Master<Stored>, turn: u32) -> io::Result<()> {
+fn acknowledge_some<S: PurgeStore>(
+    rt: &HostRuntime,
+    master: &mut Master<S>,
+    turn: u32,
+) -> io::Result<()> {
     let pairs = match master.due() {
         Ok(pairs) => pairs,
         Err(fault) => return Err(refused(fault)),
@@ -421,7 +445,7 @@ fn acknowledge_some(rt: &HostRuntime, master: &mut Master<Stored>, turn: u32) ->
 }
 
 /// Issues purges and acknowledges them.
-fn run(rt: &HostRuntime, master: &mut Master<Stored>) -> io::Result<()> {
+fn run<S: PurgeStore>(rt: &HostRuntime, master: &mut Master<S>) -> io::Result<()> {
     for turn in 0..u32::MAX {
         issue_one(rt, master, turn)?;
         acknowledge_some(rt, master, turn)?;
@@ -442,7 +466,7 @@ fn marks_of(alloc: Global, purge: &Purge) -> io::Result<String> {
 }
 
 /// Prints the last number and the pending purges.
-fn show(rt: &HostRuntime, store: &mut Stored) -> io::Result<()> {
+fn show<S: PurgeStore>(rt: &HostRuntime, store: &mut S) -> io::Result<()> {
     let purges = match store.load(rt.alloc()) {
         Ok(purges) => purges,
         Err(fault) => return Err(failed(fault.name())),
@@ -456,27 +480,49 @@ fn show(rt: &HostRuntime, store: &mut Stored) -> io::Result<()> {
     Ok(())
 }
 
-/// Measures the calls over the file, or in memory.
-fn measure(rt: &HostRuntime, path: &str, pending: u32, rounds: u32) -> io::Result<()> {
-    if path == "memory" {
-        let mut master = master_of(rt.alloc(), MemoryPurges::new(rt.alloc()))?;
-        time_rounds(rt, &mut master, pending, rounds)
-    } else {
-        let mut open = Spent::new();
-        let mut master = time_open(rt, path, &mut open)?;
-        tell(rt, "open", open)?;
-        time_rounds(rt, &mut master, pending, rounds)
+/// What the words ask for.
+#[derive(Clone, Copy)]
+struct Wanted<'a> {
+    command: &'a str,
+    first: u32,
+    second: u32,
+}
+
+/// Does what the words ask for with a master that was opened.
+fn serve<S: PurgeStore>(
+    rt: &HostRuntime,
+    master: &mut Master<S>,
+    wanted: Wanted<'_>,
+) -> io::Result<()> {
+    match wanted.command {
+        "calls" => time_rounds(rt, master, wanted.first, wanted.second),
+        "left" => time_left(rt, master, wanted.first),
+        _ => run(rt, master),
     }
 }
 
-/// Does what the words ask for.
-fn answer(rt: &HostRuntime, command: &str, path: &str, first: u32, second: u32) -> io::Result<()> {
-    match command {
-        "calls" => measure(rt, path, first, second),
-        "left" => time_left(rt, path, first),
-        "run" => run(rt, &mut master_of(rt.alloc(), stored(rt, path)?)?),
-        "show" => show(rt, &mut stored(rt, path)?),
+/// Does what the words ask for over a store that was opened, and began to open at this moment.
+fn answer<S: PurgeStore + Drop>(
+    rt: &HostRuntime,
+    mut store: S,
+    start: Instant,
+    wanted: Wanted<'_>,
+) -> io::Result<()> {
+    match wanted.command {
+        "show" => show(rt, &mut store),
+        "calls" | "left" => serve(rt, &mut time_open(rt, store, start)?, wanted),
+        "run" => serve(rt, &mut master_of(rt.alloc(), store)?, wanted),
         _ => Err(failed("the command is unknown")),
+    }
+}
+
+/// Does what the words ask for over the file, or in memory.
+fn answer_at(rt: &HostRuntime, path: &str, wanted: Wanted<'_>) -> io::Result<()> {
+    let start = Instant::now(rt)?;
+    if path == "memory" {
+        answer(rt, MemoryPurges::new(rt.alloc()), start, wanted)
+    } else {
+        answer(rt, stored(rt, path)?, start, wanted)
     }
 }
 
@@ -496,7 +542,12 @@ fn main(rt: HostRuntime) -> io::Result<()> {
     };
     let first = number_of(words.next());
     let second = number_of(words.next());
-    if let Err(error) = answer(&rt, command.as_str(), path.as_str(), first, second) {
+    let wanted = Wanted {
+        command: command.as_str(),
+        first,
+        second,
+    };
+    if let Err(error) = answer_at(&rt, path.as_str(), wanted) {
         println!(rt; "refused {error}")?;
     }
     Ok(())

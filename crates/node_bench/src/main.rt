@@ -5,23 +5,28 @@
 //! an ICP QUERY for what is held, the same from octets to octets, and a purge of the master for what is not. For each kind it prints a
 //! line `NAME COPIES PENDING STEPS MICROSECONDS`, and a line `look-up` for as many look-ups of the same keys in a map of std. What comes
 //! is made before the time is taken. `node_bench COPIES PENDING COUNT ANSWERED` makes so many QUERYs and answers the first of them alone, so
-//! that a profiler can count what they cost. Without words it does nothing.
+//! that a profiler can count what they cost.
+//!
+//! `node_bench OCTETS` opens such a node, which holds one answer with a body of so many octets, and serves it 4,096 times by bare steps and
+//! 4,096 times by a book. It prints the lines `bare 1 0 STEPS MICROSECONDS` and `book 1 0 STEPS MICROSECONDS`, and a line `pages BEFORE
+//! AFTER` with the memory pages that the process held before the book's first entry and after its last. Without words it does nothing.
 #![tactic(auto)]
 
 use fetch_messages::{Answer, Ask, Body, Field, Fields};
+use floor_rules::MemoryFloors;
 use htcp_wire::{Content, Htcp, Specifier};
 use http_header::{HeaderName, HeaderValue};
 use icp_wire::{Icp, IcpOp};
+use node_book::{BookFault, NodeBook};
 use node_bytes::{event_of, octets_of};
 use node_core::Node;
 use node_rules::{Event, Message, Outgoing, Received, Sent, can_be_answered, fits};
-use purge_numbers::MemoryFloors;
 use roster::{Address, Roster, Udp};
 use std::alloc::Global;
 use std::collections::BTreeMap;
 use std::hash::RandomState;
 use std::time::Instant;
-use std::{env, io};
+use std::{env, fs, io};
 use url_key::Key;
 use wire_octets::Octets;
 
@@ -61,6 +66,9 @@ connect = 8080
 /// The octets of each body that a miss brings.
 const BODY: usize = 1_024;
 
+/// How often an answer is served by a book.
+const SERVED: u32 = 4_096;
+
 type Tested = Node<(), MemoryFloors>;
 
 /// A fault as an error of the program.
@@ -88,13 +96,19 @@ const SIBLING: Address = Address {
     port: 3102,
 };
 
-fn opened(alloc: Global, keys: RandomState) -> io::Result<Tested> {
+/// A node that is let go as a whole.
+#[derive(Drop)]
+struct Held {
+    node: Tested,
+}
+
+fn opened(alloc: Global, keys: RandomState) -> io::Result<Held> {
     let roster = match Roster::read(alloc, ROSTER) {
         Ok(roster) => roster,
         Err(error) => return Err(failed(error.fault.name())),
     };
     match Node::open_with_random_keys(alloc, roster, 1, MemoryFloors::new(alloc), keys) {
-        Ok(node) => Ok(node),
+        Ok(node) => Ok(Held { node }),
         Err(fault) => Err(failed(fault.name())),
     }
 }
@@ -173,8 +187,8 @@ fn purge(alloc: Global, key: &Key, number: u32) -> io::Result<Event<()>> {
     )
 }
 
-/// The origin's answer to a read.
-fn given(alloc: Global, serial: u32, key: Key) -> io::Result<Event<()>> {
+/// The origin's answer to a read, with a body of so many octets.
+fn given(alloc: Global, serial: u32, key: Key, octets: usize) -> io::Result<Event<()>> {
     let name = HeaderName::from_bytes(alloc, b"cache-control");
     let value = HeaderValue::from_bytes(alloc, b"max-age=60");
     let (Ok(name), Ok(value)) = (name, value) else {
@@ -184,7 +198,7 @@ fn given(alloc: Global, serial: u32, key: Key) -> io::Result<Event<()>> {
     let Ok(fields) = Fields::new(alloc, fields) else {
         return Err(failed("the fields"));
     };
-    let Ok(body) = Body::from_vec(vec![in alloc; b'x'; BODY]?) else {
+    let Ok(body) = Body::from_vec(vec![in alloc; b'x'; octets]?) else {
         return Err(failed("the body"));
     };
     let Some(answer) = Answer::new(200, fields, None, None, body) else {
@@ -215,20 +229,29 @@ fn queries(alloc: Global, copies: u32, count: u32) -> io::Result<Vec<Event<()>>>
     Ok(events)
 }
 
+/// A message that is sent to the sibling.
+fn to_sibling(message: Message) -> io::Result<Outgoing> {
+    if fits(&message) {
+        Ok(Outgoing {
+            to: SIBLING,
+            message: Sent::new(message),
+        })
+    } else {
+        Err(failed("no text"))
+    }
+}
+
+/// The octets of an ICP QUERY for the copy at this place.
+fn query(alloc: Global, number: u32, place: u32) -> io::Result<Vec<u8>> {
+    let message = message(alloc, IcpOp::Query, number, &key_of(alloc, "held", place)?)?;
+    Ok(octets_of(alloc, &to_sibling(message)?)?)
+}
+
 /// The octets of ICP QUERYs for what is held.
 fn datagrams(alloc: Global, copies: u32, count: u32) -> io::Result<Vec<Vec<u8>>> {
     let mut datagrams = Vec::new(alloc);
     for step in 0..count {
-        let key = key_of(alloc, "held", in_turn(step, copies))?;
-        let message = message(alloc, IcpOp::Query, step, &key)?;
-        if !fits(&message) {
-            return Err(failed("no text"));
-        }
-        let sent = Outgoing {
-            to: SIBLING,
-            message: Sent::new(message),
-        };
-        datagrams.push(octets_of(alloc, &sent)?)?;
+        datagrams.push(query(alloc, step, in_turn(step, copies))?)?;
     }
     Ok(datagrams)
 }
@@ -250,15 +273,15 @@ fn asks(alloc: Global, path: &str, count: u32) -> io::Result<Vec<Event<()>>> {
     Ok(events)
 }
 
-/// Misses from end to end, of three steps each. The first takes this block.
-fn misses(alloc: Global, block: u32, count: u32) -> io::Result<Vec<Event<()>>> {
+/// Misses from end to end, of three steps each, with bodies of so many octets. The first takes this block.
+fn misses(alloc: Global, block: u32, count: u32, octets: usize) -> io::Result<Vec<Event<()>>> {
     let mut events = Vec::new(alloc);
-    for step in 0..count / 3 {
+    for step in 0..count {
         let round = block.wrapping_add(step).wrapping_mul(32);
         let key = key_of(alloc, "missed", step)?;
         events.push(asked(key.copy(alloc)?))?;
         events.push(icp(alloc, IcpOp::Miss, round, &key)?)?;
-        events.push(given(alloc, round.wrapping_add(1), key)?)?;
+        events.push(given(alloc, round.wrapping_add(1), key, octets)?)?;
     }
     Ok(events)
 }
@@ -318,67 +341,221 @@ fn time_steps(
     println!(rt; "{name} {} {} {steps} {micros}", load.0, load.1)
 }
 
+/// Gives the key of a copy this number in a map of std.
+fn map_key(map: &mut BTreeMap<Vec<u8>, u32>, alloc: Global, number: u32) -> io::Result<()> {
+    let key = key_of(alloc, "held", number)?;
+    let text = Vec::from_slice(alloc, key.text())?;
+    map.insert(text, number)?;
+    Ok(())
+}
+
 /// A map of std with the keys of so many copies.
 fn mapped(alloc: Global, copies: u32) -> io::Result<BTreeMap<Vec<u8>, u32>> {
     let mut map = BTreeMap::new(alloc);
     for number in 0..copies {
-        let key = key_of(alloc, "held", number)?;
-        map.insert(Vec::from_slice(alloc, key.text())?, number)?;
+        map_key(&mut map, alloc, number)?;
     }
     Ok(map)
+}
+
+/// The keys of copies, in turn.
+fn held_keys(alloc: Global, copies: u32, count: u32) -> io::Result<Vec<Key>> {
+    let mut keys = Vec::new(alloc);
+    for step in 0..count {
+        keys.push(key_of(alloc, "held", in_turn(step, copies))?)?;
+    }
+    Ok(keys)
+}
+
+/// How many of the keys are in the map.
+fn count_found(map: &BTreeMap<Vec<u8>, u32>, keys: &[Key]) -> usize {
+    keys.iter()
+        .filter(|key| map.contains_key(key.text()))
+        .count()
 }
 
 /// Looks each key up, and prints how long it took.
 fn time_look_ups(rt: &HostRuntime, load: (u32, u32), count: u32) -> io::Result<()> {
     let map = mapped(rt.alloc(), load.0)?;
-    let mut keys = Vec::new(rt.alloc());
-    for step in 0..count {
-        keys.push(key_of(rt.alloc(), "held", in_turn(step, load.0))?)?;
-    }
+    let keys = held_keys(rt.alloc(), load.0, count)?;
     let start = Instant::now(rt)?;
-    let found = keys
-        .iter()
-        .filter(|key| map.contains_key(key.text()))
-        .count();
+    let found = count_found(&map, &keys);
     let micros = start.elapsed(rt)?.as_micros();
     println!(rt; "look-up {} {} {found} {micros}", load.0, load.1)
 }
 
+/// Gives a node this load.
+fn load_node(alloc: Global, node: &mut Tested, load: (u32, u32)) -> io::Result<()> {
+    hold(alloc, node, load.0)?;
+    take(node, asks(alloc, "waiting", load.1)?)
+}
+
 /// A node with this load.
-fn loaded(rt: &HostRuntime, load: (u32, u32)) -> io::Result<Tested> {
-    let alloc = rt.alloc();
-    let mut node = opened(alloc, RandomState::new(rt)?)?;
-    hold(alloc, &mut node, load.0)?;
-    take(&mut node, asks(alloc, "waiting", load.1)?)?;
-    Ok(node)
+fn loaded(rt: &HostRuntime, load: (u32, u32)) -> io::Result<Held> {
+    let mut held = opened(rt.alloc(), RandomState::new(rt)?)?;
+    load_node(rt.alloc(), &mut held.node, load)?;
+    Ok(held)
+}
+
+fn time_hits(rt: &HostRuntime, load: (u32, u32), node: &mut Tested, count: u32) -> io::Result<()> {
+    let events = hits(rt.alloc(), load.0, count)?;
+    time_steps(rt, "hit", load, node, events)
+}
+
+fn time_queries(
+    rt: &HostRuntime,
+    load: (u32, u32),
+    node: &mut Tested,
+    count: u32,
+) -> io::Result<()> {
+    let events = queries(rt.alloc(), load.0, count)?;
+    time_steps(rt, "query", load, node, events)
+}
+
+fn time_purges(
+    rt: &HostRuntime,
+    load: (u32, u32),
+    node: &mut Tested,
+    count: u32,
+) -> io::Result<()> {
+    let events = purges(rt.alloc(), count)?;
+    time_steps(rt, "purge", load, node, events)
+}
+
+fn time_misses(
+    rt: &HostRuntime,
+    load: (u32, u32),
+    node: &mut Tested,
+    count: u32,
+) -> io::Result<()> {
+    let events = misses(rt.alloc(), load.1.wrapping_add(1), count / 3, BODY)?;
+    time_steps(rt, "miss", load, node, events)
+}
+
+/// Measures all kinds of steps.
+fn time_all(rt: &HostRuntime, load: (u32, u32), node: &mut Tested, count: u32) -> io::Result<()> {
+    time_look_ups(rt, load, count)?;
+    time_hits(rt, load, node, count)?;
+    time_queries(rt, load, node, count)?;
+    time_datagrams(rt, load, node, count)?;
+    time_purges(rt, load, node, count)?;
+    time_misses(rt, load, node, count)
 }
 
 /// Measures all kinds of steps at this load.
 fn measure(rt: &HostRuntime, load: (u32, u32), count: u32) -> io::Result<()> {
-    let (copies, pending) = load;
-    let alloc = rt.alloc();
-    let mut node = loaded(rt, load)?;
-    time_look_ups(rt, load, count)?;
-    let events = hits(alloc, copies, count)?;
-    time_steps(rt, "hit", load, &mut node, events)?;
-    let events = queries(alloc, copies, count)?;
-    time_steps(rt, "query", load, &mut node, events)?;
-    time_datagrams(rt, load, &mut node, count)?;
-    let events = purges(alloc, count)?;
-    time_steps(rt, "purge", load, &mut node, events)?;
-    let events = misses(alloc, pending.wrapping_add(1), count)?;
-    time_steps(rt, "miss", load, &mut node, events)
+    let mut held = loaded(rt, load)?;
+    time_all(rt, load, &mut held.node, count)
+}
+
+/// Makes so many datagrams, and answers the first of them.
+fn answer_first(
+    alloc: Global,
+    copies: u32,
+    node: &mut Tested,
+    count: u32,
+    answered: u32,
+) -> io::Result<()> {
+    let datagrams = datagrams(alloc, copies, count)?;
+    let (first, _) = datagrams.split_at(datagrams.len().min(answered as usize));
+    for octets in first {
+        answer(alloc, node, octets)?;
+    }
+    Ok(())
 }
 
 /// Makes so many datagrams at this load, and answers the first of them.
 fn profile(rt: &HostRuntime, load: (u32, u32), count: u32, answered: u32) -> io::Result<()> {
-    let mut node = loaded(rt, load)?;
-    let datagrams = datagrams(rt.alloc(), load.0, count)?;
-    let (first, _) = datagrams.split_at(datagrams.len().min(answered as usize));
-    for octets in first {
-        answer(rt.alloc(), &mut node, octets)?;
+    let mut held = loaded(rt, load)?;
+    answer_first(rt.alloc(), load.0, &mut held.node, count, answered)
+}
+
+/// Has the node fetch one answer, with a body of so many octets.
+fn fetch_one(alloc: Global, node: &mut Tested, octets: usize) -> io::Result<()> {
+    take(node, misses(alloc, 1, 1, octets)?)
+}
+
+/// A node that holds one answer, with a body of so many octets.
+fn holding(rt: &HostRuntime, octets: usize) -> io::Result<Held> {
+    let mut held = opened(rt.alloc(), RandomState::new(rt)?)?;
+    fetch_one(rt.alloc(), &mut held.node, octets)?;
+    Ok(held)
+}
+
+/// Asks for the answer that the first miss brought.
+fn asks_for_it(alloc: Global) -> io::Result<Vec<Event<()>>> {
+    let mut events = Vec::new(alloc);
+    for _ in 0..SERVED {
+        events.push(asked(key_of(alloc, "missed", 0)?))?;
+    }
+    Ok(events)
+}
+
+/// Takes the steps by a book. A step that is refused is an error.
+fn enter(book: &mut NodeBook<MemoryFloors>, events: Vec<Event<()>>) -> io::Result<()> {
+    for (place, event) in (0_u64..).zip(events) {
+        match book.apply(1, place, event) {
+            Ok(_) => {}
+            Err(BookFault::Step(fault)) => return Err(failed(fault.name())),
+            Err(_) => return Err(failed("the book")),
+        }
     }
     Ok(())
+}
+
+/// The memory pages that the process holds.
+fn pages(rt: &HostRuntime) -> io::Result<u64> {
+    let text = fs::read_to_string(rt, "/proc/self/statm")?;
+    let held = text.as_str().split_whitespace().nth(1);
+    match held.and_then(|word| word.parse().ok()) {
+        Some(pages) => Ok(pages),
+        None => Err(failed("/proc/self/statm")),
+    }
+}
+
+/// Serves the answer by bare steps, and prints how long that took.
+fn time_bare(rt: &HostRuntime, node: &mut Tested) -> io::Result<()> {
+    let events = asks_for_it(rt.alloc())?;
+    time_steps(rt, "bare", (1, 0), node, events)
+}
+
+/// A node that has served its answer by bare steps.
+fn served(rt: &HostRuntime, octets: usize) -> io::Result<Held> {
+    let mut held = holding(rt, octets)?;
+    time_bare(rt, &mut held.node)?;
+    Ok(held)
+}
+
+/// A book that is let go as a whole.
+#[derive(Drop)]
+struct HeldBook {
+    book: NodeBook<MemoryFloors>,
+}
+
+fn book_of(alloc: Global, held: Held) -> io::Result<HeldBook> {
+    let Held { node } = held;
+    match NodeBook::open(alloc, node) {
+        Ok(book) => Ok(HeldBook { book }),
+        Err(_) => Err(failed("the book")),
+    }
+}
+
+/// Serves the answer by a book, and prints how long that took and the memory before and after it.
+fn time_book(rt: &HostRuntime, book: &mut NodeBook<MemoryFloors>) -> io::Result<()> {
+    let events = asks_for_it(rt.alloc())?;
+    let before = pages(rt)?;
+    let start = Instant::now(rt)?;
+    enter(book, events)?;
+    let micros = start.elapsed(rt)?.as_micros();
+    println!(rt; "book 1 0 {SERVED} {micros}")?;
+    let after = pages(rt)?;
+    println!(rt; "pages {before} {after}")
+}
+
+/// Serves one answer by bare steps and then by a book.
+fn compare(rt: &HostRuntime, octets: usize) -> io::Result<()> {
+    let mut held = book_of(rt.alloc(), served(rt, octets)?)?;
+    time_book(rt, &mut held.book)
 }
 
 fn main(rt: HostRuntime) -> io::Result<()> {
@@ -387,6 +564,7 @@ fn main(rt: HostRuntime) -> io::Result<()> {
         numbers.push(word.as_str().parse::<u32>().unwrap_or(0))?;
     }
     match numbers.as_slice() {
+        [_, octets] => compare(&rt, *octets as usize),
         [_, copies, pending, count] => measure(&rt, (*copies, *pending), *count),
         [_, copies, pending, count, answered] => {
             profile(&rt, (*copies, *pending), *count, *answered)

@@ -1,1 +1,2 @@
 pub mod Answerable
+pub mod Asks

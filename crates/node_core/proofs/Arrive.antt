@@ -4,7 +4,7 @@ use Rattle.std.proofs.lemmas.Bool.Decides.{nat_tests}
 use Rattle.std.proofs.lemmas.Grind.{common_steps}
 use Rattle.std.proofs.lemmas.Option.{same_Some}
 use Rattle.fetch_messages.specs.Answer.{AnswerText}
-use Rattle.purge_numbers.specs.Floors.{floor}
+use Rattle.floor_rules.specs.Floors.{floor}
 use Rattle.peer_chooser.specs.Round.{RoundText, ended as ended_round}
 use Rattle.reuse_rules.specs.Lifetime.{lifetime}
 use Rattle.node_rules.specs.declared.state.Pending.{Pending}

@@ -5,7 +5,7 @@ use Rattle.std.proofs.lemmas.Bool.Decides.{nat_tests}
 use Rattle.fetch_messages.specs.declared.ask.Ask.{Ask}
 use Rattle.object_store.specs.declared.copy.WebCopy.{WebCopy}
 use Rattle.object_store.specs.Listed.{to_front}
-use Rattle.purge_numbers.specs.Floors.{floor, seen}
+use Rattle.floor_rules.specs.Floors.{floor, seen}
 use Rattle.std.specs.List.{filter_map}
 use Rattle.roster_tables.specs.declared.plain.Tables.{Tables}
 use Rattle.roster_tables.specs.declared.plain.Peer.{Peer}

@@ -8,7 +8,7 @@ use Rattle.node_rules.specs.declared.state.Pending.{Pending}
 use Rattle.node_rules.specs.declared.state.NodeState.{NodeState}
 use Rattle.node_rules.specs.declared.reply.Reply.{Reply}
 use Rattle.node_rules.specs.declared.reply.StepFault.{StepFault}
-use Rattle.purge_numbers.specs.Floors.{floor}
+use Rattle.floor_rules.specs.Floors.{floor}
 use Rattle.peer_chooser.specs.declared.said.Source.{Source}
 use Rattle.peer_chooser.specs.declared.said.Source.TheVariants as source
 use Rattle.peer_chooser.specs.Round.{RoundText}

@@ -4,10 +4,10 @@ use Rattle.std.specs.Prelude.{⊤, Bool}
 use Rattle.std.specs.Prelude.{◌<◌, ◌≤◌, IsSome, None}
 use Rattle.std.proofs.Math.Nat.{not-le_of_lt}
 use Rattle.std.specs.FinMap.{get, len}
-use Rattle.purge_numbers.specs.Floors.{FloorMap, HasRoom, raised}
-use Rattle.purge_numbers.specs.Store.{IsBeforeOrAfter, HaveRisen}
-use Rattle.purge_numbers.specs.declared.fault.FloorFault.{FloorFault}
-use Rattle.purge_numbers.specs.declared.fault.FloorFault.TheVariants as floor_fault
+use Rattle.floor_rules.specs.Floors.{FloorMap, HasRoom, raised}
+use Rattle.floor_rules.specs.Store.{IsBeforeOrAfter, HaveRisen}
+use Rattle.floor_rules.specs.declared.fault.FloorFault.{FloorFault}
+use Rattle.floor_rules.specs.declared.fault.FloorFault.TheVariants as floor_fault
 use Rattle.node_rules.specs.declared.state.NodeState.{NodeState}
 use Rattle.node_rules.specs.declared.event.Event.{Event}
 use Rattle.node_rules.specs.declared.reply.Reply.{Reply}

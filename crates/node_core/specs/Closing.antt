@@ -3,9 +3,9 @@ use Rattle.std.specs.Prelude.{◌≡◌, ◌⊎◌, ℕ, true, List, [], Option,
 use Rattle.htcp_wire.specs.declared.message.Specifier.{Specifier}
 use Rattle.htcp_wire.specs.declared.numbers.HeaderKind.TheVariants.{PurgeNumber}
 use Rattle.htcp_wire.specs.Numbers.{number_in_text}
-use Rattle.purge_numbers.specs.Floors.{FloorMap}
-use Rattle.purge_numbers.specs.declared.fault.FloorFault.{FloorFault}
-use Rattle.purge_numbers.specs.declared.fault.FloorFault.TheVariants as floor_fault
+use Rattle.floor_rules.specs.Floors.{FloorMap}
+use Rattle.floor_rules.specs.declared.fault.FloorFault.{FloorFault}
+use Rattle.floor_rules.specs.declared.fault.FloorFault.TheVariants as floor_fault
 use Rattle.roster_tables.specs.declared.plain.Address.{Address}
 use Rattle.node_rules.specs.declared.state.NodeState.{NodeState}
 use Rattle.node_rules.specs.declared.reply.Reply.{Reply}

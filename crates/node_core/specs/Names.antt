@@ -1,6 +1,6 @@
 -- The names of faults that scripts print.
 use Rattle.std.specs.Prelude.{ℕ, List, codes}
-use Rattle.purge_numbers.specs.Fault.{floor_fault_name}
+use Rattle.floor_rules.specs.Fault.{floor_fault_name}
 use Rattle.node_core.specs.declared.opening.OpenFault.{OpenFault}
 use Rattle.node_core.specs.declared.opening.OpenFault.TheVariants.{NoSuchNode, Floors, NoMemory}
 use Rattle.node_core.specs.declared.placing.PlaceFault.{PlaceFault}

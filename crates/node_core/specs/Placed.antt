@@ -5,7 +5,7 @@ use Rattle.object_store.specs.declared.copy.WebCopy.{WebCopy}
 use Rattle.object_store.specs.declared.store.Put.{Put}
 use Rattle.object_store.specs.declared.store.Put.TheVariants as put
 use Rattle.object_store.specs.Held.{put_answer, after_put}
-use Rattle.purge_numbers.specs.Floors.{floor, seen}
+use Rattle.floor_rules.specs.Floors.{floor, seen}
 use Rattle.roster_tables.specs.declared.plain.Limits.{Limits}
 use Rattle.node_rules.specs.declared.state.NodeState.{NodeState}
 use Rattle.node_rules.specs.State.{with_copies}

@@ -7,9 +7,9 @@ ghost use Rattle.node_core.specs.View.{IsSameNode};
 
 use crate::Node;
 use fetch_messages::{Answer, Ask};
+use floor_rules::FloorStore;
 use node_rules::StepFault;
 use object_store::WebCopy;
-use purge_numbers::FloorStore;
 use reuse_rules::is_fresh;
 use std::alloc::AllocError;
 use url_key::Key;

@@ -7,19 +7,19 @@ ghost use Rattle.node_rules.specs.Datagrams as datagrams;
 ghost use Rattle.node_rules.specs.Relation.{purge_in_content, purge_in_message};
 ghost use Rattle.key_texts.specs.KeyOf.{GivesKeys};
 ghost use Rattle.node_core.specs.View.{IsSameNode, IsSameMember, setting_of};
-ghost use Rattle.purge_numbers.specs.Store.{HaveRisen};
+ghost use Rattle.floor_rules.specs.Store.{HaveRisen};
 ghost use Rattle.node_core.specs.Closing.{KeepsStore, FailsWithCause};
 ghost use Rattle.node_core.specs.Leads.{Leads, MayClose};
 
 use crate::Node;
 use crate::questions::{Heard, hit_said};
 use crate::replies::{quiet, sends_if};
+use floor_rules::FloorStore;
 use htcp_wire::Content;
 use icp_wire::{Icp, IcpOp};
 use node_messages::{nop_answer, overall_answer};
 use node_rules::{Message, Received, Reply, StepFault};
 use peer_chooser::Said;
-use purge_numbers::FloorStore;
 use roster::Address;
 
 /// HTCP's opcode of TST.

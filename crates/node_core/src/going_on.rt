@@ -12,11 +12,11 @@ ghost use Rattle.node_core.specs.Leads.{Leads};
 use crate::Node;
 use crate::replies::{begins, quiet, serves};
 use fetch_messages::Ask;
+use floor_rules::FloorStore;
 use node_messages::{has_origin, is_foreign};
 use node_rules::{Begin, Fetch, Reply, Served, StepFault};
 use node_waiting::Progress;
 use peer_chooser::{Round, Source};
-use purge_numbers::FloorStore;
 use roster::Listed;
 use std::alloc::{AllocError, Global};
 

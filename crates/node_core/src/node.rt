@@ -3,10 +3,10 @@ ghost use Rattle.node_rules.specs.State.{fetch_serial};
 ghost use Rattle.node_core.specs.View.{IsSameNode, IsTied};
 ghost use Rattle.node_core.specs.Closing.{closing};
 
+use floor_rules::{FloorStore, Floors};
 use node_rules::Pending;
 use node_waiting::Waiting;
 use object_store::Store;
-use purge_numbers::{FloorStore, Floors};
 use roster::Roster;
 use std::alloc::Global;
 use std::marker::Model;

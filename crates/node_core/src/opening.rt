@@ -5,9 +5,9 @@ ghost use Rattle.node_rules.specs.State.{opened};
 ghost use Rattle.node_core.specs.Names.{open_fault_name};
 
 use crate::Node;
+use floor_rules::{FloorFault, FloorStore};
 use node_waiting::Waiting;
 use object_store::Store;
-use purge_numbers::{FloorFault, FloorStore};
 use roster::{Limits, Member, Roster};
 use std::alloc::{AllocError, Global};
 use std::hash::RandomState;

@@ -6,8 +6,8 @@ ghost use Rattle.node_core.specs.View.{IsSameNode};
 
 use crate::Node;
 use fetch_messages::{Answer, Body, Fields};
+use floor_rules::FloorStore;
 use object_store::{Put, WebCopy};
-use purge_numbers::FloorStore;
 use std::alloc::{AllocError, Global};
 use thiserror::Error;
 use url_key::Key;

@@ -17,12 +17,12 @@ ghost use Rattle.node_core.specs.Leads.{Leads};
 
 use crate::Node;
 use crate::replies::{quiet, sends, sends_if};
+use floor_rules::FloorStore;
 use htcp_wire::{HeaderKind, Specifier, number_in};
 use icp_wire::{Icp, IcpOp};
 use node_messages::{icp_answer, is_foreign, is_known, overall_answer, peer_at, tst_answer};
 use node_rules::{Reply, StepFault};
 use peer_chooser::{Round, Said};
-use purge_numbers::FloorStore;
 use roster::{Address, Peer, Udp};
 use std::alloc::{AllocError, Global};
 use url_key::{Key, KeyFault};

@@ -3,13 +3,13 @@ ghost use Rattle.std.specs.Prelude.{◌≡◌, ℕ, List, Option, IfOk, Err, fal
 ghost use Rattle.node_rules.specs.Relation.{Steps};
 ghost use Rattle.key_texts.specs.KeyOf.{GivesKeys};
 ghost use Rattle.node_core.specs.View.{IsSameMember, setting_of};
-ghost use Rattle.purge_numbers.specs.Store.{HaveRisen};
+ghost use Rattle.floor_rules.specs.Store.{HaveRisen};
 ghost use Rattle.node_core.specs.Closing.{KeepsStore, FailsWithCause};
 
 use crate::Node;
 use crate::arrivals::{same_fetch, same_peers, same_round};
+use floor_rules::FloorStore;
 use node_rules::{Event, NodeState, Pending, Reply, StepFault};
-use purge_numbers::FloorStore;
 use roster::Listed;
 use std::alloc::{AllocError, Global};
 

@@ -15,7 +15,7 @@ use Rattle.htcp_wire.specs.declared.message.Content.{Content}
 use Rattle.htcp_wire.specs.declared.message.Content.TheVariants as content
 use Rattle.node_rules.specs.declared.message.Message.{Message}
 use Rattle.node_rules.specs.declared.message.Message.TheVariants as message
-use Rattle.purge_numbers.specs.Floors.{FloorMap}
+use Rattle.floor_rules.specs.Floors.{FloorMap}
 use Rattle.object_store.specs.declared.copy.WebCopy.{WebCopy}
 use Rattle.fetch_messages.specs.declared.ask.Ask.{Ask}
 use Rattle.fetch_messages.specs.Answer.{AnswerText}
@@ -30,7 +30,7 @@ use Rattle.node_rules.specs.declared.state.Pending.{Pending}
 use Rattle.node_rules.specs.declared.state.NodeState.{NodeState}
 use Rattle.node_rules.specs.declared.event.Event.{Event}
 use Rattle.node_rules.specs.declared.event.Event.TheVariants as event
-use Rattle.purge_numbers.specs.Floors.{floor, raised}
+use Rattle.floor_rules.specs.Floors.{floor, raised}
 use Rattle.node_rules.specs.Messages.{htcp, to, query, overall}
 use Rattle.node_rules.specs.Relation.{purge_in, purge_in_content, purge_in_message, purge_by_line}
 use Rattle.roster_tables.specs.Ranges.{is_foreign_id}

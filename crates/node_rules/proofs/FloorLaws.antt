@@ -9,7 +9,7 @@ use Rattle.std.specs.declared.cmp.Ordering.{Ordering}
 use Rattle.std.specs.declared.cmp.Ordering.TheVariants.{Less, Equal, Greater}
 use Rattle.std.proofs.lemmas.Map.Text.{is_eq-slice_cmp}
 use Rattle.std.proofs.lemmas.Slice.Eq.{bytes_eq-Decides}
-use Rattle.purge_numbers.specs.Floors.{FloorMap, floor, seen, greatest, raised}
+use Rattle.floor_rules.specs.Floors.{FloorMap, floor, seen, greatest, raised}
 use Rattle.node_rules.proofs.Cases.{branches}
 
 pub same_text : (x y : List ℕ) → bytes_eq x y ≡ true → x ≡ y

@@ -6,7 +6,7 @@ use Rattle.std.proofs.lemmas.Option.{none-some}
 use Rattle.object_store.specs.declared.copy.WebCopy.{WebCopy}
 use Rattle.node_rules.specs.declared.state.NodeState.{NodeState}
 use Rattle.node_rules.specs.declared.event.Event.{Event}
-use Rattle.purge_numbers.specs.Floors.{floor, raised}
+use Rattle.floor_rules.specs.Floors.{floor, raised}
 use Rattle.object_store.specs.Copy.{is_of}
 use Rattle.node_rules.specs.State.{Setting, Stepped}
 use Rattle.node_rules.specs.Effect.{Effect, Stays, Serves, Brings, Purges, Drops, copy_served}

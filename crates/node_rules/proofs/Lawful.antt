@@ -8,7 +8,7 @@ use Rattle.node_rules.specs.declared.event.Event.{Event}
 use Rattle.node_rules.specs.declared.reply.Reply.{Reply}
 use Rattle.node_rules.specs.declared.reply.StepFault.{StepFault}
 use Rattle.node_rules.specs.declared.reply.StepFault.TheVariants as fault
-use Rattle.purge_numbers.specs.Floors.{floor, seen, raised}
+use Rattle.floor_rules.specs.Floors.{floor, seen, raised}
 use Rattle.object_store.specs.Copy.{is_of}
 use Rattle.object_store.specs.Listed.{copy_of}
 use Rattle.node_rules.specs.State.{Setting, Stepped}

@@ -6,7 +6,7 @@ use Rattle.fetch_messages.specs.declared.ask.Ask.{Ask}
 use Rattle.roster_tables.specs.declared.plain.Limits.{Limits}
 use Rattle.node_rules.specs.declared.state.Pending.{Pending}
 use Rattle.node_rules.specs.declared.state.NodeState.{NodeState}
-use Rattle.purge_numbers.specs.Floors.{floor}
+use Rattle.floor_rules.specs.Floors.{floor}
 use Rattle.object_store.specs.declared.store.Put.{Put}
 use Rattle.object_store.specs.declared.store.Put.TheVariants.{TooLarge, Kept, Stored}
 use Rattle.object_store.specs.Copy.{size, is_of}

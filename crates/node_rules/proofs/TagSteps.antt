@@ -25,7 +25,7 @@ use Rattle.node_rules.specs.declared.state.Pending.{Pending}
 use Rattle.node_rules.specs.declared.state.NodeState.{NodeState}
 use Rattle.node_rules.specs.declared.event.Event.{Event}
 use Rattle.node_rules.specs.declared.event.Event.TheVariants as event
-use Rattle.purge_numbers.specs.Floors.{floor, seen, raised}
+use Rattle.floor_rules.specs.Floors.{floor, seen, raised}
 use Rattle.roster_tables.specs.Ranges.{is_foreign_id}
 use Rattle.roster.specs.Lookups.{is_master}
 use Rattle.node_rules.specs.Known.{has_origin, is_known}

@@ -4,7 +4,7 @@ use Rattle.std.specs.List.{list_any}
 use Rattle.fetch_messages.specs.Answer.{AnswerText}
 use Rattle.object_store.specs.declared.copy.WebCopy.{WebCopy}
 use Rattle.object_store.specs.Held.{Held, after_put}
-use Rattle.purge_numbers.specs.Floors.{floor}
+use Rattle.floor_rules.specs.Floors.{floor}
 use Rattle.reuse_rules.specs.Lifetime.{lifetime}
 use Rattle.roster_tables.specs.Ranges.{is_foreign_id}
 use Rattle.roster_tables.specs.declared.plain.Limits.{Limits}

@@ -4,7 +4,7 @@ use Rattle.std.specs.List.{filter_map}
 use Rattle.fetch_messages.specs.declared.ask.Ask.{Ask}
 use Rattle.object_store.specs.declared.copy.WebCopy.{WebCopy}
 use Rattle.object_store.specs.Listed.{to_front}
-use Rattle.purge_numbers.specs.Floors.{floor}
+use Rattle.floor_rules.specs.Floors.{floor}
 use Rattle.roster_tables.specs.declared.plain.Peer.{Peer}
 use Rattle.roster.specs.Lookups.{peers_of, names_sibling, address_by}
 use Rattle.peer_chooser.specs.Round.{RoundText, started}

@@ -13,7 +13,7 @@ use Rattle.htcp_wire.specs.Numbers.{number_in_text}
 use Rattle.object_store.specs.declared.copy.WebCopy.{WebCopy}
 use Rattle.object_store.specs.Listed.{copy_of, without, without_below}
 use Rattle.object_store.specs.Held.{is_older_than}
-use Rattle.purge_numbers.specs.Floors.{FloorMap, raised}
+use Rattle.floor_rules.specs.Floors.{FloorMap, raised}
 use Rattle.roster_tables.specs.Ranges.{is_foreign_id}
 use Rattle.roster_tables.specs.declared.plain.Address.{Address}
 use Rattle.roster_tables.specs.declared.plain.Udp.{Udp}

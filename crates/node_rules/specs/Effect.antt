@@ -8,7 +8,7 @@ use Rattle.node_rules.specs.declared.message.Message.{Message}
 use Rattle.node_rules.specs.declared.message.Message.TheVariants as message
 use Rattle.node_rules.specs.declared.message.Outgoing.{Outgoing}
 use Rattle.fetch_messages.specs.Answer.{AnswerText}
-use Rattle.purge_numbers.specs.Floors.{FloorMap}
+use Rattle.floor_rules.specs.Floors.{FloorMap}
 use Rattle.object_store.specs.declared.copy.WebCopy.{WebCopy}
 use Rattle.node_rules.specs.declared.state.Fetch.{Fetch}
 use Rattle.node_rules.specs.declared.state.Fetch.TheVariants.{Nowhere, AtPeer, AtOrigin}
@@ -23,7 +23,7 @@ use Rattle.node_rules.specs.declared.reply.Begin.TheVariants as begin
 use Rattle.node_rules.specs.declared.reply.Reply.{Reply}
 use Rattle.node_rules.specs.declared.reply.StepFault.{StepFault}
 use Rattle.node_rules.specs.declared.reply.StepFault.TheVariants as fault
-use Rattle.purge_numbers.specs.Floors.{floor, seen, raised}
+use Rattle.floor_rules.specs.Floors.{floor, seen, raised}
 use Rattle.object_store.specs.Listed.{copy_of, to_front, without, without_below}
 use Rattle.node_rules.specs.State.{Setting, Stepped, fetch_serial}
 use Rattle.node_rules.specs.Fetching.{origin_ask}

@@ -1,7 +1,7 @@
 -- How a pending ask goes on: to a peer, to the origin, or to its end. The ask p is one that waits in the state s.
 use Rattle.std.specs.Prelude.{ℕ, ◌+◌, Bool, false, nat_le, List, Option, Some, None, if◌then◌else◌}
 use Rattle.fetch_messages.specs.declared.ask.Ask.{Ask}
-use Rattle.purge_numbers.specs.Floors.{floor, seen}
+use Rattle.floor_rules.specs.Floors.{floor, seen}
 use Rattle.roster_tables.specs.Ranges.{is_foreign_id}
 use Rattle.peer_chooser.specs.declared.said.Source.{Source}
 use Rattle.peer_chooser.specs.declared.said.Source.TheVariants as source

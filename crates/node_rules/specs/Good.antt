@@ -1,7 +1,7 @@
 -- What stays true of an open node's state.
 use Rattle.std.specs.Prelude.{◌≤◌, List}
 use Rattle.std.specs.List.{AllByRecursion}
-use Rattle.purge_numbers.specs.Floors.{FloorMap, floor}
+use Rattle.floor_rules.specs.Floors.{FloorMap, floor}
 use Rattle.object_store.specs.declared.copy.WebCopy.{WebCopy}
 use Rattle.object_store.specs.Held.{IsStore}
 use Rattle.roster_tables.specs.declared.plain.Limits.{Limits}

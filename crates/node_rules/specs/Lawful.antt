@@ -6,7 +6,7 @@ use Rattle.node_rules.specs.declared.state.NodeState.{NodeState}
 use Rattle.node_rules.specs.declared.event.Event.{Event}
 use Rattle.node_rules.specs.declared.reply.Reply.{Reply}
 use Rattle.node_rules.specs.declared.reply.StepFault.{StepFault}
-use Rattle.purge_numbers.specs.Floors.{floor, seen}
+use Rattle.floor_rules.specs.Floors.{floor, seen}
 use Rattle.node_rules.specs.State.{Setting}
 use Rattle.node_rules.specs.Relation.{purge_in}
 use Rattle.node_rules.specs.Questions.{is_from_sibling, BeginsNothing}

@@ -2,7 +2,7 @@
 use Rattle.std.specs.Prelude.{ℕ, ◌+◌, ◌*◌, min, Bool, true, false, not, ◌&&◌, ◌==◌, nat_le, List, [], ◌∷◌, ◌++◌, map, filter, unwrap_or, Option, Some, None, Result, Ok, Err, if◌then◌else◌}
 use Rattle.object_store.specs.declared.copy.WebCopy.{WebCopy}
 use Rattle.object_store.specs.Listed.{copy_of}
-use Rattle.purge_numbers.specs.Floors.{FloorMap, floor}
+use Rattle.floor_rules.specs.Floors.{FloorMap, floor}
 use Rattle.reuse_rules.specs.Freshness.{age_now, is_fresh}
 use Rattle.roster_tables.specs.declared.plain.Tables.{Tables}
 use Rattle.node_rules.specs.declared.message.Outgoing.{Outgoing}

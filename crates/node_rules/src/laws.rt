@@ -1,7 +1,7 @@
 //! Laws of the definitions. Each function does nothing: its clauses are the law.
 ghost use Rattle.std.specs.Prelude.{◌≡◌, ◌≤◌, ℕ, List, Result, Some, true, false};
 ghost use Rattle.object_store.specs.declared.copy.WebCopy.{WebCopy};
-ghost use Rattle.purge_numbers.specs.Floors.{floor};
+ghost use Rattle.floor_rules.specs.Floors.{floor};
 ghost use Rattle.node_rules.specs.declared.state.NodeState.{NodeState};
 ghost use Rattle.node_rules.specs.declared.event.Event.{Event};
 ghost use Rattle.node_rules.specs.declared.reply.Reply.{Reply};

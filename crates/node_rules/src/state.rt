@@ -1,7 +1,7 @@
 use fetch_messages::Ask;
+use floor_rules::Floors;
 use object_store::WebCopy;
 use peer_chooser::Round;
-use purge_numbers::Floors;
 use roster::Listed;
 
 /// Where a pending ask's answer is being fetched from.

@@ -2,6 +2,8 @@
 #![tactic(auto)]
 
 #[cfg(test)]
+mod lifetimes;
+#[cfg(test)]
 mod messages;
 #[cfg(test)]
 mod rules;

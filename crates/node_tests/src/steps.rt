@@ -1,11 +1,11 @@
 //! Worked runs of a node, each a table of events and of what they are answered.
 use fetch_messages::{Answer, Ask, Body, Field, Fields};
+use floor_rules::{FloorStore, MemoryFloors};
 use htcp_wire::{Content, Htcp, Specifier};
 use http_header::{HeaderName, HeaderValue};
 use icp_wire::{Icp, IcpOp};
 use node_core::{Node, OpenFault, Placed};
 use node_rules::{Begin, Event, Message, Received, Reply, Served, StepFault, can_be_answered};
-use purge_numbers::{FloorStore, MemoryFloors};
 use roster::{Address, Roster};
 use std::fmt::Write;
 use std::hash::RandomState;
@@ -68,16 +68,16 @@ address = \"127.0.0.1\"
 connect = 8080
 ";
 
-type Tested = Node<u64, MemoryFloors>;
+pub(crate) type Tested = Node<u64, MemoryFloors>;
 
 /// A node that is let go as a whole.
 #[derive(Drop)]
-struct Held {
-    node: Tested,
+pub(crate) struct Held {
+    pub(crate) node: Tested,
 }
 
 /// Fails with these words where something does not hold.
-fn want(holds: bool, what: &'static str) -> Result<(), Fail> {
+pub(crate) fn want(holds: bool, what: &'static str) -> Result<(), Fail> {
     if holds { Ok(()) } else { Err(what)? }
 }
 
@@ -95,7 +95,7 @@ fn opened(rt: &HostRuntime, roster: Roster) -> Result<Held, Fail> {
     }
 }
 
-fn node_of(rt: &HostRuntime, text: &str) -> Result<Held, Fail> {
+pub(crate) fn node_of(rt: &HostRuntime, text: &str) -> Result<Held, Fail> {
     opened(rt, roster_of(rt, text)?)
 }
 
@@ -120,11 +120,11 @@ fn at(port: u16) -> Address {
     }
 }
 
-fn key_of(rt: &HostRuntime, url: &str) -> Result<Key, Fail> {
+pub(crate) fn key_of(rt: &HostRuntime, url: &str) -> Result<Key, Fail> {
     Ok(Key::read(rt.alloc(), url.as_bytes())?)
 }
 
-fn client(rt: &HostRuntime, url: &str, now: u64) -> Result<Event<u64>, Fail> {
+pub(crate) fn client(rt: &HostRuntime, url: &str, now: u64) -> Result<Event<u64>, Fail> {
     let ask = Ask {
         key: key_of(rt, url)?,
         only_if_cached: false,
@@ -242,7 +242,12 @@ fn show(rt: &HostRuntime, reply: &Reply<u64>) -> Result<String, Fail> {
 }
 
 /// Takes a step, and shows what it is answered.
-fn step(rt: &HostRuntime, node: &mut Tested, event: Event<u64>, mark: u64) -> Result<String, Fail> {
+pub(crate) fn step(
+    rt: &HostRuntime,
+    node: &mut Tested,
+    event: Event<u64>,
+    mark: u64,
+) -> Result<String, Fail> {
     match node.step(event, mark) {
         Ok(reply) => show(rt, &reply),
         Err(fault) => Ok(format!(in rt.alloc(); " {}", fault.name())?),

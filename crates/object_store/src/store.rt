@@ -264,6 +264,7 @@ impl<T: Drop> Store<T> {
         ensures answer { result ≡ is_older_than stamp (copy_by_key key.now self.old.copies) }
         ensures removed { self.new ≡ with_copies self.old (without_below key.now stamp self.old.copies) }
     {
+        // (this reading opens the store's invariant for the proof, and does nothing when it runs)
         let _ = &self.limit_count;
         if self.holds_older(key, stamp) {
             self.remove(key)

@@ -11,10 +11,11 @@ use Rattle.std.proofs.lemmas.List.Sums.{sum_by-cons}
 use Rattle.std.proofs.lemmas.List.Elements.{All-from_recursion, recursion_from_All}
 use Rattle.sqlite_value.specs.Order.{Row}
 use Rattle.sqlite_trees.specs.Tree.{IsAscending}
-use Rattle.purge_numbers.specs.Floors.{FloorMap}
+use Rattle.floor_rules.specs.Floors.{FloorMap}
 use Rattle.purge_numbers.specs.Tables.{floor_entry, IsFloorRow, IsFloorTable}
 use Rattle.purge_numbers.specs.Rows.{Adds, IsFloor, shown_row}
-use Rattle.purge_numbers.proofs.LookLemmas.{same_url, url_of, look, looks, equal_urls, own_url}
+use Rattle.floor_rules.proofs.Urls.{same_url, equal_urls, own_url}
+use Rattle.purge_numbers.proofs.LookLemmas.{url_of, look, looks}
 
 -- the rows have different urls
 abbrev pub Apart : Row → Row → Type 0

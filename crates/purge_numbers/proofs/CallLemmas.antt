@@ -10,7 +10,7 @@ use Rattle.sqlite.proofs.Callers.{IsPlain, command_of, statement_of, runs_as}
 use Rattle.sqlite_trees.specs.declared.store.Store.{Ghosts}
 use Rattle.sqlite.specs.Held.{Held, state}
 use Rattle.sqlite.specs.declared.error.Error.{Error}
-use Rattle.purge_numbers.specs.Floors.{FloorMap}
+use Rattle.floor_rules.specs.Floors.{FloorMap}
 use Rattle.purge_numbers.specs.Tables.{node_schema, floors_in}
 use Rattle.purge_numbers.specs.Store.{IsReady, committed_floors, MayFind}
 use Rattle.purge_numbers.proofs.Texts.{put_command, put_is, put_plain}

@@ -3,7 +3,6 @@ pub mod Texts
 pub mod LookLemmas
 pub mod PutLemmas
 pub mod CallLemmas
-pub mod MapLemmas
 pub mod TableLemmas
 pub mod LoadLemmas
 pub mod AddLemmas

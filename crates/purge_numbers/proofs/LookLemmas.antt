@@ -3,18 +3,15 @@ use Rattle.std.proofs.Common.{◌≡◌, ℕ, Bool, true, false, cond, List, [],
 use Rattle.std.specs.List.{AllByRecursion}
 use Rattle.std.specs.declared.cmp.Ordering.{Ordering}
 use Rattle.std.specs.declared.cmp.Ordering.TheVariants.{Less, Equal, Greater}
-use Rattle.std.specs.Ordering.{nat_cmp, is_eq, match_ordering}
+use Rattle.std.specs.Ordering.{nat_cmp, match_ordering}
 use Rattle.std.specs.Cmp.Lexicographic.{slice_cmp, nat_list_cmp_total}
-use Rattle.std.specs.Cmp.{eq_by_cmp_equiv}
 use Rattle.std.specs.FinMap.{get, insert, from_entries, find, get-from_entries, get-insert, same_map, nat_cmp-IsAntisymmetric, slice_cmp-IsAntisymmetric}
 use Rattle.std.proofs.lemmas.Bool.{cases_Bool}
 use Rattle.sqlite_value.specs.Order.{Row, value_cmp}
 use Rattle.sqlite_trees.specs.Tree.{rowid, put_row}
 use Rattle.sqlite_rules.specs.Edit.{is_taken}
+use Rattle.floor_rules.proofs.Urls.{same_url, equal_urls, swapped}
 use Rattle.purge_numbers.specs.Tables.{floor_entry}
-
-abbrev pub same_url : List ℕ → List ℕ → Bool
-same_url a b = is_eq (slice_cmp nat_cmp a b)
 
 abbrev pub url_of : Row → List ℕ
 url_of row = (floor_entry row).0
@@ -25,22 +22,6 @@ look rows q = find (slice_cmp nat_cmp) q (map floor_entry rows)
 
 pub looks : (rows : List Row) (q : List ℕ) → get (from_entries {R = slice_cmp nat_cmp} (map floor_entry rows)) q ≡ look rows q
 looks rows q = get-from_entries nat_list_cmp_total (map floor_entry rows) q
-
-pub equal_urls : (a b : List ℕ) → same_url a b ≡ true → a ≡ b
-equal_urls a b h = slice_cmp-IsAntisymmetric nat_cmp-IsAntisymmetric a b (is_tied _ h)
-  where
-    is_tied : (o : Ordering) → is_eq o ≡ true → o ≡ Equal
-    is_tied Less h = absurd (cc)
-    is_tied Equal h = refl
-    is_tied Greater h = absurd (cc)
-
-pub own_url : (a : List ℕ) → same_url a a ≡ true
-own_url a = (eq_by_cmp_equiv nat_list_cmp_total).refl a
-
-pub swapped : {A : Type 0} (a b : Bool) (x y z : A) → (a ≡ true → b ≡ true → ⊥) → cond a x (cond b y z) ≡ cond b y (cond a x z)
-swapped true true x y z apart = absurd (apart refl refl)
-swapped true false x y z apart = refl
-swapped false b x y z apart = refl
 
 -- one more row, of a url that no row has
 pub look_put : (new : Row) (rows : List Row) (q : List ℕ) → is_taken rows new ≡ false → AllByRecursion (λ r. same_url (url_of r) (url_of new) ≡ false) rows

@@ -10,8 +10,8 @@ use Rattle.sqlite.specs.State.{State, HasCleanDisk, IsUnchanged, Survives}
 use Rattle.sqlite.proofs.Callers.{one_permutation}
 use Rattle.std.proofs.lemmas.List.Sorted.{IsPermutation-sym, length_permutation}
 use Rattle.std.proofs.lemmas.List.{length-map}
-use Rattle.purge_numbers.specs.declared.fault.FloorFault.{FloorFault}
-use Rattle.purge_numbers.specs.Floors.{FloorMap}
+use Rattle.floor_rules.specs.declared.fault.FloorFault.{FloorFault}
+use Rattle.floor_rules.specs.Floors.{FloorMap}
 use Rattle.purge_numbers.specs.Tables.{node_schema, floors_in}
 use Rattle.purge_numbers.specs.Making.{IsNodeFile, LeavesNoOther}
 use Rattle.purge_numbers.specs.Rows.{Adds, IsFloor, shown_row, shown_version, HasVersionOne}

@@ -47,7 +47,8 @@ use Rattle.sqlite_catalog.proofs.LayoutLemmas.{ascending_filter}
 use Rattle.sqlite_rules.specs.Calls.{ids_of}
 use Rattle.purge_numbers.specs.Tables.{node_schema, floors_table, floors_in, IsFloorRow, IsFloorTable, url_index}
 use Rattle.purge_numbers.proofs.Texts.{put_command, update_query}
-use Rattle.purge_numbers.proofs.LookLemmas.{same_url, url_of, look, look_put, look_kept, one_put, equal_urls, own_url}
+use Rattle.floor_rules.proofs.Urls.{same_url, equal_urls, own_url}
+use Rattle.purge_numbers.proofs.LookLemmas.{url_of, look, look_put, look_kept, one_put}
 
 -- a part that gave a value did not stop on the way
 pub went : {B E R : Type 0} {b : B} {Stops : E → Type 0} → ((stop : E) × Stops stop × (Ok b ≡ Err stop)) ⊎ R → R

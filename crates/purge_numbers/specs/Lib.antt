@@ -1,5 +1,3 @@
-pub mod Fault
-pub mod Floors
 pub mod Store
 pub mod Tables
 pub mod Put

@@ -4,7 +4,7 @@ use Rattle.std.specs.FinMap.{empty}
 use Rattle.std.specs.List.{AllByRecursion}
 use Rattle.sqlite.specs.Effect.{Database}
 use Rattle.sqlite.specs.State.{State, HasCleanDisk}
-use Rattle.purge_numbers.specs.Floors.{FloorMap}
+use Rattle.floor_rules.specs.Floors.{FloorMap}
 use Rattle.purge_numbers.specs.Rows.{HasVersion, HasVersionOne, IsFloor}
 use Rattle.purge_numbers.specs.Store.{MayFind, committed_floors}
 use Rattle.purge_numbers.specs.Tables.{empty_schema, form_schema, node_schema, IsFloorTable}

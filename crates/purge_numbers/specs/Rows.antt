@@ -5,9 +5,9 @@ use Rattle.sqlite.specs.declared.types.Value.TheVariants.{Int, Text as Words}
 use Rattle.sqlite_value.specs.Order.{Row, column}
 use Rattle.sqlite_trees.specs.Tree.{rowid}
 use Rattle.url_key.specs.Key.{IsKey}
-use Rattle.purge_numbers.specs.Floors.{FloorMap}
-use Rattle.purge_numbers.specs.declared.fault.FloorFault.{FloorFault}
-use Rattle.purge_numbers.specs.declared.fault.FloorFault.TheVariants.{BadTable, NoMemory}
+use Rattle.floor_rules.specs.Floors.{FloorMap}
+use Rattle.floor_rules.specs.declared.fault.FloorFault.{FloorFault}
+use Rattle.floor_rules.specs.declared.fault.FloorFault.TheVariants.{BadTable, NoMemory}
 use Rattle.purge_numbers.specs.Tables.{floor_entry}
 
 -- a text that is its own key

@@ -6,11 +6,9 @@ ghost use Rattle.purge_numbers.specs.Put.{FailsToPut};
 ghost use Rattle.purge_numbers.specs.Making.{IsBlank, IsNodeFile, LeavesNoOther, OpensWith};
 ghost use Rattle.purge_numbers.specs.Store.{MayFind, committed_floors};
 
-use crate::fault::FloorFault;
-use crate::floors::Floors;
 use crate::opening::open_file;
-use crate::store::FloorStore;
 use crate::writing::raise;
+use floor_rules::{FloorFault, FloorStore, Floors};
 use sqlite::{Alter, Connection};
 use std::alloc::Global;
 use std::marker::Model;

@@ -9,10 +9,10 @@ ghost use Rattle.purge_numbers.specs.Rows.{HasVersionOne, IsFloor, shown_row, sh
 ghost use Rattle.purge_numbers.specs.Store.{AreIn, committed_floors};
 ghost use Rattle.purge_numbers.specs.Tables.{node_schema, empty_schema};
 
-use crate::fault::{FloorFault, fault_of};
-use crate::floors::{Floors, MOST_ROWS};
+use crate::fault::fault_of;
 use crate::rows::floors_of;
 use crate::tables::is_node_schema;
+use floor_rules::{FloorFault, Floors, MOST_ROWS};
 use sqlite::types::ToSql;
 use sqlite::{Alter, Connection, Error, Row, Transaction};
 use sqlite_schema::schema::Schema;

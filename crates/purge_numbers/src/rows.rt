@@ -7,10 +7,9 @@ ghost use Rattle.sqlite_trees.specs.Tree.{rowid};
 ghost use Rattle.url_key.specs.Key.{IsKey};
 ghost use Rattle.purge_numbers.specs.Tables.{floor_entry};
 ghost use Rattle.purge_numbers.specs.Rows.{IsUrl, IsNumber, IsFloor, IsReadFault, Adds};
-ghost use Rattle.purge_numbers.specs.Floors.{FloorMap};
+ghost use Rattle.floor_rules.specs.Floors.{FloorMap};
 
-use crate::fault::FloorFault;
-use crate::floors::Floors;
+use floor_rules::{FloorFault, Floors};
 use sqlite::Row;
 use sqlite_value::value::ValueRef;
 use std::alloc::Global;

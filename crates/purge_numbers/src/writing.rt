@@ -3,12 +3,13 @@ ghost use Rattle.std.specs.Prelude.{◌≡◌, ◌≢◌, ◌⊎◌, ◌≤◌, 
 ghost use Rattle.std.specs.FinMap.{get, insert, len};
 ghost use Rattle.sqlite.specs.State.{HasCleanDisk};
 ghost use Rattle.sqlite.specs.Held.{state};
-ghost use Rattle.purge_numbers.specs.Floors.{FloorMap, HasRoom, raised};
+ghost use Rattle.floor_rules.specs.Floors.{FloorMap, HasRoom, raised};
 ghost use Rattle.purge_numbers.specs.Put.{FailsToPut};
-ghost use Rattle.purge_numbers.specs.Store.{IsReady, AreIn, committed_floors, MayFind, IsBeforeOrAfter};
+ghost use Rattle.floor_rules.specs.Store.{IsBeforeOrAfter};
+ghost use Rattle.purge_numbers.specs.Store.{IsReady, AreIn, committed_floors, MayFind};
 
-use crate::fault::{FloorFault, fault_of};
-use crate::floors::Floors;
+use crate::fault::fault_of;
+use floor_rules::{FloorFault, Floors};
 use sqlite::types::ToSql;
 use sqlite::{Alter, Connection, Error};
 use sqlite_value::value::ValueRef;

@@ -111,22 +111,30 @@ fn key_of(rt: &HostRuntime, url: &str) -> Result<Key, Fail> {
     Ok(Key::read(rt.alloc(), url.as_bytes())?)
 }
 
-fn open<S: PurgeStore + Drop>(rt: &HostRuntime, store: S) -> Result<MasterBook<S>, Fail> {
+/// A book that is dropped as one value.
+#[derive(Drop)]
+struct Held<S: PurgeStore + Drop> {
+    book: MasterBook<S>,
+}
+
+fn open<S: PurgeStore + Drop>(rt: &HostRuntime, store: S) -> Result<Held<S>, Fail> {
     let roster = match Roster::read(rt.alloc(), TWO) {
         Ok(roster) => roster,
         Err(error) => return Err(error.fault.name().into()),
     };
     match Master::open(rt.alloc(), &roster, store) {
-        Ok(master) => Ok(MasterBook::open(master)),
+        Ok(master) => Ok(Held {
+            book: MasterBook::open(master),
+        }),
         Err(fault) => Err(fault.name().into()),
     }
 }
 
-fn in_memory(rt: &HostRuntime) -> Result<MasterBook<MemoryPurges>, Fail> {
+fn in_memory(rt: &HostRuntime) -> Result<Held<MemoryPurges>, Fail> {
     open(rt, MemoryPurges::new(rt.alloc()))
 }
 
-fn failing(rt: &HostRuntime, writes: u32) -> Result<MasterBook<FailingPurges>, Fail> {
+fn failing(rt: &HostRuntime, writes: u32) -> Result<Held<FailingPurges>, Fail> {
     let store = FailingPurges {
         purges: Purges::new(rt.alloc()),
         writes_left: writes,
@@ -206,149 +214,184 @@ fn told(message: Option<Htcp>) -> Option<(u32, u32)> {
     Some((message.trans, number))
 }
 
+/// A purge, from its issue until both members have acknowledged it.
+const TO_DONE: [(Call, &str); 20] = [
+    (Call::Issue("http://o/a"), "issued 1"),
+    (Call::Status(1), "misses 2"),
+    (Call::Due, "due 1:1 1:2"),
+    (Call::Acknowledge(1, 1, 2), "none done"),
+    (Call::Acknowledge(1, 1, 2), "none done"),
+    (Call::Acknowledge(2, 1, 1), "none done"),
+    (Call::Acknowledge(3, 1, 0), "none done"),
+    (Call::Acknowledge(0, 1, 0), "none done"),
+    (Call::Acknowledge(101, 1, 0), "none done"),
+    (Call::Acknowledge(2, 2, 0), "none done"),
+    (Call::Acknowledge(2, 65537, 0), "none done"),
+    (Call::Acknowledge(2, 1, 3), "none done"),
+    (Call::Due, "due 1:2"),
+    (Call::Status(1), "misses 1"),
+    (Call::Acknowledge(2, 1, 0), "done 1"),
+    (Call::Acknowledge(2, 1, 0), "none done"),
+    (Call::Due, "due"),
+    (Call::Status(1), "done"),
+    (Call::Status(0), "unknown"),
+    (Call::Status(2), "unknown"),
+];
+
 #[test]
 fn a_purge_is_done_once_all_have_acknowledged_it(rt: HostRuntime) -> Result<(), Fail> {
-    let mut book = in_memory(&rt)?;
-    let table = [
-        (Call::Issue("http://o/a"), "issued 1"),
-        (Call::Status(1), "misses 2"),
-        (Call::Due, "due 1:1 1:2"),
-        (Call::Acknowledge(1, 1, 2), "none done"),
-        (Call::Acknowledge(1, 1, 2), "none done"),
-        (Call::Acknowledge(2, 1, 1), "none done"),
-        (Call::Acknowledge(3, 1, 0), "none done"),
-        (Call::Acknowledge(0, 1, 0), "none done"),
-        (Call::Acknowledge(101, 1, 0), "none done"),
-        (Call::Acknowledge(2, 2, 0), "none done"),
-        (Call::Acknowledge(2, 65537, 0), "none done"),
-        (Call::Acknowledge(2, 1, 3), "none done"),
-        (Call::Due, "due 1:2"),
-        (Call::Status(1), "misses 1"),
-        (Call::Acknowledge(2, 1, 0), "done 1"),
-        (Call::Acknowledge(2, 1, 0), "none done"),
-        (Call::Due, "due"),
-        (Call::Status(1), "done"),
-        (Call::Status(0), "unknown"),
-        (Call::Status(2), "unknown"),
-    ];
-    assert_eq!(rt; wrong_rows(&rt, &mut book, &table)?.as_str(), "");
-    assert_eq!(rt; book.entries().len(), 20);
-    assert_eq!(rt; told(book.message(1)?), None);
+    let mut held = in_memory(&rt)?;
+    assert_eq!(rt; wrong_rows(&rt, &mut held.book, &TO_DONE)?.as_str(), "");
+    assert_eq!(rt; held.book.entries().len(), 20);
+    assert_eq!(rt; told(held.book.message(1)?), None);
     Ok(())
 }
+
+/// Two purges, of which the first is done.
+const BEFORE_RESTART: [(Call, &str); 5] = [
+    (Call::Issue("http://o/a"), "issued 1"),
+    (Call::Issue("http://o/b"), "issued 2"),
+    (Call::Acknowledge(2, 2, 0), "none done"),
+    (Call::Acknowledge(2, 1, 0), "none done"),
+    (Call::Acknowledge(1, 1, 2), "done 1"),
+];
+
+/// What goes on after that in a master that is opened again.
+const AFTER_RESTART: [(Call, &str); 5] = [
+    (Call::Due, "due 2:1"),
+    (Call::Status(1), "done"),
+    (Call::Issue("http://o/a"), "issued 3"),
+    (Call::Acknowledge(1, 2, 0), "done 2"),
+    (Call::Due, "due 3:1 3:2"),
+];
 
 #[test]
 fn a_restart_keeps_numbers_and_marks(rt: HostRuntime) -> Result<(), Fail> {
-    let mut book = in_memory(&rt)?;
-    let first = [
-        (Call::Issue("http://o/a"), "issued 1"),
-        (Call::Issue("http://o/b"), "issued 2"),
-        (Call::Acknowledge(2, 2, 0), "none done"),
-        (Call::Acknowledge(2, 1, 0), "none done"),
-        (Call::Acknowledge(1, 1, 2), "done 1"),
-    ];
-    assert_eq!(rt; wrong_rows(&rt, &mut book, &first)?.as_str(), "");
+    let mut held = in_memory(&rt)?;
+    assert_eq!(rt;
+        wrong_rows(&rt, &mut held.book, &BEFORE_RESTART)?.as_str(),
+        ""
+    );
+    let Held { book } = held;
     let master = book.into_master();
-    assert!(rt; !master.is_closed() && master.status(2) == Status::Pending(1));
-    let mut book = open(&rt, master.into_store())?;
-    let second = [
-        (Call::Due, "due 2:1"),
-        (Call::Status(1), "done"),
-        (Call::Issue("http://o/a"), "issued 3"),
-        (Call::Acknowledge(1, 2, 0), "done 2"),
-        (Call::Due, "due 3:1 3:2"),
-    ];
-    assert_eq!(rt; wrong_rows(&rt, &mut book, &second)?.as_str(), "");
-    assert_eq!(rt; told(book.message(3)?), Some((3, 3)));
+    let (is_closed, status) = (master.is_closed(), master.status(2));
+    let mut held = open(&rt, master.into_store())?;
+    assert!(rt; !is_closed && status == Status::Pending(1));
+    assert_eq!(rt;
+        wrong_rows(&rt, &mut held.book, &AFTER_RESTART)?.as_str(),
+        ""
+    );
+    assert_eq!(rt; told(held.book.message(3)?), Some((3, 3)));
     Ok(())
 }
+
+/// Calls where the greatest number has been given.
+const LAST_NUMBER: [(Call, &str); 7] = [
+    (Call::Issue("http://o/a"), "NumbersSpent"),
+    (Call::Acknowledge(1, 65535, 0), "none done"),
+    (Call::Due, "due 4294967295:1 4294967295:2"),
+    (Call::Acknowledge(1, 4294967295, 0), "none done"),
+    (Call::Acknowledge(2, 4294967295, 0), "done 4294967295"),
+    (Call::Issue("http://o/a"), "NumbersSpent"),
+    (Call::Status(4294967295), "done"),
+];
 
 #[test]
 fn no_number_follows_the_last(rt: HostRuntime) -> Result<(), Fail> {
-    let mut store = MemoryPurges::new(rt.alloc());
     let key = key_of(&rt, "http://o/a")?;
-    store.add(rt.alloc(), 4294967295, &key).ok().ok_or("added")?;
-    let mut book = open(&rt, store)?;
-    let table = [
-        (Call::Issue("http://o/a"), "NumbersSpent"),
-        (Call::Acknowledge(1, 65535, 0), "none done"),
-        (Call::Due, "due 4294967295:1 4294967295:2"),
-        (Call::Acknowledge(1, 4294967295, 0), "none done"),
-        (Call::Acknowledge(2, 4294967295, 0), "done 4294967295"),
-        (Call::Issue("http://o/a"), "NumbersSpent"),
-        (Call::Status(4294967295), "done"),
-    ];
-    assert_eq!(rt; wrong_rows(&rt, &mut book, &table)?.as_str(), "");
+    let mut store = MemoryPurges::new(rt.alloc());
+    let added = store.add(rt.alloc(), 4294967295, &key);
+    let mut held = open(&rt, store)?;
+    assert_eq!(rt; added, Ok(()));
+    assert_eq!(rt; wrong_rows(&rt, &mut held.book, &LAST_NUMBER)?.as_str(), "");
     Ok(())
 }
+
+/// Calls where 1,024 purges are pending.
+const FULL: [(Call, &str); 7] = [
+    (Call::Issue("http://o/a"), "TooManyPending"),
+    (Call::Acknowledge(1, 700, 0), "none done"),
+    (Call::Acknowledge(2, 700, 0), "done 700"),
+    (Call::Issue("http://o/a"), "issued 1025"),
+    (Call::Issue("http://o/a"), "TooManyPending"),
+    (Call::Status(700), "done"),
+    (Call::Status(1025), "misses 2"),
+];
 
 #[test]
 fn at_most_1024_are_pending(rt: HostRuntime) -> Result<(), Fail> {
-    let mut book = in_memory(&rt)?;
+    let mut held = in_memory(&rt)?;
     for _ in 0..1024 {
         let call = call_of(&rt, Call::Issue("http://o/a"))?;
-        assert!(rt; book.call(0, call).is_ok());
+        assert!(rt; held.book.call(0, call).is_ok());
     }
-    let table = [
-        (Call::Issue("http://o/a"), "TooManyPending"),
-        (Call::Acknowledge(1, 700, 0), "none done"),
-        (Call::Acknowledge(2, 700, 0), "done 700"),
-        (Call::Issue("http://o/a"), "issued 1025"),
-        (Call::Issue("http://o/a"), "TooManyPending"),
-        (Call::Status(700), "done"),
-        (Call::Status(1025), "misses 2"),
-    ];
-    assert_eq!(rt; wrong_rows(&rt, &mut book, &table)?.as_str(), "");
+    assert_eq!(rt; wrong_rows(&rt, &mut held.book, &FULL)?.as_str(), "");
     Ok(())
 }
+
+/// Calls over a store that fails at its first write.
+const FAILS_AT_ONCE: [(Call, &str); 5] = [
+    (Call::Issue("http://o/a"), "StoreFault"),
+    (Call::Issue("http://o/a"), "Closed"),
+    (Call::Acknowledge(1, 1, 0), "Closed"),
+    (Call::Due, "Closed"),
+    (Call::Status(1), "unknown"),
+];
 
 #[test]
 fn a_fault_of_the_store_closes(rt: HostRuntime) -> Result<(), Fail> {
-    let mut book = failing(&rt, 0)?;
-    let at_once = [
-        (Call::Issue("http://o/a"), "StoreFault"),
-        (Call::Issue("http://o/a"), "Closed"),
-        (Call::Acknowledge(1, 1, 0), "Closed"),
-        (Call::Due, "Closed"),
-        (Call::Status(1), "unknown"),
-    ];
-    assert_eq!(rt; wrong_rows(&rt, &mut book, &at_once)?.as_str(), "");
-    assert_eq!(rt; told(book.message(1)?), None);
+    let mut held = failing(&rt, 0)?;
+    assert_eq!(rt;
+        wrong_rows(&rt, &mut held.book, &FAILS_AT_ONCE)?.as_str(),
+        ""
+    );
+    assert_eq!(rt; told(held.book.message(1)?), None);
+    let Held { book } = held;
     let master = book.into_master();
-    assert!(rt; master.is_closed());
-    assert_eq!(rt; master.into_store().failures(), 1);
-    let mut book = failing(&rt, 2)?;
-    let later = [
-        (Call::Issue("http://o/a"), "issued 1"),
-        (Call::Acknowledge(1, 1, 0), "none done"),
-        (Call::Acknowledge(1, 1, 0), "none done"),
-        (Call::Acknowledge(2, 1, 0), "StoreFault"),
-        (Call::Acknowledge(2, 1, 0), "Closed"),
-        (Call::Status(1), "misses 1"),
-    ];
-    assert_eq!(rt; wrong_rows(&rt, &mut book, &later)?.as_str(), "");
-    assert_eq!(rt; told(book.message(1)?), Some((1, 1)));
+    let is_closed = master.is_closed();
+    assert_eq!(rt; (is_closed, master.into_store().failures()), (true, 1));
     Ok(())
 }
 
+/// Calls over a store that fails at its third write.
+const FAILS_LATER: [(Call, &str); 6] = [
+    (Call::Issue("http://o/a"), "issued 1"),
+    (Call::Acknowledge(1, 1, 0), "none done"),
+    (Call::Acknowledge(1, 1, 0), "none done"),
+    (Call::Acknowledge(2, 1, 0), "StoreFault"),
+    (Call::Acknowledge(2, 1, 0), "Closed"),
+    (Call::Status(1), "misses 1"),
+];
+
+#[test]
+fn a_later_fault_of_the_store_closes(rt: HostRuntime) -> Result<(), Fail> {
+    let mut held = failing(&rt, 2)?;
+    assert_eq!(rt; wrong_rows(&rt, &mut held.book, &FAILS_LATER)?.as_str(), "");
+    assert_eq!(rt; told(held.book.message(1)?), Some((1, 1)));
+    Ok(())
+}
+
+/// A purge in a new book.
+const FIRST: [(Call, &str); 1] = [(Call::Issue("http://o/a"), "issued 1")];
+
+/// A purge after the entries were taken.
+const NEXT: [(Call, &str); 1] = [(Call::Issue("http://o/b"), "issued 2")];
+
 #[test]
 fn a_book_of_4096_entries_is_full(rt: HostRuntime) -> Result<(), Fail> {
-    let mut book = in_memory(&rt)?;
-    let first = [(Call::Issue("http://o/a"), "issued 1")];
-    assert_eq!(rt; wrong_rows(&rt, &mut book, &first)?.as_str(), "");
+    let mut held = in_memory(&rt)?;
+    assert_eq!(rt; wrong_rows(&rt, &mut held.book, &FIRST)?.as_str(), "");
     for _ in 0..4095 {
-        assert!(rt; book.call(0, MasterCall::Status(1)).is_ok());
+        assert!(rt; held.book.call(0, MasterCall::Status(1)).is_ok());
     }
     for call in [Call::Issue("http://o/a"), Call::Status(1)] {
-        let refused = book.call(9, call_of(&rt, call)?);
+        let refused = held.book.call(9, call_of(&rt, call)?);
         assert!(rt; show(&rt, &refused)?.as_str() == "ShiftFull");
     }
-    assert_eq!(rt; book.entries().len(), 4096);
-    assert_eq!(rt; told(book.message(1)?), Some((1, 1)));
-    let taken = book.take_entries();
-    assert_eq!(rt; taken.len(), 4096);
-    assert_eq!(rt; book.entries().len(), 0);
-    let next = [(Call::Issue("http://o/b"), "issued 2")];
-    assert_eq!(rt; wrong_rows(&rt, &mut book, &next)?.as_str(), "");
+    assert_eq!(rt; held.book.entries().len(), 4096);
+    assert_eq!(rt; told(held.book.message(1)?), Some((1, 1)));
+    assert_eq!(rt; held.book.take_entries().len(), 4096);
+    assert_eq!(rt; held.book.entries().len(), 0);
+    assert_eq!(rt; wrong_rows(&rt, &mut held.book, &NEXT)?.as_str(), "");
     Ok(())
 }

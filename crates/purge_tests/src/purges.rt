@@ -1,4 +1,5 @@
 //! Members and purges, in worked rows.
+use crate::calls::{add, counts, is_marked, mark};
 use htcp_wire::fits;
 use purge_rules::{MemberSet, MemoryPurges, PurgeStore, Purges, Status, clear};
 use std::test::Fail;
@@ -78,20 +79,31 @@ fn purges_from_issue_to_done(rt: HostRuntime) -> Result<(), Fail> {
     Ok(())
 }
 
+/// A store that is dropped as one value.
+#[derive(Drop)]
+struct Held {
+    store: MemoryPurges,
+}
+
 #[test]
 fn purges_in_memory(rt: HostRuntime) -> Result<(), Fail> {
     let alloc = rt.alloc();
-    let key = Key::read(alloc, b"http://o/a")?;
-    let mut store = MemoryPurges::new(alloc);
-    store.add(alloc, 65537, &key).ok().ok_or("added")?;
-    store.mark(alloc, 65537, 1).ok().ok_or("marked")?;
-    let loaded = store.load(alloc).ok().ok_or("loaded")?;
-    assert_eq!(rt; loaded.status(set_of(&[1, 2]), 65537), Status::Pending(1));
-    store.finish(alloc, 65537).ok().ok_or("finished")?;
-    let loaded = store.load(alloc).ok().ok_or("loaded")?;
-    assert!(rt; loaded.last() == 65537 && loaded.is_empty());
-    assert_eq!(rt; store.failures(), 0);
-    let message = clear(alloc, 65537, &key)?;
+    let mut held = Held {
+        store: MemoryPurges::new(alloc),
+    };
+    assert_eq!(rt; add(&mut held.store, alloc, 65537, "http://o/a")?, Ok(()));
+    assert_eq!(rt; mark(&mut held.store, alloc, 65537, 1)?, Ok(()));
+    assert!(rt; is_marked(&mut held.store, alloc, 65537, "http://o/a", 1, 2)?);
+    assert_eq!(rt; held.store.finish(alloc, 65537), Ok(()));
+    assert_eq!(rt; counts(&mut held.store, alloc)?, (65537, 0));
+    assert_eq!(rt; held.store.failures(), 0);
+    Ok(())
+}
+
+#[test]
+fn a_clear_fits_a_datagram(rt: HostRuntime) -> Result<(), Fail> {
+    let key = Key::read(rt.alloc(), b"http://o/a")?;
+    let message = clear(rt.alloc(), 65537, &key)?;
     assert!(rt; message.trans == 65537 && fits(&message));
     Ok(())
 }

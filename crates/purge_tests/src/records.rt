@@ -1,159 +1,97 @@
-ghost use Rattle.std.specs.Prelude.{IsTrue};
-ghost use Rattle.purge_rules.specs.Store.{Misses};
-
+//! A master's purges in files: what is read of them, and what is refused.
 mod stops;
 
+use crate::calls::{add, counts, is_marked, mark, want};
 use purge_records::SqlitePurges;
-use purge_rules::{PurgeFault, PurgeStore, Purges};
+use purge_rules::{PurgeFault, PurgeStore};
 use sqlite::{Connection, MemStore};
 use std::alloc::Global;
 use std::test::Fail;
-use url_key::Key;
 
 type Stored = SqlitePurges<MemStore>;
 
-/// Whether the purge of the number is pending, and the member has not acknowledged it.
-fn is_missed(purges: &Purges, number: u32, member: u8) -> bool
-    ensures { IsTrue result → Misses purges.now number member }
-{
-    match purges.find(number) {
-        Some(purge) => !purge.marked.has(member),
-        None => false,
+/// A store that is dropped as one value.
+#[derive(Drop)]
+struct Held {
+    store: Stored,
+}
+
+fn opened_over(alloc: Global, conn: Connection<MemStore>) -> Result<Held, Fail> {
+    match SqlitePurges::open(alloc, conn) {
+        Ok(store) => Ok(Held { store }),
+        Err((_, fault)) => Err(fault.name())?,
     }
 }
 
-/// Adds a purge of the URL, under a number above the last one.
-fn add<P: PurgeStore>(
-    store: &mut P,
-    alloc: Global,
-    number: u32,
-    url: &str,
-) -> Result<Result<(), PurgeFault>, Fail> {
-    let key = Key::read(alloc, url.as_bytes())?;
-    match store.load(alloc) {
-        Ok(purges) if purges.last() < number => Ok(store.add(alloc, number, &key)),
-        Ok(_) => Err("a number above the last one")?,
-        Err(fault) => Ok(Err(fault)),
-    }
+fn in_memory(alloc: Global) -> Result<Held, Fail> {
+    opened_over(alloc, Connection::open_in_memory(alloc)?)
 }
 
-/// Marks a member that has not acknowledged the pending purge.
-fn mark<P: PurgeStore>(
-    store: &mut P,
-    alloc: Global,
-    number: u32,
-    member: u8,
-) -> Result<Result<(), PurgeFault>, Fail> {
-    if member < 1 || member > 16 {
-        return Err("a member of 1 to 16")?;
-    }
-    match store.load(alloc) {
-        Ok(purges) if is_missed(&purges, number, member) => Ok(store.mark(alloc, number, member)),
-        Ok(_) => Err("a purge that misses the member")?,
-        Err(fault) => Ok(Err(fault)),
-    }
-}
-
-fn loaded<P: PurgeStore>(store: &mut P, alloc: Global) -> Result<Purges, Fail> {
-    Ok(store.load(alloc).ok().ok_or("purges")?)
-}
-
-fn in_memory(alloc: Global) -> Result<Stored, Fail> {
-    let conn = Connection::open_in_memory(alloc)?;
-    Ok(SqlitePurges::open(alloc, conn).ok().ok_or("opened")?)
-}
-
-fn again(alloc: Global, store: Stored) -> Result<Stored, Fail> {
-    Ok(
-        SqlitePurges::open(alloc, store.into_connection())
-            .ok()
-            .ok_or("opened again")?,
-    )
-}
-
-fn want(holds: bool, what: &'static str) -> Result<(), Fail> {
-    if holds { Ok(()) } else { Err(what)? }
-}
-
-/// The last number, and how many purges are pending.
-fn counts(store: &mut Stored, alloc: Global) -> Result<(u32, usize), Fail> {
-    let purges = loaded(store, alloc)?;
-    Ok((purges.last(), purges.len()))
-}
-
-/// Whether the purge is pending with this URL, marked by the first member and not by the second.
-fn is_marked(
-    store: &mut Stored,
-    alloc: Global,
-    number: u32,
-    url: &str,
-    by: u8,
-    not_by: u8,
-) -> Result<bool, Fail> {
-    let purges = loaded(store, alloc)?;
-    let Some(purge) = purges.find(number) else {
-        return Ok(false);
-    };
-    Ok(purge.key.text() == url.as_bytes() && purge.marked.has(by) && !purge.marked.has(not_by))
+fn again(alloc: Global, held: Held) -> Result<Held, Fail> {
+    let Held { store } = held;
+    opened_over(alloc, store.into_connection())
 }
 
 #[test]
 fn a_blank_file_has_no_purges(rt: HostRuntime) -> Result<(), Fail> {
-    let mut store = in_memory(rt.alloc())?;
-    assert_eq!(rt; counts(&mut store, rt.alloc())?, (0, 0));
-    assert_eq!(rt; store.failures(), 0);
+    let mut held = in_memory(rt.alloc())?;
+    assert_eq!(rt; counts(&mut held.store, rt.alloc())?, (0, 0));
+    assert_eq!(rt; held.store.failures(), 0);
     Ok(())
 }
 
 #[test]
 fn opened_again_a_file_has_its_purges(rt: HostRuntime) -> Result<(), Fail> {
     let alloc = rt.alloc();
-    let mut store = in_memory(alloc)?;
-    assert_eq!(rt; add(&mut store, alloc, 1, "http://a/")?, Ok(()));
-    assert_eq!(rt; mark(&mut store, alloc, 1, 1)?, Ok(()));
-    let mut store = again(alloc, store)?;
-    assert_eq!(rt; counts(&mut store, alloc)?, (1, 1));
-    assert!(rt; is_marked(&mut store, alloc, 1, "http://a/", 1, 2)?);
-    assert_eq!(rt; store.finish(alloc, 1), Ok(()));
-    let mut store = again(alloc, store)?;
-    assert_eq!(rt; counts(&mut store, alloc)?, (1, 0));
+    let mut held = in_memory(alloc)?;
+    assert_eq!(rt; add(&mut held.store, alloc, 1, "http://a/")?, Ok(()));
+    assert_eq!(rt; mark(&mut held.store, alloc, 1, 1)?, Ok(()));
+    let mut held = again(alloc, held)?;
+    assert_eq!(rt; counts(&mut held.store, alloc)?, (1, 1));
+    assert!(rt; is_marked(&mut held.store, alloc, 1, "http://a/", 1, 2)?);
+    assert_eq!(rt; held.store.finish(alloc, 1), Ok(()));
+    let mut held = again(alloc, held)?;
+    assert_eq!(rt; counts(&mut held.store, alloc)?, (1, 0));
     Ok(())
 }
 
 /// Three purges of two URLs, marked across one another, the second of them finished.
-fn three_purges(alloc: Global) -> Result<Stored, Fail> {
-    let mut store = in_memory(alloc)?;
+fn three_purges(alloc: Global) -> Result<Held, Fail> {
+    let mut held = in_memory(alloc)?;
     for (number, url) in [(1, "http://a/"), (2, "http://b/"), (7, "http://a/")] {
-        want(add(&mut store, alloc, number, url)? == Ok(()), "added")?;
+        want(add(&mut held.store, alloc, number, url)? == Ok(()), "added")?;
     }
     for (number, member) in [(2, 16), (7, 3), (1, 16), (2, 3), (7, 16)] {
-        want(mark(&mut store, alloc, number, member)? == Ok(()), "marked")?;
+        want(
+            mark(&mut held.store, alloc, number, member)? == Ok(()),
+            "marked",
+        )?;
     }
-    want(store.finish(alloc, 2) == Ok(()), "finished")?;
-    Ok(store)
+    want(held.store.finish(alloc, 2) == Ok(()), "finished")?;
+    Ok(held)
 }
 
 #[test]
 fn purges_beside_one_another(rt: HostRuntime) -> Result<(), Fail> {
     let alloc = rt.alloc();
-    let mut store = again(alloc, three_purges(alloc)?)?;
-    assert_eq!(rt; counts(&mut store, alloc)?, (7, 2));
-    assert!(rt; is_marked(&mut store, alloc, 1, "http://a/", 16, 3)?);
-    assert!(rt; is_marked(&mut store, alloc, 7, "http://a/", 3, 2)?);
-    assert!(rt; is_marked(&mut store, alloc, 7, "http://a/", 16, 1)?);
-    assert!(rt; !is_marked(&mut store, alloc, 2, "http://b/", 16, 1)?);
+    let mut held = again(alloc, three_purges(alloc)?)?;
+    assert_eq!(rt; counts(&mut held.store, alloc)?, (7, 2));
+    assert!(rt; is_marked(&mut held.store, alloc, 1, "http://a/", 16, 3)?);
+    assert!(rt; is_marked(&mut held.store, alloc, 7, "http://a/", 3, 2)?);
+    assert!(rt; is_marked(&mut held.store, alloc, 7, "http://a/", 16, 1)?);
+    assert!(rt; !is_marked(&mut held.store, alloc, 2, "http://b/", 16, 1)?);
     Ok(())
 }
 
 #[test]
 fn a_purge_that_is_not_there_is_finished(rt: HostRuntime) -> Result<(), Fail> {
     let alloc = rt.alloc();
-    let mut store = three_purges(alloc)?;
-    assert_eq!(rt; store.finish(alloc, 2), Ok(()));
-    assert_eq!(rt; store.finish(alloc, 8), Ok(()));
-    let mut store = again(alloc, store)?;
-    assert_eq!(rt; counts(&mut store, alloc)?, (7, 2));
-    assert_eq!(rt; store.failures(), 0);
+    let mut held = three_purges(alloc)?;
+    assert_eq!(rt; held.store.finish(alloc, 2), Ok(()));
+    assert_eq!(rt; held.store.finish(alloc, 8), Ok(()));
+    let mut held = again(alloc, held)?;
+    assert_eq!(rt; counts(&mut held.store, alloc)?, (7, 2));
+    assert_eq!(rt; held.store.failures(), 0);
     Ok(())
 }
 

@@ -11,8 +11,6 @@ mod decimal;
 mod fault;
 mod lines;
 mod script;
-#[cfg(test)]
-mod tests;
 mod words;
 mod write;
 

@@ -59,72 +59,123 @@ fn store_of(rt: &HostRuntime, count: usize, bytes: u64) -> Result<Store<u32>, Fa
     Ok(Store::new(rt.alloc(), count, bytes)?)
 }
 
+fn want(holds: bool, what: &'static str) -> Result<(), Fail> {
+    if holds { Ok(()) } else { Err(what)? }
+}
+
+/// A copy that is put: the last letter of its key, its stamp and the octets of its body; what that is answered, and the letters of
+/// the copies that are then held, the most recent first.
+type Step = (u8, u32, usize, Put, &'static [u8]);
+
+/// Puts a copy, and holds the answer and what is held then to what they have to be.
+fn takes(rt: &HostRuntime, store: &mut Store<u32>, step: Step) -> Result<(), Fail> {
+    let (name, stamp, octets, answer, left) = step;
+    want(
+        put(store, copy_of(rt, name, stamp, octets)?)? == answer,
+        "what a put is answered",
+    )?;
+    want(held(rt, store)?.as_slice() == left, "what is held")
+}
+
+/// Looks for a copy, which is then the most recent, and says whether there is one.
+fn look(rt: &HostRuntime, store: &mut Store<u32>, name: u8) -> Result<bool, Fail> {
+    Ok(store.look(&key_of(rt, name)?).is_some())
+}
+
 #[test]
 fn the_least_recent_copy_goes(rt: HostRuntime) -> Result<(), Fail> {
     let mut store = store_of(&rt, 2, 1000)?;
-    assert!(rt; store.is_empty());
-    for name in b"ab" {
-        assert!(rt; put(&mut store, copy_of(&rt, *name, 5, 3)?)? == Put::Stored);
+    for step in [
+        (b'a', 5, 3, Put::Stored, b"a".as_slice()),
+        (b'b', 5, 3, Put::Stored, b"ba"),
+    ] {
+        takes(&rt, &mut store, step)?;
     }
-    let looked = store.look(&key_of(&rt, b'a')?);
-    assert!(rt; looked.is_some_and(|copy| copy.answer.body() == b"xxx".as_slice()));
-    assert!(rt; put(&mut store, copy_of(&rt, b'c', 5, 3)?)? == Put::Stored);
-    assert!(rt; held(&rt, &store)?.as_slice() == b"ca".as_slice());
-    assert!(rt; put(&mut store, copy_of(&rt, b'c', 4, 3)?)? == Put::Kept);
-    assert!(rt; put(&mut store, copy_of(&rt, b'd', 5, 3)?)? == Put::Stored);
-    assert!(rt;
-        held(&rt, &store)?.as_slice() == b"dc".as_slice(),
-        "a was behind c"
-    );
-    // To peek leaves the order.
-    assert!(rt; store.peek(&key_of(&rt, b'c')?).is_some());
-    assert!(rt; put(&mut store, copy_of(&rt, b'e', 5, 3)?)? == Put::Stored);
-    assert!(rt; held(&rt, &store)?.as_slice() == b"ed".as_slice());
-    assert!(rt; store.look(&key_of(&rt, b'a')?).is_none());
+    assert!(rt; look(&rt, &mut store, b'a')?);
+    for step in [
+        (b'c', 5, 3, Put::Stored, b"ca".as_slice()),
+        (b'c', 4, 3, Put::Kept, b"ca"),
+        (b'd', 5, 3, Put::Stored, b"dc"),
+    ] {
+        takes(&rt, &mut store, step)?;
+    }
+    Ok(())
+}
+
+#[test]
+fn a_peek_leaves_the_order(rt: HostRuntime) -> Result<(), Fail> {
+    let mut store = store_of(&rt, 2, 1000)?;
+    for step in [
+        (b'c', 5, 3, Put::Stored, b"c".as_slice()),
+        (b'd', 5, 3, Put::Stored, b"dc"),
+    ] {
+        takes(&rt, &mut store, step)?;
+    }
+    let found = store.peek(&key_of(&rt, b'c')?);
+    assert!(rt; found.is_some_and(|copy| copy.answer.body() == b"xxx".as_slice()));
+    takes(&rt, &mut store, (b'e', 5, 3, Put::Stored, b"ed"))?;
+    assert!(rt; !look(&rt, &mut store, b'a')?);
+    Ok(())
+}
+
+#[test]
+fn the_limit_on_octets_holds(rt: HostRuntime) -> Result<(), Fail> {
+    assert!(rt; size(&copy_of(&rt, b'a', 0, 3)?) == 13);
+    let mut store = store_of(&rt, 2, 12)?;
+    for step in [
+        (b'a', 0, 2, Put::Stored, b"a".as_slice()),
+        (b'b', 0, 3, Put::TooLarge, b"a"),
+    ] {
+        takes(&rt, &mut store, step)?;
+    }
+    assert!(rt; store.bytes() == 12);
     Ok(())
 }
 
 #[test]
 fn both_limits_hold(rt: HostRuntime) -> Result<(), Fail> {
-    assert!(rt; size(&copy_of(&rt, b'a', 0, 3)?) == 13);
-    let mut small = store_of(&rt, 2, 12)?;
-    assert!(rt; put(&mut small, copy_of(&rt, b'a', 0, 2)?)? == Put::Stored);
-    assert!(rt; put(&mut small, copy_of(&rt, b'b', 0, 3)?)? == Put::TooLarge);
-    assert!(rt; held(&rt, &small)?.as_slice() == b"a".as_slice());
-    assert!(rt; small.bytes() == 12);
-    // Three copies of 13 octets; then one more, and one of 26.
+    // Three copies of 13 octets, and then one more.
     let mut store = store_of(&rt, 3, 39)?;
-    for name in b"abc" {
-        assert!(rt; put(&mut store, copy_of(&rt, *name, 5, 3)?)? == Put::Stored);
+    for step in [
+        (b'a', 5, 3, Put::Stored, b"a".as_slice()),
+        (b'b', 5, 3, Put::Stored, b"ba"),
+        (b'c', 5, 3, Put::Stored, b"cba"),
+        (b'd', 5, 3, Put::Stored, b"dcb"),
+    ] {
+        takes(&rt, &mut store, step)?;
     }
-    assert!(rt; store.bytes() == 39);
-    assert!(rt; put(&mut store, copy_of(&rt, b'd', 5, 3)?)? == Put::Stored);
-    assert!(rt; held(&rt, &store)?.as_slice() == b"dcb".as_slice());
-    assert!(rt; store.look(&key_of(&rt, b'b')?).is_some());
-    assert!(rt; put(&mut store, copy_of(&rt, b'e', 5, 16)?)? == Put::Stored);
-    assert!(rt; held(&rt, &store)?.as_slice() == b"eb".as_slice());
-    assert!(rt; store.bytes() == 39 && store.len() == 2);
-    assert!(rt; put(&mut store, copy_of(&rt, b'e', 4, 3)?)? == Put::Kept);
-    assert!(rt; held(&rt, &store)?.as_slice() == b"eb".as_slice() && store.bytes() == 39);
-    // The key's old copy goes, also where the new one is smaller.
-    assert!(rt; put(&mut store, copy_of(&rt, b'e', 5, 3)?)? == Put::Stored);
-    assert!(rt; store.bytes() == 26 && store.len() == 2);
+    assert!(rt; store.bytes() == 39 && store.len() == 3);
+    assert!(rt; look(&rt, &mut store, b'b')?);
+    // One of 26, and the same key once more: its old copy goes, also where the new one is smaller.
+    for (step, bytes) in [
+        ((b'e', 5, 16, Put::Stored, b"eb".as_slice()), 39),
+        ((b'e', 4, 3, Put::Kept, b"eb"), 39),
+        ((b'e', 5, 3, Put::Stored, b"eb"), 26),
+    ] {
+        takes(&rt, &mut store, step)?;
+        assert!(rt; store.bytes() == bytes && store.len() == 2);
+    }
     Ok(())
 }
 
 #[test]
 fn copies_are_cleared_by_their_stamps(rt: HostRuntime) -> Result<(), Fail> {
     let mut store = store_of(&rt, 10, 1000)?;
-    for (name, stamp) in [(b'a', 3), (b'b', 5), (b'c', 7)] {
-        assert!(rt; put(&mut store, copy_of(&rt, name, stamp, 3)?)? == Put::Stored);
+    for step in [
+        (b'a', 3, 3, Put::Stored, b"a".as_slice()),
+        (b'b', 5, 3, Put::Stored, b"ba"),
+        (b'c', 7, 3, Put::Stored, b"cba"),
+    ] {
+        takes(&rt, &mut store, step)?;
     }
-    assert!(rt; !store.clear_below(&key_of(&rt, b'a')?, 3));
-    assert!(rt; !store.clear_below(&key_of(&rt, b'd')?, 9));
-    assert!(rt; store.clear_all_below(5)? == 1);
+    for (name, stamp, goes) in [(b'a', 3, false), (b'd', 9, false), (b'a', 4, true)] {
+        assert!(rt; store.clear_below(&key_of(&rt, name)?, stamp) == goes);
+    }
     assert!(rt; held(&rt, &store)?.as_slice() == b"cb".as_slice() && store.bytes() == 26);
-    assert!(rt; store.clear_below(&key_of(&rt, b'b')?, 6));
-    assert!(rt; store.remove(&key_of(&rt, b'c')?));
-    assert!(rt; !store.remove(&key_of(&rt, b'c')?));
+    assert!(rt; store.clear_all_below(6)? == 1);
+    for goes in [true, false] {
+        assert!(rt; store.remove(&key_of(&rt, b'c')?) == goes);
+    }
     assert!(rt; store.is_empty() && store.bytes() == 0);
     Ok(())
 }

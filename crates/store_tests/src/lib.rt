@@ -6,4 +6,6 @@ mod answers;
 #[cfg(test)]
 mod copies;
 #[cfg(test)]
+mod keys;
+#[cfg(test)]
 mod reuse;

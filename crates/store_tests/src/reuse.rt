@@ -134,82 +134,83 @@ fn which_statuses_are_stored(rt: HostRuntime) -> Result<(), Fail> {
     Ok(())
 }
 
+/// Fields of an answer of status 200, and its lifetime where the default is 30.
+const FIELDS: [(&[(&str, &str)], Option<u64>); 12] = [
+    (&[("a", "b"), ("date", "x"), ("etag", "\"x\"")], Some(30)),
+    (&[("a", "b"), ("vary", "accept"), ("c", "d")], None),
+    (
+        &[("Vary", ""), ("cache-control", "max-age=60"), ("c", "d")],
+        None,
+    ),
+    (
+        &[("varies", "x"), ("cache-control", "max-age=60"), ("c", "d")],
+        Some(60),
+    ),
+    (
+        &[
+            ("expires", "Thu, 01 Jan 2099 00:00:00 GMT"),
+            ("c", "d"),
+            ("e", "f"),
+        ],
+        None,
+    ),
+    (
+        &[
+            ("expires", "0"),
+            ("cache-control", "max-age=60"),
+            ("c", "d"),
+        ],
+        Some(60),
+    ),
+    (
+        &[
+            ("expires", "0"),
+            ("cache-control", "s-maxage=60"),
+            ("c", "d"),
+        ],
+        Some(60),
+    ),
+    (
+        &[("expires", "0"), ("cache-control", "public"), ("c", "d")],
+        None,
+    ),
+    (
+        &[
+            ("cache-control", "max-age=60"),
+            ("a", "b"),
+            ("cache-control", "s-maxage=5"),
+        ],
+        Some(5),
+    ),
+    (
+        &[
+            ("cache-control", "max-age=60"),
+            ("a", "b"),
+            ("cache-control", "no-store"),
+        ],
+        None,
+    ),
+    (
+        &[
+            ("cache-control", "x=\"a"),
+            ("a", "b"),
+            ("cache-control", "no-store"),
+        ],
+        None,
+    ),
+    (
+        &[
+            ("surrogate-control", "no-store"),
+            ("a", "b"),
+            ("pragma", "no-cache"),
+        ],
+        Some(30),
+    ),
+];
+
 #[test]
 fn which_fields_count(rt: HostRuntime) -> Result<(), Fail> {
-    type Lines = [(&'static str, &'static str); 3];
-    let table: [(Lines, Option<u64>); 12] = [
-        ([("a", "b"), ("date", "x"), ("etag", "\"x\"")], Some(30)),
-        ([("a", "b"), ("vary", "accept"), ("c", "d")], None),
-        (
-            [("Vary", ""), ("cache-control", "max-age=60"), ("c", "d")],
-            None,
-        ),
-        (
-            [("varies", "x"), ("cache-control", "max-age=60"), ("c", "d")],
-            Some(60),
-        ),
-        (
-            [
-                ("expires", "Thu, 01 Jan 2099 00:00:00 GMT"),
-                ("c", "d"),
-                ("e", "f"),
-            ],
-            None,
-        ),
-        (
-            [
-                ("expires", "0"),
-                ("cache-control", "max-age=60"),
-                ("c", "d"),
-            ],
-            Some(60),
-        ),
-        (
-            [
-                ("expires", "0"),
-                ("cache-control", "s-maxage=60"),
-                ("c", "d"),
-            ],
-            Some(60),
-        ),
-        (
-            [("expires", "0"), ("cache-control", "public"), ("c", "d")],
-            None,
-        ),
-        (
-            [
-                ("cache-control", "max-age=60"),
-                ("a", "b"),
-                ("cache-control", "s-maxage=5"),
-            ],
-            Some(5),
-        ),
-        (
-            [
-                ("cache-control", "max-age=60"),
-                ("a", "b"),
-                ("cache-control", "no-store"),
-            ],
-            None,
-        ),
-        (
-            [
-                ("cache-control", "x=\"a"),
-                ("a", "b"),
-                ("cache-control", "no-store"),
-            ],
-            None,
-        ),
-        (
-            [
-                ("surrogate-control", "no-store"),
-                ("a", "b"),
-                ("pragma", "no-cache"),
-            ],
-            Some(30),
-        ),
-    ];
-    for (at, (lines, expected)) in table.iter().enumerate() {
+    for (at, (lines, expected)) in FIELDS.iter().enumerate() {
         let answer = answer_of(&rt, 200, lines)?;
         assert!(rt; lifetime(&answer, 30) == *expected, "row {at}");
     }

@@ -6,8 +6,6 @@
 //! where the writer failed is shown by tests.
 #![tactic(auto)]
 
-#[cfg(test)]
-mod tests;
 mod write;
 
 pub use write::{WriteFailed, write_text};

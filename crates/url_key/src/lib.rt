@@ -7,8 +7,6 @@
 
 mod fault;
 mod key;
-#[cfg(test)]
-mod tests;
 mod text;
 
 pub use fault::KeyFault;

@@ -48,19 +48,28 @@ fn hit_of(alloc: Global, octets: usize) -> Result<Icp, AllocError> {
     })
 }
 
+/// The specifier of a GET whose URI has so many octets.
+fn specifier_of(alloc: Global, octets: usize) -> Result<Specifier, AllocError> {
+    let uri = text_of(alloc, octets)?;
+    let method = Octets::from_slice(alloc, b"GET")?;
+    let version = Octets::from_slice(alloc, b"HTTP/1.1")?;
+    Ok(Specifier {
+        method,
+        uri,
+        version,
+        request_headers: Octets::new(alloc),
+    })
+}
+
 /// The request of a TST of so many octets, or of 33.
 fn test_of(alloc: Global, octets: usize) -> Result<Htcp, AllocError> {
+    let spec = specifier_of(alloc, octets.saturating_sub(HTCP_FRAME))?;
     Ok(Htcp {
         minor: 0,
         trans: 7,
         content: Content::TstAsk {
             desired: true,
-            spec: Specifier {
-                method: Octets::from_slice(alloc, b"GET")?,
-                uri: text_of(alloc, octets.saturating_sub(HTCP_FRAME))?,
-                version: Octets::from_slice(alloc, b"HTTP/1.1")?,
-                request_headers: Octets::new(alloc),
-            },
+            spec,
         },
     })
 }

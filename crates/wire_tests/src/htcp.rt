@@ -178,98 +178,118 @@ const STAMP: &[u8] = b"X-Purge-Stamp: 3\r\n";
 const HIT: &str =
     "00260000 0020 1001 00000007 0000 0000 0012582d50757267652d5374616d703a20330d0a 0002";
 
+/// A datagram in hex; its content's name and kind, two numbers of it, and the lines of headers in it.
+type Row = (&'static str, &'static str, Kind, u8, u8, &'static [u8]);
+
+const MESSAGES: [Row; 13] = [
+    (NOP, "NopAsk", Kind::NopAsk, 1, 0, b""),
+    (
+        "000e0000 0008 0000 00000007 0002",
+        "NopAsk",
+        Kind::NopAsk,
+        0,
+        0,
+        b"",
+    ),
+    (
+        "000e0000 0008 0001 00000007 0002",
+        "NopAnswer",
+        Kind::NopAnswer,
+        0,
+        0,
+        b"",
+    ),
+    (TST, "TstAsk", Kind::TstAsk, 1, 0, b""),
+    (HIT, "TstHit", Kind::TstHit, 0, 0, STAMP),
+    (
+        "00100000 000a 1101 00000007 0000 0002",
+        "TstMiss",
+        Kind::TstMiss,
+        0,
+        0,
+        b"",
+    ),
+    (CLR, "ClrAsk", Kind::ClrAsk, 1, 0, NUMBER),
+    (
+        "000e0000 0008 4001 00000007 0002",
+        "ClrAnswer",
+        Kind::ClrAnswer,
+        0,
+        0,
+        b"",
+    ),
+    (
+        "000e0000 0008 4201 00000007 0002",
+        "ClrAnswer",
+        Kind::ClrAnswer,
+        2,
+        0,
+        b"",
+    ),
+    (
+        "000e0000 0008 2002 00000007 0002",
+        "Other",
+        Kind::Other,
+        2,
+        1,
+        b"",
+    ),
+    (
+        "000e0000 0008 f000 00000007 0002",
+        "Other",
+        Kind::Other,
+        15,
+        0,
+        b"",
+    ),
+    (
+        "000e0000 0008 2203 00000007 0002",
+        "Overall",
+        Kind::Overall,
+        2,
+        2,
+        b"",
+    ),
+    (
+        "000e0000 0008 4503 00000007 0002",
+        "Overall",
+        Kind::Overall,
+        4,
+        5,
+        b"",
+    ),
+];
+
+fn message_of(rt: &(impl Abort + AllocGlobal), row: Row) -> Htcp {
+    let (_, _, kind, first, second, lines) = row;
+    Htcp {
+        minor: 0,
+        trans: 7,
+        content: content(rt, kind, first, second, lines),
+    }
+}
+
+fn is_copied(rt: &HostRuntime, message: &Htcp) -> bool {
+    match message.copy(rt.alloc()) {
+        Ok(copy) => copy == *message,
+        Err(_) => false,
+    }
+}
+
+/// Whether the message has this name, is read from the octets and written as them, and is copied.
+fn is_said_by(rt: &HostRuntime, message: &Htcp, name: &str, octets: &[u8]) -> bool {
+    message.content.name() == name
+        && reads_as(rt, octets, message)
+        && writes_as(rt, message, octets)
+        && is_copied(rt, message)
+}
+
 #[test]
 fn messages(rt: HostRuntime) {
-    for (octets, name, kind, first, second, lines) in [
-        (NOP, "NopAsk", Kind::NopAsk, 1, 0, b"".as_slice()),
-        (
-            "000e0000 0008 0000 00000007 0002",
-            "NopAsk",
-            Kind::NopAsk,
-            0,
-            0,
-            b"",
-        ),
-        (
-            "000e0000 0008 0001 00000007 0002",
-            "NopAnswer",
-            Kind::NopAnswer,
-            0,
-            0,
-            b"",
-        ),
-        (TST, "TstAsk", Kind::TstAsk, 1, 0, b""),
-        (HIT, "TstHit", Kind::TstHit, 0, 0, STAMP),
-        (
-            "00100000 000a 1101 00000007 0000 0002",
-            "TstMiss",
-            Kind::TstMiss,
-            0,
-            0,
-            b"",
-        ),
-        (CLR, "ClrAsk", Kind::ClrAsk, 1, 0, NUMBER),
-        (
-            "000e0000 0008 4001 00000007 0002",
-            "ClrAnswer",
-            Kind::ClrAnswer,
-            0,
-            0,
-            b"",
-        ),
-        (
-            "000e0000 0008 4201 00000007 0002",
-            "ClrAnswer",
-            Kind::ClrAnswer,
-            2,
-            0,
-            b"",
-        ),
-        (
-            "000e0000 0008 2002 00000007 0002",
-            "Other",
-            Kind::Other,
-            2,
-            1,
-            b"",
-        ),
-        (
-            "000e0000 0008 f000 00000007 0002",
-            "Other",
-            Kind::Other,
-            15,
-            0,
-            b"",
-        ),
-        (
-            "000e0000 0008 2203 00000007 0002",
-            "Overall",
-            Kind::Overall,
-            2,
-            2,
-            b"",
-        ),
-        (
-            "000e0000 0008 4503 00000007 0002",
-            "Overall",
-            Kind::Overall,
-            4,
-            5,
-            b"",
-        ),
-    ] {
-        let octets = octets_of(&rt, octets);
-        let content = content(&rt, kind, first, second, lines);
-        assert!(&rt; content.name() == name);
-        let want = Htcp {
-            minor: 0,
-            trans: 7,
-            content,
-        };
-        assert!(&rt; reads_as(&rt, &octets, &want), "{octets:?}");
-        assert!(&rt; writes_as(&rt, &want, &octets), "{octets:?}");
-        let copy = want.copy(rt.alloc()).expect(&rt, "memory");
-        assert!(&rt; copy == want, "{octets:?}");
+    for row in &MESSAGES {
+        let octets = octets_of(&rt, row.0);
+        let message = message_of(&rt, *row);
+        assert!(&rt; is_said_by(&rt, &message, row.1, &octets), "{octets:?}");
     }
 }
 

@@ -30,106 +30,118 @@ fn message(rt: &HostRuntime, op: IcpOp, url: &[u8], object: &[u8]) -> Result<Icp
     })
 }
 
+/// The head, the zero octets and the tail of a datagram; its opcode, its URL and its object.
+type Row = (
+    &'static [u8],
+    usize,
+    &'static [u8],
+    IcpOp,
+    &'static [u8],
+    &'static [u8],
+);
+
+const MESSAGES: [Row; 12] = [
+    (
+        b"\x01\x02\x00\x23\0\0\0\x07",
+        16,
+        b"http://o/a\0",
+        IcpOp::Query,
+        b"http://o/a",
+        b"",
+    ),
+    (
+        b"\x02\x02\x00\x1f\0\0\0\x07",
+        12,
+        b"http://o/a\0",
+        IcpOp::Hit,
+        b"http://o/a",
+        b"",
+    ),
+    (
+        b"\x03\x02\x00\x1f\0\0\0\x07",
+        12,
+        b"http://o/a\0",
+        IcpOp::Miss,
+        b"http://o/a",
+        b"",
+    ),
+    (
+        b"\x01\x02\x00\x26\0\0\0\x07",
+        16,
+        b"HTTP://O:80/a\0",
+        IcpOp::Query,
+        b"HTTP://O:80/a",
+        b"",
+    ),
+    (
+        b"\x02\x02\x00\x22\0\0\0\x07",
+        12,
+        b"HTTP://O:80/a\0",
+        IcpOp::Hit,
+        b"HTTP://O:80/a",
+        b"",
+    ),
+    (
+        b"\x01\x02\x00\x1a\0\0\0\x07",
+        16,
+        b"x\0",
+        IcpOp::Query,
+        b"x",
+        b"",
+    ),
+    (
+        b"\x02\x02\x00\x16\0\0\0\x07",
+        12,
+        b"x\0",
+        IcpOp::Hit,
+        b"x",
+        b"",
+    ),
+    (
+        b"\x04\x02\x00\x16\0\0\0\x07",
+        12,
+        b"x\0",
+        IcpOp::Error,
+        b"x",
+        b"",
+    ),
+    (
+        b"\x15\x02\x00\x16\0\0\0\x07",
+        12,
+        b"x\0",
+        IcpOp::MissNoFetch,
+        b"x",
+        b"",
+    ),
+    (
+        b"\x16\x02\x00\x15\0\0\0\x07",
+        12,
+        b"\0",
+        IcpOp::Denied,
+        b"",
+        b"",
+    ),
+    (
+        b"\x17\x02\x00\x19\0\0\0\x07",
+        12,
+        b"a\0\0\x01x",
+        IcpOp::HitObj,
+        b"a",
+        b"x",
+    ),
+    (
+        b"\x17\x02\x00\x18\0\0\0\x07",
+        12,
+        b"a\0\0\0",
+        IcpOp::HitObj,
+        b"a",
+        b"",
+    ),
+];
+
 #[test]
 fn messages(rt: HostRuntime) -> Result<(), Fail> {
-    for (head, zeros, tail, op, url, object) in [
-        (
-            b"\x01\x02\x00\x23\0\0\0\x07",
-            16,
-            b"http://o/a\0".as_slice(),
-            IcpOp::Query,
-            b"http://o/a".as_slice(),
-            b"".as_slice(),
-        ),
-        (
-            b"\x02\x02\x00\x1f\0\0\0\x07",
-            12,
-            b"http://o/a\0",
-            IcpOp::Hit,
-            b"http://o/a",
-            b"",
-        ),
-        (
-            b"\x03\x02\x00\x1f\0\0\0\x07",
-            12,
-            b"http://o/a\0",
-            IcpOp::Miss,
-            b"http://o/a",
-            b"",
-        ),
-        (
-            b"\x01\x02\x00\x26\0\0\0\x07",
-            16,
-            b"HTTP://O:80/a\0",
-            IcpOp::Query,
-            b"HTTP://O:80/a",
-            b"",
-        ),
-        (
-            b"\x02\x02\x00\x22\0\0\0\x07",
-            12,
-            b"HTTP://O:80/a\0",
-            IcpOp::Hit,
-            b"HTTP://O:80/a",
-            b"",
-        ),
-        (
-            b"\x01\x02\x00\x1a\0\0\0\x07",
-            16,
-            b"x\0",
-            IcpOp::Query,
-            b"x",
-            b"",
-        ),
-        (
-            b"\x02\x02\x00\x16\0\0\0\x07",
-            12,
-            b"x\0",
-            IcpOp::Hit,
-            b"x",
-            b"",
-        ),
-        (
-            b"\x04\x02\x00\x16\0\0\0\x07",
-            12,
-            b"x\0",
-            IcpOp::Error,
-            b"x",
-            b"",
-        ),
-        (
-            b"\x15\x02\x00\x16\0\0\0\x07",
-            12,
-            b"x\0",
-            IcpOp::MissNoFetch,
-            b"x",
-            b"",
-        ),
-        (
-            b"\x16\x02\x00\x15\0\0\0\x07",
-            12,
-            b"\0",
-            IcpOp::Denied,
-            b"",
-            b"",
-        ),
-        (
-            b"\x17\x02\x00\x19\0\0\0\x07",
-            12,
-            b"a\0\0\x01x",
-            IcpOp::HitObj,
-            b"a",
-            b"x",
-        ),
-        (
-            b"\x17\x02\x00\x18\0\0\0\x07",
-            12,
-            b"a\0\0\0",
-            IcpOp::HitObj,
-            b"a",
-            b"",
-        ),
-    ] {
+    for (head, zeros, tail, op, url, object) in MESSAGES.iter().copied() {
         let octets = datagram(&rt, head, zeros, tail)?;
         let want = message(&rt, op, url, object)?;
         let name = op.name();

@@ -5,7 +5,7 @@ use Rattle.node_rules.specs.declared.message.Message.{Message}
 use Rattle.node_rules.specs.declared.state.Fetch.{Fetch}
 use Rattle.node_rules.specs.declared.state.Fetch.TheVariants.{Nowhere, AtPeer, AtOrigin}
 use Rattle.node_rules.specs.declared.state.NodeState.{NodeState}
-use Rattle.purge_numbers.specs.Floors.{floor}
+use Rattle.floor_rules.specs.Floors.{floor}
 use Rattle.node_rules.proofs.Pendings.{all_mapped}
 use Rattle.purge_rules.specs.declared.purges.Purge.{Purge}
 use Rattle.roster_tables.specs.declared.plain.Tables.{Tables}

@@ -22,7 +22,7 @@ use Rattle.node_rules.specs.declared.reply.Served.TheVariants.{Copy, Status}
 use Rattle.node_rules.specs.declared.reply.Serve.{Serve}
 use Rattle.node_rules.specs.declared.reply.Reply.{Reply}
 use Rattle.node_rules.specs.declared.reply.StepFault.{StepFault}
-use Rattle.purge_numbers.specs.Floors.{floor}
+use Rattle.floor_rules.specs.Floors.{floor}
 use Rattle.roster.specs.Lookups.{is_master, member_of, member_at, address_by}
 use Rattle.node_rules.specs.Arrivals.{is_gateway_fault}
 use Rattle.htcp_wire.specs.declared.message.Content.{Content}

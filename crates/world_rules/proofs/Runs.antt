@@ -3,7 +3,7 @@ use Rattle.std.proofs.Common.{◌≡◌, ℕ, zero, suc, ◌+◌, ◌-◌, List,
 use Rattle.std.specs.Prelude.{slice_get}
 use Rattle.std.proofs.lemmas.Option.{same_Some}
 use Rattle.roster_tables.specs.declared.plain.Member.{Member}
-use Rattle.purge_numbers.proofs.MapLemmas.{seen_empty}
+use Rattle.floor_rules.proofs.MapLemmas.{seen_empty}
 use Rattle.node_rules.proofs.Cases.{branches}
 use Rattle.roster_tables.specs.declared.plain.Tables.{Tables}
 use Rattle.roster.specs.Judged.{IsRoster}

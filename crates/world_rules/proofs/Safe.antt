@@ -5,7 +5,7 @@ use native.Mathlib.Decide.{dec_lt}
 use Rattle.object_store.specs.declared.copy.WebCopy.{WebCopy}
 use Rattle.node_rules.specs.declared.reply.Reply.{Reply}
 use Rattle.node_rules.specs.declared.reply.StepFault.{StepFault}
-use Rattle.purge_numbers.specs.Floors.{floor}
+use Rattle.floor_rules.specs.Floors.{floor}
 use Rattle.node_rules.specs.Effect.{copy_served}
 use Rattle.node_rules.specs.Questions.{BeginsNothing}
 use Rattle.node_rules.proofs.Lawful.{steps_are_lawful}

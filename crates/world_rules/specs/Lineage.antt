@@ -4,7 +4,7 @@ use Rattle.std.specs.List.{AllByRecursion}
 use Rattle.url_key.specs.Key.{IsKey}
 use Rattle.fetch_messages.specs.Answer.{AnswerText}
 use Rattle.object_store.specs.declared.copy.WebCopy.{WebCopy}
-use Rattle.purge_numbers.specs.Floors.{floor, seen}
+use Rattle.floor_rules.specs.Floors.{floor, seen}
 use Rattle.roster_tables.specs.declared.plain.Udp.TheVariants as udp
 use Rattle.roster.specs.Lookups.{is_member, is_master, member_at}
 use Rattle.node_rules.specs.declared.message.Message.{Message}

@@ -20,6 +20,10 @@ fn names_of_faults(rt: HostRuntime) -> Result<(), Fail> {
     Ok(())
 }
 
+fn tells_two_and_busy(outcome: Outcome) -> bool {
+    outcome.sent.as_slice().len() == 2 && outcome.fault == Some(ActorFault::Step(StepFault::Busy))
+}
+
 #[test]
 fn events_and_outcomes(rt: HostRuntime) -> Result<(), Fail> {
     let event = WorldEvent::Answer {
@@ -46,7 +50,6 @@ fn events_and_outcomes(rt: HostRuntime) -> Result<(), Fail> {
         read: None,
         fault: Some(ActorFault::Step(StepFault::Busy)),
     };
-    assert!(rt; outcome.sent.as_slice().len() == 2);
-    assert!(rt; outcome.fault == Some(ActorFault::Step(StepFault::Busy)));
+    assert!(rt; tells_two_and_busy(outcome));
     Ok(())
 }

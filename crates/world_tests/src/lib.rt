@@ -4,6 +4,8 @@
 #[cfg(test)]
 mod events;
 #[cfg(test)]
+mod lines;
+#[cfg(test)]
 mod scripts;
 #[cfg(test)]
 mod worlds;

@@ -1,6 +1,7 @@
 //! Raises over files that stop after so many calls.
 use super::{floor, loaded, raise};
-use purge_numbers::{FloorFault, FloorStore, SqliteFloors};
+use floor_rules::{FloorFault, FloorStore};
+use purge_numbers::SqliteFloors;
 use sqlite::{Connection, FileStore, Files, Options};
 use sqlite_disk::{Crash, Disk, Fuse, Memory};
 use std::alloc::Global;

@@ -1,5 +1,5 @@
 //! Calls over files that stop after so many calls of the disk.
-use super::{add, loaded, mark, want};
+use crate::calls::{add, loaded, mark, want};
 use purge_records::SqlitePurges;
 use purge_rules::{PurgeFault, PurgeStore};
 use sqlite::{Connection, FileStore, Files, Options};
@@ -10,6 +10,12 @@ use std::test::Fail;
 type Disks = Fuse<Memory>;
 
 type Stored = SqlitePurges<FileStore<Disks>>;
+
+/// A store that is dropped as one value.
+#[derive(Drop)]
+struct Held {
+    store: Stored,
+}
 
 /// The call that is stopped.
 #[derive(Clone, Copy)]
@@ -84,8 +90,10 @@ fn fill<P: PurgeStore>(store: &mut P, alloc: Global) -> Result<(), Fail> {
 /// A file with these purges.
 fn first_files(alloc: Global) -> Result<Files<Disks>, Fail> {
     let new = files(Memory::new(alloc), Memory::new(alloc), u64::MAX, u64::MAX);
-    let mut store = open(alloc, new).ok().ok_or("first open")?;
-    fill(&mut store, alloc)?;
+    let store = open(alloc, new).ok().ok_or("first open")?;
+    let mut held = Held { store };
+    fill(&mut held.store, alloc)?;
+    let Held { store } = held;
     closed(store)
 }
 
@@ -166,8 +174,10 @@ fn stopping(
 }
 
 /// Makes the call, and answers how it ended and what is left of the files.
-fn called_once(alloc: Global, mut store: Stored, step: Step) -> Result<(End, Files<Disks>), Fail> {
-    let end = called(&mut store, alloc, step)?;
+fn called_once(alloc: Global, store: Stored, step: Step) -> Result<(End, Files<Disks>), Fail> {
+    let mut held = Held { store };
+    let end = called(&mut held.store, alloc, step)?;
+    let Held { store } = held;
     Ok((end, files_of(store.into_connection())))
 }
 

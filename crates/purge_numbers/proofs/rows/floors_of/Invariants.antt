@@ -1,6 +1,6 @@
 use Rattle.std.proofs.Common.{drop}
 use Rattle.std.specs.FinMap.{empty}
-use Rattle.purge_numbers.specs.Floors.{FloorMap}
+use Rattle.floor_rules.specs.Floors.{FloorMap}
 use Rattle.purge_numbers.specs.Rows.{Adds}
 use Rattle.purge_numbers.proofs.rows.floors_of.Given as goal
 

@@ -1,8 +1,8 @@
 use Rattle.std.proofs.Common.{arith, sym, ◌∙◌, inl, inr, ◌<◌, ◌≤◌}
 use Rattle.sqlite.specs.Held.{state}
-use Rattle.purge_numbers.specs.Floors.{floor}
+use Rattle.floor_rules.specs.Floors.{floor}
 use Rattle.purge_numbers.specs.Store.{committed_floors}
-use Rattle.purge_numbers.proofs.MapLemmas.{raised_same, raised_higher}
+use Rattle.floor_rules.proofs.MapLemmas.{raised_same, raised_higher}
 use Rattle.purge_numbers.proofs.writing.raise.Goals as goal
 
 pub returns-then-number-floor-clause-raised : goal.returns-then-number-floor-clause-raised

@@ -1,6 +1,6 @@
 use Rattle.std.proofs.Common.{◌≡◌, Bool, true, cond, List, not, is_ok, nat_eq, filter, set, insert, slice_get, Some, refl, sym, ◌∙◌, ap}
 use Rattle.std.proofs.lemmas.Option.{slice_get_read}
-use Rattle.purge_numbers.specs.Floors.{FloorMap}
+use Rattle.floor_rules.specs.Floors.{FloorMap}
 use Rattle.node_rules.specs.State.{opened}
 use Rattle.hierarchy_world.specs.declared.parts.Parts.{Parts}
 use Rattle.hierarchy_world.specs.Parts.{MemberNode, IsStored, IsSeated, IsSeatChanged}

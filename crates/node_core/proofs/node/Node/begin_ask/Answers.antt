@@ -1,5 +1,5 @@
 use Rattle.std.proofs.Common.{ap, ◌∙◌}
-use Rattle.purge_numbers.specs.Floors.{floor}
+use Rattle.floor_rules.specs.Floors.{floor}
 use Rattle.node_core.specs.View.{NodeText, setting_of}
 use Rattle.node_core.proofs.Asking.{asks_nobody, asks_none_of, asks_some_of}
 use Rattle.node_core.proofs.Hearing.{leads_as}

@@ -1,5 +1,5 @@
 use Rattle.std.proofs.Common.{◌+◌, ◌*◌, ◌<◌, All, ap, subst, ◌∙◌}
-use Rattle.purge_numbers.specs.Floors.{seen}
+use Rattle.floor_rules.specs.Floors.{seen}
 use Rattle.node_rules.specs.Asks.{takes_block}
 use Rattle.node_core.specs.View.{NodeText, setting_of}
 use Rattle.node_core.proofs.Asking.{read_without_origin, reads_from_origin}

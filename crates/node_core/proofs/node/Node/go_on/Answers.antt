@@ -1,5 +1,5 @@
 use Rattle.std.proofs.Common.{◌≡◌, ◌∙◌, Some, slice_get, refl, sym}
-use Rattle.purge_numbers.specs.Floors.{floor}
+use Rattle.floor_rules.specs.Floors.{floor}
 use Rattle.peer_chooser.specs.declared.said.Source.TheVariants as source
 use Rattle.node_rules.specs.Fetching.{choice_of, go_to}
 use Rattle.node_waiting.specs.CanGoOn.{CanGoOn}

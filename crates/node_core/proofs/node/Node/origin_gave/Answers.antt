@@ -1,5 +1,5 @@
 use Rattle.std.proofs.Common.{◌≡◌, ◌<◌, ◌≤◌, Some, slice_get}
-use Rattle.purge_numbers.specs.Floors.{floor}
+use Rattle.floor_rules.specs.Floors.{floor}
 use Rattle.node_rules.specs.Arrivals.{not_fetching}
 use Rattle.node_waiting.specs.Changed.{progress_of}
 use Rattle.node_core.specs.View.{setting_of}

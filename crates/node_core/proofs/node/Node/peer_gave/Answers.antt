@@ -1,5 +1,5 @@
 use Rattle.std.proofs.Common.{◌≡◌, ◌≤◌, true, false, Some, slice_get, sym}
-use Rattle.purge_numbers.specs.Floors.{floor}
+use Rattle.floor_rules.specs.Floors.{floor}
 use Rattle.node_rules.specs.Arrivals.{is_gateway_fault, peer_gave, try_on}
 use Rattle.node_core.specs.View.{setting_of}
 use Rattle.node_core.proofs.GoingOn.{leads_by}

@@ -1,6 +1,6 @@
 use Rattle.std.proofs.Common.{◌≡◌, ◌⊎◌, inr, refl, Err, ap, subst, sym, ◌∙◌}
-use Rattle.purge_numbers.specs.Floors.{FloorMap}
-use Rattle.purge_numbers.specs.Store.{HaveRisen}
+use Rattle.floor_rules.specs.Floors.{FloorMap}
+use Rattle.floor_rules.specs.Store.{HaveRisen}
 use Rattle.node_core.specs.Closing.{FailsWithCause}
 use Rattle.node_core.proofs.Outcomes.{found_either, keeps_by, not_full, caused, fails_by, IsStoreFault}
 use Rattle.node_core.proofs.Outcomes.{closes}

@@ -1,3 +1,0 @@
-pub mod Answer
-pub mod Answered
-pub mod Wire

@@ -1,0 +1,11 @@
+-- What a store of floors does.
+use Rattle.std.specs.Prelude.{◌≡◌, ◌⊎◌, ℕ, ◌<◌, ◌-◌, ◌^◌, List}
+use Rattle.floor_rules.specs.Floors.{FloorMap, raised}
+
+-- from before the raise or after it
+abbrev pub IsBeforeOrAfter : FloorMap → List ℕ → ℕ → FloorMap → Type 0
+IsBeforeOrAfter before url number floors = (floors ≡ before) ⊎ (floors ≡ raised before url number)
+
+-- The store has failed since. At the greatest number the count stays, and is taken as risen.
+abbrev pub HaveRisen : ℕ → ℕ → Type 0
+HaveRisen before now = (before < now) ⊎ (now ≡ 2 ^ 64 - 1)

@@ -1,0 +1,64 @@
+//! What a store of floors promises.
+ghost use Rattle.std.specs.Prelude.{◌≡◌, ◌≢◌, ◌≤◌, ℕ, List, Bool, None, IsTrue, IfOk, OnOk, Err};
+ghost use Rattle.std.specs.FinMap.{get, len};
+ghost use Rattle.floor_rules.specs.Floors.{FloorMap, HasRoom, raised};
+ghost use Rattle.floor_rules.specs.Store.{IsBeforeOrAfter, HaveRisen};
+
+use crate::fault::FloorFault;
+use crate::floors::Floors;
+use std::alloc::Global;
+use url_key::Key;
+
+/// A store that keeps the floors of a node, also over a restart.
+///
+/// After `StoreFault` or `NoMemory` from a raise the store is of no use: each later call answers `StoreFault`, until it is opened again.
+pub trait FloorStore {
+    // What the last commit left.
+    ghost content: { Self → FloorMap };
+
+    // What an open after a crash at this moment may find.
+    ghost may_find: { Self → FloorMap → Type 0 };
+
+    // Nobody else has written the store, and it has returned what was written.
+    ghost is_honest: { Self → Type 0 };
+
+    // No call has failed. One that has is opened again.
+    ghost is_usable: { Self → Bool };
+
+    // How many calls were answered with `StoreFault`.
+    ghost failed: { Self → ℕ };
+
+    // Between these two the store itself refused to raise the key to the number.
+    ghost has_cause: { Self → Self → List ℕ → ℕ → Type 0 };
+
+    /// A copy of the floors. It is refused with `NoMemory`, which changes nothing, and with `StoreFault` where an earlier call failed.
+    fn load(&mut self, alloc: Global) -> Result<Floors, FloorFault>
+        ensures floors { IfOk result (λ floors. is_honest self.new → floors ≡ content self.old) }
+        ensures same { OnOk result (self.new ≡ self.old) }
+        ensures usable { OnOk result (IsTrue (is_usable self.new)) }
+        ensures kept { content self.new ≡ content self.old }
+        ensures fault { result ≡ Err FloorFault.StoreFault → HaveRisen (failed self.old) (failed self.new) };
+
+    /// Commits the greater of the key's number and this one, which is at least 1. Once it has answered Ok, no crash takes that back;
+    /// a crash at any other moment leaves the floors from before or after the raise.
+    ///
+    /// `FloorsFull` comes where 65,536 keys have numbers and this one has none, and changes nothing; `StoreFault` where the store failed, in this
+    /// call or earlier; `NoMemory` where a growth was refused.
+    fn raise(&mut self, alloc: Global, key: &Key, number: u32) -> Result<(), FloorFault>
+        requires { 1 ≤ number }
+        ensures honest { is_honest self.new → is_honest self.old }
+        ensures committed { OnOk result (is_honest self.new → content self.new ≡ raised (content self.old) key.now number) }
+        ensures durable { OnOk result (is_honest self.new → (found : FloorMap) → may_find self.new found → found ≡ raised (content self.old) key.now number) }
+        ensures crash { is_honest self.new → IsTrue (is_usable self.old) → (found : FloorMap) → may_find self.new found → IsBeforeOrAfter (content self.old) key.now number found }
+        ensures usable { OnOk result (IsTrue (is_usable self.new)) }
+        ensures full { result ≡ Err FloorFault.FloorsFull → is_honest self.new → (65536 ≤ len (content self.old)) × (get (content self.old) key.now ≡ None) }
+        ensures room { OnOk result (is_honest self.new → HasRoom (content self.old) key.now) }
+        ensures cause { result ≡ Err FloorFault.StoreFault → is_honest self.new → IsTrue (is_usable self.old) → has_cause self.old self.new key.now number }
+        ensures unchanged { result ≡ Err FloorFault.FloorsFull → self.new ≡ self.old }
+        ensures fault { result ≡ Err FloorFault.StoreFault → HaveRisen (failed self.old) (failed self.new) }
+        ensures named { result ≢ Err FloorFault.BadTable };
+
+    /// How many calls were answered with `StoreFault`. It stays at the greatest number.
+    fn failures(&self) -> u64
+        ensures { result ≡ failed self.now };
+}

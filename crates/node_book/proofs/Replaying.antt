@@ -1,0 +1,57 @@
+-- A book with one entry more.
+use Rattle.std.proofs.Common.{◌≡◌, ℕ, ◌<◌, ◌≤◌, Option, List, [], ◌∷◌, ◌++◌, length, refl, sym, subst, length-append, arith, Result, ap, ◌∙◌}
+use Rattle.key_texts.specs.KeyOf.{key_of, GivesKeys}
+use Rattle.key_texts.proofs.Outcomes.{gives_keys}
+use Rattle.roster_tables.specs.declared.plain.Tables.{Tables}
+use Rattle.node_rules.specs.declared.event.Event.{Event}
+use Rattle.node_rules.specs.declared.reply.Reply.{Reply}
+use Rattle.node_rules.specs.declared.state.NodeState.{NodeState}
+use Rattle.node_rules.specs.State.{Setting}
+use Rattle.floor_rules.specs.Floors.{FloorMap}
+use Rattle.node_bytes.specs.Nodes.{TakesStep}
+use Rattle.node_rules.specs.Relation.{Steps}
+use Rattle.node_core.specs.View.{NodeText, IsSameMember, setting_of}
+use Rattle.node_book.specs.declared.book.NodeEntry.{NodeEntry}
+use Rattle.node_book.specs.declared.book.BookFault.{BookFault}
+use Rattle.node_book.specs.Book.{BookView, IsApplied, IsBook, IsToldOf, Replays, setting}
+
+-- one step more is replayed
+replays_more : (g : Setting) (old : NodeState (Unit {0})) (es : List NodeEntry) (middle : NodeState (Unit {0})) (e : NodeEntry) (new : NodeState (Unit {0})) →
+    Replays g old es middle → Steps g middle e.event tt e.outcome new → Replays g old (es ++ e ∷ []) new
+replays_more g old [] middle e new at steps = (new, subst (λ s. Steps g s e.event tt e.outcome new) at steps, refl)
+replays_more g old (x ∷ xs) middle e new (next, first, rest) steps = (next, first, replays_more g next xs middle e new rest steps)
+
+-- a book with one step more behind the others
+book_with : (roster : Tables) (id : ℕ) (opening before after : NodeState (Unit {0})) (es : List NodeEntry) (e : NodeEntry) →
+    IsBook roster id before opening es → length es < 4096 → Steps (setting roster id) before e.event tt e.outcome after → IsBook roster id after opening (es ++ e ∷ [])
+book_with roster id opening before after es e book few steps = record {
+  most = subst (λ n. n ≤ 4096) (sym (length-append es (e ∷ []))) (omega arith);
+  replay = replays_more (setting roster id) opening es before e after book.replay steps;
+}
+
+-- the same of a node before and after a step
+pub book_more : {S : Type 0} (before after : NodeText (Unit {0}) S) (opening : NodeState (Unit {0})) (es all : List NodeEntry) (e : NodeEntry) (event : Event (Unit {0})) →
+    IsBook before.roster before.id before.state opening es → length es < 4096 → all ≡ es ++ e ∷ [] → e.event ≡ event → IsSameMember before after →
+    ((key_of : List ℕ → Option (List ℕ)) → GivesKeys key_of → Steps (setting_of before key_of) before.state event tt e.outcome after.state) →
+    IsBook after.roster after.id after.state opening all
+book_more before after opening es all e event book few more same_event same steps =
+    let stepped = subst (λ ev. Steps (setting before.roster before.id) before.state ev tt e.outcome after.state) (sym same_event) (steps key_of gives_keys) in
+    let here = book_with before.roster before.id opening before.state after.state es e book few stepped in
+    subst (λ r. IsBook r after.id after.state opening all) (sym same.roster)
+    (subst (λ i. IsBook before.roster i after.state opening all) (sym same.id)
+    (subst (λ l. IsBook before.roster before.id after.state opening l) (sym more) here))
+
+-- an entry behind the others, of a step that the node has taken
+pub is_applied : {S : Type 0} {honest : Type 0} {may_find : FloorMap → Type 0} {have_risen : Type 0} {before after : BookView S} {seat place : ℕ} {event : Event (Unit {0})} {told : Result (Reply (Unit {0})) BookFault} (e : NodeEntry) →
+    after.entries ≡ before.entries ++ e ∷ [] → e ≡ record { seat = seat; place = place; event = event; outcome = e.outcome } → after.opening ≡ before.opening → IsToldOf e.outcome told →
+    TakesStep honest may_find have_risen before.node event e.outcome after.node → IsApplied honest may_find have_risen before after seat place event told
+is_applied {before} e behind made opening told takes = record {
+  outcome = e.outcome;
+  entries = behind ∙ ap (λ x. before.entries ++ x ∷ []) made;
+  opening = opening;
+  told_of = told;
+  same = takes.same;
+  steps = takes.steps;
+  store = takes.store;
+  cause = takes.cause;
+}

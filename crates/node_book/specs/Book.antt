@@ -1,0 +1,52 @@
+-- The book of a node's steps.
+use Rattle.std.specs.Prelude.{◌≡◌, ◌⊎◌, ℕ, ◌≤◌, List, [], ◌∷◌, ◌++◌, length, Option, Result, Ok, Err}
+use Rattle.key_texts.specs.KeyOf.{key_of, GivesKeys}
+use Rattle.floor_rules.specs.Floors.{FloorMap}
+use Rattle.roster_tables.specs.declared.plain.Tables.{Tables}
+use Rattle.node_rules.specs.declared.event.Event.{Event}
+use Rattle.node_rules.specs.declared.reply.Reply.{Reply}
+use Rattle.node_rules.specs.declared.reply.StepFault.{StepFault}
+use Rattle.node_rules.specs.declared.state.NodeState.{NodeState}
+use Rattle.node_rules.specs.State.{Setting}
+use Rattle.node_rules.specs.Relation.{Steps}
+use Rattle.node_core.specs.View.{NodeText, IsSameMember, setting_of}
+use Rattle.node_core.specs.Closing.{KeepsStore, FailsWithCause}
+use Rattle.node_book.specs.declared.book.NodeEntry.{NodeEntry}
+use Rattle.node_book.specs.declared.book.BookFault.{BookFault}
+use Rattle.node_book.specs.declared.book.BookFault.TheVariants as faults
+
+-- the node, its state as the book was opened, and the entries so far
+pub record BookView (S : Type 0) : Type 0 where
+  pub node : NodeText (Unit {0}) S
+  pub opening : NodeState (Unit {0})
+  pub entries : List NodeEntry
+
+-- a member's own setting: its roster, and the key that each text has
+abbrev pub setting : Tables → ℕ → Setting
+setting roster id = record { roster = roster; id = id; key_of = key_of }
+
+-- From the first state the entries are steps of the node, one after another, each with its own outcome, and they leave the second.
+abbrev pub Replays : Setting → NodeState (Unit {0}) → List NodeEntry → NodeState (Unit {0}) → Type 0
+Replays g old [] new = new ≡ old
+Replays g old (e ∷ es) new = (middle : NodeState (Unit {0})) × Steps g old e.event tt e.outcome middle × Replays g middle es new
+
+-- the entries lead from the opening state to the node's state, and are at most 4,096
+pub record IsBook (roster : Tables) (id : ℕ) (state opening : NodeState (Unit {0})) (entries : List NodeEntry) : Type 0 where
+  pub most : length entries ≤ 4096
+  pub replay : Replays (setting roster id) opening entries state
+
+-- what is told of an outcome: the same reply, unless it could not be copied, or the same fault
+abbrev pub IsToldOf : Result (Reply (Unit {0})) StepFault → Result (Reply (Unit {0})) BookFault → Type 0
+IsToldOf (Ok reply) told = (told ≡ Ok reply) ⊎ (told ≡ Err faults.ReplyLost)
+IsToldOf (Err fault) told = told ≡ Err (faults.Step fault)
+
+-- One entry stands behind the others, with the outcome that is told; the node has taken that step, and its store is as the step leaves it.
+pub record IsApplied {S : Type 0} (honest : Type 0) (may_find : FloorMap → Type 0) (have_risen : Type 0) (before after : BookView S) (seat place : ℕ) (e : Event (Unit {0})) (told : Result (Reply (Unit {0})) BookFault) : Type 0 where
+  pub outcome : Result (Reply (Unit {0})) StepFault
+  pub entries : after.entries ≡ before.entries ++ record { seat = seat; place = place; event = e; outcome = outcome } ∷ []
+  pub opening : after.opening ≡ before.opening
+  pub told_of : IsToldOf outcome told
+  pub same : IsSameMember before.node after.node
+  pub steps : (key_of : List ℕ → Option (List ℕ)) → GivesKeys key_of → Steps (setting_of before.node key_of) before.node.state e tt outcome after.node.state
+  pub store : KeepsStore honest may_find before.node after.node outcome
+  pub cause : FailsWithCause honest have_risen outcome

@@ -1,0 +1,229 @@
+ghost use Rattle.std.specs.Prelude.{◌≡◌, ◌⊎◌, ◌<◌, ◌≤◌, [], length, IfOk, IfErr, Ok, Err};
+ghost use Rattle.std.specs.Vec.{vec_len, vec_capacity};
+ghost use Rattle.floor_rules.specs.Store.{HaveRisen};
+ghost use Rattle.node_book.specs.Book.{IsApplied, IsToldOf};
+ghost use Rattle.node_book.specs.declared.book.BookFault.TheVariants as faults;
+ghost use Rattle.node_book.specs.Closed.{IsRecorded};
+ghost use Rattle.node_bytes.specs.Stepping.{AnswersAsk};
+
+use crate::Record;
+use floor_rules::FloorStore;
+use node_bytes::Stepper;
+use node_copies::{copy_of_event, copy_of_reply};
+use node_core::Node;
+use node_rules::{Event, NodeState, Reply, StepFault};
+use roster::Listed;
+use std::alloc::{AllocError, Global};
+use std::marker::Model;
+use thiserror::Error;
+
+/// The most entries of a book.
+pub const MOST_ENTRIES: usize = 4096;
+
+/// A step of a node, and its outcome.
+#[derive(Drop)]
+pub struct NodeEntry {
+    /// Who made the step.
+    pub seat: u8,
+    /// The step's place, as its caller counts.
+    pub place: u64,
+    /// The event.
+    pub event: Event<()>,
+    /// What the step replied, or its fault.
+    pub outcome: Result<Reply<()>, StepFault>,
+}
+
+/// Why an event was not applied, or not answered.
+#[derive(Clone, Copy, Debug, PartialEq, Eq, Hash, Error)]
+pub enum BookFault {
+    /// There are 4,096 entries. Nothing is entered, and nothing changes.
+    #[error("the book is full")]
+    ShiftFull,
+    /// The step was refused. It is entered with its fault.
+    #[error("the step was refused")]
+    Step(StepFault),
+    /// There was no memory for an entry. Nothing is entered, and nothing changes.
+    #[error("there was no memory for an entry")]
+    NoMemory,
+    /// The step stands and is entered with its reply, which could not be copied for want of memory.
+    #[error("there was no memory for the reply")]
+    ReplyLost,
+}
+
+/// A node with a book of its steps.
+///
+/// A contract sees the node, the state that it had when the book was opened, and the entries, of which there are at most 4,096.
+#[derive(Drop)]
+pub struct NodeBook<S: FloorStore> {
+    alloc: Global,
+    node: Node<(), S>,
+    opening: NodeState<()>,
+    entries: Vec<NodeEntry>,
+}
+
+impl<S: FloorStore> Model for NodeBook<S> {
+    ghost use Rattle.std.specs.Coded.{codes, coded_list, coded_ℕ};
+    ghost use Rattle.std.specs.FinMap.{code as map_code};
+    ghost use Rattle.std.specs.Ordering.{nat_cmp};
+    ghost use Rattle.std.specs.Cmp.Lexicographic.{slice_cmp};
+    ghost use Rattle.node_book.specs.Book.{BookView, IsBook};
+
+    ghost Value = { BookView S };
+
+    ghost coded = { Prim.hlevel (codes, map_code {R = slice_cmp nat_cmp} (coded_list coded_ℕ) coded_ℕ) };
+
+    ghost view = { λ b. record { node = b.node; opening = b.opening; entries = b.entries.items } };
+
+    ghost invariant = { λ b. IsBook b.node.roster b.node.id b.node.state b.opening b.entries.items };
+}
+
+impl<S: FloorStore> NodeBook<S> {
+    /// A book without entries. It copies the node's state, and gives the node back where there is no memory for it.
+    pub fn open(alloc: Global, node: Node<(), S>) -> Result<NodeBook<S>, (Node<(), S>, AllocError)>
+        ensures opened { IfOk result (λ book. book ≡ record { node = node; opening = node.state; entries = [] }) }
+        ensures given_back { IfErr result (λ refused. refused.0 ≡ node) }
+    {
+        match node.state() {
+            Ok(opening) => Ok(NodeBook {
+                alloc,
+                node,
+                opening,
+                entries: Vec::new(alloc),
+            }),
+            Err(fault) => Err((node, fault)),
+        }
+    }
+
+    /// Takes a step of the node with this event, and enters it with this seat, this place and its outcome.
+    ///
+    /// Faults: `ShiftFull` before anything else, where there are 4,096 entries; `NoMemory` where there is no room for one more. Neither is entered, and
+    /// nothing changes. `Step` with the step's own fault, and `ReplyLost` where the reply could not be copied: both are entered.
+    /// An ask that is answered is served at once, and nothing else is done then; or it waits for what begins with it.
+    pub fn apply(&mut self, seat: u8, place: u64, event: Event<()>) -> Result<Reply<()>, BookFault>
+        ensures full { 4096 ≤ length self.old.entries → (result ≡ Err faults.ShiftFull) × (self.new ≡ self.old) }
+        ensures applied { length self.old.entries < 4096 → (result ≡ Err faults.NoMemory) × (self.new ≡ self.old)
+            ⊎ IsApplied (S.is_honest self.new.node.store) (S.may_find self.new.node.store)
+            (HaveRisen (S.failed self.old.node.store) (S.failed self.new.node.store)) self.old self.new seat place event result }
+        ensures asks { IfOk result (AnswersAsk event) }
+    {
+        match room_for(self.alloc, &mut self.entries, &event) {
+            Ok(entered) => {
+                let (entry, told) = stepped(
+                    self.alloc,
+                    &mut self.node,
+                    seat,
+                    place,
+                    event,
+                    entered,
+                );
+                self.entries.push_reserved(entry);
+                told
+            }
+            Err(fault) => Err(fault),
+        }
+    }
+
+    /// The entries since the book was opened.
+    pub fn entries(&self) -> &[NodeEntry]
+        ensures value { result.now ≡ self.now.entries }
+        ensures most { length self.now.entries ≤ 4096 }
+    {
+        self.entries.as_slice()
+    }
+
+    /// Closes the book: the node, and what is kept of its steps. It copies the node's state, and gives the book back where there is no memory for it.
+    pub fn close(self) -> Result<(Node<(), S>, Record), (NodeBook<S>, AllocError)>
+        ensures closed { IfOk result (λ done. (done.0 ≡ self.node) × IsRecorded self done.1) }
+        ensures given_back { IfErr result (λ refused. refused.0 ≡ self) }
+    {
+        match self.node.state() {
+            Ok(closing) => {
+                let NodeBook {
+                    alloc: _,
+                    node,
+                    opening,
+                    entries,
+                } = self;
+                let record = Record {
+                    node: node.id(),
+                    opening,
+                    entries: Listed::new(entries),
+                    closing,
+                };
+                Ok((node, record))
+            }
+            Err(fault) => Err((self, fault)),
+        }
+    }
+
+    /// The node.
+    pub fn node(&self) -> &Node<(), S>
+        ensures { result.now ≡ self.now.node }
+    {
+        &self.node
+    }
+}
+
+/// Makes room for one entry more, and a copy of the event for it.
+fn room_for(
+    alloc: Global,
+    entries: &mut Vec<NodeEntry>,
+    event: &Event<()>,
+) -> Result<Event<()>, BookFault>
+    ensures full { 4096 ≤ vec_len entries.old → result ≡ Err faults.ShiftFull }
+    ensures few { vec_len entries.old < 4096 → IfErr result (λ fault. fault ≡ faults.NoMemory) }
+    ensures copy { IfOk result (λ copy. copy ≡ event.now) }
+    ensures room { IfOk result (λ _. (vec_len entries.old < 4096) × (vec_len entries.new < vec_capacity entries.new)) }
+    ensures same { entries.new.items ≡ entries.old.items }
+{
+    if entries.len() >= MOST_ENTRIES {
+        return Err(BookFault::ShiftFull);
+    }
+    if entries.reserve(1).is_err() {
+        return Err(BookFault::NoMemory);
+    }
+    copy_of_event(alloc, event).map_err(|_| BookFault::NoMemory)
+}
+
+/// Takes a step with this event, and makes its entry, of a copy of the event, and what is told of it.
+fn stepped<N: Stepper>(
+    alloc: Global,
+    node: &mut N,
+    seat: u8,
+    place: u64,
+    event: Event<()>,
+    entered: Event<()>,
+) -> (NodeEntry, Result<Reply<()>, BookFault>)
+    requires same { entered ≡ event }
+    ensures entry { result.0 ≡ record { seat = seat; place = place; event = event; outcome = result.0.outcome } }
+    ensures takes { N.takes node.old event result.0.outcome node.new }
+    ensures told { IsToldOf result.0.outcome result.1 }
+    ensures asks { IfOk result.1 (AnswersAsk event) }
+{
+    let outcome = node.step(event);
+    let told = told_of(alloc, &outcome);
+    let entry = NodeEntry {
+        seat,
+        place,
+        event: entered,
+        outcome,
+    };
+    (entry, told)
+}
+
+/// What is told of a step's outcome: a copy of its reply, or its fault.
+fn told_of(alloc: Global, outcome: &Result<Reply<()>, StepFault>) -> Result<Reply<()>, BookFault>
+    ensures { IsToldOf outcome.now result }
+{
+    match outcome {
+        Ok(reply) => told_reply(alloc, reply),
+        Err(fault) => Err(BookFault::Step(*fault)),
+    }
+}
+
+/// A copy of a reply, or that it is lost.
+fn told_reply(alloc: Global, reply: &Reply<()>) -> Result<Reply<()>, BookFault>
+    ensures { (result ≡ Ok reply.now) ⊎ (result ≡ Err faults.ReplyLost) }
+{
+    copy_of_reply(alloc, reply).map_err(|_| BookFault::ReplyLost)
+}

@@ -1,0 +1,17 @@
+//! What is kept of a book that was closed.
+use crate::NodeEntry;
+use node_rules::NodeState;
+use roster::Listed;
+
+/// The steps of a node from one of its states to another.
+#[derive(Drop)]
+pub struct Record {
+    /// The node's id.
+    pub node: u8,
+    /// Its state before the first entry.
+    pub opening: NodeState<()>,
+    /// The steps, in their order.
+    pub entries: Listed<NodeEntry>,
+    /// Its state after the last entry.
+    pub closing: NodeState<()>,
+}

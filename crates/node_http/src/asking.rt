@@ -1,0 +1,152 @@
+//! Asks over HTTP.
+ghost use Rattle.std.specs.Prelude.{◌≡◌, ℕ, Option, true, IsTrue};
+ghost use Rattle.roster.specs.Lookups.{is_member as is_member_of};
+ghost use Rattle.peer_writing.specs.Name.{is_name as names_cache};
+ghost use Rattle.node_bytes.specs.Stepping.{AnswersAsker};
+ghost use Rattle.node_http.specs.Asking.{AfterReply, HandsOn, StepsFor, ServesAsk, event_by as event_from, block_of as block_begun};
+
+use crate::refusing::{UNAVAILABLE, refusal_of, refuse};
+use crate::roster_names::{asker_of, name_of};
+use crate::{ServeFault, finish};
+use fetch_messages::Ask;
+use node_bytes::{Stepper, Turn};
+use node_rules::{Begin, Event, Reply, StepFault};
+use peer_reading::read_ask;
+use roster::Roster;
+use std::alloc::Global;
+use std::io::{Read, Write};
+
+/// How many serials a block has.
+const SERIALS: u32 = 32;
+
+/// What became of an ask.
+#[derive(Drop)]
+pub enum Asked {
+    /// What was served is written. Nothing else is to be done.
+    Answered,
+    /// It waits as the pending ask of this block, which a later step serves. This is to be done until then; it serves nobody.
+    Waits(u32, Turn),
+}
+
+/// Reads an ask, takes one step with it at a moment in seconds as the node of this id, and writes what is served at once. An ask that names a
+/// member of the roster other than the node comes from that member, each other one from a client.
+///
+/// Faults, each of which is answered with a status alone where it comes before the answer: those of `read_ask`, which take no step (400 for
+/// `BadHead`, `BadTarget` and `BadBody`, 431 for `HeadTooLong`, 501 for `MethodNotServed` and `Credentials`, 503 for `NoMemory`; nothing is
+/// written for `Io`, `EndOfInput` and `TooManyTurns`); those of the step (503); `NoMemory` of the step also where it stands, and there was no
+/// memory for its datagrams, none of which is sent then (503); and `Io` where the writer failed in the answer, a front of which is written.
+pub fn serve_ask<N: Stepper, R: Read, W: Write>(
+    alloc: Global,
+    roster: &Roster,
+    id: u8,
+    node: &mut N,
+    reader: &mut R,
+    writer: &mut W,
+    now: u64,
+) -> Result<Asked, ServeFault>
+    requires { is_member_of roster.now id ≡ true }
+    ensures { ServesAsk N.takes roster.now id now node.old node.new
+        (R.remaining reader.old) (R.remaining reader.new) (W.contents writer.old) (W.contents writer.new) result }
+{
+    let via = name_of(roster, id);
+    match read_ask(alloc, reader) {
+        Ok(ask) => {
+            let asker = asker_of(roster, id, ask.member);
+            answer_ask(alloc, node, asker, ask, now, writer, via)
+        }
+        Err(fault) => {
+            refuse(writer, refusal_of(fault), via);
+            Err(ServeFault::Fetch(fault))
+        }
+    }
+}
+
+/// Takes one step with an ask, and writes what is served at once.
+fn answer_ask<N: Stepper, W: Write>(
+    alloc: Global,
+    node: &mut N,
+    asker: Option<u8>,
+    ask: Ask,
+    now: u64,
+    writer: &mut W,
+    via: &[u8],
+) -> Result<Asked, ServeFault>
+    requires { IsTrue (names_cache via.now) }
+    ensures { StepsFor N.takes asker ask now node.old node.new (W.contents writer.old) (W.contents writer.new) via.now result }
+{
+    match node.step(event_by(asker, ask, now)) {
+        Ok(reply) => answer_reply(alloc, reply, writer, via),
+        Err(fault) => {
+            refuse(writer, Some(UNAVAILABLE), via);
+            Err(ServeFault::Step(fault))
+        }
+    }
+}
+
+/// The event of an ask.
+fn event_by(asker: Option<u8>, ask: Ask, now: u64) -> Event<()>
+    ensures { result ≡ event_from asker ask now }
+{
+    match asker {
+        Some(asker) => Event::PeerAsk { asker, ask, now },
+        None => Event::Client { ask, now },
+    }
+}
+
+/// Writes what a reply to an ask serves, or hands on what it begins.
+fn answer_reply<W: Write>(
+    alloc: Global,
+    reply: Reply<()>,
+    writer: &mut W,
+    via: &[u8],
+) -> Result<Asked, ServeFault>
+    requires name { IsTrue (names_cache via.now) }
+    requires asks { (asker : Option ℕ) × AnswersAsker asker reply }
+    ensures { (asker : Option ℕ) → AnswersAsker asker reply →
+        AfterReply (W.contents writer.old) (W.contents writer.new) via.now asker reply result }
+{
+    match &reply.serve {
+        Some(serve) => match finish(writer, serve, via) {
+            Ok(()) => Ok(Asked::Answered),
+            Err(fault) => Err(ServeFault::Fetch(fault)),
+        },
+        None => match &reply.begin {
+            Some(begin) => {
+                let block = block_of(begin);
+                hand_on(alloc, block, reply, writer, via)
+            }
+            None => unreachable!(),
+        },
+    }
+}
+
+/// The block of serials of what begins.
+fn block_of(begin: &Begin) -> u32
+    ensures { result ≡ block_begun begin.now }
+{
+    match begin {
+        Begin::Round { serial } | Begin::Peer { serial, .. } | Begin::Read { serial, .. } => {
+            *serial / SERIALS
+        }
+    }
+}
+
+/// Hands on what a reply says is to be done, or answers that there is no memory for it.
+fn hand_on<W: Write>(
+    alloc: Global,
+    block: u32,
+    reply: Reply<()>,
+    writer: &mut W,
+    via: &[u8],
+) -> Result<Asked, ServeFault>
+    requires { IsTrue (names_cache via.now) }
+    ensures { HandsOn (W.contents writer.old) (W.contents writer.new) via.now reply block result }
+{
+    match Turn::of(alloc, reply) {
+        Ok(turn) => Ok(Asked::Waits(block, turn)),
+        Err(_) => {
+            refuse(writer, Some(UNAVAILABLE), via);
+            Err(ServeFault::Step(StepFault::NoMemory))
+        }
+    }
+}

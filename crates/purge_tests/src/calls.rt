@@ -1,0 +1,82 @@
+//! Calls of a store of purges, over any store.
+ghost use Rattle.std.specs.Prelude.{IsTrue};
+ghost use Rattle.purge_rules.specs.Store.{Misses};
+
+use purge_rules::{PurgeFault, PurgeStore, Purges};
+use std::alloc::Global;
+use std::test::Fail;
+use url_key::Key;
+
+/// Fails with these words where something does not hold.
+pub(crate) fn want(holds: bool, what: &'static str) -> Result<(), Fail> {
+    if holds { Ok(()) } else { Err(what)? }
+}
+
+/// Whether the purge of the number is pending, and the member has not acknowledged it.
+fn is_missed(purges: &Purges, number: u32, member: u8) -> bool
+    ensures { IsTrue result → Misses purges.now number member }
+{
+    match purges.find(number) {
+        Some(purge) => !purge.marked.has(member),
+        None => false,
+    }
+}
+
+/// Adds a purge of the URL, under a number above the last one.
+pub(crate) fn add<P: PurgeStore>(
+    store: &mut P,
+    alloc: Global,
+    number: u32,
+    url: &str,
+) -> Result<Result<(), PurgeFault>, Fail> {
+    let key = Key::read(alloc, url.as_bytes())?;
+    match store.load(alloc) {
+        Ok(purges) if purges.last() < number => Ok(store.add(alloc, number, &key)),
+        Ok(_) => Err("a number above the last one")?,
+        Err(fault) => Ok(Err(fault)),
+    }
+}
+
+/// Marks a member that has not acknowledged the pending purge.
+pub(crate) fn mark<P: PurgeStore>(
+    store: &mut P,
+    alloc: Global,
+    number: u32,
+    member: u8,
+) -> Result<Result<(), PurgeFault>, Fail> {
+    if member < 1 || member > 16 {
+        return Err("a member of 1 to 16")?;
+    }
+    match store.load(alloc) {
+        Ok(purges) if is_missed(&purges, number, member) => Ok(store.mark(alloc, number, member)),
+        Ok(_) => Err("a purge that misses the member")?,
+        Err(fault) => Ok(Err(fault)),
+    }
+}
+
+/// What the store holds.
+pub(crate) fn loaded<P: PurgeStore>(store: &mut P, alloc: Global) -> Result<Purges, Fail> {
+    Ok(store.load(alloc).ok().ok_or("purges")?)
+}
+
+/// The last number, and how many purges are pending.
+pub(crate) fn counts<P: PurgeStore>(store: &mut P, alloc: Global) -> Result<(u32, usize), Fail> {
+    let purges = loaded(store, alloc)?;
+    Ok((purges.last(), purges.len()))
+}
+
+/// Whether the purge is pending with this URL, marked by the first member and not by the second.
+pub(crate) fn is_marked<P: PurgeStore>(
+    store: &mut P,
+    alloc: Global,
+    number: u32,
+    url: &str,
+    by: u8,
+    not_by: u8,
+) -> Result<bool, Fail> {
+    let purges = loaded(store, alloc)?;
+    let Some(purge) = purges.find(number) else {
+        return Ok(false);
+    };
+    Ok(purge.key.text() == url.as_bytes() && purge.marked.has(by) && !purge.marked.has(not_by))
+}

@@ -1,0 +1,391 @@
+//! Worked rows: whole inputs and what must be written for them.
+use answer_script::run_answer;
+use script_lines::RunFault;
+use std::test::Fail;
+use wire_script::{Codec, run_wire};
+
+/// Twelve and sixteen zero octets, in hex.
+const Z12: &str = "000000000000000000000000";
+
+const Z16: &str = "00000000000000000000000000000000";
+
+/// `http://o/a` in hex.
+const U: &str = "687474703a2f2f6f2f61";
+
+/// What `cache answer` writes for an input.
+fn answers(rt: &HostRuntime, input: &str) -> Result<String, Fail> {
+    let mut written = Vec::new(rt.alloc());
+    run_answer(rt.alloc(), &mut input.as_bytes(), &mut written)?;
+    Ok(String::from_utf8(written)?)
+}
+
+/// What `cache wire` writes for an input.
+fn shown(rt: &HostRuntime, codec: Codec, input: &str) -> Result<String, Fail> {
+    let mut written = Vec::new(rt.alloc());
+    run_wire(rt.alloc(), codec, &mut input.as_bytes(), &mut written)?;
+    Ok(String::from_utf8(written)?)
+}
+
+/// The names that rows have for datagrams and their parts, in hex. What stands further down may stand in what is above it.
+const NAMES: [(&str, &str); 23] = [
+    ("<query>", "0102002300000007<z16><url>00"),
+    ("<hit>", "0202001f00000007<z12><url>00"),
+    ("<miss>", "0302001f00000007<z12><url>00"),
+    ("<tst>", "002b00000025100200000007<spec>00000002"),
+    ("<tst of minor 1>", "002b00010025100200000007<spec>00000002"),
+    (
+        "<held at 3>",
+        "002600000020100100000007000000000012<stamp>330d0a0002",
+    ),
+    (
+        "<held at 7>",
+        "002600000020100100000007000000000012<stamp>370d0a0002",
+    ),
+    ("<not held>", "00100000000a11010000000700000002"),
+    ("<tst refused>", "000e000000081503000000070002"),
+    (
+        "<clr 7>",
+        "00400000003a4002000000070000<spec>0013<number>370d0a0002",
+    ),
+    (
+        "<clr 8>",
+        "00400000003a4002000000070000<spec>0013<number>380d0a0002",
+    ),
+    ("<clr>", "002d000000274002000000070000<spec>00000002"),
+    ("<silent clr>", "002d000000274000000000070000<spec>00000002"),
+    ("<gone>", "000e000000084001000000070002"),
+    ("<absent>", "000e000000084201000000070002"),
+    ("<clr refused>", "000e000000084503000000070002"),
+    ("<nop>", "000e000000080002000000070002"),
+    ("<spec>", "0003474554000a<url>0008485454502f312e31"),
+    ("<number>", "582d50757267652d4e756d6265723a20"),
+    ("<stamp>", "582d50757267652d5374616d703a20"),
+    ("<url>", U),
+    ("<z12>", Z12),
+    ("<z16>", Z16),
+];
+
+/// A text with hex in the place of each name.
+fn spelled(rt: &HostRuntime, text: &str) -> Result<String, Fail> {
+    let mut text = format!(in rt.alloc(); "{text}")?;
+    for (name, octets) in NAMES {
+        text = text.as_str().replace(rt.alloc(), name, octets)?;
+    }
+    Ok(text)
+}
+
+/// Lines of `cache answer`, each row from a new start, and what is answered.
+const ANSWERS: [(&str, &str); 58] = [
+    // ICP: a hit, also for another text of the URL; a miss; a URL that is no key; a message that is no query.
+    ("store http://o/a\nicp <query>\n", "stored\n<hit>\n"),
+    (
+        "store http://o/a\nicp 0102002600000007<z16>485454503a2f2f4f3a38302f6100\n",
+        "stored\n0202002200000007<z12>485454503a2f2f4f3a38302f6100\n",
+    ),
+    ("icp <query>\n", "<miss>\n"),
+    (
+        "icp 0102001a00000007<z16>7800\n",
+        "0402001600000007<z12>7800\n",
+    ),
+    ("icp 0202001600000007<z12>7800\n", "nothing\n"),
+    // The last line needs no end; hex may be in upper case; an empty input has no line.
+    ("icp <query>", "<miss>\n"),
+    (
+        "icp 0102001A00000007<z16>7800",
+        "0402001600000007<z12>7800\n",
+    ),
+    ("", ""),
+    // TST: of what is not held, under either MINOR, and of what is.
+    (
+        "htcp <tst>\nhtcp <tst of minor 1>\n",
+        "<not held>\n<not held>\n",
+    ),
+    ("store http://o/a 3\nhtcp <tst>\n", "stored\n<held at 3>\n"),
+    // The master's CLR, twice; copies below its number, under the greatest number seen, and of another URL.
+    (
+        "store http://o/a 3\nmaster <clr 7>\nmaster <clr 7>\nstore http://o/a 3\n",
+        "stored\n<gone>\n<absent>\nOld\n",
+    ),
+    (
+        "master <clr 7>\nstore http://o/a 6\nstore http://o/a\nstore http://o/b 0\nhtcp <tst>\n",
+        "<absent>\nOld\nstored\nstored\n<held at 7>\n",
+    ),
+    // A numbered CLR of another sender, and one whose number is not its TRANS-ID.
+    (
+        "htcp <clr 7>\nstranger <clr 7>\nstore http://o/a 3\n",
+        "<clr refused>\n<clr refused>\nstored\n",
+    ),
+    ("master <clr 8>\n", "<clr refused>\n"),
+    // A CLR without a number drops the copy and keeps the floor.
+    (
+        "store http://o/a\nhtcp <clr>\nstore http://o/a 0\n",
+        "stored\n<gone>\nstored\n",
+    ),
+    (
+        "store http://o/a\nmaster <silent clr>\nmaster <clr>\n",
+        "stored\nnothing\n<absent>\n",
+    ),
+    // A stranger is refused, and what it asks is not done.
+    (
+        "store http://o/a 3\nstranger <clr>\nstranger <tst>\nhtcp <tst>\n",
+        "stored\n<clr refused>\n<tst refused>\n<held at 3>\n",
+    ),
+    // MON, with a response desired and without; NOP, of any sender; answers, which have no answer.
+    (
+        "htcp 000f00000009200200000007050002\nhtcp 000f00000009200000000007050002\n",
+        "000e000000082203000000070002\nnothing\n",
+    ),
+    (
+        "htcp <nop>\nmaster <nop>\nstranger <nop>\n",
+        "000e000000080001000000070002\n000e000000080001000000070002\n000e000000080001000000070002\n",
+    ),
+    (
+        "htcp 000e000000080001000000070002\nstranger <absent>\n",
+        "nothing\nnothing\n",
+    ),
+    // Faults of HTCP. Each codec has its own lines.
+    (
+        "htcp 000e0000000800020000000700\nhtcp 000f000000080002000000070002\n",
+        "Short\nBadLength\n",
+    ),
+    (
+        "master 000e010000080002000000070002\nhtcp 000e000000070002000000070002\n",
+        "BadMajor\nBadData\n",
+    ),
+    (
+        "stranger 000e000000081002000000070002\nhtcp 000e000000080002000000070001\n",
+        "BadString\nBadAuth\n",
+    ),
+    ("icp <nop>\nhtcp <query>\n", "Short\nBadLength\n"),
+    // What was stored before a bad line stays.
+    (
+        "store http://o/a\nicp 0g\nmaster 012\nstore\n\nicp <query>\n",
+        "stored\nbad hex\nbad hex\nbad line\nbad line\n<hit>\n",
+    ),
+    // Lines.
+    ("\n", "bad line\n"),
+    ("icp\n", "bad line\n"),
+    ("icp \n", "bad line\n"),
+    ("icp 01 02\n", "bad line\n"),
+    (" icp 01\n", "bad line\n"),
+    ("ICP 01\n", "bad line\n"),
+    ("store\n", "bad line\n"),
+    ("store \n", "bad line\n"),
+    ("store  1\n", "bad line\n"),
+    ("store http://o/ 1 \n", "bad line\n"),
+    ("store http://o/ 01\n", "bad line\n"),
+    ("store http://o/ +1\n", "bad line\n"),
+    ("store http://o/ 4294967296\n", "bad line\n"),
+    ("store http://o/ 99999999999999999999\n", "bad line\n"),
+    ("store http://o/ \n", "bad line\n"),
+    ("htcp\n", "bad line\n"),
+    ("htcp \n", "bad line\n"),
+    ("master 01 02\n", "bad line\n"),
+    ("stranger\n", "bad line\n"),
+    ("Master 01\n", "bad line\n"),
+    ("other 01\n", "bad line\n"),
+    ("store http://o/ 0\n", "stored\n"),
+    ("store http://o/ 4294967295\n", "stored\n"),
+    (
+        "store http://o/ 3\nstore HTTP://O 2\nstore http://o:80 3\n",
+        "stored\nKept\nstored\n",
+    ),
+    ("store http://o/\r\n", "NotVisibleAscii\n"),
+    ("store https://o/\n", "NotHttp\n"),
+    ("store http://o/#a\n", "Fragment\n"),
+    ("store http://u@o/\n", "UserInfo\n"),
+    ("store http://o:0/\n", "BadPort\n"),
+    ("store http://:1/\n", "NoHost\n"),
+    ("store http://\n", "NotUri\n"),
+    ("store \u{e9}\n", "NotVisibleAscii\n"),
+    ("\u{e9}\n", "bad line\n"),
+];
+
+#[test]
+fn lines_are_answered(rt: HostRuntime) -> Result<(), Fail> {
+    for (input, expected) in ANSWERS {
+        let input = spelled(&rt, input)?;
+        let expected = spelled(&rt, expected)?;
+        assert_eq!(rt;
+            answers(&rt, input.as_str())?.as_str(),
+            expected.as_str(),
+            "{input:?}"
+        );
+    }
+    Ok(())
+}
+
+#[test]
+fn faults_of_datagrams(rt: HostRuntime) -> Result<(), Fail> {
+    let alloc = rt.alloc();
+    let short = "00".repeat(alloc, 19)?;
+    let long = "00".repeat(alloc, 16_385)?;
+    let table = [
+        (format!(in alloc; "{short}")?, "Short"),
+        (format!(in alloc; "{long}")?, "TooLong"),
+        (
+            format!(in alloc; "0103002400000007{Z16}{U}00")?,
+            "BadVersion",
+        ),
+        (
+            format!(in alloc; "0102002400000007{Z16}{U}00")?,
+            "BadLength",
+        ),
+        (format!(in alloc; "0a02001400000007{Z12}")?, "BadOpcode"),
+        (format!(in alloc; "0102001800000007{Z16}")?, "NoZero"),
+        (
+            format!(in alloc; "0202001700000007{Z12}610062")?,
+            "Trailing",
+        ),
+        (
+            format!(in alloc; "1702001900000007{Z12}6100000278")?,
+            "BadObject",
+        ),
+        (format!(in alloc; "0g")?, "bad hex"),
+        (format!(in alloc; "012")?, "bad hex"),
+    ];
+    for (hex, expected) in table.iter() {
+        let expected = format!(in alloc; "{expected}\n")?;
+        let input = format!(in alloc; "icp {hex}\n")?;
+        assert_eq!(rt;
+            answers(&rt, input.as_str())?.as_str(),
+            expected.as_str(),
+            "{hex}"
+        );
+        let input = format!(in alloc; "{hex}\n")?;
+        assert_eq!(rt;
+            shown(&rt, Codec::Icp, input.as_str())?.as_str(),
+            expected.as_str(),
+            "{hex}"
+        );
+    }
+    Ok(())
+}
+
+#[test]
+fn datagrams_are_shown(rt: HostRuntime) -> Result<(), Fail> {
+    let alloc = rt.alloc();
+    let table = [
+        (
+            format!(in alloc; "0102002300000007{Z16}{U}00\n")?,
+            format!(in alloc; "Query 7 {U}\n")?,
+        ),
+        (
+            format!(in alloc; "1702001900000007{Z12}6100000178\n")?,
+            format!(in alloc; "HitObj 7 61 78\n")?,
+        ),
+        (
+            format!(in alloc; "17020018ffffffff{Z12}61000000\n")?,
+            format!(in alloc; "HitObj 4294967295 61 -\n")?,
+        ),
+        (
+            format!(in alloc; "0202001500000000{Z12}00\n")?,
+            format!(in alloc; "Hit 0 -\n")?,
+        ),
+        (
+            format!(in alloc; "0302001600000001{Z12}6100\n0402001600000001{Z12}6100\n")?,
+            format!(in alloc; "Miss 1 61\nError 1 61\n")?,
+        ),
+        (
+            format!(in alloc; "1502001600000001{Z12}6100\n1602001600000001{Z12}6100\n")?,
+            format!(in alloc; "MissNoFetch 1 61\nDenied 1 61\n")?,
+        ),
+        (
+            format!(in alloc; "\n01 02\n")?,
+            format!(in alloc; "bad line\nbad line\n")?,
+        ),
+    ];
+    for (input, expected) in table.iter() {
+        assert_eq!(rt;
+            shown(&rt, Codec::Icp, input.as_str())?.as_str(),
+            expected.as_str(),
+            "{input}"
+        );
+    }
+    Ok(())
+}
+
+#[test]
+fn htcp_datagrams_are_shown(rt: HostRuntime) -> Result<(), Fail> {
+    let alloc = rt.alloc();
+    // METHOD, URI and VERSION of a SPECIFIER for `http://o/a`.
+    let spec = format!(in alloc; "0003474554000a{U}0008485454502f312e31")?;
+    let shown_spec = format!(in alloc; "474554 {U} 485454502f312e31")?;
+    let number = "582d50757267652d4e756d6265723a20370d0a";
+    let stamp = "582d50757267652d5374616d703a20330d0a";
+    let table = [
+        (
+            format!(in alloc; "002b0000002510020000000 7{spec}00000002")?,
+            format!(in alloc; "bad line")?,
+        ),
+        (
+            format!(in alloc; "002b00000025100200000007{spec}00000002")?,
+            format!(in alloc; "TstAsk 7 1 {shown_spec} -")?,
+        ),
+        (
+            format!(in alloc; "00400000003a4002000000070000{spec}0013{number}0002")?,
+            format!(in alloc; "ClrAsk 7 1 0 {shown_spec} {number}")?,
+        ),
+        (
+            format!(in alloc; "002600000020100100000007000000000012{stamp}0002")?,
+            format!(in alloc; "TstHit 7 - - {stamp}")?,
+        ),
+        (
+            format!(in alloc; "00100000000a11010000000700000002")?,
+            format!(in alloc; "TstMiss 7 -")?,
+        ),
+    ];
+    for (hex, expected) in table.iter() {
+        let input = format!(in alloc; "{hex}\n")?;
+        let expected = format!(in alloc; "{expected}\n")?;
+        assert_eq!(rt;
+            shown(&rt, Codec::Htcp, input.as_str())?.as_str(),
+            expected.as_str(),
+            "{hex}"
+        );
+    }
+    Ok(())
+}
+
+#[test]
+fn short_htcp_datagrams(rt: HostRuntime) -> Result<(), Fail> {
+    for (hex, expected) in [
+        ("000e0000000842010000000 70002", "bad line\n"),
+        ("000e00000008420100000007000", "bad hex\n"),
+        ("000e0000000842010000000700 02", "bad line\n"),
+        ("000e000000084201000000070002", "ClrAnswer 7 2\n"),
+        ("000e000000084503000000070002", "Overall 7 4 5\n"),
+        ("000e000000080002000000070002", "NopAsk 7 1\n"),
+        ("000e000000080000000000070002", "NopAsk 7 0\n"),
+        ("000e000000080001000000070002", "NopAnswer 7\n"),
+        ("000f0000000920020000000705", "Short\n"),
+        ("000f000000092002000000070500 02", "bad line\n"),
+        ("000f00000009200200000007050002", "Other 7 2 1\n"),
+        ("000e000000084401000000070002", "OtherAnswer 7 4 4\n"),
+        ("000e0000000800020000000700", "Short\n"),
+        ("000f000000080002000000070002", "BadLength\n"),
+        ("000e010000080002000000070002", "BadMajor\n"),
+        ("000e000000070002000000070002", "BadData\n"),
+        ("000e000000081002000000070002", "BadString\n"),
+        ("000e000000080002000000070001", "BadAuth\n"),
+    ] {
+        let input = format!(in rt.alloc(); "{hex}\n")?;
+        assert_eq!(rt;
+            shown(&rt, Codec::Htcp, input.as_str())?.as_str(),
+            expected,
+            "{hex}"
+        );
+    }
+    Ok(())
+}
+
+#[test]
+fn what_stops_a_run(rt: HostRuntime) -> Result<(), Fail> {
+    let longer = "a".repeat(rt.alloc(), 140_001)?;
+    let input = format!(in rt.alloc(); "store http://o/\n{longer}\nstore http://o/\n")?;
+    let mut written = Vec::new(rt.alloc());
+    let done = run_answer(rt.alloc(), &mut input.as_bytes(), &mut written);
+    assert!(rt; done == Err(RunFault::LineTooLong));
+    assert_eq!(rt; written.as_slice(), b"stored\n".as_slice());
+    Ok(())
+}

@@ -1,0 +1,67 @@
+//! The command `cache wire`: datagrams in hex are read and shown.
+mod htcp;
+mod icp;
+
+ghost use Rattle.std.specs.Prelude.{◌≡◌, ◌++◌, OnOk};
+ghost use Rattle.script_lines.specs.Script.{HasPlayed};
+ghost use Rattle.wire_script.specs.Wire.{shown, WireAnswers};
+ghost use Rattle.wire_script.specs.declared.wire.Codec.{Codec as TheCodec};
+
+use script_lines::{RunFault, Script, is_word, play};
+use std::alloc::{AllocError, Global};
+use std::io::{Read, Write};
+
+/// The protocol whose datagrams are read.
+#[derive(Clone, Copy, Debug, PartialEq, Eq)]
+pub enum Codec {
+    /// ICP version 2 (RFC 2186).
+    Icp,
+    /// HTCP/0.0 (RFC 2756).
+    Htcp,
+}
+
+/// Answers each line of the input, one word in hex, by what the datagram says, or by its fault, `bad hex` or
+/// `bad line`. An ICP message is shown as `OP NUMBER URL`, and behind a HIT_OBJ its object; an HTCP message as the
+/// name of its content, its TRANS-ID and the content's fields. Texts are in hex, and `-` where they are empty. Where the reader or the writer fails, a line has more than 140,000 octets, 70,000 reads are not
+/// enough or there is no memory, a front of the answers is written.
+pub fn run_wire<R: Read, W: Write>(
+    alloc: Global,
+    codec: Codec,
+    reader: &mut R,
+    writer: &mut W,
+) -> Result<(), RunFault>
+    ensures { (end : TheCodec) × HasPlayed WireAnswers codec (R.remaining reader.old)
+        (W.contents writer.old) (W.contents writer.new) result end }
+{
+    let mut codec = codec;
+    play(alloc, &mut codec, reader, writer)
+}
+
+impl Script for Codec {
+    ghost answers = { WireAnswers };
+
+    fn answer(&mut self, alloc: Global, line: &[u8], text: &mut Vec<u8>) -> Result<(), AllocError> {
+        if !is_word(line) {
+            return text.extend_from_slice(b"bad line");
+        }
+        match *self {
+            Codec::Icp => icp::show_hex(alloc, line, text),
+            Codec::Htcp => htcp::show_hex(alloc, line, text),
+        }
+    }
+}
+
+/// Shows octets in hex, and `-` where there are none.
+pub(crate) fn show_octets(
+    alloc: Global,
+    octets: &[u8],
+    text: &mut Vec<u8>,
+) -> Result<(), AllocError>
+    ensures { OnOk result (text.new.items ≡ text.old.items ++ shown octets.now) }
+{
+    if octets.is_empty() {
+        text.extend_from_slice(b"-")
+    } else {
+        text.extend_from_slice(hex::encode(alloc, octets)?.as_bytes())
+    }
+}
