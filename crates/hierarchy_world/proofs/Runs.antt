@@ -74,7 +74,7 @@ run_is_safe t events new outcomes proper run =
       told = run.told;
       plays = plays;
       served = nothing_old_is_served t proper run.steps new (plays_run t 1 (new_world t) events run.steps new plays);
-      siblings = siblings_ask_nothing t run.steps new;
+      siblings = siblings_ask_nothing t run.steps;
     }
 
 -- The world as callers see it, and the loop over the events

@@ -26,7 +26,7 @@ pub record IsSafeRun (roster : Tables) (all_events : List WorldEvent) (new : Wor
   pub told : Tells roster 1 (new_world roster) steps new outcomes
   pub plays : Plays roster 1 (new_world roster) all_events steps new
   pub served : NothingOldIsServed steps
-  pub siblings : SiblingsAskNothing roster steps new
+  pub siblings : SiblingsAskNothing roster steps
 
 -- the world after all these events, which is usable, and what was told of each
 abbrev pub HasRun : Tables → List WorldEvent → WorldView → List Outcome → Type 0

@@ -110,11 +110,11 @@ abbrev pub seen_outcome : Seen → Result (Reply ℕ) StepFault → Result (Repl
 seen_outcome (Replied id outcome) other = outcome
 seen_outcome _ other = other
 
-pub siblings_ask_nothing : (h : Tables) (steps : List Step) (w : World) → SiblingsAskNothing h steps w
-siblings_ask_nothing h steps w event id e serial outcome after is_turn asks (key, takes) =
-    let (result, next, node_steps, is_seen, is_new) = subst (λ (t : Turn). Takes h (length steps + 1) w t (Replied id outcome) after) is_turn takes in
-    let law = steps_are_lawful (setting h id) (node_at w.seats id) e (length steps + 1) result next node_steps in
+pub siblings_ask_nothing : (h : Tables) (steps : List Step) → SiblingsAskNothing h steps
+siblings_ask_nothing h steps past rest event id outcome before after e serial is_step runs (key, takes) is_turn asks =
+    let (result, next, node_steps, is_seen, is_new) = subst (λ (t : Turn). Takes h (length past + 1) before t (Replied id outcome) after) is_turn takes in
+    let law = steps_are_lawful (setting h id) (node_at before.seats id) e (length past + 1) result next node_steps in
     let same : outcome ≡ result = ap (λ (s : Seen). seen_outcome s outcome) is_seen in
-    let at_id : node_at after.seats id ≡ next = ap (λ (w : World). node_at w.seats id) is_new ∙ node_at-same w.seats id next in
-    let none : BeginsNothing (node_at w.seats id) result next = law.siblings asks in
-    subst (λ r. BeginsNothing (node_at w.seats id) r (node_at after.seats id)) (sym same) (subst (BeginsNothing (node_at w.seats id) result) (sym at_id) none)
+    let at_id : node_at after.seats id ≡ next = ap (λ (w : World). node_at w.seats id) is_new ∙ node_at-same before.seats id next in
+    let none : BeginsNothing (node_at before.seats id) result next = law.siblings asks in
+    subst (λ r. BeginsNothing (node_at before.seats id) r (node_at after.seats id)) (sym same) (subst (BeginsNothing (node_at before.seats id) result) (sym at_id) none)

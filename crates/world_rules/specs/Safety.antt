@@ -1,5 +1,5 @@
 -- The safety of purges: the theorem that this crate is for.
-use Rattle.std.specs.Prelude.{◌≡◌, ℕ, ◌+◌, ◌<◌, List, length, true, Result}
+use Rattle.std.specs.Prelude.{◌≡◌, ℕ, ◌+◌, ◌<◌, List, ◌∷◌, ◌++◌, length, true, Result}
 use Rattle.object_store.specs.declared.copy.WebCopy.{WebCopy}
 use Rattle.node_rules.specs.declared.event.Event.{Event}
 use Rattle.node_rules.specs.declared.reply.Reply.{Reply}
@@ -8,9 +8,9 @@ use Rattle.node_rules.specs.Questions.{is_from_sibling, BeginsNothing}
 use Rattle.roster_tables.specs.declared.plain.Tables.{Tables}
 use Rattle.world_rules.specs.declared.event.WorldEvent.{WorldEvent}
 use Rattle.world_rules.specs.Hierarchy.{setting}
-use Rattle.world_rules.specs.World.{World, node_at}
+use Rattle.world_rules.specs.World.{World, new_world, node_at}
 use Rattle.world_rules.specs.Turn.{Replied, NodeSteps, turn}
-use Rattle.world_rules.specs.Run.{Step, Happens, IsIssuedAt, IsReportedAt, IsServedAt}
+use Rattle.world_rules.specs.Run.{Step, Run, Happens, IsIssuedAt, IsReportedAt, IsServedAt}
 
 -- Once a purge of a key is reported done, whatever copy of that key a member begins to serve, its reading from the origin
 -- began after the purge was issued. (A foreign cache's copy has the mark 0, so none is served.)
@@ -20,11 +20,12 @@ NothingOldIsServed steps =
     IsIssuedAt steps issued number key → IsReportedAt steps reported number → reported < served → IsServedAt steps served c →
     c.key ≡ key → issued < c.tag
 
--- In the world that the steps lead to, an event that brings a member a sibling's ask, a QUERY or a TST begins no round, no
--- fetch and no read, and leaves no ask waiting.
-abbrev pub SiblingsAskNothing : Tables → List Step → World → Type 0
-SiblingsAskNothing roster steps before =
-    (event : WorldEvent) (id : ℕ) (e : Event ℕ) (serial : ℕ) (outcome : Result (Reply ℕ) StepFault) (after : World) →
+-- At each place, a step of a member that meets a sibling's ask, a QUERY or a TST begins no round, no fetch and no read, and
+-- leaves no ask waiting; whichever worlds the run had before and after it.
+abbrev pub SiblingsAskNothing : Tables → List Step → Type 0
+SiblingsAskNothing roster steps =
+    (past rest : List Step) (event : WorldEvent) (id : ℕ) (outcome : Result (Reply ℕ) StepFault) (before after : World) (e : Event ℕ) (serial : ℕ) →
+    steps ≡ past ++ record { event = event; seen = Replied id outcome } ∷ rest →
+    Run roster 1 (new_world roster) past before → Happens roster (length past + 1) before event (Replied id outcome) after →
     turn roster before event ≡ NodeSteps id e serial → is_from_sibling (setting roster id) e ≡ true →
-    Happens roster (length steps + 1) before event (Replied id outcome) after →
     BeginsNothing (node_at before.seats id) outcome (node_at after.seats id)

@@ -22,7 +22,7 @@ ghost use Rattle.world_rules.specs.Apply.{apply, IsDone};
 /// once a purge is reported done, no request to a sibling begins anything, and the lineage that both rest on holds at every place.
 pub fn purges_are_safe()
     ensures served { (roster : Tables) (events : List WorldEvent) (steps : List Step) (w : World) → IsRoster roster → Plays roster 1 (new_world roster) events steps w → NothingOldIsServed steps }
-    ensures siblings { (roster : Tables) (events : List WorldEvent) (steps : List Step) (w : World) → Plays roster 1 (new_world roster) events steps w → SiblingsAskNothing roster steps w }
+    ensures siblings { (roster : Tables) (events : List WorldEvent) (steps : List Step) (w : World) → Plays roster 1 (new_world roster) events steps w → SiblingsAskNothing roster steps }
     ensures lineage { (roster : Tables) (events : List WorldEvent) (steps : List Step) (w : World) → IsRoster roster → Plays roster 1 (new_world roster) events steps w → HasLineage roster steps w }
 {}
 
