@@ -1,9 +1,9 @@
 //! What is done after a step, in octets.
 ghost use Rattle.std.specs.Prelude.{◌≡◌, IfOk, map};
-ghost use Rattle.node_bytes.specs.Turns.{packet_of, turn_of, idle, MeetsOctets};
+ghost use Rattle.node_bytes.specs.Turns.{packet_of, protocol_of as protocol_in, turn_of, idle, MeetsOctets};
 
 use crate::{Stepper, event_of, octets_of};
-use node_rules::{Begin, Outgoing, Reply, Serve, StepFault};
+use node_rules::{Begin, Message, Outgoing, Reply, Serve, StepFault};
 use roster::{Address, Listed, Udp};
 use std::alloc::{AllocError, Global};
 use wire_octets::Octets;
@@ -11,6 +11,8 @@ use wire_octets::Octets;
 /// A datagram to be sent.
 #[derive(Debug, Drop)]
 pub struct Packet {
+    /// By which protocol it goes.
+    pub by: Udp,
     /// Where it goes.
     pub to: Address,
     /// Its octets.
@@ -53,11 +55,22 @@ impl Turn {
     }
 }
 
-/// The written text of a message, and where it goes.
+/// The protocol of a message.
+fn protocol_of(message: &Message) -> Udp
+    ensures { result ≡ protocol_in message.now }
+{
+    match message {
+        Message::Icp(_) => Udp::Icp,
+        Message::Htcp(_) => Udp::Htcp,
+    }
+}
+
+/// The protocol of a message and its written text, and where it goes.
 fn packet_of(alloc: Global, sent: &Outgoing) -> Result<Packet, AllocError>
     ensures { IfOk result (λ packet. packet ≡ packet_of sent.now) }
 {
     Ok(Packet {
+        by: protocol_of(sent.message.message()),
         to: sent.to,
         octets: Octets::from_vec(octets_of(alloc, sent)?),
     })

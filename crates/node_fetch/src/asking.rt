@@ -1,0 +1,64 @@
+//! An ask and its answer.
+ghost use Rattle.std.specs.Prelude.{IsTrue};
+ghost use Rattle.peer_writing.specs.Name.{is_name as names_cache};
+
+use fetch_messages::{Answer, Ask, FetchFault};
+use mio::net::TcpStream;
+use peer_reading::read_answer;
+use peer_writing::{AskForm, write_ask};
+use roster_tables::Address;
+use std::alloc::Global;
+use std::io::{self, Write};
+use std::net::{Ipv4Addr, Net, SocketAddr};
+use std::time::{Clock, Duration};
+use timed_streams::{Timed, Waiter};
+
+/// For how many seconds a peer or an origin may take to be connected, asked and read.
+const PATIENCE: u64 = 5;
+
+/// Asks whoever serves HTTP at this address, under the name of the cache that asks, and reads the answer: within five seconds in all, over a stream of its own.
+///
+/// Faults: `Io` where the system refuses, the stream fails or its time is over, and those of `read_answer`.
+pub fn exchange<R: Net + Clock>(
+    rt: &R,
+    alloc: Global,
+    waiter: &mut Waiter,
+    at: Address,
+    ask: &Ask,
+    form: AskForm,
+    name: &[u8],
+) -> Result<Answer, FetchFault>
+    requires { IsTrue (names_cache name.now) }
+{
+    match connected(rt, at) {
+        Ok(mut stream) => asked(rt, alloc, waiter, &mut stream, ask, form, name),
+        Err(_) => Err(FetchFault::Io),
+    }
+}
+
+fn connected<R: Net>(rt: &R, at: Address) -> io::Result<TcpStream> {
+    TcpStream::connect(rt, SocketAddr::from((Ipv4Addr::from(at.ip), at.port)))
+}
+
+fn asked<C: Clock>(
+    clock: &C,
+    alloc: Global,
+    waiter: &mut Waiter,
+    stream: &mut TcpStream,
+    ask: &Ask,
+    form: AskForm,
+    name: &[u8],
+) -> Result<Answer, FetchFault>
+    requires { IsTrue (names_cache name.now) }
+{
+    match Timed::new(clock, waiter, stream, Duration::from_secs(PATIENCE)) {
+        Ok(mut timed) => {
+            write_ask(&mut timed, ask, form, name)?;
+            if timed.flush().is_err() {
+                return Err(FetchFault::Io);
+            }
+            read_answer(alloc, &mut timed)
+        }
+        Err(_) => Err(FetchFault::Io),
+    }
+}

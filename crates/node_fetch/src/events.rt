@@ -1,0 +1,77 @@
+//! What a node meets at the end of a fetch.
+ghost use Rattle.std.specs.Prelude.{◌≡◌};
+ghost use Rattle.node_fetch.specs.Fetched.{event_of_answer, event_of_fetch, is_told as may_be_told};
+ghost use Rattle.node_rules.specs.Arrivals.{is_gateway_fault as is_gateways};
+
+use fetch_messages::Answer;
+use node_rules::Event;
+use url_key::Key;
+
+/// Where an answer is fetched from.
+#[derive(Clone, Copy, Debug, PartialEq, Eq)]
+pub enum Source {
+    /// The member of this id, 1 to 16.
+    Member(u8),
+    /// The foreign cache of this id, 101 to 108.
+    Foreign(u8),
+    /// The origin.
+    Origin,
+}
+
+/// Whether a status is a gateway's fault (RFC 9110, sections 15.6.3 to 15.6.5): the fetch of the one who answers failed.
+fn is_gateway_fault(status: u16) -> bool
+    ensures { result ≡ is_gateways status }
+{
+    [502, 503, 504].contains(&status)
+}
+
+/// Whether a node is told of the answer.
+fn is_told(source: Source, answer: &Answer) -> bool
+    ensures { result ≡ may_be_told source answer.now }
+{
+    match source {
+        Source::Member(_) => !is_gateway_fault(answer.status()) && answer.stamp().is_some(),
+        Source::Foreign(_) => !is_gateway_fault(answer.status()),
+        Source::Origin => true,
+    }
+}
+
+/// The event of a fetch that ended at this moment, in seconds, with an answer or without one.
+pub fn fetched(source: Source, serial: u32, key: Key, answer: Option<Answer>, now: u64) -> Event<()>
+    ensures { result ≡ event_of_fetch source serial key answer now }
+{
+    match answer {
+        Some(answer) if is_told(source, &answer) => came(source, serial, key, answer, now),
+        _ => Event::FetchFailed { serial, now },
+    }
+}
+
+/// The event of an answer that a node is told of.
+fn came(source: Source, serial: u32, key: Key, answer: Answer, now: u64) -> Event<()>
+    ensures { result ≡ event_of_answer source serial key answer now }
+{
+    match source {
+        Source::Member(peer) => Event::PeerAnswer {
+            serial,
+            peer,
+            key,
+            answer,
+            tag: (),
+            now,
+        },
+        Source::Foreign(peer) => Event::ForeignAnswer {
+            serial,
+            peer,
+            key,
+            answer,
+            tag: (),
+            now,
+        },
+        Source::Origin => Event::OriginAnswer {
+            serial,
+            key,
+            answer,
+            now,
+        },
+    }
+}

@@ -1,0 +1,169 @@
+//! The locked book of a node.
+ghost use Rattle.std.specs.Prelude.{◌≡◌, ◌+◌, ◌<◌, ◌⊎◌, false, vec_len, vec_capacity, Some, None, Ok, Err, IfOk, IfErr};
+ghost use Rattle.floor_rules.specs.Store.{HaveRisen};
+ghost use Rattle.node_book.specs.declared.book.BookFault.TheVariants as faults;
+ghost use Rattle.node_book.specs.Book.{IsApplied};
+ghost use Rattle.node_bytes.specs.Stepping.{AnswersAsk};
+ghost use Rattle.node_seats.specs.Seats.{Called, IsGiven, Posted, counted, listed, told_of};
+ghost use Rattle.node_seats.specs.declared.seat.Told.{Told};
+
+use crate::places::Places;
+use crate::seat::{Calls, Made, Seat, Told};
+use floor_rules::FloorStore;
+use node_book::{BookFault, NodeBook};
+use node_copies::{copy_of_event, copy_of_reply};
+use node_rules::{Event, Reply};
+use std::alloc::Global;
+use std::marker::Model;
+use std::sync::ledger::{Book, Share};
+
+/// A node's book under its lock: its ledger's count is that of the shift's opening and the number of entries.
+#[derive(Drop)]
+pub(crate) struct Desk<S: FloorStore, L: Calls> {
+    pub(crate) alloc: Global,
+    pub(crate) book: NodeBook<S>,
+    pub(crate) before: u64,
+    pub(crate) calls: Book<L>,
+    pub(crate) places: Places,
+}
+
+impl<S: FloorStore, L: Calls> Model for Desk<S, L> {
+    ghost use Rattle.std.specs.Coded.{codes, coded_list, coded_ℕ};
+    ghost use Rattle.std.specs.FinMap.{code as map_code};
+    ghost use Rattle.std.specs.Ordering.{nat_cmp};
+    ghost use Rattle.std.specs.Cmp.Lexicographic.{slice_cmp};
+    ghost use Rattle.std.specs.Prelude.{◌≡◌, ◌+◌, ◌<◌, ◌^◌, length};
+    ghost use Rattle.node_seats.specs.Seats.{DeskView};
+
+    ghost Value = { DeskView S };
+
+    ghost coded = { Prim.hlevel (codes, map_code {R = slice_cmp nat_cmp} (coded_list coded_ℕ) coded_ℕ) };
+
+    ghost view = { λ desk. record { book = desk.book; before = desk.before } };
+
+    ghost invariant = { λ desk. (desk.calls.total ≡ desk.before + length desk.book.entries) × (desk.before + length desk.book.entries < 2 ^ 64) };
+}
+
+impl<S: FloorStore, L: Calls> Desk<S, L> {
+    /// One call by a seat. At `ShiftFull` and `NoMemory` nothing changes; else the book has one entry more, of this event and the seat's number, with the outcome that is told,
+    /// or that of `ReplyLost` is unknown.
+    pub(crate) fn call(
+        &mut self,
+        seat: &mut Seat<L>,
+        event: Event<()>,
+    ) -> Result<Reply<()>, BookFault>
+        ensures seat { Called seat.old event result seat.new }
+        ensures asks { IfOk result (AnswersAsk event) }
+        ensures refused { (result ≡ Err faults.ShiftFull) ⊎ (result ≡ Err faults.NoMemory) → self.new ≡ self.old }
+        ensures posted { (told : Told) → told_of result ≡ Some told → Posted (S.is_honest self.new.book.node.store) (S.may_find self.new.book.node.store)
+            (HaveRisen (S.failed self.old.book.node.store) (S.failed self.new.book.node.store)) self.old self.new seat.old.number event result }
+    {
+        let is_spent = self.before >= u64::MAX - self.book.entries().len() as u64;
+        match room_for(self.alloc, is_spent, &mut seat.made, event) {
+            Ok((event, listed)) => {
+                let place = self.places.draw();
+                let (answer, told) = post(self.alloc, &mut self.book, seat.number, place, event);
+                list(
+                    &mut self.calls,
+                    &mut seat.made,
+                    &mut seat.share,
+                    listed,
+                    told,
+                );
+                answer
+            }
+            Err(fault) => Err(fault),
+        }
+    }
+}
+
+/// Makes room for one call more, and a copy of its event for the list.
+fn room_for(
+    alloc: Global,
+    is_spent: bool,
+    made: &mut Vec<Made>,
+    event: Event<()>,
+) -> Result<(Event<()>, Event<()>), BookFault>
+    ensures copy { IfOk result (λ events. (events.0 ≡ event) × (events.1 ≡ event)) }
+    ensures room { IfOk result (λ _. vec_len made.new < vec_capacity made.new) }
+    ensures spent { IfOk result (λ _. is_spent ≡ false) }
+    ensures refused { IfErr result (λ fault. (fault ≡ faults.ShiftFull) ⊎ (fault ≡ faults.NoMemory)) }
+    ensures same { made.new.items ≡ made.old.items }
+{
+    if is_spent {
+        return Err(BookFault::ShiftFull);
+    }
+    if made.reserve(1).is_err() {
+        return Err(BookFault::NoMemory);
+    }
+    match copy_of_event(alloc, &event) {
+        Ok(listed) => Ok((event, listed)),
+        Err(_) => Err(BookFault::NoMemory),
+    }
+}
+
+/// Applies an event for a seat: what the caller is given, and what the seat lists of it.
+fn post<S: FloorStore>(
+    alloc: Global,
+    book: &mut NodeBook<S>,
+    seat: u8,
+    place: u64,
+    event: Event<()>,
+) -> (Result<Reply<()>, BookFault>, Option<Told>)
+    ensures told { result.1 ≡ told_of result.0 }
+    ensures asks { IfOk result.0 (AnswersAsk event) }
+    ensures refused { result.1 ≡ None → book.new ≡ book.old }
+    ensures posted { (told : Told) → result.1 ≡ Some told → (answer : _) × IsGiven answer result.0
+        × IsApplied (S.is_honest book.new.node.store) (S.may_find book.new.node.store)
+        (HaveRisen (S.failed book.old.node.store) (S.failed book.new.node.store)) book.old book.new seat place event answer }
+{
+    let answer = book.apply(seat, place, event);
+    given(alloc, answer)
+}
+
+/// What a caller is given of an answer, and what its seat lists of it: a copy of the reply. Where there is no memory for that, the reply is lost.
+fn given(
+    alloc: Global,
+    answer: Result<Reply<()>, BookFault>,
+) -> (Result<Reply<()>, BookFault>, Option<Told>)
+    ensures given { IsGiven answer result.0 }
+    ensures told { result.1 ≡ told_of result.0 }
+{
+    match answer {
+        Ok(reply) => given_reply(alloc, reply),
+        Err(BookFault::Step(fault)) => (Err(BookFault::Step(fault)), Some(Told::Known(Err(fault)))),
+        Err(BookFault::ReplyLost) => (Err(BookFault::ReplyLost), Some(Told::Unknown)),
+        Err(fault) => (Err(fault), None),
+    }
+}
+
+fn given_reply(alloc: Global, reply: Reply<()>) -> (Result<Reply<()>, BookFault>, Option<Told>)
+    ensures given { IsGiven (Ok reply) result.0 }
+    ensures told { result.1 ≡ told_of result.0 }
+{
+    match copy_of_reply(alloc, &reply) {
+        Ok(copy) => (Ok(reply), Some(Told::Known(Ok(copy)))),
+        Err(_) => (Err(BookFault::ReplyLost), Some(Told::Unknown)),
+    }
+}
+
+/// Lists a call where something is told of it, for which there is room, and counts it.
+fn list<L: Calls>(
+    calls: &mut Book<L>,
+    made: &mut Vec<Made>,
+    share: &mut Share<L>,
+    event: Event<()>,
+    told: Option<Told>,
+)
+    requires room { vec_len made.old < vec_capacity made.old }
+    requires part { 0 < share.old.parts }
+    ensures made { made.new.items ≡ listed made.old.items event told }
+    ensures calls { calls.new.total ≡ calls.old.total + counted told }
+    ensures parts { share.new.parts ≡ share.old.parts }
+    ensures amount { share.new.amount ≡ share.old.amount + counted told }
+{
+    if let Some(told) = told {
+        made.push_reserved(Made { event, told });
+        calls.add(share, 1);
+    }
+}

@@ -1,0 +1,141 @@
+//! A stream with a moment at which it ends.
+ghost use Rattle.std.specs.Io.{ReadsAtMost, WritesAtMost};
+
+use crate::waiter::Waiter;
+use mio::Interest;
+use mio::net::TcpStream;
+use std::io::{self, Error, ErrorKind, Read, Write};
+use std::time::{Clock, Duration, Instant};
+
+/// After how many waits that brought nothing a call is refused, as if its time were over.
+const MOST_WAITS: u32 = 1000;
+
+/// How often what is kept is written on at most: each octet, and each wait.
+const MOST_WRITES: u32 = 20_000;
+
+/// A stream that is read and written until a moment at most.
+#[derive(Drop)]
+pub struct Timed<'w, 's, C: Clock> {
+    clock: &'w C,
+    waiter: &'w mut Waiter,
+    stream: &'s mut TcpStream,
+    until: Instant,
+}
+
+impl<'w, 's, C: Clock> Timed<'w, 's, C> {
+    /// The stream, for so long from now on at most. What is written is kept and sent in large pieces, so `flush` has to follow the last one; what an earlier message
+    /// left is forgotten. An error comes where the system has no clock.
+    pub fn new(
+        clock: &'w C,
+        waiter: &'w mut Waiter,
+        stream: &'s mut TcpStream,
+        most: Duration,
+    ) -> io::Result<Timed<'w, 's, C>> {
+        let now = Instant::now(clock)?;
+        let until = now.checked_add(most).unwrap_or(now);
+        waiter.kept.clear();
+        // (where the system does not take it, a short piece may wait for the one before it to be acknowledged)
+        match stream.set_nodelay(true) {
+            Ok(()) | Err(_) => {}
+        }
+        Ok(Timed {
+            clock,
+            waiter,
+            stream,
+            until,
+        })
+    }
+
+    /// Waits until the stream may be ready, or refuses with `TimedOut` where its time is over.
+    fn wait(&mut self, interest: Interest) -> io::Result<()> {
+        let left = self
+            .until
+            .saturating_duration_since(Instant::now(self.clock)?);
+        if left.is_zero() {
+            return Err(Error::from(ErrorKind::TimedOut));
+        }
+        self.waiter.wait(self.stream, interest, left)
+    }
+}
+
+impl<C: Clock> Read for Timed<'_, '_, C> {
+    fn read(&mut self, buffer: &mut [u8]) -> io::Result<usize> {
+        for _ in 0..MOST_WAITS {
+            match self.stream.read(buffer) {
+                Err(error) if error.kind() == ErrorKind::WouldBlock => {
+                    self.wait(Interest::READABLE)?;
+                }
+                read => return read,
+            }
+        }
+        Err(Error::from(ErrorKind::TimedOut))
+    }
+}
+
+impl<C: Clock> Timed<'_, '_, C> {
+    /// Sends octets at once, as many as the system takes, which is some.
+    fn send(&mut self, octets: &[u8]) -> io::Result<usize>
+        ensures { WritesAtMost result octets.now }
+    {
+        for _ in 0..MOST_WAITS {
+            match self.stream.write(octets) {
+                Err(error) if error.kind() == ErrorKind::WouldBlock => {
+                    self.wait(Interest::WRITABLE)?;
+                }
+                written => return written,
+            }
+        }
+        Err(Error::from(ErrorKind::TimedOut))
+    }
+
+    /// Sends what is kept. After an error nothing of it is.
+    fn send_kept(&mut self) -> io::Result<()> {
+        let sent = self.send_all_kept();
+        self.waiter.kept.clear();
+        sent
+    }
+
+    /// Writes what is kept from this place on, as much as the system takes.
+    fn send_from(&mut self, sent: usize) -> io::Result<usize> {
+        match self.waiter.kept.as_slice().get(sent..) {
+            Some(rest) => self.stream.write(rest),
+            None => Ok(0),
+        }
+    }
+
+    fn send_all_kept(&mut self) -> io::Result<()> {
+        let mut sent = 0usize;
+        for _ in 0..MOST_WRITES {
+            if sent >= self.waiter.kept.len() {
+                return Ok(());
+            }
+            match self.send_from(sent) {
+                Ok(0) => return Err(Error::from(ErrorKind::WriteZero)),
+                Ok(count) => sent = sent.saturating_add(count),
+                Err(error) if error.kind() == ErrorKind::WouldBlock => {
+                    self.wait(Interest::WRITABLE)?;
+                }
+                Err(error) => return Err(error),
+            }
+        }
+        Err(Error::from(ErrorKind::TimedOut))
+    }
+}
+
+impl<C: Clock> Write for Timed<'_, '_, C> {
+    /// Keeps the octets until 16,384 are there or `flush` is called; a longer piece is sent at once, behind what is kept.
+    fn write(&mut self, octets: &[u8]) -> io::Result<usize> {
+        if !self.waiter.has_room(octets.len()) {
+            self.send_kept()?;
+        }
+        if !self.waiter.has_room(octets.len()) {
+            return self.send(octets);
+        }
+        self.waiter.kept.extend_from_slice(octets)?;
+        Ok(octets.len())
+    }
+
+    fn flush(&mut self) -> io::Result<()> {
+        self.send_kept()
+    }
+}

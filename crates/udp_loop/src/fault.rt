@@ -1,0 +1,51 @@
+ghost use Rattle.std.specs.Prelude.{◌≡◌};
+ghost use Rattle.udp_loop.specs.Names.{loop_fault_name};
+
+use std::alloc::AllocError;
+use std::io;
+use thiserror::Error;
+
+/// Why a call on a node's sockets is refused.
+#[derive(Clone, Copy, Debug, PartialEq, Eq, Error)]
+pub enum LoopFault {
+    /// The system refused to open a socket, to wait, to read, to accept or to send.
+    #[error("a socket could not be used")]
+    Io,
+    /// A growth was refused.
+    #[error("there was no memory")]
+    NoMemory,
+}
+
+impl LoopFault {
+    /// The name that scripts print.
+    pub const fn name(self) -> &'static str
+        ensures { result.now ≡ loop_fault_name self }
+    {
+        match self {
+            LoopFault::Io => "Io",
+            LoopFault::NoMemory => "NoMemory",
+        }
+    }
+}
+
+impl From<AllocError> for LoopFault {
+    ghost use Rattle.std.specs.Prelude.{◌≡◌};
+    ghost use Rattle.udp_loop.specs.declared.fault.LoopFault.TheVariants.{NoMemory};
+
+    ghost from_gives = { λ _ fault. fault ≡ NoMemory };
+
+    fn from(_: AllocError) -> LoopFault {
+        LoopFault::NoMemory
+    }
+}
+
+impl From<io::Error> for LoopFault {
+    ghost use Rattle.std.specs.Prelude.{◌≡◌};
+    ghost use Rattle.udp_loop.specs.declared.fault.LoopFault.TheVariants.{Io};
+
+    ghost from_gives = { λ _ fault. fault ≡ Io };
+
+    fn from(_: io::Error) -> LoopFault {
+        LoopFault::Io
+    }
+}

@@ -1,0 +1,31 @@
+//! How a job goes into the queue.
+ghost use Rattle.std.specs.Prelude.{IfSome};
+ghost use Rattle.job_queue.specs.Order.{sight_of};
+ghost use Rattle.udp_loop.specs.Turns.{HasCome, HasPut};
+
+use job_queue::{Job, Jobs, Pass, QueueName};
+use std::sync::Wait;
+
+/// Puts a job that came over a socket, if there is one, or drops it where the queue is full: a stream is closed by that.
+pub(crate) fn put<Q: QueueName, R: Wait>(
+    rt: &R,
+    jobs: &Jobs<Q>,
+    pass: Pass<Q>,
+    job: Option<Job>,
+) -> Pass<Q>
+    requires { IfSome job (λ job. HasCome (sight_of job)) }
+    ensures { HasPut pass result }
+{
+    match job {
+        Some(job) => put_one(rt, jobs, pass, job),
+        None => pass,
+    }
+}
+
+fn put_one<Q: QueueName, R: Wait>(rt: &R, jobs: &Jobs<Q>, pass: Pass<Q>, job: Job) -> Pass<Q>
+    requires { HasCome (sight_of job) }
+    ensures { HasPut pass result }
+{
+    let (pass, _) = jobs.put(rt, pass, job);
+    pass
+}

@@ -1,0 +1,87 @@
+//! A node's UDP sockets.
+use crate::fault::LoopFault;
+use mio::net::UdpSocket;
+use mio::{Interest, Registry, Token};
+use roster_tables::{Address, Cache, Udp};
+use std::alloc::{AllocError, Global};
+use std::io;
+use std::net::{Ipv4Addr, Net, SocketAddr};
+use std::sync::Arc;
+
+/// An address as the system takes it.
+pub(crate) fn socket_address(address: Address) -> SocketAddr {
+    SocketAddr::from((Ipv4Addr::from(address.ip), address.port))
+}
+
+/// Where a datagram came from. A sender that is not reached by IPv4, which a socket of IPv4 has none of, is told as 0.0.0.0.
+pub(crate) fn address_of(from: SocketAddr) -> Address {
+    match from {
+        SocketAddr::V4(from) => Address {
+            ip: u32::from(*from.ip()),
+            port: from.port(),
+        },
+        SocketAddr::V6(from) => Address {
+            ip: 0,
+            port: from.port(),
+        },
+    }
+}
+
+/// The two UDP sockets of a node.
+#[derive(Drop)]
+pub(crate) struct Sockets {
+    icp: UdpSocket,
+    htcp: UdpSocket,
+}
+
+impl Sockets {
+    /// The sockets at a cache's addresses, registered under these tokens.
+    pub(crate) fn open<N: Net>(
+        net: &N,
+        registry: &Registry,
+        cache: &Cache,
+        tokens: (Token, Token),
+    ) -> io::Result<Sockets> {
+        let mut icp = UdpSocket::bind(net, socket_address(cache.icp))?;
+        let mut htcp = UdpSocket::bind(net, socket_address(cache.htcp))?;
+        registry.register(&mut icp, tokens.0, Interest::READABLE)?;
+        registry.register(&mut htcp, tokens.1, Interest::READABLE)?;
+        Ok(Sockets { icp, htcp })
+    }
+
+    /// The socket of a protocol.
+    pub(crate) fn by(&self, udp: Udp) -> &UdpSocket {
+        match udp {
+            Udp::Icp => &self.icp,
+            Udp::Htcp => &self.htcp,
+        }
+    }
+}
+
+/// Sends datagrams on the sockets of a loop, from any thread.
+#[derive(Drop)]
+pub struct Senders {
+    sockets: Arc<Sockets, Global>,
+}
+
+impl Senders {
+    pub(crate) fn of(sockets: Arc<Sockets, Global>) -> Senders {
+        Senders { sockets }
+    }
+
+    /// The same senders for another thread. `AllocError` comes where there is no room to count one more.
+    pub fn try_clone(&self) -> Result<Senders, AllocError> {
+        Ok(Senders::of(Arc::try_clone(&self.sockets)?))
+    }
+
+    /// Sends a datagram by a protocol, without waiting. `Io` comes where the system does not take it whole; it is then lost, as a datagram may
+    /// be on its way.
+    pub fn send(&self, udp: Udp, to: Address, octets: &[u8]) -> Result<(), LoopFault> {
+        let count = self.sockets.by(udp).send_to(octets, socket_address(to))?;
+        if count == octets.len() {
+            Ok(())
+        } else {
+            Err(LoopFault::Io)
+        }
+    }
+}
