@@ -86,7 +86,7 @@ plain_visible b h = (and_parts _ _ h).0
 plain_no_hash : (b : ℕ) → is_plain b ≡ true → not (b == 35) ≡ true
 plain_no_hash b h = (and_parts _ _ h).1
 
-early_from : (text : List ℕ) → length text ≤ 1024 → list_all is_plain text ≡ true → early_fault text ≡ None
+pub early_from : (text : List ℕ) → length text ≤ 1024 → list_all is_plain text ≡ true → early_fault text ≡ None
 early_from text short plain =
     rw (
       le-ltb 1024 (length text) short,
@@ -102,7 +102,7 @@ absolute text (Some s) (Some authority) kept e form =
     let same : s ≡ codes "http" = cc in
     (authority, refl, subst (λ s. IsAbsoluteForm text s authority kept) same form)
 
-key_of_host-some : (host : List ℕ) (port : ℕ) (path : List ℕ) (query : Option (List ℕ)) → 0 < length host → key_of_host host (Some port) path query ≡ key_within (canonical_text host port path query)
+pub key_of_host-some : (host : List ℕ) (port : ℕ) (path : List ℕ) (query : Option (List ℕ)) → 0 < length host → key_of_host host (Some port) path query ≡ key_within (canonical_text host port path query)
 key_of_host-some [] port path query some = absurd (omega arith)
 key_of_host-some (b ∷ host) port path query some = refl
 

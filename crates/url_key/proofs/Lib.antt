@@ -4,3 +4,5 @@ pub mod KeyLemmas
 pub mod HostLemmas
 pub mod PlainLemmas
 pub mod PathLemmas
+pub mod FourLemmas
+pub mod PlainKeyLemmas

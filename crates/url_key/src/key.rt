@@ -10,6 +10,7 @@ ghost use Rattle.url_key.specs.Key.{HasKey, HasUriKey, IsKey, KeepsParts, is_htt
 ghost use Rattle.url_key.specs.Text.{key_authority, key_host, key_path, key_port};
 
 use crate::KeyFault;
+use crate::plain::is_plain_key;
 use crate::text::{
     HTTP_PORT, after_host, all_visible, authority_of, canonical_text, has, host_of, path_of,
     port_of,
@@ -50,10 +51,7 @@ impl Key {
         ensures parts { IfOk result (λ key. KeepsParts text.now key) }
         ensures err { IfErr result (λ fault. UnlessNoMemory fault (HasKey text.now (Err fault))) }
     {
-        if let Some(fault) = early_fault(text) {
-            return Err(fault);
-        }
-        match key_of_text(alloc, text) {
+        match text_of_key(alloc, text) {
             Ok(text) => Ok(Key { text }),
             Err(fault) => Err(fault),
         }
@@ -102,6 +100,21 @@ impl Key {
     {
         let text = Vec::from_slice(alloc, &self.text)?;
         Ok(Key { text })
+    }
+}
+
+/// The text of the key of any text, or the first reason why it has none.
+fn text_of_key(alloc: Global, text: &[u8]) -> Result<Vec<u8>, KeyFault>
+    ensures { MatchResult result (λ key. HasKey text.now (Ok key.items))
+        (λ fault. UnlessNoMemory fault (HasKey text.now (Err fault))) }
+{
+    if is_plain_key(text) {
+        let key = Vec::from_slice(alloc, text)?;
+        return Ok(key);
+    }
+    match early_fault(text) {
+        Some(fault) => Err(fault),
+        None => key_of_text(alloc, text),
     }
 }
 

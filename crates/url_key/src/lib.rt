@@ -7,6 +7,7 @@
 
 mod fault;
 mod key;
+mod plain;
 mod text;
 
 pub use fault::KeyFault;

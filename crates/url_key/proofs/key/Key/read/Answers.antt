@@ -1,14 +1,10 @@
-use Rattle.std.proofs.Common.{Ok, sym, ◌∙◌, subst}
-use Rattle.url_key.specs.Key.{HasKeyBy}
 use Rattle.url_key.proofs.KeyLemmas.{IsMade, made}
 use Rattle.url_key.proofs.key.Key.read.Goals as goal
 use Rattle.url_key.proofs.key.Key.read.Goals.{In-Ok}
 
--- what is read passed the early tests, and has the key that was found
+-- what is read is made of the text
 is_made : (c : In-Ok) → IsMade c.args.text.now c.in-Ok.text.items
-is_made c =
-    made c.args.text.now c.in-Ok.text.items
-    (subst (λ early. HasKeyBy early c.args.text.now (Ok c.in-Ok.text.items)) (sym c.in_default.is ∙ c.early_fault.ensures) c.in-Ok.ensures)
+is_made c = made c.args.text.now c.in-Ok.text.items c.in-Ok.ensures
 
 pub invariant_of-result : goal.invariant_of-result
 invariant_of-result c = (is_made (goal.at.invariant_of-result c).In-Ok).is_key
