@@ -1,0 +1,16 @@
+-- The names of faults.
+use Rattle.std.specs.Prelude.{◌≡◌, ℕ, List, codes}
+use Rattle.master_loop.specs.declared.fault.MasterStartFault.{MasterStartFault}
+use Rattle.master_loop.specs.declared.fault.MasterStartFault.TheVariants.{Port, Io, NoMemory}
+
+-- a port that is not had is a refusal of the system
+abbrev pub start_fault_name : MasterStartFault → List ℕ
+start_fault_name (Port port) = codes "Io"
+start_fault_name Io = codes "Io"
+start_fault_name NoMemory = codes "NoMemory"
+
+-- where a port is named, it is this one
+abbrev pub IsAtPort : ℕ → MasterStartFault → Type 0
+IsAtPort port (Port named) = named ≡ port
+IsAtPort port Io = Unit {0}
+IsAtPort port NoMemory = Unit {0}

@@ -1,0 +1,213 @@
+//! The loop at the master's socket.
+ghost use Rattle.std.specs.Prelude.{IfErr};
+ghost use Rattle.master_loop.specs.Names.{IsAtPort};
+
+use crate::fault::MasterStartFault;
+use crate::sending::{MasterSender, socket_address};
+use crate::shared::SharedMaster;
+use mio::net::UdpSocket;
+use mio::{Events, Interest, Poll, Token};
+use node_bytes::master_call_of;
+use purge_rules::PurgeStore;
+use roster::{Address, Roster};
+use std::alloc::{AllocError, Global};
+use std::io::{self, ErrorKind};
+use std::net::{Net, SocketAddr};
+use std::sync::atomic::{AtomicBool, Ordering};
+use std::sync::{Arc, Wait};
+use std::time::{Clock, Duration, Instant};
+
+const SOCKET: Token = Token(0);
+
+/// How many events are told at once.
+const MOST_EVENTS: usize = 16;
+
+/// The longest datagram that is read: none of IPv4 is longer.
+const LONGEST: usize = 65_536;
+
+/// How many datagrams a turn reads at most, so that what is due has its turn.
+const MOST_AT_ONCE: usize = 256;
+
+/// For how many milliseconds a turn waits at most.
+const WAIT: u64 = 100;
+
+/// How many seconds lie between one sending of what is due and the next.
+const PAUSE: u64 = 1;
+
+/// Where a datagram came from. A sender that is not reached by IPv4, which a socket of IPv4 has none of, is told as 0.0.0.0.
+fn address_of(from: SocketAddr) -> Address {
+    match from {
+        SocketAddr::V4(from) => Address {
+            ip: u32::from(*from.ip()),
+            port: from.port(),
+        },
+        SocketAddr::V6(from) => Address {
+            ip: 0,
+            port: from.port(),
+        },
+    }
+}
+
+/// The socket at the master's address.
+fn bound<N: Net>(net: &N, address: Address) -> Result<UdpSocket, MasterStartFault>
+    ensures { IfErr result (IsAtPort address.port) }
+{
+    match UdpSocket::bind(net, socket_address(address)) {
+        Ok(socket) => Ok(socket),
+        Err(error) => match error.kind() {
+            ErrorKind::AddrInUse | ErrorKind::AddrNotAvailable => {
+                Err(MasterStartFault::Port(address.port))
+            }
+            _ => Err(MasterStartFault::Io),
+        },
+    }
+}
+
+/// Reads the master's socket, and sends what is due. One thread has it.
+#[derive(Drop)]
+pub struct MasterLoop {
+    alloc: Global,
+    poll: Poll,
+    events: Events,
+    sender: MasterSender,
+    buffer: Vec<u8>,
+    is_ready: bool,
+    sent: Instant,
+}
+
+impl MasterLoop {
+    /// Opens the master's UDP socket, at the roster's address.
+    ///
+    /// Faults: `Port` with the roster's port where it is in use, or the address is not this machine's; `Io` where the system refuses in another way; `NoMemory`. Nothing is open then.
+    pub fn open<N: Net + Clock>(
+        rt: &N,
+        alloc: Global,
+        roster: &Roster,
+    ) -> Result<MasterLoop, MasterStartFault>
+        ensures { IfErr result (IsAtPort roster.now.master.port) }
+    {
+        let mut socket = bound(rt, roster.master())?;
+        let poll = Poll::new(rt)?;
+        poll.registry()
+            .register(&mut socket, SOCKET, Interest::READABLE)?;
+        let socket = match Arc::new(alloc, socket) {
+            Ok(socket) => socket,
+            Err(_) => return Err(MasterStartFault::NoMemory),
+        };
+        Ok(MasterLoop {
+            alloc,
+            poll,
+            events: Events::with_capacity(alloc, MOST_EVENTS)?,
+            sender: MasterSender::of(alloc, socket),
+            buffer: vec![in alloc; 0; LONGEST]?,
+            is_ready: true,
+            sent: Instant::now(rt)?,
+        })
+    }
+
+    /// What issues purges on this socket, for another thread. `AllocError` comes where there is no room to count one more.
+    pub fn sender(&self) -> Result<MasterSender, AllocError> {
+        self.sender.try_clone()
+    }
+
+    /// Waits until something is ready, for 100 milliseconds at most.
+    fn wait_for_datagrams(&mut self) -> io::Result<()> {
+        let most = if self.is_ready {
+            Duration::ZERO
+        } else {
+            Duration::from_millis(WAIT)
+        };
+        self.poll.poll(&mut self.events, Some(most))?;
+        self.is_ready = self.is_ready || !self.events.is_empty();
+        Ok(())
+    }
+
+    /// Makes the calls of the datagrams that are there, of 256 at most.
+    fn take_datagrams<S: PurgeStore, R: Wait>(
+        &mut self,
+        rt: &R,
+        roster: &Roster,
+        master: &SharedMaster<S>,
+    ) -> io::Result<()> {
+        if !self.is_ready {
+            return Ok(());
+        }
+        for _ in 0..MOST_AT_ONCE {
+            match self.sender.socket().recv_from(self.buffer.as_mut_slice()) {
+                Ok((length, from)) => {
+                    let octets = &self.buffer.as_slice()[..length];
+                    take_in(rt, self.alloc, roster, master, address_of(from), octets);
+                }
+                Err(error) if error.kind() == ErrorKind::WouldBlock => {
+                    self.is_ready = false;
+                    return Ok(());
+                }
+                Err(error) => return Err(error),
+            }
+        }
+        Ok(())
+    }
+
+    /// Sends what is due, if the last time was a second ago.
+    fn send_each_second<S: PurgeStore, R: Wait + Clock>(
+        &mut self,
+        rt: &R,
+        roster: &Roster,
+        master: &SharedMaster<S>,
+    ) -> io::Result<()> {
+        let now = Instant::now(rt)?;
+        if now.saturating_duration_since(self.sent).as_secs() >= PAUSE {
+            self.sent = now;
+            self.sender.send_due(rt, roster, master);
+        }
+        Ok(())
+    }
+
+    /// Waits until something is ready, for 100 milliseconds at most; makes the calls of the datagrams that are there, of 256 at most, the rest with the next turn; and
+    /// sends what is due, if the last time was a second ago or more: the CLR of each pending purge to each member that has not acknowledged it.
+    ///
+    /// The system's refusal of a wait, a read or the clock is the error; what can be done without is done all the same, and a later turn goes on. Where there is no memory for
+    /// a call, it is lost, as the datagram may be; a member answers again when it is told again.
+    pub fn turn<S: PurgeStore, R: Wait + Clock>(
+        &mut self,
+        rt: &R,
+        roster: &Roster,
+        master: &SharedMaster<S>,
+    ) -> io::Result<()> {
+        let waited = self.wait_for_datagrams();
+        let taken = self.take_datagrams(rt, roster, master);
+        let sent = self.send_each_second(rt, roster, master);
+        waited.and(taken).and(sent)
+    }
+
+    /// Has its turns until it is told to stop, which it sees within 100 milliseconds; or until one is refused, with that error.
+    pub fn run_until<S: PurgeStore, R: Wait + Clock>(
+        &mut self,
+        rt: &R,
+        roster: &Roster,
+        master: &SharedMaster<S>,
+        stop: &AtomicBool,
+    ) -> io::Result<()> {
+        for _ in rt.forever() {
+            if stop.load(Ordering::SeqCst) {
+                return Ok(());
+            }
+            self.turn(rt, roster, master)?;
+        }
+        unreachable!()
+    }
+}
+
+/// Makes the call of a datagram, if it is one. What the master answers is for its book.
+fn take_in<S: PurgeStore, R: Wait>(
+    rt: &R,
+    alloc: Global,
+    roster: &Roster,
+    master: &SharedMaster<S>,
+    from: Address,
+    octets: &[u8],
+) {
+    if let Ok(Some(call)) = master_call_of(alloc, roster, from, octets) {
+        let _ = master.call(rt, call);
+    }
+}

@@ -1,0 +1,298 @@
+//! The members of a roster, on sockets of their own, and the master's loop.
+use crate::starts::{roster_at, shared};
+use master_loop::{History, MasterLoop, MasterSender, MasterStartFault, SharedMaster};
+use mio::net::UdpSocket;
+use purge_rules::{MasterAnswer, MasterCall, MasterFault, MemoryPurges, Status};
+use roster::Roster;
+use std::alloc::Global;
+use std::io::ErrorKind;
+use std::net::{Ipv4Addr, Net, SocketAddr};
+use std::sync::Wait;
+use std::sync::atomic::{AtomicBool, Ordering};
+use std::test::Fail;
+use std::thread::{self, Threads};
+use std::time::{Clock, Duration, Instant};
+use url_key::Key;
+
+/// The CLR of purge 1 of `http://o/a` (RFC 2756, "CLR"): TRANS-ID 1, RD set, reason 0, and the header line `X-Purge-Number: 1`.
+const CLEAR: &str = "00400000003a4002000000010000000347455\
+4000a687474703a2f2f6f2f610008485454502f312e310013582d50757267652d4e756d6265723a20310d0a0002";
+
+/// The response to it with code 0: it was held, and is gone.
+const GONE: &[u8] = b"\x00\x0e\x00\x00\x00\x08\x40\x01\x00\x00\x00\x01\x00\x02";
+
+/// The address of a port of this machine.
+fn socket_at(port: u16) -> SocketAddr {
+    SocketAddr::from((Ipv4Addr::LOCALHOST, port))
+}
+
+/// The sockets of two members and of a stranger.
+#[derive(Drop)]
+struct Members {
+    first: UdpSocket,
+    second: UdpSocket,
+    stranger: UdpSocket,
+}
+
+/// A master, its loop, and those that it tells.
+#[derive(Drop)]
+struct Held {
+    alloc: Global,
+    roster: Roster,
+    master: SharedMaster<MemoryPurges>,
+    turner: MasterLoop,
+    sender: MasterSender,
+    members: Members,
+    port: u16,
+}
+
+/// The next datagram that has come, in hex; nothing where none has.
+fn received(alloc: Global, socket: &UdpSocket) -> Result<String, Fail> {
+    let mut buffer = [0; 256];
+    match socket.recv_from(&mut buffer) {
+        Ok((length, _)) => Ok(hex::encode(alloc, &buffer[..length])?),
+        Err(error) if error.kind() == ErrorKind::WouldBlock => Ok(String::new(alloc)),
+        Err(error) => Err(error.into()),
+    }
+}
+
+fn members_at<N: Net>(net: &N, port: u16) -> Result<Members, Fail> {
+    Ok(Members {
+        first: UdpSocket::bind(net, socket_at(u16::saturating_add(port, 1)))?,
+        second: UdpSocket::bind(net, socket_at(u16::saturating_add(port, 2)))?,
+        stranger: UdpSocket::bind(net, socket_at(u16::saturating_add(port, 3)))?,
+    })
+}
+
+fn opened<R: Net + Clock>(
+    rt: &R,
+    alloc: Global,
+    roster: &Roster,
+) -> Result<(MasterLoop, MasterSender), Fail> {
+    let turner = MasterLoop::open(rt, alloc, roster)?;
+    let sender = turner.sender()?;
+    Ok((turner, sender))
+}
+
+fn held_at<R: Net + Clock>(rt: &R, alloc: Global, port: u16) -> Result<Held, Fail> {
+    let roster = roster_at(alloc, port)?;
+    let members = members_at(rt, port)?;
+    let master = shared(alloc, &roster, History::Dropped)?;
+    let (turner, sender) = opened(rt, alloc, &roster)?;
+    Ok(Held {
+        alloc,
+        roster,
+        master,
+        turner,
+        sender,
+        members,
+        port,
+    })
+}
+
+impl Held {
+    /// Issues the purge of `http://o/a`.
+    fn issue<R: Wait>(&self, rt: &R, key: Key) -> Result<u32, MasterFault> {
+        self.sender.issue(rt, &self.roster, &self.master, key)
+    }
+
+    /// What has come to the two members.
+    fn come(&self) -> Result<(String, String), Fail> {
+        let first = received(self.alloc, &self.members.first)?;
+        let second = received(self.alloc, &self.members.second)?;
+        Ok((first, second))
+    }
+
+    /// Sends the response to the master from a socket, and has some turns.
+    fn answer<R: Wait + Clock>(&mut self, rt: &R, from: Who) -> Result<(), Fail> {
+        let socket = match from {
+            Who::First => &self.members.first,
+            Who::Second => &self.members.second,
+            Who::Stranger => &self.members.stranger,
+        };
+        socket.send_to(GONE, socket_at(self.port))?;
+        for _ in 0..2 {
+            self.turner.turn(rt, &self.roster, &self.master)?;
+        }
+        Ok(())
+    }
+}
+
+/// Who sends to the master.
+#[derive(Clone, Copy)]
+enum Who {
+    First,
+    Second,
+    Stranger,
+}
+
+fn key(alloc: Global) -> Result<Key, Fail> {
+    Ok(Key::read(alloc, b"http://o/a")?)
+}
+
+/// How far purge 1 is.
+fn status<R: Wait>(rt: &R, master: &SharedMaster<MemoryPurges>) -> Status {
+    match master.call(rt, MasterCall::Status(1)) {
+        Ok(MasterAnswer::Status(status)) => status,
+        _ => Status::Unknown,
+    }
+}
+
+/// What comes to the members of a purge that is issued: a CLR each, and no more.
+fn told<R: Net + Wait + Clock>(
+    rt: &R,
+    alloc: Global,
+    port: u16,
+) -> Result<[(String, String); 2], Fail> {
+    let key = key(alloc)?;
+    let held = held_at(rt, alloc, port)?;
+    let _number = held.issue(rt, key)?;
+    Ok([held.come()?, held.come()?])
+}
+
+#[test]
+fn an_issue_tells_each_member_once(rt: HostRuntime) -> Result<(), Fail> {
+    let [(first, second), more] = told(&rt, rt.alloc(), 21410)?;
+    assert_eq!(rt; first.as_str(), CLEAR);
+    assert_eq!(rt; second.as_str(), CLEAR);
+    assert!(rt; more.0.is_empty() && more.1.is_empty());
+    Ok(())
+}
+
+/// How far a purge is after responses of these.
+fn after<const N: usize, R: Net + Wait + Clock>(
+    rt: &R,
+    alloc: Global,
+    port: u16,
+    from: [Who; N],
+) -> Result<Status, Fail> {
+    let key = key(alloc)?;
+    let mut held = held_at(rt, alloc, port)?;
+    let _number = held.issue(rt, key)?;
+    for who in from.as_slice() {
+        held.answer(rt, *who)?;
+    }
+    Ok(status(rt, &held.master))
+}
+
+#[test]
+fn responses_of_members_count(rt: HostRuntime) -> Result<(), Fail> {
+    let alloc = rt.alloc();
+    let both = after(&rt, alloc, 21420, [Who::First, Who::Second])?;
+    assert!(rt; both == Status::Done);
+    let others = after(
+        &rt,
+        alloc,
+        21430,
+        [Who::Stranger, Who::Second, Who::Stranger],
+    )?;
+    assert!(rt; others == Status::Pending(1));
+    Ok(())
+}
+
+/// What comes to the members within a second and a half after the first has answered.
+fn again<R: Net + Wait + Clock>(
+    rt: &R,
+    alloc: Global,
+    port: u16,
+) -> Result<(String, String), Fail> {
+    let key = key(alloc)?;
+    let mut held = held_at(rt, alloc, port)?;
+    let _number = held.issue(rt, key)?;
+    let _come = held.come()?;
+    held.answer(rt, Who::First)?;
+    let begun = Instant::now(rt)?;
+    for _ in 0..1000 {
+        if begun.elapsed(rt)? >= Duration::from_millis(1500) {
+            break;
+        }
+        held.turner.turn(rt, &held.roster, &held.master)?;
+    }
+    held.come()
+}
+
+#[test]
+fn what_is_due_is_sent_again(rt: HostRuntime) -> Result<(), Fail> {
+    let (first, second) = again(&rt, rt.alloc(), 21440)?;
+    assert!(rt; first.is_empty());
+    assert_eq!(rt; second.as_str(), CLEAR);
+    Ok(())
+}
+
+/// Issues a purge; both members answer, and the purge is done within ten seconds. Then the loop is told to stop.
+fn commanded<R: Wait + Clock>(
+    rt: &R,
+    roster: &Roster,
+    master: &SharedMaster<MemoryPurges>,
+    sender: &MasterSender,
+    members: &Members,
+    port: u16,
+    key: Key,
+    stop: &AtomicBool,
+) -> bool {
+    let issued = sender.issue(rt, roster, master, key).is_ok();
+    let _ = members.first.send_to(GONE, socket_at(port));
+    let _ = members.second.send_to(GONE, socket_at(port));
+    let mut done = false;
+    for _ in 0..1000 {
+        done = done || status(rt, master) == Status::Done;
+        if done {
+            break;
+        }
+        thread::sleep(rt, Duration::from_millis(10));
+    }
+    stop.store(true, Ordering::SeqCst);
+    issued && done
+}
+
+/// Whether a thread turns the loop until it is told to stop, and a purge is done by then.
+fn turned<R: Threads + Net + Wait + Clock + Sync>(
+    rt: &R,
+    alloc: Global,
+    port: u16,
+) -> Result<bool, Fail> {
+    let key = key(alloc)?;
+    let Held {
+        roster,
+        master,
+        mut turner,
+        sender,
+        members,
+        ..
+    } = held_at(rt, alloc, port)?;
+    let stop = AtomicBool::new(false);
+    let (roster, master, stop) = (&roster, &master, &stop);
+    let (ended, done) = thread::join(
+        rt,
+        move || turner.run_until(rt, roster, master, stop).is_ok(),
+        move || commanded(rt, roster, master, &sender, &members, port, key, stop),
+    );
+    Ok(ended && done)
+}
+
+#[test]
+fn a_thread_turns_until_it_is_told(rt: HostRuntime) -> Result<(), Fail> {
+    assert!(rt; turned(&rt, rt.alloc(), 21450)?);
+    Ok(())
+}
+
+/// Why the socket at the same port is not opened once more.
+fn refused_twice<R: Net + Clock>(
+    rt: &R,
+    alloc: Global,
+    port: u16,
+) -> Result<Option<MasterStartFault>, Fail> {
+    let roster = roster_at(alloc, port)?;
+    let _opened = MasterLoop::open(rt, alloc, &roster)?;
+    Ok(MasterLoop::open(rt, alloc, &roster).err())
+}
+
+#[test]
+fn a_port_in_use_is_named(rt: HostRuntime) -> Result<(), Fail> {
+    let fault = refused_twice(&rt, rt.alloc(), 21460)?;
+    assert!(rt; fault == Some(MasterStartFault::Port(21460)));
+    assert_eq!(rt; MasterStartFault::Port(21460).name(), "Io");
+    let sentence = format!(in rt.alloc(); "{}", MasterStartFault::Port(21460))?;
+    assert!(rt; sentence.as_str().contains("port 21460"));
+    Ok(())
+}

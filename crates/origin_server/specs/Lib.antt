@@ -1,0 +1,4 @@
+pub mod Answer
+pub mod Statuses
+pub mod Serving
+pub mod Names

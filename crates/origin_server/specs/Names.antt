@@ -1,0 +1,10 @@
+-- The names of faults.
+use Rattle.std.specs.Prelude.{ℕ, List, codes}
+use Rattle.origin_server.specs.declared.fault.OriginFault.{OriginFault}
+use Rattle.origin_server.specs.declared.fault.OriginFault.TheVariants.{Port, Io, NoMemory}
+
+-- a fault's name, as scripts print it: a port that the system refuses is one of its refusals
+abbrev pub origin_fault_name : OriginFault → List ℕ
+origin_fault_name (Port port) = codes "Io"
+origin_fault_name Io = codes "Io"
+origin_fault_name NoMemory = codes "NoMemory"

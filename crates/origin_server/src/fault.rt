@@ -1,0 +1,52 @@
+ghost use Rattle.std.specs.Prelude.{◌≡◌};
+ghost use Rattle.origin_server.specs.Names.{origin_fault_name};
+
+use std::alloc::AllocError;
+use std::io;
+use thiserror::Error;
+
+/// Why an origin does not go on.
+#[derive(Clone, Copy, Debug, PartialEq, Eq, Error)]
+pub enum OriginFault {
+    /// This port is in use, or its address is not this machine's.
+    #[error("port {0} is in use, or its address is not this machine's")]
+    Port(u16),
+    /// The system refused to wait, to accept, to give a second handle of a stream, or to tell the time.
+    #[error("a socket or the clock could not be used")]
+    Io,
+    /// A growth was refused.
+    #[error("there was no memory")]
+    NoMemory,
+}
+
+impl OriginFault {
+    /// The name that scripts print: `Io` of a port too.
+    pub const fn name(self) -> &'static str
+        ensures { result.now ≡ origin_fault_name self }
+    {
+        match self {
+            OriginFault::Port(_) | OriginFault::Io => "Io",
+            OriginFault::NoMemory => "NoMemory",
+        }
+    }
+}
+
+impl From<AllocError> for OriginFault {
+    ghost use Rattle.std.specs.Prelude.{◌≡◌};
+    ghost use Rattle.origin_server.specs.declared.fault.OriginFault.TheVariants.{NoMemory};
+
+    ghost from_gives = { λ _ fault. fault ≡ NoMemory };
+
+    fn from(_: AllocError) -> OriginFault {
+        OriginFault::NoMemory
+    }
+}
+
+impl From<io::Error> for OriginFault {
+    fn from(error: io::Error) -> OriginFault {
+        match error.kind() {
+            io::ErrorKind::OutOfMemory => OriginFault::NoMemory,
+            _ => OriginFault::Io,
+        }
+    }
+}

@@ -1,0 +1,111 @@
+//! The origin at its port.
+use crate::fault::OriginFault;
+use crate::serving::serve_next;
+use roster_tables::Address;
+use std::alloc::Global;
+use std::io::{self, ErrorKind, Read, Write};
+use std::net::{Ipv4Addr, Net, SocketAddr, TcpListener, TcpStream};
+use std::time::{Clock, Duration};
+use timed_streams::{Timed, Waiter};
+
+/// For how many seconds a client may take to ask and to be answered.
+const PATIENCE: u64 = 5;
+
+/// What the origin waits on for a client: for what it reads, and for what it writes.
+#[derive(Drop)]
+struct Waiters {
+    reading: Waiter,
+    writing: Waiter,
+}
+
+/// Answers so many asks at this address, one after another, and ends. An ask that is not read is refused and not counted, and neither is one whose answer could
+/// not be sent; a client has five seconds to ask and to be answered, and is closed then.
+///
+/// Faults: `Port` where the address is in use or not this machine's; `Io` where the system refuses in another way (a client that left before it was accepted is
+/// passed over); `NoMemory` where there is none to begin with, while an ask that finds none is refused. Nothing is open then, and of the asks so far each is answered or refused.
+pub fn run_origin<R: Net + Clock>(
+    rt: &R,
+    alloc: Global,
+    at: Address,
+    count: u32,
+) -> Result<(), OriginFault> {
+    let listener = listen(rt, at)?;
+    let mut waiters = Waiters {
+        reading: Waiter::new(rt, alloc)?,
+        writing: Waiter::new(rt, alloc)?,
+    };
+    for number in 1..=count {
+        answer_one(rt, alloc, &listener, &mut waiters, number)?;
+    }
+    Ok(())
+}
+
+/// A listener at this address, which waits for clients.
+fn listen<N: Net>(net: &N, at: Address) -> Result<TcpListener, OriginFault> {
+    let address = SocketAddr::from((Ipv4Addr::from(at.ip), at.port));
+    let Ok(listener) = mio::net::TcpListener::bind(net, address) else {
+        return Err(OriginFault::Port(at.port));
+    };
+    let listener = TcpListener::from(listener);
+    listener.set_nonblocking(false)?;
+    Ok(listener)
+}
+
+/// Serves clients until one of them is answered, as the one of this number.
+fn answer_one<C: Clock>(
+    clock: &C,
+    alloc: Global,
+    listener: &TcpListener,
+    waiters: &mut Waiters,
+    number: u32,
+) -> Result<(), OriginFault> {
+    for client in listener.incoming() {
+        match client {
+            Ok(stream) => {
+                if serve(clock, alloc, waiters, stream, number)? {
+                    return Ok(());
+                }
+            }
+            Err(error) if error.kind() == ErrorKind::ConnectionAborted => {}
+            Err(_) => return Err(OriginFault::Io),
+        }
+    }
+    Err(OriginFault::Io)
+}
+
+/// Serves a client, within five seconds in all. Whether its ask was answered.
+fn serve<C: Clock>(
+    clock: &C,
+    alloc: Global,
+    waiters: &mut Waiters,
+    stream: TcpStream,
+    number: u32,
+) -> io::Result<bool> {
+    stream.set_nonblocking(true)?;
+    let outgoing = mio::net::TcpStream::from_std(stream.try_clone()?);
+    let mut incoming = mio::net::TcpStream::from_std(stream);
+    let Waiters { reading, writing } = waiters;
+    match Timed::new(clock, reading, &mut incoming, Duration::from_secs(PATIENCE)) {
+        Ok(mut reader) => serve_reader(clock, alloc, &mut reader, writing, outgoing, number),
+        Err(error) => Err(error),
+    }
+}
+
+/// Serves the client at the other end of a reader and of a stream. Whether its ask was answered.
+fn serve_reader<R: Read, C: Clock>(
+    clock: &C,
+    alloc: Global,
+    reader: &mut R,
+    writing: &mut Waiter,
+    mut outgoing: mio::net::TcpStream,
+    number: u32,
+) -> io::Result<bool> {
+    match Timed::new(clock, writing, &mut outgoing, Duration::from_secs(PATIENCE)) {
+        Ok(mut writer) => {
+            let served = serve_next(alloc, reader, &mut writer, number);
+            let sent = writer.flush();
+            Ok(served.is_ok() && sent.is_ok())
+        }
+        Err(error) => Err(error),
+    }
+}

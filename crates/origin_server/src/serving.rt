@@ -1,0 +1,54 @@
+//! An ask, answered or refused.
+ghost use Rattle.origin_server.specs.Serving.{AnswersAsk, ServesNext};
+
+use crate::answering::answer_to;
+use crate::refusing::refuse;
+use fetch_messages::{Ask, FetchFault};
+use peer_reading::read_ask;
+use peer_writing::write_answer;
+use std::alloc::Global;
+use std::io::{Read, Write};
+
+/// The name that the origin bears in `via`.
+pub(crate) const OWN_NAME: &[u8] = b"origin";
+
+/// Reads an ask and writes its answer, as the `count`th that is answered. `Ok` means that the whole text of the answer is written. The writer is not flushed.
+///
+/// Faults, each of which is answered with a status alone where it comes before the answer: those of `read_ask` (400 for `BadHead`, `BadTarget` and `BadBody`,
+/// 431 for `HeadTooLong`, 501 for `MethodNotServed` and `Credentials`, 503 for `NoMemory`; nothing is written for `Io`, `EndOfInput` and `TooManyTurns`);
+/// `NoMemory` where there is none for the answer (503); and `Io` where the writer failed in the answer, a front of which is written.
+pub fn serve_next<R: Read, W: Write>(
+    alloc: Global,
+    reader: &mut R,
+    writer: &mut W,
+    count: u32,
+) -> Result<(), FetchFault>
+    ensures { ServesNext count (R.remaining reader.old) (R.remaining reader.new)
+        (W.contents writer.old) (W.contents writer.new) result }
+{
+    match read_ask(alloc, reader) {
+        Ok(ask) => answer_ask(alloc, &ask, writer, count),
+        Err(fault) => {
+            refuse(writer, fault);
+            Err(fault)
+        }
+    }
+}
+
+/// Writes the answer to an ask, or that there is no memory for it.
+fn answer_ask<W: Write>(
+    alloc: Global,
+    ask: &Ask,
+    writer: &mut W,
+    count: u32,
+) -> Result<(), FetchFault>
+    ensures { AnswersAsk (W.contents writer.old) (W.contents writer.new) ask.now count result }
+{
+    match answer_to(alloc, ask, count) {
+        Ok(answer) => write_answer(writer, &answer, OWN_NAME),
+        Err(_) => {
+            refuse(writer, FetchFault::NoMemory);
+            Err(FetchFault::NoMemory)
+        }
+    }
+}

@@ -1,0 +1,9 @@
+-- The names of faults.
+use Rattle.std.specs.Prelude.{ℕ, List, codes}
+use Rattle.worker_tables.specs.declared.fault.TableFault.{TableFault}
+use Rattle.worker_tables.specs.declared.fault.TableFault.TheVariants.{Taken, Full, NoMemory}
+
+abbrev pub table_fault_name : TableFault → List ℕ
+table_fault_name Taken = codes "Taken"
+table_fault_name Full = codes "Full"
+table_fault_name NoMemory = codes "NoMemory"

@@ -1,0 +1,99 @@
+-- What waits at a node: clients, answers and rounds.
+use Rattle.std.specs.Prelude.{◌≡◌, ◌≤◌, ◌<◌, ℕ, max, List, [], ◌∷◌, ◌++◌, length, All, Option, Some, None, IsSome, Result, Ok, MatchResult}
+use Rattle.std.specs.Ordering.{nat_cmp}
+use Rattle.std.specs.Map.{lookup, remove_entry}
+use Rattle.std.specs.BTreeMap.{is_at, insert_entry}
+use Rattle.worker_tables.specs.declared.fault.TableFault.{TableFault}
+use Rattle.worker_tables.specs.declared.fault.TableFault.TheVariants.{Taken, Full, NoMemory}
+use Rattle.worker_tables.specs.declared.fault.Refused.{Refused}
+use Rattle.worker_tables.specs.declared.rounds.WaitingRound.{WaitingRound}
+
+-- Clients and answers
+
+-- what waits, in the order of the blocks
+pub record WaitersView (C A : Type 0) : Type 0 where
+  pub clients : List (ℕ × C)
+  pub answers : List (ℕ × A)
+
+-- what is at a block
+abbrev pub found_at : {T : Type 0} → List (ℕ × T) → ℕ → Option T
+found_at row block = lookup (is_at (nat_cmp block)) row
+
+abbrev pub without : {T : Type 0} → List (ℕ × T) → ℕ → List (ℕ × T)
+without row block = remove_entry (is_at (nat_cmp block)) row
+
+abbrev pub with_one : {T : Type 0} → List (ℕ × T) → ℕ → T → List (ℕ × T)
+with_one row block one = insert_entry nat_cmp row block one
+
+-- one was put at a block where none was, and fewer than 1,024 were there
+pub record IsPut {T : Type 0} (row : List (ℕ × T)) (block : ℕ) (one : T) (new : List (ℕ × T)) : Type 0 where
+  pub free : found_at row block ≡ None
+  pub few : length row < 1024
+  pub put : new ≡ with_one row block one
+
+-- why one is not put: the first that holds
+abbrev pub IsCause : {T : Type 0} → List (ℕ × T) → ℕ → TableFault → Type 0
+IsCause row block Taken = IsSome (found_at row block)
+IsCause row block Full = (found_at row block ≡ None) × (1024 ≤ length row)
+IsCause row block NoMemory = (found_at row block ≡ None) × (length row < 1024)
+
+-- it is handed back, and nothing changes
+pub record IsRefused {T : Type 0} (row : List (ℕ × T)) (block : ℕ) (one : T) (new : List (ℕ × T)) (refused : Refused T) : Type 0 where
+  pub back : refused.back ≡ one
+  pub cause : IsCause row block refused.fault
+  pub same : new ≡ row
+
+-- a client comes, by the answer that is at its block: it gets that, or waits
+abbrev pub LeavesAt : {C A : Type 0} → Option A → ℕ → C → WaitersView C A → Result (Option (C × A)) (Refused C) → WaitersView C A → Type 0
+LeavesAt (Some answer) block client old result new =
+    (result ≡ Ok (Some (client, answer))) × (new.clients ≡ old.clients) × (new.answers ≡ without old.answers block)
+LeavesAt None block client old result new =
+    (new.answers ≡ old.answers)
+    × MatchResult result (λ met. (met ≡ None) × IsPut old.clients block client new.clients) (IsRefused old.clients block client new.clients)
+
+abbrev pub Leaves : {C A : Type 0} → ℕ → C → WaitersView C A → Result (Option (C × A)) (Refused C) → WaitersView C A → Type 0
+Leaves block client old result new = LeavesAt (found_at old.answers block) block client old result new
+
+-- an answer comes, by the client that waits at its block: that gets it, or it stays
+abbrev pub AnswersAt : {C A : Type 0} → Option C → ℕ → A → WaitersView C A → Result (Option (C × A)) (Refused A) → WaitersView C A → Type 0
+AnswersAt (Some client) block answer old result new =
+    (result ≡ Ok (Some (client, answer))) × (new.answers ≡ old.answers) × (new.clients ≡ without old.clients block)
+AnswersAt None block answer old result new =
+    (new.clients ≡ old.clients)
+    × MatchResult result (λ met. (met ≡ None) × IsPut old.answers block answer new.answers) (IsRefused old.answers block answer new.answers)
+
+abbrev pub Answers : {C A : Type 0} → ℕ → A → WaitersView C A → Result (Option (C × A)) (Refused A) → WaitersView C A → Type 0
+Answers block answer old result new = AnswersAt (found_at old.clients block) block answer old result new
+
+-- the first client is taken out
+abbrev pub TakesClient : {C A : Type 0} → WaitersView C A → WaitersView C A → C → Type 0
+TakesClient old new client = (block : ℕ) × (old.clients ≡ (block, client) ∷ new.clients) × (new.answers ≡ old.answers)
+
+-- Rounds
+
+pub record RoundsView : Type 0 where
+  pub rounds : List WaitingRound
+  pub latest : ℕ
+
+-- each is over no sooner than those before it
+abbrev pub Ascend : List WaitingRound → Type 0
+Ascend [] = Unit {0}
+Ascend (w ∷ rounds) = All (λ later. w.until ≤ later.until) rounds × Ascend rounds
+
+abbrev pub waiting : ℕ → ℕ → WaitingRound
+waiting until serial = record { until = until; serial = serial }
+
+-- one more waits, until its moment and until those before it are over
+abbrev pub added : RoundsView → ℕ → ℕ → RoundsView
+added old until serial = record {
+  rounds = old.rounds ++ waiting (max until old.latest) serial ∷ [];
+  latest = max until old.latest;
+}
+
+-- the first is taken out, and its time is over
+abbrev pub IsDue : ℕ → RoundsView → RoundsView → ℕ → Type 0
+IsDue now old new serial = (until : ℕ) × (old.rounds ≡ waiting until serial ∷ new.rounds) × (until ≤ now) × (new.latest ≡ old.latest)
+
+-- no round's time is over, and all stay
+abbrev pub NoneIsDue : ℕ → RoundsView → RoundsView → Type 0
+NoneIsDue now old new = (new ≡ old) × All (λ w. now < w.until) old.rounds

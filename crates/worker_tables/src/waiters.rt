@@ -1,0 +1,115 @@
+//! Clients that wait, and answers that came before their clients.
+ghost use Rattle.std.specs.Prelude.{◌≡◌, ◌≤◌, [], length, MatchOption, MatchResult};
+ghost use Rattle.worker_tables.specs.Waiting.{Answers, IsPut, IsRefused, Leaves, TakesClient};
+
+use crate::fault::{Refused, TableFault};
+use std::alloc::Global;
+use std::collections::BTreeMap;
+use std::marker::Model;
+
+/// The most clients that wait, and the most answers: no more asks are pending at a node.
+pub const MOST_WAITING: usize = 1024;
+
+/// Clients that wait for their answers, and answers that came before their clients, each by the block of serials of its ask.
+///
+/// A contract sees both in the order of their blocks, at most 1,024 of each.
+#[derive(Drop)]
+pub struct Waiters<C, A> {
+    clients: BTreeMap<u32, C>,
+    answers: BTreeMap<u32, A>,
+}
+
+impl<C, A> Model for Waiters<C, A> {
+    ghost use Rattle.std.specs.Prelude.{◌≤◌, length};
+    ghost use Rattle.worker_tables.specs.Waiting.{WaitersView};
+
+    ghost Value = { WaitersView C A };
+
+    ghost view = { λ w. record { clients = w.clients.entries; answers = w.answers.entries } };
+
+    ghost invariant = { λ w. (length w.clients.entries ≤ 1024) × (length w.answers.entries ≤ 1024) };
+}
+
+impl<C: Drop, A: Drop> Waiters<C, A> {
+    /// Nobody waits. It takes no memory.
+    pub fn new(alloc: Global) -> Waiters<C, A>
+        ensures clients { result.clients ≡ [] }
+        ensures answers { result.answers ≡ [] }
+    {
+        Waiters {
+            clients: BTreeMap::new(alloc),
+            answers: BTreeMap::new(alloc),
+        }
+    }
+
+    /// How many clients wait.
+    pub fn clients(&self) -> usize
+        ensures { result ≡ length self.now.clients }
+    {
+        self.clients.len()
+    }
+
+    /// Puts a client at the block of its ask; or gives it back with its answer, where that has come. It is handed back with the first of these faults, and nothing
+    /// changes then: `Taken` where a client waits at this block, `Full` where 1,024 wait, `NoMemory`.
+    pub fn leave(&mut self, block: u32, client: C) -> Result<Option<(C, A)>, Refused<C>>
+        ensures { Leaves block client self.old result self.new }
+    {
+        if let Some(answer) = self.answers.remove(&block) {
+            return Ok(Some((client, answer)));
+        }
+        match put(&mut self.clients, block, client) {
+            Ok(()) => Ok(None),
+            Err(refused) => Err(refused),
+        }
+    }
+
+    /// Puts an answer at the block of its ask; or gives it back with the client that waits for it. It is handed back with the first of these faults, and nothing
+    /// changes then: `Taken` where an answer is at this block, `Full` where 1,024 are there, `NoMemory`.
+    pub fn answer(&mut self, block: u32, answer: A) -> Result<Option<(C, A)>, Refused<A>>
+        ensures { Answers block answer self.old result self.new }
+    {
+        if let Some(client) = self.clients.remove(&block) {
+            return Ok(Some((client, answer)));
+        }
+        match put(&mut self.answers, block, answer) {
+            Ok(()) => Ok(None),
+            Err(refused) => Err(refused),
+        }
+    }
+
+    /// Takes the client at the least block out, if one waits.
+    pub fn take_first(&mut self) -> Option<C>
+        ensures { MatchOption result ((self.old.clients ≡ []) × (self.new ≡ self.old)) (TakesClient self.old self.new) }
+    {
+        match self.clients.pop_first() {
+            Some((_, client)) => Some(client),
+            None => None,
+        }
+    }
+}
+
+/// Puts one at a block where none is.
+fn put<T: Drop>(row: &mut BTreeMap<u32, T>, block: u32, one: T) -> Result<(), Refused<T>>
+    ensures put { MatchResult result (λ _. IsPut row.old.entries block one row.new.entries) (IsRefused row.old.entries block one row.new.entries) }
+    ensures most { length row.old.entries ≤ 1024 → length row.new.entries ≤ 1024 }
+{
+    if row.contains_key(&block) {
+        return Err(Refused {
+            back: one,
+            fault: TableFault::Taken,
+        });
+    }
+    if row.len() >= MOST_WAITING {
+        return Err(Refused {
+            back: one,
+            fault: TableFault::Full,
+        });
+    }
+    match row.insert(block, one) {
+        Ok(_) => Ok(()),
+        Err(failed) => Err(Refused {
+            back: failed.value.1,
+            fault: TableFault::NoMemory,
+        }),
+    }
+}
