@@ -1,4 +1,4 @@
-//! Steps by a seat, and the shift after one that is closed.
+//! A node from shift to shift.
 ghost use Rattle.std.specs.Prelude.{◌≡◌, ◌≤◌, [], IfOk};
 
 use floor_rules::MemoryFloors;
@@ -6,13 +6,13 @@ use node_book::{NodeBook, Record};
 use node_bytes::Stepper;
 use node_core::Node;
 use node_rules::{Event, StepFault};
-use node_seats::{Calls, Places, Seat, SharedNode, Shift, close};
-use node_shifts::{History, Seated, calls_of_each, open_next};
+use node_seats::{Calls, Places};
+use node_shifts::{AtSeat, History, Shifts};
 use roster::Roster;
 use std::alloc::Global;
 use std::marker::Brand;
-use std::sync::Wait;
 use std::sync::ledger::Blank;
+use std::sync::{Mutex, Wait};
 use std::test::Fail;
 
 /// One member.
@@ -59,69 +59,73 @@ fn book_over(alloc: Global, roster: Roster) -> Result<NodeBook<MemoryFloors>, Fa
 /// A fetch fails that there was not.
 const FAILS: Event<()> = Event::FetchFailed { serial: 34, now: 9 };
 
-/// Takes two steps by a seat that may make 33 calls: whether a job may begin before each and after both, and whether each was told its fault.
-fn stepped<L: Calls, R: Wait>(
-    rt: &R,
-    node: &SharedNode<MemoryFloors, L>,
-    seat: Seat<L>,
-) -> (Seat<L>, [bool; 3], bool) {
-    let mut seated = Seated::new(rt, node, seat, 33);
-    let before = seated.may_begin();
-    let first = seated.step(FAILS);
-    let between = seated.may_begin();
-    let second = seated.step(FAILS);
-    let after = seated.may_begin();
-    let told = matches!(first, Err(StepFault::UnknownSerial))
-        && matches!(second, Err(StepFault::UnknownSerial));
-    (seated.into_seat(), [before, between, after], told)
-}
-
-/// The shift of a node, closed.
-fn closed<L: Calls>(
-    node: SharedNode<MemoryFloors, L>,
-    seats: Vec<Seat<L>>,
-) -> Option<Shift<MemoryFloors, L>>
-    requires { L.all ≡ L.parts }
-{
-    close(node, seats).ok()
-}
-
-/// Closes a shift, and opens the next by two seats.
-fn changed<L: Calls>(
-    node: SharedNode<MemoryFloors, L>,
-    seats: Vec<Seat<L>>,
-    history: History,
-    records: &mut Vec<Record>,
-) -> Option<(SharedNode<MemoryFloors, L>, Vec<Seat<L>>)>
-    requires { (L.all ≡ L.parts) × (2 ≤ L.all) }
-{
-    let shift = closed(node, seats)?;
-    open_next(shift, 2, history, records).ok()
-}
-
-/// Two shifts, of which the record of the first is kept: what its first seat was told, and how many entries the records have.
-fn two_shifts<L: Calls, R: Wait>(
-    rt: &R,
+/// The shifts of a node with two seats.
+fn shifts_of<L: Calls>(
     alloc: Global,
     book: NodeBook<MemoryFloors>,
+    history: History,
     blank: Blank,
     places: Places,
-) -> Option<([bool; 3], bool, usize, usize)>
+) -> Option<Mutex<Shifts<MemoryFloors, L>>>
     requires fresh { book.entries ≡ [] }
     requires name { blank.name ≡ L.name }
     requires parts { (blank.parts ≡ L.parts) × (L.all ≡ L.parts) × (2 ≤ L.all) }
 {
-    let (node, mut seats) = SharedNode::<MemoryFloors, L>::open(
-        alloc, book, 2, blank, places,
-    ).ok()?;
-    let second = seats.pop()?;
-    let (second, begins, told) = stepped(rt, &node, second);
-    seats.push(second).ok()?;
-    let mut records = Vec::new(alloc);
-    let (node, seats) = changed(node, seats, History::Kept, &mut records)?;
-    let _next = changed(node, seats, History::Dropped, &mut records)?;
-    let entries = records.as_slice().first()?.entries.as_slice().len();
-    Some((begins, told, records.len(), entries))
+    match Shifts::open(alloc, book, 2, history, blank, places) {
+        Ok(shifts) => Some(Mutex::new(shifts)),
+        Err(_) => None,
+    }
+}
+
+/// How many of so many steps by the seat of this number are told that no fetch has their serial.
+fn steps_by<L: Calls, R: Wait>(
+    rt: &R,
+    node: &Mutex<Shifts<MemoryFloors, L>>,
+    number: u8,
+    count: u32,
+) -> u32 {
+    let mut seat = AtSeat::new(rt, node, number);
+    let mut told = 0u32;
+    for _ in 0..count {
+        if matches!(seat.step(FAILS), Err(StepFault::UnknownSerial)) {
+            told = told.saturating_add(1);
+        }
+    }
+    told
+}
+
+/// The entries of the records, in their order.
+fn entries_of(records: &[Record]) -> [usize; 3] {
+    let mut entries = [0; 3];
+    for (place, record) in records.iter().enumerate() {
+        if let Some(count) = entries.get_mut(place) {
+            *count = record.entries.as_slice().len();
+        }
+    }
+    entries
+}
+
+/// Takes 4,100 steps by two seats, and by a third number, which the last seat has; then ends the shift by hand, and takes one more. How many steps were told their fault, and the entries of the records.
+fn stepped<L: Calls, R: Wait>(
+    rt: &R,
+    alloc: Global,
+    book: NodeBook<MemoryFloors>,
+    history: History,
+    blank: Blank,
+    places: Places,
+) -> Option<(u32, [usize; 3])>
+    requires fresh { book.entries ≡ [] }
+    requires name { blank.name ≡ L.name }
+    requires parts { (blank.parts ≡ L.parts) × (L.all ≡ L.parts) × (2 ≤ L.all) }
+{
+    let node = shifts_of::<L>(alloc, book, history, blank, places)?;
+    let mut told = steps_by(rt, &node, 0, 4000);
+    told = told.saturating_add(steps_by(rt, &node, 1, 90));
+    told = told.saturating_add(steps_by(rt, &node, 7, 10));
+    node.lock(rt).turn().ok()?;
+    told = told.saturating_add(steps_by(rt, &node, 1, 1));
+    let records = node.into_inner().into_records().ok()?;
+    Some((told, entries_of(records.as_slice())))
 }
 
 #[test]
@@ -129,21 +133,31 @@ fn shifts_follow_one_another(rt: HostRuntime) -> Result<(), Fail> {
     let alloc = rt.alloc();
     let places = Places::new(alloc)?;
     let book = book_of(alloc)?;
-    let done = two_shifts::<Brand, HostRuntime>(&rt, alloc, book, Blank::new(2), places);
-    assert!(rt; done == Some(([true, true, false], true, 1, 2)));
+    let done = stepped::<Brand, HostRuntime>(
+        &rt,
+        alloc,
+        book,
+        History::Kept,
+        Blank::new(2),
+        places,
+    );
+    assert!(rt; done == Some((4101, [4096, 4, 1])));
     Ok(())
 }
 
 #[test]
-fn seats_share_a_book(rt: HostRuntime) -> Result<(), Fail> {
-    assert_eq!(rt;
-        [
-            calls_of_each(1),
-            calls_of_each(2),
-            calls_of_each(3),
-            calls_of_each(8)
-        ],
-        [4096, 2048, 1365, 512]
+fn records_are_dropped(rt: HostRuntime) -> Result<(), Fail> {
+    let alloc = rt.alloc();
+    let places = Places::new(alloc)?;
+    let book = book_of(alloc)?;
+    let done = stepped::<Brand, HostRuntime>(
+        &rt,
+        alloc,
+        book,
+        History::Dropped,
+        Blank::new(2),
+        places,
     );
+    assert!(rt; done == Some((4101, [0, 0, 0])));
     Ok(())
 }

@@ -1,7 +1,7 @@
 use Rattle.worker_tests.proofs.shifts.shifts_follow_one_another.Given as goal
 
-abbrev pub ghosts-two_shifts-L-Ledger : goal.ghosts-two_shifts-L-Ledger
-ghosts-two_shifts-L-Ledger g a = record { name = a.blank.name; parts = a.blank.parts }
+abbrev pub ghosts-stepped-L-Ledger : goal.ghosts-stepped-L-Ledger
+ghosts-stepped-L-Ledger g a = record { name = a.blank.name; parts = a.blank.parts }
 
-abbrev pub ghosts-two_shifts-L-Calls : goal.ghosts-two_shifts-L-Calls
-ghosts-two_shifts-L-Calls g a = record { all = a.blank.parts }
+abbrev pub ghosts-stepped-L-Calls : goal.ghosts-stepped-L-Calls
+ghosts-stepped-L-Calls g a = record { all = a.blank.parts }

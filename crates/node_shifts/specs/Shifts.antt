@@ -1,0 +1,126 @@
+-- A node in its shifts: one call, and from one shift to the next.
+use Rattle.std.specs.Prelude.{◌≡◌, ◌⊎◌, ℕ, ◌-◌, ◌<◌, ◌≤◌, min, List, [], ◌∷◌, ◌++◌, length, Option, Some, None, Result, Ok, Err, slice_index_or, MatchOption, IsSome}
+use Rattle.std.specs.List.{insert, remove, sum_by}
+use Rattle.node_rules.specs.declared.event.Event.{Event}
+use Rattle.node_rules.specs.declared.reply.Reply.{Reply}
+use Rattle.node_rules.specs.declared.reply.StepFault.{StepFault}
+use Rattle.node_rules.specs.declared.reply.StepFault.TheVariants as step
+use Rattle.node_book.specs.declared.book.BookFault.{BookFault}
+use Rattle.node_book.specs.declared.book.BookFault.TheVariants.{ShiftFull, Step, NoMemory, ReplyLost}
+use Rattle.node_book.specs.declared.record.Record.{Record}
+use Rattle.node_seats.specs.Seats.{SeatView, Called}
+use Rattle.node_seats.specs.Shifts.{ShiftView, Closes, Opens}
+use Rattle.node_shifts.specs.declared.history.History.{History}
+use Rattle.node_shifts.specs.declared.history.History.TheVariants.{Kept, Dropped}
+
+-- the seats of the shift that is open, or what is left of one that is closed; how many seats a shift has, and the records that are kept
+pub record ShiftsView (S : Type 0) : Type 0 where
+  pub row : List SeatView
+  pub closed : Option (ShiftView S)
+  pub seats : ℕ
+  pub history : History
+  pub records : List Record
+
+-- how many calls the seats have made
+abbrev pub calls_in : List SeatView → ℕ
+calls_in row = sum_by (λ seat. length seat.made) row
+
+-- the seat of a number, or the last one
+abbrev pub place_of : ℕ → ℕ → ℕ
+place_of number seats = min number (seats - 1)
+
+-- what a step is answered: the book's answer, and want of memory where the book is full, and where the reply was lost
+abbrev pub outcome_of : Result (Reply (Unit {0})) BookFault → Result (Reply (Unit {0})) StepFault
+outcome_of (Ok reply) = Ok reply
+outcome_of (Err (Step fault)) = Err fault
+outcome_of (Err ShiftFull) = Err step.NoMemory
+outcome_of (Err NoMemory) = Err step.NoMemory
+outcome_of (Err ReplyLost) = Err step.NoMemory
+
+-- the seat at this place, and no other, makes one call with this event, and what it is answered is the outcome
+pub record CallsInRow (place : ℕ) (event : Event (Unit {0})) (outcome : Result (Reply (Unit {0})) StepFault) (old new : List SeatView) : Type 0 where
+  pub before : SeatView
+  pub after : SeatView
+  pub is_there : before ≡ slice_index_or old place before
+  pub answer : Result (Reply (Unit {0})) BookFault
+  pub called : Called before event answer after
+  pub told : outcome ≡ outcome_of answer
+  pub row : new ≡ insert (remove old place) place after
+
+-- one call in the shift that is open
+pub record CallsAt {S : Type 0} (place : ℕ) (event : Event (Unit {0})) (outcome : Result (Reply (Unit {0})) StepFault) (old new : ShiftsView S) : Type 0 where
+  pub calls : CallsInRow place event outcome old.row new.row
+  pub closed : new.closed ≡ old.closed
+  pub seats : new.seats ≡ old.seats
+  pub history : new.history ≡ old.history
+  pub records : new.records ≡ old.records
+
+-- the records with that of the shift which is closed, or without it
+abbrev pub kept_by : History → List Record → Record → List Record
+kept_by Kept records last = records ++ last ∷ []
+kept_by Dropped records last = records
+
+-- the shift after this one has so many seats, and its record is kept or dropped
+pub record IsNextOf {S : Type 0} (shift : ShiftView S) (seats : ℕ) (history : History) (records : List Record) (row : List SeatView) (after : List Record) : Type 0 where
+  pub opens : Opens shift shift.record_of seats row
+  pub kept : after ≡ kept_by history records shift.record_of
+
+-- the shift that is closed; or that of the open one's seats, each of whose calls are the entries with its number
+abbrev pub IsShiftOf : {S : Type 0} → List SeatView → Option (ShiftView S) → ShiftView S → Type 0
+IsShiftOf row (Some closed) shift = shift ≡ closed
+IsShiftOf row None shift = Closes row shift
+
+-- the shift is closed, and the next one not yet open
+pub record IsEnded {S : Type 0} (old new : ShiftsView S) : Type 0 where
+  pub shift : ShiftView S
+  pub was : IsShiftOf old.row old.closed shift
+  pub closed : new.closed ≡ Some shift
+  pub seats : new.seats ≡ old.seats
+  pub history : new.history ≡ old.history
+  pub records : new.records ≡ old.records
+
+-- the shift after this one is open
+pub record IsAfter {S : Type 0} (shift : ShiftView S) (old new : ShiftsView S) : Type 0 where
+  pub next : IsNextOf shift old.seats old.history old.records new.row new.records
+  pub is_open : new.closed ≡ None
+  pub seats : new.seats ≡ old.seats
+  pub history : new.history ≡ old.history
+
+-- the shift after the one that is closed is open, or nothing changes where none is closed
+abbrev pub IsBegun : {S : Type 0} → ShiftsView S → ShiftsView S → Type 0
+IsBegun old new = MatchOption old.closed (new ≡ old) (λ shift. IsAfter shift old new)
+
+-- the shift is closed, and the one after it is open
+pub record IsTurned {S : Type 0} (old new : ShiftsView S) : Type 0 where
+  pub shift : ShiftView S
+  pub was : IsShiftOf old.row old.closed shift
+  pub after : IsAfter shift old new
+
+-- nothing changes, or the shift is closed
+abbrev pub IsLeft : {S : Type 0} → ShiftsView S → ShiftsView S → Type 0
+IsLeft old new = (new ≡ old) ⊎ IsEnded old new
+
+-- no shift is open, or its seats have made all 4,096 calls for which a book has room
+abbrev pub IsOver : {S : Type 0} → ShiftsView S → Type 0
+IsOver shifts = IsSome shifts.closed ⊎ (4096 ≤ calls_in shifts.row)
+
+-- a shift is open, and its book has room
+abbrev pub HasRoom : {S : Type 0} → ShiftsView S → Type 0
+HasRoom shifts = (shifts.closed ≡ None) × (calls_in shifts.row < 4096)
+
+-- this shift where it has room, and else the next one
+abbrev pub IsReady : {S : Type 0} → ShiftsView S → ShiftsView S → Type 0
+IsReady old ready = (HasRoom old × (ready ≡ old)) ⊎ (IsOver old × IsTurned old ready)
+
+-- one call in the shift that has room; or none, where there was no memory to turn to the next
+pub record StepsInShifts {S : Type 0} (number : ℕ) (event : Event (Unit {0})) (old : ShiftsView S) (outcome : Result (Reply (Unit {0})) StepFault) (new : ShiftsView S) : Type 0 where
+  pub steps : ((ready : ShiftsView S) × IsReady old ready × CallsAt (place_of number old.seats) event outcome ready new)
+      ⊎ (IsOver old × (outcome ≡ Err step.NoMemory) × IsLeft old new)
+
+-- some state of the node's shifts is left so by a step with this event
+abbrev pub IsStepAt : (S : Type 0) → ℕ → Event (Unit {0}) → Result (Reply (Unit {0})) StepFault → Type 0
+IsStepAt S number event outcome = (old : ShiftsView S) × (new : ShiftsView S) × StepsInShifts number event old outcome new
+
+-- these are the records with that of the last shift, or without it
+abbrev pub IsHandedOut : {S : Type 0} → ShiftsView S → List Record → Type 0
+IsHandedOut {S} shifts records = (shift : ShiftView S) × IsShiftOf shifts.row shifts.closed shift × (records ≡ kept_by shifts.history shifts.records shift.record_of)
