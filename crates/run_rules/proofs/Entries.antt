@@ -1,0 +1,419 @@
+-- An entry of a node stands for events of the world.
+use Rattle.std.proofs.Common.{◌≡◌, ◌⊎◌, ℕ, ◌+◌, Bool, true, false, cond, not, ◌&&◌, List, [], ◌∷◌, ◌++◌, Option, Some, None, Result, Ok, Err, refl, sym, ◌∙◌, ap, inl, inr, nat_le, subst, arith}
+use Rattle.std.proofs.lemmas.List.Elements.{Contains-append_left}
+use Rattle.floor_rules.specs.Floors.{FloorMap, floor, raised}
+use Rattle.roster_tables.specs.declared.plain.Tables.{Tables}
+use Rattle.roster.specs.Lookups.{is_member}
+use Rattle.roster.specs.Judged.{IsRoster}
+use Rattle.node_rules.specs.declared.state.NodeState.{NodeState}
+use Rattle.node_rules.specs.declared.event.Event.{Event}
+use Rattle.node_rules.specs.declared.event.Event.TheVariants as event
+use Rattle.node_rules.specs.declared.reply.Reply.{Reply}
+use Rattle.node_rules.specs.declared.reply.StepFault.{StepFault}
+use Rattle.node_rules.specs.declared.reply.StepFault.TheVariants as fault
+use Rattle.node_rules.specs.State.{Setting, Stepped}
+use Rattle.node_rules.specs.Datagrams.{is_full}
+use Rattle.node_rules.specs.Step.{step}
+use Rattle.node_rules.specs.Relation.{ClosesOn, Closes, purge_in}
+use Rattle.node_rules.specs.Relation.{Steps as NodeStepsBy}
+use Rattle.node_rules.specs.Tags.{retag_reply, retag_stepped}
+use Rattle.node_rules.proofs.TagSteps.{step-retag}
+use Rattle.node_rules.proofs.Lawful.{step_steps}
+use Rattle.node_rules.proofs.Cases.{true_not_false}
+use Rattle.node_book.specs.declared.book.NodeEntry.{NodeEntry}
+use Rattle.world_rules.specs.declared.event.WorldEvent.TheVariants as world
+use Rattle.world_rules.specs.Hierarchy.{setting}
+use Rattle.world_rules.specs.World.{World, after_node, is_waiting_as}
+use Rattle.world_rules.specs.declared.outcome.WorldFault.TheVariants.{NoSuchPacket}
+use Rattle.world_rules.specs.Turn.{Replied, Nothing, Turn, Ends, Refused as TurnRefused, turn, with_clock, with_seat, closed_node}
+use Rattle.world_rules.specs.Run.{Step, Run, Takes}
+use Rattle.run_rules.specs.Sent.{Network, reply_of, with_reply, without_waiting, IsSent}
+use Rattle.run_rules.specs.Board.{Standing, New, Open, Shut, Astray, Board, standing_at, with_node, with_network}
+use Rattle.run_rules.specs.declared.verdict.Cause.{Cause}
+use Rattle.run_rules.specs.declared.verdict.Cause.TheVariants.{NotSent, OtherReply}
+use Rattle.run_rules.specs.Judging.{Fine, Flawed, Reaches, IsStep, StepsBy, OpenStepsBy, StepsSo, after_entry, wanting, failing, stored_by, shut_by, is_astray, judged, JudgesEntry}
+use Rattle.run_rules.specs.Recorded.{Progress, Goes, IsTaken, ChangesNothing, event_step, moment_of, unmarked, unmarked_event, unmarked_outcome, node_in}
+use Rattle.run_rules.specs.Recorded.{Stands}
+use Rattle.run_rules.specs.Notes.{Note, Steps}
+use Rattle.world_rules.proofs.Seats.{node_at-same, node_at-other}
+use Rattle.run_rules.proofs.Running.{runs_join}
+use Rattle.run_rules.proofs.Lists.{either, found_still}
+use Rattle.run_rules.proofs.Asking.{ok_same}
+use Rattle.run_rules.proofs.Refusals.{no_fault, refusal_same, closed_refuses}
+use Rattle.run_rules.proofs.Purging.{stays_open, HasPurged, step_purges}
+use Rattle.run_rules.proofs.Matching.{NetworkMatches, waits_dropped, waits_dropped_here}
+use Rattle.run_rules.proofs.Meeting.{Meets, meets}
+use Rattle.run_rules.proofs.Following.{StandsIn, Matches, each_place, each_post, after_goes, place_goes, begins_next, network_replied, quiet_network}
+
+pub not_flawed : (x : Board) (cause : Cause) → Fine x ≡ Flawed cause → ⊥
+not_flawed x cause is = cc
+
+pub same_board : (x y : Board) → Fine x ≡ Fine y → x ≡ y
+same_board x y is = cc
+
+-- what a reply is without its marks
+reply_unmarked : (o : Result (Reply ℕ) StepFault) (reply : Reply (Unit {0})) → unmarked_outcome o ≡ Ok reply → (r : Reply ℕ) × (o ≡ Ok r) × (retag_reply (λ _. tt) r ≡ reply)
+reply_unmarked (Ok r) reply is = (r, refl, ok_same (retag_reply (λ _. tt) r) reply _ refl is)
+reply_unmarked (Err f) reply is = cc
+
+-- the clock is no part of what was sent
+network_now : {n : Network} {w : World} {now : ℕ} → NetworkMatches n w → NetworkMatches n (with_clock w now)
+network_now h = record { datagrams = h.datagrams; asks = h.asks; answers = h.answers; waiting = h.waiting }
+
+-- what was sent before is sent still
+network_kept : (t : Tables) (n : Network) (w : World) (id : ℕ) (e : Event ℕ) (serial : ℕ) (o : Result (Reply ℕ) StepFault) (next : NodeState ℕ) → NetworkMatches n w → NetworkMatches n (after_node t w id e serial o next)
+network_kept t n w id e serial o next h = record {
+  datagrams = λ d has. Contains-append_left w.datagrams _ d (h.datagrams d has);
+  asks = λ a has. let (x, there, same) = h.asks a has in (x, Contains-append_left w.asks _ x there, same);
+  answers = λ a has. let (x, there, same) = h.answers a has in (x, Contains-append_left w.answers _ x there, same);
+  waiting = λ i block x is. let (y, found, same) = h.waiting i block x is in (y, found_still (is_waiting_as i block) w.waiting _ y found, same);
+}
+
+pub network_closed : (n : Network) (w : World) (id : ℕ) (next : NodeState ℕ) → NetworkMatches n w → NetworkMatches (without_waiting n id) (with_seat w id next)
+network_closed n w id next h = record { datagrams = h.datagrams; asks = h.asks; answers = h.answers; waiting = waits_dropped n.waiting w.waiting id h.waiting }
+
+purge_unmarked : (g : Setting) (e : Event ℕ) → purge_in g (unmarked_event e) ≡ purge_in g e
+purge_unmarked g (event.Client ask now) = refl
+purge_unmarked g (event.Datagram from m now) = refl
+purge_unmarked g (event.PeerAsk asker ask now) = refl
+purge_unmarked g (event.PeerAnswer serial peer key answer tag now) = refl
+purge_unmarked g (event.OriginAnswer serial key answer now) = refl
+purge_unmarked g (event.ForeignAnswer serial peer key answer tag now) = refl
+purge_unmarked g (event.FetchFailed serial now) = refl
+purge_unmarked g (event.Expired serial now) = refl
+
+purge_reaches : (g : Setting) (s : NodeState (Unit {0})) (e : Event (Unit {0})) (x : List ℕ × ℕ) → purge_in g e ≡ Some x → Reaches s e
+purge_reaches g s (event.Client ask now) x is = tt
+purge_reaches g s (event.Datagram from m now) x is = tt
+purge_reaches g s (event.PeerAsk asker ask now) x is = tt
+purge_reaches g s (event.PeerAnswer serial peer key answer tag now) x is = tt
+purge_reaches g s (event.OriginAnswer serial key answer now) x is = cc
+purge_reaches g s (event.ForeignAnswer serial peer key answer tag now) x is = cc
+purge_reaches g s (event.FetchFailed serial now) x is = tt
+purge_reaches g s (event.Expired serial now) x is = tt
+
+-- a fault of a step's own
+abbrev IsOwn : StepFault → Type 0
+IsOwn fault.NoMemory = ⊥
+IsOwn fault.StoreFault = ⊥
+IsOwn _ = Unit {0}
+
+own_steps : (g : Setting) (s : NodeState (Unit {0})) (e : Event (Unit {0})) (f : StepFault) → IsOwn f → step g s e tt ≡ record { state = s; outcome = Err f } → NodeStepsBy g s e tt (Err f) s
+own_steps g s e fault.Closed own is = is
+own_steps g s e fault.UnknownSerial own is = is
+own_steps g s e fault.Busy own is = is
+own_steps g s e fault.StoreFault own is = absurd own
+own_steps g s e fault.NoMemory own is = absurd own
+
+-- a fault of memory, or of the store
+abbrev IsClosing : StepFault → Type 0
+IsClosing fault.NoMemory = Unit {0}
+IsClosing fault.StoreFault = Unit {0}
+IsClosing _ = ⊥
+
+closing_steps : (g : Setting) (s : NodeState (Unit {0})) (e : Event (Unit {0})) (f : StepFault) (next : NodeState (Unit {0})) → IsClosing f → Closes g s e next → NodeStepsBy g s e tt (Err f) next
+closing_steps g s e fault.Closed next closing closes = absurd closing
+closing_steps g s e fault.UnknownSerial next closing closes = absurd closing
+closing_steps g s e fault.Busy next closing closes = absurd closing
+closing_steps g s e fault.StoreFault next closing closes = closes
+closing_steps g s e fault.NoMemory next closing closes = inr closes
+
+-- with the purge in its floors, or without
+kept_or_raised : (flag : Bool) (floors : FloorMap) (key : List ℕ) (n : ℕ) → (cond flag (raised floors key n) floors ≡ floors) ⊎ (cond flag (raised floors key n) floors ≡ raised floors key n)
+kept_or_raised true floors key n = inr refl
+kept_or_raised false floors key n = inl refl
+
+not_both_true : (a c : Bool) → (a && not c) ≡ true → c ≡ false
+not_both_true true false h = refl
+not_both_true true true h = absurd (true_not_false (sym h))
+not_both_true false c h = absurd (true_not_false (sym h))
+
+-- the note stands for events, behind which the world is where the run stands then
+pub record Follows (t : Tables) (p : Progress) (note : Note) (next : Board) : Type 0 where
+  pub steps : List Step
+  pub to : Progress
+  pub stands : Stands t p note steps to
+  pub matches : Matches t next to
+
+module _ (t : Tables) (b : Board) (p : Progress) (m : Matches t b p) (id : ℕ) (member : is_member t id ≡ true) where
+  abbrev g : Setting
+  g = setting t id
+
+  abbrev node : NodeState ℕ
+  node = node_in p id
+
+  -- An open node meets an event and takes the step that is defined.
+  module _ (is_open : node.closed ≡ false) (e : Event (Unit {0})) (how : Meets t p.world id e) where
+    abbrev now : World
+    now = with_clock p.world (moment_of e)
+
+    abbrev r : Stepped ℕ
+    r = step g node how.met (p.place + 1)
+
+    abbrev q : Progress
+    q = record { world = after_node t now id how.met how.serial r.outcome r.state; place = p.place + 2; master = p.master }
+
+    abbrev these : List Step
+    these = event_step (world.Clock (moment_of e)) Nothing ∷ event_step how.happens (Replied id r.outcome) ∷ []
+
+    -- without marks it is the step that the run has
+    unmarked_step : step g (unmarked node) e tt ≡ retag_stepped (λ _. tt) r
+    unmarked_step = subst (λ x. step g (unmarked node) x tt ≡ retag_stepped (λ _. tt) r) how.event (step-retag (λ _. tt) g node how.met (p.place + 1))
+
+    turns_so : Takes t (p.place + 1) now (turn t now how.happens) (Replied id r.outcome) q.world
+    turns_so = subst (λ x. Takes t (p.place + 1) now x (Replied id r.outcome) q.world) (sym how.turns) (r.outcome, r.state, step_steps g node how.met (p.place + 1), refl, refl)
+
+    runs : Run t p.place p.world these q.world
+    runs = (now, (tt, (refl, refl)), (q.world, (how.keyed, turns_so), refl))
+
+    is_taken : IsTaken t p id e r.outcome these q
+    is_taken = record {
+      happens = how.happens;
+      met = how.met;
+      serial = how.serial;
+      turns = how.turns;
+      event = how.event;
+      steps = refl;
+      goes = record { run = runs; place = refl; master = refl; purges = m.purges ∙ sym (ap (λ x. x.purges) m.master) };
+    }
+
+    -- what is sent is sent in the world
+    sends : (reply : Reply ℕ) → r.outcome ≡ Ok reply → NetworkMatches (with_reply t b.network id e (retag_reply (λ _. tt) reply)) q.world
+    sends reply is =
+        let taken = (m.after.sources.asks id is_open).taken in
+        let begins = begins_next g node (p.place + 1) how.met reply reply.begin is refl in
+        subst (λ (x : Event (Unit {0})). NetworkMatches (with_reply t b.network id x (retag_reply (λ _. tt) reply)) q.world) how.event
+        (subst (λ (o : Result (Reply ℕ) StepFault). NetworkMatches (with_reply t b.network id (unmarked_event how.met) (retag_reply (λ _. tt) reply)) (after_node t now id how.met how.serial o r.state)) (sym is)
+        (network_replied t b.network now id how.met how.serial reply r.state (network_now m.network) taken begins))
+
+    open_after : r.state.closed ≡ false
+    open_after = stays_open g node (p.place + 1) how.met ∙ is_open
+
+  -- the world stays, and so does the node
+  still : (st : Standing) (n : Network) → StandsIn t id st node → NetworkMatches n p.world → Matches t (with_network (with_node b id st) n) p
+  still st n stands network = record {
+    past = m.past;
+    at = m.at;
+    after = m.after;
+    nodes = each_post t b.posts p.world.seats id st stands m.nodes;
+    master = m.master;
+    purges = m.purges;
+    network = network;
+  }
+
+  module _ (entry : NodeEntry) (is_closed : Bool) (kept : FloorMap) where
+    abbrev note : Note
+    note = Steps id entry is_closed kept
+
+    -- it replies
+    replied : node.closed ≡ false → Meets t p.world id entry.event → (next : NodeState (Unit {0})) (reply : Reply (Unit {0})) → entry.outcome ≡ Ok reply → IsStep g (unmarked node) entry next → Follows t p note (after_entry t b id entry (Open next))
+    replied is_open how next reply is_ok is_step =
+        let outcome : unmarked_outcome (r is_open entry.event how).outcome ≡ entry.outcome = ap (λ (x : Stepped (Unit {0})). x.outcome) (sym (unmarked_step is_open entry.event how) ∙ is_step) in
+        let state : unmarked (r is_open entry.event how).state ≡ next = ap (λ (x : Stepped (Unit {0})). x.state) (sym (unmarked_step is_open entry.event how) ∙ is_step) in
+        let (marked, is_marked, same) = reply_unmarked (r is_open entry.event how).outcome reply (outcome ∙ is_ok) in
+        record {
+          steps = these is_open entry.event how;
+          to = q is_open entry.event how;
+          stands = inl ((r is_open entry.event how).outcome, is_taken is_open entry.event how, outcome);
+          matches = record {
+            past = m.past ++ these is_open entry.event how;
+            at = place_goes t b p (these is_open entry.event how) (p.place + 2) m refl;
+            after = after_goes t b p (q is_open entry.event how) (these is_open entry.event how) m (runs is_open entry.event how);
+            nodes = each_place t b.posts p.world.seats id (Open next) (r is_open entry.event how).state (member, open_after is_open entry.event how, state) (λ i _. m.nodes i);
+            master = m.master;
+            purges = m.purges;
+            network =
+                subst (λ (o : Result (Reply (Unit {0})) StepFault). NetworkMatches (with_reply t b.network id entry.event (reply_of o)) (q is_open entry.event how).world) (sym is_ok)
+                (subst (λ (x : Reply (Unit {0})). NetworkMatches (with_reply t b.network id entry.event x) (q is_open entry.event how).world) same (sends is_open entry.event how marked is_marked));
+          };
+        }
+
+    -- a refused entry sends nothing
+    quiet_after : (f : StepFault) → entry.outcome ≡ Err f → NetworkMatches (with_reply t b.network id entry.event (reply_of entry.outcome)) p.world
+    quiet_after f is_err =
+        subst (λ (o : Result (Reply (Unit {0})) StepFault). NetworkMatches (with_reply t b.network id entry.event (reply_of o)) p.world) (sym is_err)
+        (subst (λ (n : Network). NetworkMatches n p.world) (sym (quiet_network t b.network id entry.event)) m.network)
+
+    unchanged : (f : StepFault) → entry.outcome ≡ Err f → NodeStepsBy g (unmarked node) entry.event tt (Err f) (unmarked node) → ChangesNothing t p id entry [] p
+    unchanged f is_err steps = (f, is_err, refl, refl, subst (λ (o : Result (Reply (Unit {0})) StepFault). NodeStepsBy g (unmarked node) entry.event tt o (unmarked node)) (sym is_err) steps)
+
+    -- it is refused
+    refused : node.closed ≡ false → (f : StepFault) → IsOwn f → (next : NodeState (Unit {0})) → entry.outcome ≡ Err f → IsStep g (unmarked node) entry next → Follows t p note (after_entry t b id entry (Open next))
+    refused is_open f own next is_err is_step =
+        let outcome : (step g (unmarked node) entry.event tt).outcome ≡ Err f = ap (λ (x : Stepped (Unit {0})). x.outcome) is_step ∙ is_err in
+        let same : (step g (unmarked node) entry.event tt).state ≡ unmarked node = refusal_same g (unmarked node) tt entry.event f outcome in
+        let state : unmarked node ≡ next = sym same ∙ ap (λ (x : Stepped (Unit {0})). x.state) is_step in
+        let is : step g (unmarked node) entry.event tt ≡ record { state = unmarked node; outcome = Err f } =
+        ap (λ (x : NodeState (Unit {0})). record { state = x; outcome = (step g (unmarked node) entry.event tt).outcome }) same
+        ∙ ap (λ (o : Result (Reply (Unit {0})) StepFault). record { state = unmarked node; outcome = o }) outcome in
+        record {
+          steps = [];
+          to = p;
+          stands = inr (inl (unchanged f is_err (own_steps g (unmarked node) entry.event f own is)));
+          matches = still (Open next) _ (member, is_open, state) (quiet_after f is_err);
+        }
+
+    -- it wants memory, and stays open
+    wants : node.closed ≡ false → entry.outcome ≡ Err fault.NoMemory → Follows t p note (after_entry t b id entry (Open (unmarked node)))
+    wants is_open is_err = record {
+      steps = [];
+      to = p;
+      stands = inr (inl (unchanged fault.NoMemory is_err (inl (is_open, refl))));
+      matches = still (Open (unmarked node)) _ (member, is_open, refl) (quiet_after fault.NoMemory is_err);
+    }
+
+    -- a closed node answers so
+    shut : node.closed ≡ true → (floors : FloorMap) → node.floors ≡ floors → entry.outcome ≡ Err fault.Closed → Follows t p note (after_entry t b id entry (Shut floors))
+    shut is_shut floors has is_err = record {
+      steps = [];
+      to = p;
+      stands = inr (inl (unchanged fault.Closed is_err (closed_refuses g (unmarked node) tt entry.event is_shut)));
+      matches = still (Shut floors) _ (member, is_shut, has) (record { datagrams = m.network.datagrams; asks = m.network.asks; answers = m.network.answers; waiting = waits_dropped_here b.network.waiting p.world.waiting id m.network.waiting });
+    }
+
+    -- It closes at a purge: it did not make it, or it made it and what it answered is never delivered.
+    module _ (is_open : node.closed ≡ false) (f : StepFault) (closing : IsClosing f) (is_err : entry.outcome ≡ Err f) (key : List ℕ) (n : ℕ) (purges : purge_in g entry.event ≡ Some (key, n)) (heard : IsSent t b.network id entry.event) (proper : IsRoster t) where
+      abbrev flag : Bool
+      flag = nat_le n (floor kept key) && not (is_full node.floors key)
+
+      abbrev left : FloorMap
+      left = stored_by (unmarked node).floors key n kept
+
+      abbrev closed : NodeState (Unit {0})
+      closed = record { floors = left; copies = (unmarked node).copies; pending = []; next = node.next; closed = true }
+
+      closes : NodeStepsBy g (unmarked node) entry.event tt entry.outcome closed
+      closes =
+          subst (λ (o : Result (Reply (Unit {0})) StepFault). NodeStepsBy g (unmarked node) entry.event tt o closed) (sym is_err)
+          (closing_steps g (unmarked node) entry.event f closed closing
+          (is_open, subst (λ (o : Option (List ℕ × ℕ)). ClosesOn (unmarked node) o closed) (sym purges) record { closed = refl; pending = refl; floors = kept_or_raised flag node.floors key n }))
+
+      abbrev fault_step : Step
+      fault_step = event_step (world.Fault id) Nothing
+
+      abbrev faulted : Progress → Progress
+      faulted x = record { world = with_seat x.world id (closed_node (node_in x id)); place = x.place + 1; master = x.master }
+
+      fault_goes : (x : Progress) → x.world.master ≡ x.master.purges → Goes t x (fault_step ∷ []) x.master (faulted x)
+      fault_goes x purges_same = record {
+        run = ((faulted x).world, (tt, subst (λ (turns : Turn). Takes t x.place x.world turns Nothing (faulted x).world) (sym (ap (λ c. cond c (Ends Nothing (faulted x).world) (TurnRefused NoSuchPacket)) member)) (refl, refl)), refl);
+        place = refl;
+        master = refl;
+        purges = purges_same;
+      }
+
+      -- it did not
+      without : flag ≡ false → Follows t p note (after_entry t b id entry (Shut left))
+      without not_made =
+          let goes = fault_goes p (m.purges ∙ sym (ap (λ x. x.purges) m.master)) in
+          record {
+            steps = fault_step ∷ [];
+            to = faulted p;
+            stands = inr (inr (closed, refl, closes, inl (refl, goes)));
+            matches = record {
+              past = m.past ++ fault_step ∷ [];
+              at = place_goes t b p (fault_step ∷ []) (p.place + 1) m refl;
+              after = after_goes t b p (faulted p) (fault_step ∷ []) m goes.run;
+              nodes = each_place t b.posts p.world.seats id (Shut left) (closed_node node) (member, refl, sym (ap (λ c. cond c (raised node.floors key n) node.floors) not_made)) (λ i _. m.nodes i);
+              master = m.master;
+              purges = m.purges;
+              network = network_closed b.network p.world id (closed_node node) m.network;
+            };
+          }
+
+      -- it did
+      with_purge : flag ≡ true → Follows t p note (after_entry t b id entry (Shut left))
+      with_purge made =
+          let room : is_full node.floors key ≡ false = not_both_true (nat_le n (floor kept key)) (is_full node.floors key) made in
+          let how : Meets t p.world id entry.event = meets t proper p.world id member b.network m.network (unmarked node) refl entry.event heard (purge_reaches g (unmarked node) entry.event (key, n) purges) in
+          let meets_purge : purge_in g how.met ≡ Some (key, n) = sym (purge_unmarked g how.met) ∙ ap (purge_in g) how.event ∙ purges in
+          let purged : HasPurged node key n (r is_open entry.event how) = step_purges g node (p.place + 1) how.met key n is_open meets_purge room in
+          let taken : IsTaken t p id entry.event (Ok purged.reply) (these is_open entry.event how) (q is_open entry.event how) =
+          subst (λ (o : Result (Reply ℕ) StepFault). IsTaken t p id entry.event o (these is_open entry.event how) (q is_open entry.event how)) purged.outcome (is_taken is_open entry.event how) in
+          let goes = fault_goes (q is_open entry.event how) (m.purges ∙ sym (ap (λ x. x.purges) m.master)) in
+          let all : Run t p.place p.world (these is_open entry.event how ++ fault_step ∷ []) (faulted (q is_open entry.event how)).world =
+          runs_join t p.place (p.place + 2) p.world (q is_open entry.event how).world (faulted (q is_open entry.event how)).world (these is_open entry.event how) (fault_step ∷ []) refl (runs is_open entry.event how) goes.run in
+          let floors : (node_in (q is_open entry.event how) id).floors ≡ left =
+          ap (λ (x : NodeState ℕ). x.floors) (node_at-same p.world.seats id (r is_open entry.event how).state) ∙ purged.floors ∙ sym (ap (λ c. cond c (raised node.floors key n) node.floors) made) in
+          record {
+            steps = these is_open entry.event how ++ fault_step ∷ [];
+            to = faulted (q is_open entry.event how);
+            stands = inr (inr (closed, refl, closes, inr (these is_open entry.event how, q is_open entry.event how, purged.reply, taken, refl, goes)));
+            matches = record {
+              past = m.past ++ (these is_open entry.event how ++ fault_step ∷ []);
+              at = place_goes t b p (these is_open entry.event how ++ fault_step ∷ []) (p.place + 2 + 1) m (omega arith);
+              after = after_goes t b p (faulted (q is_open entry.event how)) (these is_open entry.event how ++ fault_step ∷ []) m all;
+              nodes = each_place t b.posts (q is_open entry.event how).world.seats id (Shut left) (closed_node (node_in (q is_open entry.event how) id)) (member, refl, floors) (λ i ne. subst (StandsIn t i (standing_at b.posts i)) (sym (node_at-other p.world.seats id i (r is_open entry.event how).state ne)) (m.nodes i));
+              master = m.master;
+              purges = m.purges;
+              network = network_closed b.network (q is_open entry.event how).world id _ (network_kept t b.network (now is_open entry.event how) id how.met how.serial (r is_open entry.event how).outcome (r is_open entry.event how).state (network_now m.network));
+            };
+          }
+
+      ends : Follows t p note (after_entry t b id entry (Shut left))
+      ends = elim (either flag) [ inl made ↦ with_purge made | inr not_made ↦ without not_made ]
+
+    -- what an entry of an open node comes to
+    module _ (proper : IsRoster t) (heard : IsSent t b.network id entry.event) (is_open : node.closed ≡ false) where
+      replied_by : (reply : Reply (Unit {0})) → entry.outcome ≡ Ok reply → Reaches (unmarked node) entry.event → (st : Standing) (result : Result Standing Cause) → result ≡ Ok st → StepsBy g (unmarked node) entry result → Follows t p note (after_entry t b id entry st)
+      replied_by reply is_ok reaches st result fine (inl (next, is_step, is)) =
+          subst (λ (x : Standing). Follows t p note (after_entry t b id entry x)) (ok_same (Open next) st result is fine)
+          (replied is_open (meets t proper p.world id member b.network m.network (unmarked node) refl entry.event heard reaches) next reply is_ok is_step)
+      replied_by reply is_ok reaches st result fine (inr (other, is)) = absurd (no_fault st OtherReply (sym fine ∙ is))
+
+      refused_by : (f : StepFault) → entry.outcome ≡ Err f → IsOwn f → (st : Standing) (result : Result Standing Cause) → result ≡ Ok st → StepsBy g (unmarked node) entry result → Follows t p note (after_entry t b id entry st)
+      refused_by f is_err own st result fine (inl (next, is_step, is)) =
+          subst (λ (x : Standing). Follows t p note (after_entry t b id entry x)) (ok_same (Open next) st result is fine) (refused is_open f own next is_err is_step)
+      refused_by f is_err own st result fine (inr (other, is)) = absurd (no_fault st OtherReply (sym fine ∙ is))
+
+      wanting_by : entry.outcome ≡ Err fault.NoMemory → (st : Standing) (o : Option (List ℕ × ℕ)) (c : Bool) → purge_in g entry.event ≡ o → is_closed ≡ c → st ≡ wanting (unmarked node) o c kept → Follows t p note (after_entry t b id entry st)
+      wanting_by is_err st (Some x) true purges ended is =
+          subst (λ (s : Standing). Follows t p note (after_entry t b id entry s)) (sym is) (ends is_open fault.NoMemory tt is_err x.0 x.1 purges heard proper)
+      wanting_by is_err st (Some x) false purges ended is = subst (λ (s : Standing). Follows t p note (after_entry t b id entry s)) (sym is) (wants is_open is_err)
+      wanting_by is_err st None c purges ended is = subst (λ (s : Standing). Follows t p note (after_entry t b id entry s)) (sym is) (wants is_open is_err)
+
+      failing_by : entry.outcome ≡ Err fault.StoreFault → (st : Standing) (o : Option (List ℕ × ℕ)) → purge_in g entry.event ≡ o → Ok st ≡ failing (unmarked node) o kept → Follows t p note (after_entry t b id entry st)
+      failing_by is_err st (Some x) purges is =
+          subst (λ (s : Standing). Follows t p note (after_entry t b id entry s)) (ok_same _ st _ refl (sym is)) (ends is_open fault.StoreFault tt is_err x.0 x.1 purges heard proper)
+      failing_by is_err st None purges is = absurd (no_fault st OtherReply is)
+
+      open_by : (o : Result (Reply (Unit {0})) StepFault) → entry.outcome ≡ o → (st : Standing) (result : Result Standing Cause) → result ≡ Ok st → OpenStepsBy g (unmarked node) entry is_closed kept o result → Follows t p note (after_entry t b id entry st)
+      open_by (Ok reply) is_ok st result fine (inl (reaches, steps)) = replied_by reply is_ok reaches st result fine steps
+      open_by (Ok reply) is_ok st result fine (inr (none, is)) = absurd (no_fault st OtherReply (sym fine ∙ is))
+      open_by (Err fault.NoMemory) is_err st result fine is = wanting_by is_err st (purge_in g entry.event) is_closed refl refl (ok_same st _ result fine is)
+      open_by (Err fault.StoreFault) is_err st result fine is = failing_by is_err st (purge_in g entry.event) refl (sym fine ∙ is)
+      open_by (Err fault.Closed) is_err st result fine steps = refused_by fault.Closed is_err tt st result fine steps
+      open_by (Err fault.UnknownSerial) is_err st result fine steps = refused_by fault.UnknownSerial is_err tt st result fine steps
+      open_by (Err fault.Busy) is_err st result fine steps = refused_by fault.Busy is_err tt st result fine steps
+
+    -- what an entry of a closed node comes to
+    shut_by_outcome : node.closed ≡ true → (floors : FloorMap) → node.floors ≡ floors → (o : Result (Reply (Unit {0})) StepFault) → entry.outcome ≡ o → (st : Standing) → Ok st ≡ shut_by floors o → Follows t p note (after_entry t b id entry st)
+    shut_by_outcome is_shut floors has (Err fault.Closed) is_err st is =
+        subst (λ (s : Standing). Follows t p note (after_entry t b id entry s)) (ok_same (Shut floors) st _ refl (sym is)) (shut is_shut floors has is_err)
+    shut_by_outcome is_shut floors has (Ok reply) is_ok st is = absurd (no_fault st OtherReply is)
+    shut_by_outcome is_shut floors has (Err fault.NoMemory) is_err st is = absurd (no_fault st OtherReply is)
+    shut_by_outcome is_shut floors has (Err fault.StoreFault) is_err st is = absurd (no_fault st OtherReply is)
+    shut_by_outcome is_shut floors has (Err fault.UnknownSerial) is_err st is = absurd (no_fault st OtherReply is)
+    shut_by_outcome is_shut floors has (Err fault.Busy) is_err st is = absurd (no_fault st OtherReply is)
+
+module _ (t : Tables) (proper : IsRoster t) (b : Board) (p : Progress) (m : Matches t b p) (id : ℕ) (entry : NodeEntry) (is_closed : Bool) (kept : FloorMap) where
+  stands_by : (now_so : Standing) → standing_at b.posts id ≡ now_so → StandsIn t id now_so (node_in p id) → (is_astray now_so ≡ false → IsSent t b.network id entry.event) →
+      (st : Standing) (result : Result Standing Cause) → result ≡ Ok st → StepsSo (setting t id) now_so entry is_closed kept result → Follows t p (Steps id entry is_closed kept) (after_entry t b id entry st)
+  stands_by New so stands heard st result fine is = absurd (no_fault st OtherReply (sym fine ∙ is))
+  stands_by Astray so stands heard st result fine is = absurd stands
+  stands_by (Open s) so (member, is_open, same) heard st result fine steps =
+      open_by t b p m id member entry is_closed kept proper (heard refl) is_open entry.outcome refl st result fine
+      (subst (λ (x : NodeState (Unit {0})). OpenStepsBy (setting t id) x entry is_closed kept entry.outcome result) (sym same) steps)
+  stands_by (Shut floors) so (member, is_shut, has) heard st result fine is = shut_by_outcome t b p m id member entry is_closed kept is_shut floors has entry.outcome refl st (sym fine ∙ is)
+
+  fine_by : (r : Result Standing Cause) (next : Board) → Fine next ≡ judged t b id entry r → (st : Standing) × (r ≡ Ok st) × (next ≡ after_entry t b id entry st)
+  fine_by (Ok st) next is = (st, refl, same_board next (after_entry t b id entry st) is)
+  fine_by (Err cause) next is = absurd (not_flawed next cause is)
+
+  -- an entry that may be so stands for events of the world
+  pub entry_follows : (next : Board) → JudgesEntry t b id entry is_closed kept (Fine next) → Follows t p (Steps id entry is_closed kept) next
+  entry_follows next (inl (heard, r, steps, is)) =
+      let (st, fine, same) = fine_by r next is in
+      subst (Follows t p (Steps id entry is_closed kept)) (sym same)
+      (stands_by (standing_at b.posts id) refl (m.nodes id) heard st r fine steps)
+  entry_follows next (inr (unheard, is)) = absurd (not_flawed next NotSent is)

@@ -1,0 +1,16 @@
+pub mod Running
+pub mod Refusals
+pub mod Asking
+pub mod Lists
+pub mod Matching
+pub mod Addresses
+pub mod Meeting
+pub mod Purging
+pub mod Following
+pub mod Entries
+pub mod Openings
+pub mod Calling
+pub mod Flawless
+pub mod Taking
+pub mod Tracks
+pub mod Rising

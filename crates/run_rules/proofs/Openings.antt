@@ -1,0 +1,119 @@
+-- A record that opens or closes as it may stands for events of the world.
+use Rattle.std.proofs.Common.{◌≡◌, ℕ, ◌+◌, Bool, true, false, cond, [], ◌∷◌, ◌++◌, refl, sym, ◌∙◌, ap, inl, inr, nat_eq, subst}
+use Rattle.floor_rules.specs.Floors.{FloorMap}
+use Rattle.roster_tables.specs.declared.plain.Tables.{Tables}
+use Rattle.roster.specs.Lookups.{is_member}
+use Rattle.node_rules.specs.declared.state.NodeState.{NodeState}
+use Rattle.node_rules.specs.State.{opened}
+use Rattle.world_rules.specs.declared.event.WorldEvent.TheVariants as world
+use Rattle.world_rules.specs.declared.outcome.WorldFault.TheVariants.{NoSuchPacket}
+use Rattle.world_rules.specs.World.{World}
+use Rattle.world_rules.specs.Turn.{Nothing, Turn, Ends, Refused, with_seat}
+use Rattle.world_rules.specs.Run.{Step, Takes}
+use Rattle.run_rules.specs.declared.verdict.Cause.TheVariants.{OtherState}
+use Rattle.run_rules.specs.Notes.{Opens, Closes}
+use Rattle.run_rules.specs.Sent.{Network, without_waiting}
+use Rattle.run_rules.specs.Board.{Standing, New, Open, Shut, Astray, Board, standing_at, with_node, with_network}
+use Rattle.run_rules.specs.Judging.{Fine, OpensAs, CanOpen, standing_in, opened_board, ClosesAs, JudgesClosing}
+use Rattle.run_rules.specs.Recorded.{Progress, Goes, event_step, unmarked, node_in, IsKept}
+use Rattle.run_rules.proofs.Matching.{NetworkMatches, waits_dropped_here}
+use Rattle.run_rules.proofs.Following.{StandsIn, Matches, each_place, each_post, after_goes, place_goes}
+use Rattle.run_rules.proofs.Entries.{Follows, network_closed, same_board, not_flawed}
+
+-- who waits is forgotten, or not
+opened_network : (n : Network) (w : World) (id : ℕ) (c : Bool) → NetworkMatches n w → NetworkMatches (cond c (without_waiting n id) n) w
+opened_network n w id true h = record { datagrams = h.datagrams; asks = h.asks; answers = h.answers; waiting = waits_dropped_here n.waiting w.waiting id h.waiting }
+opened_network n w id false h = h
+
+module _ (t : Tables) (b : Board) (p : Progress) (m : Matches t b p) (id : ℕ) (state : NodeState (Unit {0})) (member : is_member t id ≡ true) where
+  abbrev node : NodeState ℕ
+  node = node_in p id
+
+  abbrev after : Standing → Board
+  after st = with_network (with_node b id st) (cond (nat_eq state.next 1) (without_waiting b.network id) b.network)
+
+  -- the node goes on as it stands
+  goes_on : (st : Standing) → StandsIn t id st node → IsKept (unmarked node) state → Follows t p (Opens id state) (after st)
+  goes_on st stands kept = record {
+    steps = [];
+    to = p;
+    stands = (member, inl (refl, refl, kept));
+    matches = record {
+      past = m.past;
+      at = m.at;
+      after = m.after;
+      nodes = each_post t b.posts p.world.seats id st stands m.nodes;
+      master = m.master;
+      purges = m.purges;
+      network = opened_network b.network p.world id (nat_eq state.next 1) m.network;
+    };
+  }
+
+  abbrev again : Progress
+  again = record { world = with_seat p.world id (opened node.floors); place = p.place + 1; master = p.master }
+
+  abbrev restart : Step
+  restart = event_step (world.Restart id) Nothing
+
+  goes : Goes t p (restart ∷ []) p.master again
+  goes = record {
+    run = (again.world, (tt, subst (λ (turns : Turn). Takes t p.place p.world turns Nothing again.world) (sym (ap (λ c. cond c (Ends Nothing again.world) (Refused NoSuchPacket)) member)) (refl, refl)), refl);
+    place = refl;
+    master = refl;
+    purges = m.purges ∙ sym (ap (λ x. x.purges) m.master);
+  }
+
+  -- the node starts again with its floors
+  starts_again : (floors : FloorMap) → node.floors ≡ floors → state ≡ opened floors → Follows t p (Opens id state) (after (Open state))
+  starts_again floors has is =
+      let fresh : state ≡ opened node.floors = is ∙ ap (λ (f : FloorMap). opened f) (sym has) in
+      let first : nat_eq state.next 1 ≡ true = ap (λ (s : NodeState (Unit {0})). nat_eq s.next 1) is in
+      record {
+        steps = restart ∷ [];
+        to = again;
+        stands = (member, inr (refl, goes, fresh));
+        matches = record {
+          past = m.past ++ restart ∷ [];
+          at = place_goes t b p (restart ∷ []) (p.place + 1) m refl;
+          after = after_goes t b p again (restart ∷ []) m goes.run;
+          nodes = each_place t b.posts p.world.seats id (Open state) (opened node.floors) (member, refl, sym fresh) (λ i _. m.nodes i);
+          master = m.master;
+          purges = m.purges;
+          network =
+              subst (λ (c : Bool). NetworkMatches (cond c (without_waiting b.network id) b.network) again.world) (sym first)
+              (network_closed b.network p.world id (opened node.floors) m.network);
+        };
+      }
+
+  opens_by : (now_so : Standing) → StandsIn t id now_so node → OpensAs now_so state → Follows t p (Opens id state) (after (standing_in now_so state))
+  opens_by New stands is =
+      let kept : unmarked node ≡ state = ap unmarked stands ∙ sym is in
+      goes_on (Open state) (member, ap (λ (x : NodeState ℕ). x.closed) stands, kept) (inl (sym kept))
+  opens_by (Open s) (mine, is_open, same) (inl is) = goes_on (Open state) (member, is_open, same ∙ sym is) (inl (is ∙ sym same))
+  opens_by (Open s) (mine, is_open, same) (inr is) = starts_again s.floors (ap (λ (x : NodeState (Unit {0})). x.floors) same) is
+  opens_by (Shut floors) (mine, is_shut, has) (inl (closed, none)) =
+      subst (λ (c : Bool). Follows t p (Opens id state) (after (cond c (Shut floors) (Open state)))) (sym closed)
+      (goes_on (Shut floors) (member, is_shut, has) (inr (is_shut, closed, none)))
+  opens_by (Shut floors) (mine, is_shut, has) (inr is) =
+      subst (λ (c : Bool). Follows t p (Opens id state) (after (cond c (Shut floors) (Open state)))) (sym (ap (λ (x : NodeState (Unit {0})). x.closed) is))
+      (starts_again floors has is)
+  opens_by Astray stands is = absurd stands
+
+-- a node that opens as it may, which is one of a roster's members
+pub opening_follows : (t : Tables) (b : Board) (p : Progress) → Matches t b p → (id : ℕ) (state : NodeState (Unit {0})) (next : Board) → CanOpen t b id state → next ≡ opened_board b id state → Follows t p (Opens id state) next
+opening_follows t b p m id state next (member, opens) is = subst (Follows t p (Opens id state)) (sym is) (opens_by t b p m id state member (standing_at b.posts id) (m.nodes id) opens)
+
+closes_by : (t : Tables) (id : ℕ) (its : NodeState ℕ) (state : NodeState (Unit {0})) (now_so : Standing) → StandsIn t id now_so its → ClosesAs now_so state → IsKept (unmarked its) state
+closes_by t id its state New stands closes = absurd closes
+closes_by t id its state (Open s) (mine, is_open, same) is = inl (is ∙ sym same)
+closes_by t id its state (Shut floors) (mine, is_shut, has) (closed, none) = inr (is_shut, closed, none)
+closes_by t id its state Astray stands closes = absurd closes
+
+pub closing_follows : (t : Tables) (b : Board) (p : Progress) → Matches t b p → (id place : ℕ) (state : NodeState (Unit {0})) (next : Board) → JudgesClosing b id state (Fine next) → Follows t p (Closes id place state) next
+closing_follows t b p m id place state next (inl (closes, is)) = record {
+  steps = [];
+  to = p;
+  stands = (refl, refl, closes_by t id (node_in p id) state (standing_at b.posts id) (m.nodes id) closes);
+  matches = subst (λ (x : Board). Matches t x p) (sym (same_board next b is)) m;
+}
+closing_follows t b p m id place state next (inr (other, is)) = absurd (not_flawed next OtherState is)

@@ -1,0 +1,205 @@
+-- What a note comes to where a run stands: it may be so, or it has a flaw.
+use Rattle.std.specs.Prelude.{◌≡◌, ◌≢◌, ◌⊎◌, ℕ, Bool, true, false, nat_le, ◌==◌, not, ◌&&◌, ◌||◌, List, [], find, Option, Some, None, MatchOption, Result, Ok, Err, if◌then◌else◌}
+use Rattle.std.specs.FinMap.{empty}
+use Rattle.url_key.specs.Key.{IsKey}
+use Rattle.floor_rules.specs.Floors.{FloorMap, floor, raised}
+use Rattle.roster_tables.specs.Ranges.{is_foreign_id}
+use Rattle.roster_tables.specs.declared.plain.Tables.{Tables}
+use Rattle.roster.specs.Lookups.{is_member}
+use Rattle.node_rules.specs.declared.state.Fetch.{Fetch}
+use Rattle.node_rules.specs.declared.state.Fetch.TheVariants.{AtPeer, AtOrigin}
+use Rattle.node_rules.specs.declared.state.NodeState.{NodeState}
+use Rattle.node_rules.specs.declared.event.Event.{Event}
+use Rattle.node_rules.specs.declared.event.Event.TheVariants as event
+use Rattle.node_rules.specs.declared.reply.Reply.{Reply}
+use Rattle.node_rules.specs.declared.reply.StepFault.{StepFault}
+use Rattle.node_rules.specs.declared.reply.StepFault.TheVariants as fault
+use Rattle.node_rules.specs.State.{Setting, opened, fetch_serial}
+use Rattle.node_rules.specs.Relation.{purge_in}
+use Rattle.node_rules.specs.Datagrams.{is_full}
+use Rattle.node_rules.specs.Step.{step}
+use Rattle.node_book.specs.declared.book.NodeEntry.{NodeEntry}
+use Rattle.purge_rules.specs.declared.calls.MasterCall.{MasterCall}
+use Rattle.purge_rules.specs.declared.calls.MasterCall.TheVariants as call
+use Rattle.purge_rules.specs.declared.calls.MasterAnswer.{MasterAnswer}
+use Rattle.purge_rules.specs.declared.fault.MasterFault.{MasterFault}
+use Rattle.purge_rules.specs.declared.fault.MasterFault.TheVariants as master_fault
+use Rattle.purge_rules.specs.Members.{members_of}
+use Rattle.purge_rules.specs.Calls.{MasterState, called, is_written, is_due, closing}
+use Rattle.purge_master.specs.declared.book.MasterEntry.{MasterEntry}
+use Rattle.world_rules.specs.Hierarchy.{setting}
+use Rattle.run_rules.specs.declared.verdict.Cause.{Cause}
+use Rattle.run_rules.specs.declared.verdict.Cause.TheVariants.{NotSent, OtherReply, OtherState}
+use Rattle.run_rules.specs.Notes.{Note, Opens, Steps, Closes, Calls}
+use Rattle.run_rules.specs.Sent.{Network, reply_of, with_reply, without_waiting, with_clears, IsSent, IsCallSent}
+use Rattle.run_rules.specs.Board.{Standing, New, Open, Shut, Astray, Board, standing_at, with_node, with_network, with_master}
+
+pub data Judgement : Type 0 where
+  -- the run stands so now
+  Fine : (board : Board) → Judgement
+  Flawed : (cause : Cause) → Judgement
+
+-- A record opens
+
+-- as the node stands, or as it starts again with its floors
+abbrev pub OpensAs : Standing → NodeState (Unit {0}) → Type 0
+OpensAs New state = state ≡ opened empty
+OpensAs (Open s) state = (state ≡ s) ⊎ (state ≡ opened s.floors)
+OpensAs (Shut floors) state = ((state.closed ≡ true) × (state.pending ≡ [])) ⊎ (state ≡ opened floors)
+OpensAs Astray state = ⊥
+
+-- how it stands then: a closed state is a closed node's
+abbrev pub standing_in : Standing → NodeState (Unit {0}) → Standing
+standing_in (Shut floors) state = if state.closed then Shut floors else Open state
+standing_in standing state = Open state
+
+-- A node that has taken no block of serials, as one that starts again, has no ask that waits.
+abbrev pub opened_board : Board → ℕ → NodeState (Unit {0}) → Board
+opened_board b id state =
+    with_network (with_node b id (standing_in (standing_at b.posts id) state)) (if state.next == 1 then without_waiting b.network id else b.network)
+
+abbrev pub CanOpen : Tables → Board → ℕ → NodeState (Unit {0}) → Type 0
+CanOpen roster b id state = (is_member roster id ≡ true) × OpensAs (standing_at b.posts id) state
+
+-- what opens otherwise is judged as its record closes
+abbrev pub JudgesOpening : Tables → Board → ℕ → NodeState (Unit {0}) → Judgement → Type 0
+JudgesOpening roster b id state j =
+    (CanOpen roster b id state × (j ≡ Fine (opened_board b id state)))
+    ⊎ ((CanOpen roster b id state → ⊥) × (j ≡ Fine (with_node b id Astray)))
+
+-- A record closes
+
+abbrev pub ClosesAs : Standing → NodeState (Unit {0}) → Type 0
+ClosesAs New state = ⊥
+ClosesAs (Open s) state = state ≡ s
+ClosesAs (Shut floors) state = (state.closed ≡ true) × (state.pending ≡ [])
+ClosesAs Astray state = ⊥
+
+abbrev pub JudgesClosing : Board → ℕ → NodeState (Unit {0}) → Judgement → Type 0
+JudgesClosing b id state j =
+    (ClosesAs (standing_at b.posts id) state × (j ≡ Fine b))
+    ⊎ ((ClosesAs (standing_at b.posts id) state → ⊥) × (j ≡ Flawed OtherState))
+
+-- An entry of a node
+
+-- The floors that are stored where a purge of this key and number has failed, as those tell with which the node opens again. Where no more keys may have floors, none is.
+abbrev pub stored_by : FloorMap → List ℕ → ℕ → FloorMap → FloorMap
+stored_by floors key number kept = if nat_le number (floor kept key) && not (is_full floors key) then raised floors key number else floors
+
+-- A step that wanted memory changes nothing; but at a purge it may have closed the node.
+abbrev pub wanting : NodeState (Unit {0}) → Option (List ℕ × ℕ) → Bool → FloorMap → Standing
+wanting s (Some x) true kept = Shut (stored_by s.floors x.0 x.1 kept)
+wanting s _ _ kept = Open s
+
+-- A store of floors fails only at a purge, and closes the node.
+abbrev pub failing : NodeState (Unit {0}) → Option (List ℕ × ℕ) → FloorMap → Result Standing Cause
+failing s (Some x) kept = Ok (Shut (stored_by s.floors x.0 x.1 kept))
+failing s None kept = Err OtherReply
+
+-- the read of an origin, or the fetch from a foreign cache, that is pending under this serial, for this key
+abbrev pub is_read : Fetch (Unit {0}) → Bool
+is_read (AtOrigin stamp asked mark) = true
+is_read _ = false
+
+abbrev pub is_foreign_fetch : ℕ → Fetch (Unit {0}) → Bool
+is_foreign_fetch peer (AtPeer at asked) = is_foreign_id peer && (at == peer)
+is_foreign_fetch peer _ = false
+
+abbrev pub IsPending : NodeState (Unit {0}) → ℕ → List ℕ → (Fetch (Unit {0}) → Bool) → Type 0
+IsPending s serial key is_such = MatchOption (find (λ p. fetch_serial p == serial) s.pending) ⊥ (λ p. (p.ask.key ≡ key) × (is_such p.fetch ≡ true))
+
+-- what comes from outside comes to a read or a fetch that is pending
+abbrev pub Reaches : NodeState (Unit {0}) → Event (Unit {0}) → Type 0
+Reaches s (event.OriginAnswer serial key answer now) = IsPending s serial key is_read
+Reaches s (event.ForeignAnswer serial peer key answer tag now) = IsPending s serial key (is_foreign_fetch peer)
+Reaches s _ = Unit {0}
+
+-- the step that is defined has this outcome
+abbrev pub IsStep : Setting → NodeState (Unit {0}) → NodeEntry → NodeState (Unit {0}) → Type 0
+IsStep g s e next = step g s e.event tt ≡ record { state = next; outcome = e.outcome }
+
+abbrev pub StepsBy : Setting → NodeState (Unit {0}) → NodeEntry → Result Standing Cause → Type 0
+StepsBy g s e r =
+    ((next : NodeState (Unit {0})) × IsStep g s e next × (r ≡ Ok (Open next)))
+    ⊎ (((step g s e.event tt).outcome ≢ e.outcome) × (r ≡ Err OtherReply))
+
+abbrev pub OpenStepsBy : Setting → NodeState (Unit {0}) → NodeEntry → Bool → FloorMap → Result (Reply (Unit {0})) StepFault → Result Standing Cause → Type 0
+OpenStepsBy g s e is_closed kept (Err fault.NoMemory) r = r ≡ Ok (wanting s (purge_in g e.event) is_closed kept)
+OpenStepsBy g s e is_closed kept (Err fault.StoreFault) r = r ≡ failing s (purge_in g e.event) kept
+OpenStepsBy g s e is_closed kept (Err f) r = StepsBy g s e r
+OpenStepsBy g s e is_closed kept (Ok reply) r = (Reaches s e.event × StepsBy g s e r) ⊎ ((Reaches s e.event → ⊥) × (r ≡ Err OtherReply))
+
+-- a closed node answers Closed
+abbrev pub shut_by : FloorMap → Result (Reply (Unit {0})) StepFault → Result Standing Cause
+shut_by floors (Err fault.Closed) = Ok (Shut floors)
+shut_by floors _ = Err OtherReply
+
+abbrev pub StepsSo : Setting → Standing → NodeEntry → Bool → FloorMap → Result Standing Cause → Type 0
+StepsSo g New e is_closed kept r = r ≡ Err OtherReply
+StepsSo g (Open s) e is_closed kept r = OpenStepsBy g s e is_closed kept e.outcome r
+StepsSo g (Shut floors) e is_closed kept r = r ≡ shut_by floors e.outcome
+StepsSo g Astray e is_closed kept r = r ≡ Ok Astray
+
+-- what the entry sends is sent; at a node that is closed nothing waits
+abbrev pub network_after : Tables → Network → ℕ → NodeEntry → Standing → Network
+network_after roster n id e (Shut floors) = without_waiting n id
+network_after roster n id e standing = with_reply roster n id e.event (reply_of e.outcome)
+
+-- the node stands so now
+abbrev pub after_entry : Tables → Board → ℕ → NodeEntry → Standing → Board
+after_entry roster b id e standing = with_network (with_node b id standing) (network_after roster b.network id e standing)
+
+abbrev pub judged : Tables → Board → ℕ → NodeEntry → Result Standing Cause → Judgement
+judged roster b id e (Ok standing) = Fine (after_entry roster b id e standing)
+judged roster b id e (Err cause) = Flawed cause
+
+abbrev pub is_astray : Standing → Bool
+is_astray Astray = true
+is_astray _ = false
+
+-- what comes from a member or from the master was sent before; of a node that is astray that is not asked
+abbrev pub IsHeard : Tables → Board → ℕ → Event (Unit {0}) → Type 0
+IsHeard roster b id e = is_astray (standing_at b.posts id) ≡ false → IsSent roster b.network id e
+
+abbrev pub JudgesEntry : Tables → Board → ℕ → NodeEntry → Bool → FloorMap → Judgement → Type 0
+JudgesEntry roster b id e is_closed kept j =
+    (IsHeard roster b id e.event × (r : Result Standing Cause) × StepsSo (setting roster id) (standing_at b.posts id) e is_closed kept r × (j ≡ judged roster b id e r))
+    ⊎ ((IsHeard roster b id e.event → ⊥) × (j ≡ Flawed NotSent))
+
+-- An entry of the master
+
+-- A call that wanted memory changes nothing; but one that writes may have closed the master.
+abbrev pub left_wanting : MasterState → Bool → Bool → MasterState
+left_wanting m true true = closing m
+left_wanting m _ _ = m
+
+abbrev pub CallsBy : List ℕ → MasterState → MasterEntry → Bool → Result MasterAnswer MasterFault → MasterState → Type 0
+CallsBy members m e is_closed (Err master_fault.NoMemory) next =
+    (m.closed ≡ false) × ((is_written members m.purges e.call || is_due e.call) ≡ true) × (next ≡ left_wanting m (is_written members m.purges e.call) is_closed)
+CallsBy members m e is_closed (Err master_fault.StoreFault) next = (m.closed ≡ false) × (is_written members m.purges e.call ≡ true) × (next ≡ closing m)
+CallsBy members m e is_closed answer next = called members m e.call ≡ record { state = next; outcome = answer }
+
+abbrev pub CallsSo : Tables → MasterState → MasterEntry → Bool → MasterState → Type 0
+CallsSo roster m e is_closed next = CallsBy (members_of roster) m e is_closed e.answer next
+
+abbrev pub after_call : Tables → Board → MasterEntry → MasterState → Board
+after_call roster b e m = with_network (with_master b m) (with_clears roster b.network e.call e.answer)
+
+-- what is purged is the key of a URL
+abbrev pub IsOfKey : MasterCall → Type 0
+IsOfKey (call.Issue key) = IsKey key
+IsOfKey _ = Unit {0}
+
+abbrev pub JudgesCall : Tables → Board → MasterEntry → Bool → Judgement → Type 0
+JudgesCall roster b e is_closed j =
+    (IsCallSent roster b.network e.call × IsOfKey e.call × (next : MasterState) × CallsSo roster b.master e is_closed next × (j ≡ Fine (after_call roster b e next)))
+    ⊎ (IsCallSent roster b.network e.call × ((next : MasterState) → CallsSo roster b.master e is_closed next → ⊥) × (j ≡ Flawed OtherReply))
+    ⊎ ((IsCallSent roster b.network e.call → ⊥) × (j ≡ Flawed NotSent))
+
+-- All notes
+
+abbrev pub Judges : Tables → Board → Note → Judgement → Type 0
+Judges roster b (Opens id state) j = JudgesOpening roster b id state j
+Judges roster b (Steps id e is_closed kept) j = JudgesEntry roster b id e is_closed kept j
+Judges roster b (Closes id place state) j = JudgesClosing b id state j
+Judges roster b (Calls e is_closed) j = JudgesCall roster b e is_closed j

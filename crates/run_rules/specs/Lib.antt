@@ -1,0 +1,6 @@
+pub mod Notes
+pub mod Sent
+pub mod Board
+pub mod Judging
+pub mod Verdict
+pub mod Recorded

@@ -1,0 +1,177 @@
+-- What is kept of a run: the members' records and the master's entries, each cut into notes, and the one order of all notes.
+use Rattle.std.specs.Prelude.{ℕ, ◌+◌, Bool, true, false, not, ◌==◌, nat_le, nat_lt, List, [], ◌∷◌, ◌++◌, map, filter, length, option_map, Option, Some, None, Result, Err, if◌then◌else◌}
+use Rattle.std.specs.List.{flat_map, filter_map}
+use Rattle.floor_rules.specs.Floors.{FloorMap}
+use Rattle.node_rules.specs.declared.state.NodeState.{NodeState}
+use Rattle.node_rules.specs.declared.reply.Reply.{Reply}
+use Rattle.node_rules.specs.declared.reply.StepFault.{StepFault}
+use Rattle.node_rules.specs.declared.reply.StepFault.TheVariants as step_fault
+use Rattle.purge_rules.specs.declared.calls.MasterCall.{MasterCall}
+use Rattle.purge_rules.specs.declared.calls.MasterCall.TheVariants as call
+use Rattle.purge_rules.specs.declared.calls.MasterAnswer.{MasterAnswer}
+use Rattle.purge_rules.specs.declared.fault.MasterFault.{MasterFault}
+use Rattle.purge_rules.specs.declared.fault.MasterFault.TheVariants as master_fault
+use Rattle.node_book.specs.declared.book.NodeEntry.{NodeEntry}
+use Rattle.node_book.specs.declared.record.Record.{Record}
+use Rattle.purge_master.specs.declared.book.MasterEntry.{MasterEntry}
+
+pub data Note : Type 0 where
+  -- a member's record opens in this state
+  Opens : (node : ℕ) (state : NodeState (Unit {0})) → Note
+  -- It has this entry. What its records say next tells whether the node is closed behind it, and with which floors it opens again then.
+  Steps : (node : ℕ) (entry : NodeEntry) (is_closed : Bool) (kept : FloorMap) → Note
+  -- it closes in this state; the place is that of its last entry, 0 where it has none
+  Closes : (node : ℕ) (place : ℕ) (state : NodeState (Unit {0})) → Note
+  -- The master's list has this entry. What it says next tells whether the master is closed behind it.
+  Calls : (entry : MasterEntry) (is_closed : Bool) → Note
+
+-- A member's records
+
+abbrev pub is_closed_answer : Result (Reply (Unit {0})) StepFault → Bool
+is_closed_answer (Err step_fault.Closed) = true
+is_closed_answer _ = false
+
+-- whether a node is closed whose record goes on so, and closes so
+abbrev pub is_closed_before : List NodeEntry → Bool → Bool
+is_closed_before [] closing = closing
+is_closed_before (e ∷ es) closing = is_closed_answer e.outcome
+
+abbrev pub steps_of : ℕ → Bool → FloorMap → List NodeEntry → List Note
+steps_of id closing kept [] = []
+steps_of id closing kept (e ∷ es) = Steps id e (is_closed_before es closing) kept ∷ steps_of id closing kept es
+
+-- the place of the last entry, 0 where there is none
+abbrev pub last_place : ℕ → List NodeEntry → ℕ
+last_place place [] = place
+last_place place (e ∷ es) = last_place e.place es
+
+-- the floors of the next record that opens with an open node, or else these
+abbrev pub kept_by : FloorMap → List Record → FloorMap
+kept_by floors [] = floors
+kept_by floors (r ∷ rs) = if r.opening.closed then kept_by floors rs else r.opening.floors
+
+-- the notes of a record, which these follow
+abbrev pub notes_of : Record → List Record → List Note
+notes_of r rs =
+    Opens r.node r.opening
+    ∷ steps_of r.node r.closing.closed (kept_by r.closing.floors rs) r.entries
+    ++ Closes r.node (last_place 0 r.entries) r.closing ∷ []
+
+-- those of a node's records
+abbrev pub notes_of_all : List Record → List Note
+notes_of_all [] = []
+notes_of_all (r ∷ rs) = notes_of r rs ++ notes_of_all rs
+
+-- The master's list
+
+abbrev pub is_status : MasterCall → Bool
+is_status (call.Status number) = true
+is_status _ = false
+
+abbrev pub is_shut_answer : Result MasterAnswer MasterFault → Bool
+is_shut_answer (Err master_fault.Closed) = true
+is_shut_answer _ = false
+
+abbrev pub is_shut_by : Bool → Result MasterAnswer MasterFault → Bool → Bool
+is_shut_by true answer later = later
+is_shut_by false answer later = is_shut_answer answer
+
+-- whether a master is closed whose list goes on so: it still tells how far purges are, but answers nothing else
+abbrev pub is_shut_before : List MasterEntry → Bool
+is_shut_before [] = false
+is_shut_before (e ∷ es) = is_shut_by (is_status e.call) e.answer (is_shut_before es)
+
+abbrev pub calls_of : List MasterEntry → List Note
+calls_of [] = []
+calls_of (e ∷ es) = Calls e (is_shut_before es) ∷ calls_of es
+
+-- Tracks
+
+abbrev pub is_of : ℕ → Record → Bool
+is_of id r = r.node == id
+
+-- the nodes that have records, in the order in which they first come
+abbrev pub nodes_in : List Record → List ℕ
+nodes_in [] = []
+nodes_in (r ∷ rs) = r.node ∷ filter (λ id. not (id == r.node)) (nodes_in rs)
+
+-- A track is the notes of one node, or of the master, in the order in which they were handed in.
+abbrev pub tracks_of : List Record → List MasterEntry → List (List Note)
+tracks_of records entries = map (λ id. notes_of_all (filter (is_of id) records)) (nodes_in records) ++ calls_of entries ∷ []
+
+-- the place of a note; an opening and a closing have none
+abbrev pub place_in : Note → Option ℕ
+place_in (Opens node state) = None
+place_in (Steps node entry is_closed kept) = Some entry.place
+place_in (Closes node place state) = None
+place_in (Calls entry is_closed) = Some entry.place
+
+-- the places of a track
+abbrev pub places_in : List Note → List ℕ
+places_in track = filter_map place_in track
+
+-- the places that are not above the one before
+abbrev pub falls_from : ℕ → List ℕ → List ℕ
+falls_from last [] = []
+falls_from last (place ∷ places) = if nat_lt last place then falls_from place places else place ∷ falls_from place places
+
+abbrev pub falls : List ℕ → List ℕ
+falls [] = []
+falls (place ∷ places) = falls_from place places
+
+-- the least of these, if there is one
+abbrev pub lesser : ℕ → Option ℕ → ℕ
+lesser a None = a
+lesser a (Some b) = if nat_le a b then a else b
+
+abbrev pub least : List ℕ → Option ℕ
+least [] = None
+least (a ∷ others) = Some (lesser a (least others))
+
+-- the least place that is not above the one before it in its track
+abbrev pub least_fall : List (List Note) → Option ℕ
+least_fall tracks = least (flat_map (λ track. falls (places_in track)) tracks)
+
+-- Which note comes next: an opening or a closing at once, else the entry of the least place; of several the one of the first track.
+
+-- the turn of a note: 0 is at once
+abbrev pub turn_by : Option ℕ → ℕ
+turn_by None = 0
+turn_by (Some place) = place + 1
+
+-- the turn of the first note of a track, if there is one
+abbrev pub turn_of : List Note → Option ℕ
+turn_of [] = None
+turn_of (note ∷ notes) = Some (turn_by (place_in note))
+
+-- the turns of all tracks
+abbrev pub turns_of : List (List Note) → List ℕ
+turns_of tracks = filter_map turn_of tracks
+
+-- a note, and the tracks without it
+pub record Taken : Type 0 where
+  pub note : Note
+  pub rest : List (List Note)
+
+-- the first note whose turn this is
+abbrev pub take_from : ℕ → List Note → List (List Note) → Option Taken → Option Taken
+take_from turn [] tracks later = option_map (λ t. record { note = t.note; rest = [] ∷ t.rest }) later
+take_from turn (note ∷ notes) tracks later =
+    if turn_by (place_in note) == turn then Some record { note = note; rest = notes ∷ tracks }
+    else option_map (λ t. record { note = t.note; rest = (note ∷ notes) ∷ t.rest }) later
+
+abbrev pub take_at : ℕ → List (List Note) → Option Taken
+take_at turn [] = None
+take_at turn (track ∷ tracks) = take_from turn track tracks (take_at turn tracks)
+
+abbrev pub take_by : List (List Note) → Option ℕ → Option Taken
+take_by tracks None = None
+take_by tracks (Some turn) = take_at turn tracks
+
+-- the note that comes next, if there is one
+abbrev pub next_note : List (List Note) → Option Taken
+next_note tracks = take_by tracks (least (turns_of tracks))
+
+-- how many tracks have their turn now
+abbrev pub count_of : ℕ → List ℕ → ℕ
+count_of turn turns = length (filter (λ t. t == turn) turns)

@@ -1,0 +1,185 @@
+-- What is kept of a run is a run of the world.
+use Rattle.std.specs.Prelude.{◌≡◌, ◌⊎◌, ℕ, ◌+◌, ◌<◌, Bool, true, false, ◌==◌, List, [], ◌∷◌, ◌++◌, filter, length, Result, Ok, Err}
+use Rattle.std.specs.List.{filter_map}
+use Rattle.roster_tables.specs.declared.plain.Tables.{Tables}
+use Rattle.roster.specs.Lookups.{is_member}
+use Rattle.node_rules.specs.declared.state.NodeState.{NodeState}
+use Rattle.node_rules.specs.declared.event.Event.{Event}
+use Rattle.node_rules.specs.declared.event.Event.TheVariants as event
+use Rattle.node_rules.specs.declared.reply.Reply.{Reply}
+use Rattle.node_rules.specs.declared.reply.StepFault.{StepFault}
+use Rattle.node_rules.specs.State.{opened}
+use Rattle.node_rules.specs.Relation.{Steps as NodeSteps}
+use Rattle.node_rules.specs.Tags.{retag_state, retag_event, retag_outcome}
+use Rattle.node_book.specs.declared.book.NodeEntry.{NodeEntry}
+use Rattle.node_book.specs.declared.record.Record.{Record}
+use Rattle.purge_rules.specs.declared.calls.Status.{Status}
+use Rattle.purge_rules.specs.declared.calls.MasterCall.{MasterCall}
+use Rattle.purge_rules.specs.declared.calls.MasterCall.TheVariants as call
+use Rattle.purge_rules.specs.declared.calls.MasterAnswer.{MasterAnswer}
+use Rattle.purge_rules.specs.declared.calls.MasterAnswer.TheVariants as answer
+use Rattle.purge_rules.specs.declared.fault.MasterFault.{MasterFault}
+use Rattle.purge_rules.specs.Members.{members_of}
+use Rattle.purge_rules.specs.Calls.{MasterState, Calls as MasterCalls, acknowledged}
+use Rattle.purge_rules.specs.Calls as master
+use Rattle.purge_rules.specs.Purges.{no_purges}
+use Rattle.purge_master.specs.declared.book.MasterEntry.{MasterEntry}
+use Rattle.world_rules.specs.declared.event.WorldEvent.{WorldEvent}
+use Rattle.world_rules.specs.declared.event.WorldEvent.TheVariants as world
+use Rattle.world_rules.specs.Hierarchy.{setting}
+use Rattle.world_rules.specs.World.{World, new_world, node_at}
+use Rattle.world_rules.specs.Turn.{Seen, Replied, Issued, Told, Nothing, NodeSteps as TurnSteps, turn, with_clock}
+use Rattle.world_rules.specs.Run.{Step, Run}
+use Rattle.run_rules.specs.Notes.{Note, Opens, Steps, Closes, Calls, notes_of_all, calls_of, is_of, place_in}
+
+-- Marks are no part of a record: these are without them.
+
+abbrev pub unmarked : NodeState ℕ → NodeState (Unit {0})
+unmarked s = retag_state (λ _. tt) s
+
+abbrev pub unmarked_event : Event ℕ → Event (Unit {0})
+unmarked_event e = retag_event (λ _. tt) e
+
+abbrev pub unmarked_outcome : Result (Reply ℕ) StepFault → Result (Reply (Unit {0})) StepFault
+unmarked_outcome outcome = retag_outcome (λ _. tt) outcome
+
+-- The world so far, the place of its next event, and the master's state.
+pub record Progress : Type 0 where
+  pub world : World
+  pub place : ℕ
+  pub master : MasterState
+
+abbrev pub beginning : Tables → Progress
+beginning roster = record { world = new_world roster; place = 1; master = master.opened no_purges }
+
+-- these events of the world lead on, and the master's state becomes this one
+pub record Goes (roster : Tables) (p : Progress) (steps : List Step) (m : MasterState) (q : Progress) : Type 0 where
+  pub run : Run roster p.place p.world steps q.world
+  pub place : q.place ≡ p.place + length steps
+  pub master : q.master ≡ m
+  pub purges : q.world.master ≡ q.master.purges
+
+abbrev pub node_in : Progress → ℕ → NodeState ℕ
+node_in p id = node_at p.world.seats id
+
+-- a closed node's state counts only as closed, with nothing pending
+abbrev pub IsKept : NodeState (Unit {0}) → NodeState (Unit {0}) → Type 0
+IsKept s state = (state ≡ s) ⊎ ((s.closed ≡ true) × (state.closed ≡ true) × (state.pending ≡ []))
+
+abbrev pub event_step : WorldEvent → Seen → Step
+event_step e seen = record { event = e; seen = seen }
+
+-- A record opens: as the node stands, or the node starts again.
+abbrev pub OpensSo : Tables → Progress → ℕ → NodeState (Unit {0}) → List Step → Progress → Type 0
+OpensSo roster p id state steps q =
+    (is_member roster id ≡ true)
+    × (((steps ≡ []) × (q ≡ p) × IsKept (unmarked (node_in p id)) state)
+    ⊎ ((steps ≡ event_step (world.Restart id) Nothing ∷ []) × Goes roster p steps p.master q × (state ≡ opened (node_in p id).floors)))
+
+-- the moment of an event, if it has one
+abbrev pub moment_of : Event (Unit {0}) → ℕ
+moment_of (event.Client ask now) = now
+moment_of (event.Datagram from message now) = now
+moment_of (event.PeerAsk asker ask now) = now
+moment_of (event.PeerAnswer serial peer key answer tag now) = now
+moment_of (event.OriginAnswer serial key answer now) = now
+moment_of (event.ForeignAnswer serial peer key answer tag now) = now
+moment_of (event.FetchFailed serial now) = now
+moment_of (event.Expired serial now) = now
+
+-- The clock is set, and then the node takes the entry's step, with this outcome.
+pub record IsTaken (roster : Tables) (p : Progress) (id : ℕ) (e : Event (Unit {0})) (outcome : Result (Reply ℕ) StepFault) (these : List Step) (q : Progress) : Type 0 where
+  pub happens : WorldEvent
+  pub met : Event ℕ
+  pub serial : ℕ
+  pub turns : turn roster (with_clock p.world (moment_of e)) happens ≡ TurnSteps id met serial
+  pub event : unmarked_event met ≡ e
+  pub steps : these ≡ event_step (world.Clock (moment_of e)) Nothing ∷ event_step happens (Replied id outcome) ∷ []
+  pub goes : Goes roster p these p.master q
+
+-- It is refused, and changes nothing.
+abbrev pub ChangesNothing : Tables → Progress → ℕ → NodeEntry → List Step → Progress → Type 0
+ChangesNothing roster p id e steps q =
+    (fault : StepFault) × (e.outcome ≡ Err fault) × (steps ≡ []) × (q ≡ p)
+    × NodeSteps (setting roster id) (unmarked (node_in p id)) e.event tt e.outcome (unmarked (node_in p id))
+
+-- It wants memory or its store fails, and the node closes: with the purge that it met in its floors, or without.
+abbrev pub ClosesNode : Tables → Progress → ℕ → NodeEntry → List Step → Progress → Type 0
+ClosesNode roster p id e steps q =
+    (closed : NodeState (Unit {0})) × (closed.closed ≡ true)
+    × NodeSteps (setting roster id) (unmarked (node_in p id)) e.event tt e.outcome closed
+    × (((steps ≡ event_step (world.Fault id) Nothing ∷ []) × Goes roster p steps p.master q)
+    ⊎ ((taken : List Step) × (middle : Progress) × (reply : Reply ℕ) × IsTaken roster p id e.event (Ok reply) taken middle
+    × (steps ≡ taken ++ event_step (world.Fault id) Nothing ∷ []) × Goes roster middle (event_step (world.Fault id) Nothing ∷ []) p.master q))
+
+-- An entry of a node: a step with its outcome, or no change, or the node's end.
+abbrev pub StepsSo : Tables → Progress → ℕ → NodeEntry → List Step → Progress → Type 0
+StepsSo roster p id e steps q =
+    ((outcome : Result (Reply ℕ) StepFault) × IsTaken roster p id e.event outcome steps q × (unmarked_outcome outcome ≡ e.outcome))
+    ⊎ ChangesNothing roster p id e steps q
+    ⊎ ClosesNode roster p id e steps q
+
+abbrev pub ClosesSo : Progress → ℕ → NodeState (Unit {0}) → List Step → Progress → Type 0
+ClosesSo p id state steps q = (steps ≡ []) × (q ≡ p) × IsKept (unmarked (node_in p id)) state
+
+-- what the master's answer is of in the world
+abbrev pub AnswersSo : Tables → Progress → MasterCall → MasterAnswer → List Step → Type 0
+AnswersSo roster p (call.Issue key) (answer.Issue number) steps = steps ≡ event_step (world.Issue key) (Issued number) ∷ []
+AnswersSo roster p (call.Acknowledge id trans code) (answer.Acknowledge finished) steps =
+    (number : ℕ) × (status : Status) × (steps ≡ event_step (world.Datagram number) (Told trans status) ∷ [])
+AnswersSo roster p call.Due (answer.Due pairs) steps = steps ≡ event_step world.Resend Nothing ∷ []
+AnswersSo roster p (call.Status number) (answer.Status status) steps = steps ≡ event_step (world.Status number) (Told number status) ∷ []
+AnswersSo roster p c a steps = ⊥
+
+abbrev pub CallsIn : Tables → Progress → MasterCall → Result MasterAnswer MasterFault → List Step → Type 0
+CallsIn roster p c (Ok a) steps = AnswersSo roster p c a steps
+CallsIn roster p c (Err f) steps = steps ≡ []
+
+-- An entry of the master: its call, with what that sends. A refused call, and one that closed the master, stand for nothing.
+abbrev pub CallsSo : Tables → Progress → MasterEntry → List Step → Progress → Type 0
+CallsSo roster p e steps q =
+    (next : MasterState) × MasterCalls (members_of roster) p.master e.call e.answer next
+    × CallsIn roster p e.call e.answer steps × Goes roster p steps next q
+
+-- a note stands for these events of the world
+abbrev pub Stands : Tables → Progress → Note → List Step → Progress → Type 0
+Stands roster p (Opens id state) steps q = OpensSo roster p id state steps q
+Stands roster p (Steps id e is_closed kept) steps q = StepsSo roster p id e steps q
+Stands roster p (Closes id place state) steps q = ClosesSo p id state steps q
+Stands roster p (Calls e is_closed) steps q = CallsSo roster p e steps q
+
+-- the notes, one after another, stand for these events
+abbrev pub AllStand : Tables → Progress → List Note → List Step → Progress → Type 0
+AllStand roster p [] steps q = (steps ≡ []) × (q ≡ p)
+AllStand roster p (note ∷ notes) steps q =
+    (here : List Step) × (rest : List Step) × (next : Progress) × Stands roster p note here next × (steps ≡ here ++ rest) × AllStand roster next notes rest q
+
+-- whose note it is
+abbrev pub is_of_node : ℕ → Note → Bool
+is_of_node id (Opens node state) = node == id
+is_of_node id (Steps node entry is_closed kept) = node == id
+is_of_node id (Closes node place state) = node == id
+is_of_node id (Calls entry is_closed) = false
+
+abbrev pub is_of_master : Note → Bool
+is_of_master (Calls entry is_closed) = true
+is_of_master _ = false
+
+-- each place is above the one before
+abbrev pub Rise : ℕ → List ℕ → Type 0
+Rise last [] = Unit {0}
+Rise last (place ∷ places) = (last < place) × Rise place places
+
+abbrev pub AllRise : List ℕ → Type 0
+AllRise [] = Unit {0}
+AllRise (place ∷ places) = Rise place places
+
+-- What is kept is a run of the world: all of it can be put in the order of its places, each node's notes and the master's in their own order, so that it stands for
+-- events of the world, one after another.
+pub record IsRecordedRun (roster : Tables) (records : List Record) (entries : List MasterEntry) (steps : List Step) : Type 0 where
+  pub notes : List Note
+  pub nodes : (id : ℕ) → filter (is_of_node id) notes ≡ notes_of_all (filter (is_of id) records)
+  pub master : filter is_of_master notes ≡ calls_of entries
+  pub rise : AllRise (filter_map place_in notes)
+  pub end : Progress
+  pub stand : AllStand roster (beginning roster) notes steps end

@@ -1,0 +1,168 @@
+-- What members and the master sent each other, as those that it comes to see it.
+use Rattle.std.specs.Prelude.{◌≡◌, ℕ, ◌/◌, Bool, true, false, ◌==◌, ◌&&◌, not, List, [], ◌∷◌, ◌++◌, filter, find, Contains, Option, Some, None, option_map, Result, Ok, Err, if◌then◌else◌}
+use Rattle.fetch_messages.specs.declared.ask.Ask.{Ask}
+use Rattle.fetch_messages.specs.Answer.{AnswerText}
+use Rattle.htcp_wire.specs.declared.message.Content.{Content}
+use Rattle.htcp_wire.specs.declared.message.Content.TheVariants as content
+use Rattle.roster_tables.specs.Ranges.{is_foreign_id}
+use Rattle.roster_tables.specs.declared.plain.Address.{Address}
+use Rattle.roster_tables.specs.declared.plain.Udp.TheVariants as udp
+use Rattle.roster_tables.specs.declared.plain.Tables.{Tables}
+use Rattle.roster.specs.Lookups.{member_of, member_at, is_master}
+use Rattle.node_rules.specs.declared.message.Message.{Message}
+use Rattle.node_rules.specs.declared.message.Message.TheVariants as message
+use Rattle.node_rules.specs.declared.event.Event.{Event}
+use Rattle.node_rules.specs.declared.event.Event.TheVariants as event
+use Rattle.node_rules.specs.declared.reply.Served.{Served}
+use Rattle.node_rules.specs.declared.reply.Serve.{Serve}
+use Rattle.node_rules.specs.declared.reply.Begin.{Begin}
+use Rattle.node_rules.specs.declared.reply.Begin.TheVariants as begin
+use Rattle.node_rules.specs.declared.reply.Reply.{Reply}
+use Rattle.node_rules.specs.declared.reply.StepFault.{StepFault}
+use Rattle.node_rules.specs.Tags.{retag_served}
+use Rattle.node_rules.specs.State.{quiet}
+use Rattle.purge_rules.specs.declared.calls.MasterCall.{MasterCall}
+use Rattle.purge_rules.specs.declared.calls.MasterCall.TheVariants as call
+use Rattle.purge_rules.specs.declared.calls.MasterAnswer.{MasterAnswer}
+use Rattle.purge_rules.specs.declared.calls.MasterAnswer.TheVariants as answer
+use Rattle.purge_rules.specs.declared.fault.MasterFault.{MasterFault}
+use Rattle.world_rules.specs.Hierarchy.{is_own, udp_of}
+use Rattle.world_rules.specs.World.{Datagram, datagrams_from, answer_of}
+use Rattle.world_rules.specs.Turn.{clears_of}
+
+-- an ask that a member sent to a member
+pub record SentAsk : Type 0 where
+  pub sender : ℕ
+  pub receiver : ℕ
+  pub ask : Ask
+
+-- an answer that a member sent to a member, for the URL that was asked for
+pub record SentAnswer : Type 0 where
+  pub sender : ℕ
+  pub receiver : ℕ
+  pub key : List ℕ
+  pub answer : AnswerText
+
+-- an ask of a member that waits at a member's node, as its block of serials
+pub record Waits : Type 0 where
+  pub node : ℕ
+  pub block : ℕ
+  pub key : List ℕ
+
+-- all that was sent, and what waits
+pub record Network : Type 0 where
+  pub datagrams : List Datagram
+  pub asks : List SentAsk
+  pub answers : List SentAnswer
+  pub waiting : List Waits
+
+abbrev pub silence : Network
+silence = record { datagrams = []; asks = []; answers = []; waiting = [] }
+
+-- What an entry of a node sends
+
+-- a refused step sends nothing
+abbrev pub reply_of : Result (Reply (Unit {0})) StepFault → Reply (Unit {0})
+reply_of (Ok reply) = reply
+reply_of (Err fault) = quiet
+
+-- the ask that it sends to a member
+abbrev pub asks_by : ℕ → Option Begin → List SentAsk
+asks_by id (Some (begin.Peer serial peer ask)) = if is_foreign_id peer then [] else record { sender = id; receiver = peer; ask = ask } ∷ []
+asks_by id _ = []
+
+abbrev pub is_waiting : ℕ → ℕ → Waits → Bool
+is_waiting id block w = (w.node == id) && (w.block == block)
+
+-- the URL of the ask that the event is
+abbrev pub key_now : Event (Unit {0}) → Option (List ℕ)
+key_now (event.PeerAsk asker ask now) = Some ask.key
+key_now _ = None
+
+-- the URL of the ask that is answered: the one that waits as the block, or else the event
+abbrev pub key_by : List Waits → ℕ → Event (Unit {0}) → Option ℕ → Option (List ℕ)
+key_by waiting id e None = key_now e
+key_by waiting id e (Some block) = option_map (λ w. w.key) (find (is_waiting id block) waiting)
+
+-- what is served, as it is written to a member
+abbrev pub text_of : Served (Unit {0}) → AnswerText
+text_of served = answer_of (retag_served (λ _. 0) served)
+
+abbrev pub answer_for : ℕ → Option ℕ → Served (Unit {0}) → Option (List ℕ) → List SentAnswer
+answer_for id (Some asker) served (Some key) = record { sender = id; receiver = asker; key = key; answer = text_of served } ∷ []
+answer_for id _ served _ = []
+
+-- the answer that it sends to a member; a client's is no part of the run
+abbrev pub answers_by : List Waits → ℕ → Event (Unit {0}) → Option (Serve (Unit {0})) → List SentAnswer
+answers_by waiting id e None = []
+answers_by waiting id e (Some serve) = answer_for id serve.asker serve.served (key_by waiting id e serve.waiter)
+
+-- the serial with which something begins
+abbrev pub serial_of : Begin → ℕ
+serial_of (begin.Round serial) = serial
+serial_of (begin.Peer serial peer ask) = serial
+serial_of (begin.Read serial ask) = serial
+
+-- the ask of a member that waits for what it begins, as the block of that serial
+abbrev pub waits_by : ℕ → Event (Unit {0}) → Option Begin → List Waits
+waits_by id (event.PeerAsk asker ask now) (Some b) = record { node = id; block = serial_of b / 32; key = ask.key } ∷ []
+waits_by id _ _ = []
+
+-- all that an entry with this event and this reply sends
+abbrev pub with_reply : Tables → Network → ℕ → Event (Unit {0}) → Reply (Unit {0}) → Network
+with_reply roster n id e reply = record {
+  datagrams = n.datagrams ++ datagrams_from (member_of roster id) reply.send;
+  asks = n.asks ++ asks_by id reply.begin;
+  answers = n.answers ++ answers_by n.waiting id e reply.serve;
+  waiting = n.waiting ++ waits_by id e reply.begin;
+}
+
+-- what waited at a node waits no more
+abbrev pub without_waiting : Network → ℕ → Network
+without_waiting n id = record { datagrams = n.datagrams; asks = n.asks; answers = n.answers; waiting = filter (λ w. not (w.node == id)) n.waiting }
+
+-- What an entry of the master sends: the CLR of a new purge to each member. What it sends again was sent before.
+
+abbrev pub clears_by : Tables → MasterCall → Result MasterAnswer MasterFault → List Datagram
+clears_by roster (call.Issue key) (Ok (answer.Issue number)) = clears_of roster number key
+clears_by roster _ _ = []
+
+abbrev pub with_clears : Tables → Network → MasterCall → Result MasterAnswer MasterFault → Network
+with_clears roster n c a = record { datagrams = n.datagrams ++ clears_by roster c a; asks = n.asks; answers = n.answers; waiting = n.waiting }
+
+-- What was sent of what comes
+
+-- the datagram comes to this member
+abbrev pub ComesTo : Tables → ℕ → Datagram → Type 0
+ComesTo roster id d = (is_master roster d.receiver ≡ false) × (member_at roster d.receiver (udp_of d.message) ≡ Some id)
+
+-- a datagram with this sender and this message was sent to the member
+abbrev pub IsDatagramSent : Tables → Network → ℕ → Address → Message → Type 0
+IsDatagramSent roster n id from m = (d : Datagram) × Contains n.datagrams d × (d.sender ≡ from) × (d.message ≡ m) × ComesTo roster id d
+
+-- What comes from a member or from the master was sent before; anybody else may send anything.
+abbrev pub IsSent : Tables → Network → ℕ → Event (Unit {0}) → Type 0
+IsSent roster n id (event.Datagram from m now) = is_own roster from ≡ true → IsDatagramSent roster n id from m
+IsSent roster n id (event.PeerAsk asker ask now) = Contains n.asks (record { sender = asker; receiver = id; ask = ask })
+IsSent roster n id (event.PeerAnswer serial peer key answer tag now) = Contains n.answers (record { sender = peer; receiver = id; key = key; answer = answer })
+IsSent roster n id _ = Unit {0}
+
+abbrev pub clear_answer_in : ℕ → Content → Option (ℕ × ℕ)
+clear_answer_in trans (content.ClrAnswer code) = Some (trans, code)
+clear_answer_in trans _ = None
+
+-- the TRANS-ID and the code of a CLR's answer, if the message is one
+abbrev pub clear_answer : Message → Option (ℕ × ℕ)
+clear_answer (message.Icp m) = None
+clear_answer (message.Htcp m) = clear_answer_in m.trans m.content
+
+-- the datagram is a member's answer to a CLR of the master
+pub record IsAnswerOf (roster : Tables) (id trans code : ℕ) (d : Datagram) : Type 0 where
+  pub receiver : is_master roster d.receiver ≡ true
+  pub sender : member_at roster d.sender udp.Htcp ≡ Some id
+  pub says : clear_answer d.message ≡ Some (trans, code)
+
+-- an acknowledgement that the master counts was sent before
+abbrev pub IsCallSent : Tables → Network → MasterCall → Type 0
+IsCallSent roster n (call.Acknowledge id trans code) = (d : Datagram) × Contains n.datagrams d × IsAnswerOf roster id trans code d
+IsCallSent roster n _ = Unit {0}

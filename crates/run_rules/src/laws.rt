@@ -1,0 +1,23 @@
+//! Laws of the definitions. Each function does nothing: its clauses are the law.
+ghost use Rattle.std.specs.Prelude.{List};
+ghost use Rattle.roster_tables.specs.declared.plain.Tables.{Tables};
+ghost use Rattle.roster.specs.Judged.{IsRoster};
+ghost use Rattle.node_book.specs.declared.record.Record.{Record};
+ghost use Rattle.purge_master.specs.declared.book.MasterEntry.{MasterEntry};
+ghost use Rattle.world_rules.specs.Run.{Step};
+ghost use Rattle.world_rules.specs.Safety.{NothingOldIsServed, SiblingsAskNothing};
+ghost use Rattle.run_rules.specs.declared.verdict.Verdict.TheVariants.{Yes};
+ghost use Rattle.run_rules.specs.Verdict.{IsVerdictOn};
+ghost use Rattle.run_rules.specs.Recorded.{IsRecordedRun};
+
+/// What is kept of a run, and found without a flaw, is a run of the world.
+pub fn flawless_runs_are_runs_of_the_world()
+    ensures { (roster : Tables) (records : List Record) (entries : List MasterEntry) → IsRoster roster → IsVerdictOn roster records entries Yes →
+        (steps : List Step) × IsRecordedRun roster records entries steps }
+{}
+
+/// Purges are safe in each recorded run: nothing old is served once a purge is reported done, and no request to a sibling begins anything.
+pub fn recorded_runs_are_safe()
+    ensures served { (roster : Tables) (records : List Record) (entries : List MasterEntry) (steps : List Step) → IsRoster roster → IsRecordedRun roster records entries steps → NothingOldIsServed steps }
+    ensures siblings { (roster : Tables) (records : List Record) (entries : List MasterEntry) (steps : List Step) → IsRecordedRun roster records entries steps → SiblingsAskNothing roster steps }
+{}
