@@ -1,0 +1,28 @@
+-- The names of faults.
+use Rattle.std.specs.Prelude.{ℕ, List, codes}
+use Rattle.node_core.specs.Names.{open_fault_name}
+use Rattle.udp_loop.specs.Names.{loop_fault_name}
+use Rattle.node_seats.specs.declared.shift.CloseFault.{CloseFault}
+use Rattle.node_seats.specs.declared.shift.CloseFault.TheVariants as close
+use Rattle.node_workers.specs.declared.fault.StartFault.{StartFault}
+use Rattle.node_workers.specs.declared.fault.StartFault.TheVariants as start
+use Rattle.node_workers.specs.declared.fault.StopFault.{StopFault}
+use Rattle.node_workers.specs.declared.fault.StopFault.TheVariants as stop
+
+-- that of the fault inside, where there is one
+abbrev pub start_fault_name : StartFault → List ℕ
+start_fault_name (start.Open fault) = open_fault_name fault
+start_fault_name (start.Loop fault) = loop_fault_name fault
+start_fault_name start.NoThread = codes "NoThread"
+start_fault_name start.NoMemory = codes "NoMemory"
+
+abbrev pub stop_fault_name : StopFault → List ℕ
+stop_fault_name stop.SeatMissing = codes "SeatMissing"
+stop_fault_name stop.Mismatch = codes "Mismatch"
+stop_fault_name stop.NoMemory = codes "NoMemory"
+
+-- why a shift was not closed, or the next not opened
+abbrev pub stop_fault_of : CloseFault → StopFault
+stop_fault_of close.SeatMissing = stop.SeatMissing
+stop_fault_of close.Mismatch = stop.Mismatch
+stop_fault_of close.NoMemory = stop.NoMemory

@@ -1,0 +1,114 @@
+ghost use Rattle.std.specs.Prelude.{◌≡◌};
+ghost use Rattle.node_workers.specs.Names.{start_fault_name, stop_fault_name};
+
+use node_core::OpenFault;
+use node_seats::CloseFault;
+use std::alloc::AllocError;
+use thiserror::Error;
+use udp_loop::LoopFault;
+
+/// Why a node does not start. No thread of it runs then.
+#[derive(Clone, Copy, Debug, PartialEq, Eq, Error)]
+pub enum StartFault {
+    /// The node is not opened.
+    #[error("{0}")]
+    Open(OpenFault),
+    /// Its sockets are not opened.
+    #[error("{0}")]
+    Loop(LoopFault),
+    /// No thread could be made.
+    #[error("no thread could be made")]
+    NoThread,
+    /// A growth was refused.
+    #[error("there was no memory")]
+    NoMemory,
+}
+
+/// Why the records of a node are not given.
+#[derive(Clone, Copy, Debug, PartialEq, Eq, Error)]
+pub enum StopFault {
+    /// A seat did not come back.
+    #[error("a seat is missing")]
+    SeatMissing,
+    /// A seat's own list of calls and answers is not what the book has of it.
+    #[error("a seat's list differs from the book")]
+    Mismatch,
+    /// There was no memory to close a shift or to open the next.
+    #[error("there was no memory")]
+    NoMemory,
+}
+
+impl StartFault {
+    /// The name that scripts print: that of the fault inside, where there is one.
+    pub const fn name(self) -> &'static str
+        ensures { result.now ≡ start_fault_name self }
+    {
+        match self {
+            StartFault::Open(fault) => fault.name(),
+            StartFault::Loop(fault) => fault.name(),
+            StartFault::NoThread => "NoThread",
+            StartFault::NoMemory => "NoMemory",
+        }
+    }
+}
+
+impl StopFault {
+    /// The name that scripts print.
+    pub const fn name(self) -> &'static str
+        ensures { result.now ≡ stop_fault_name self }
+    {
+        match self {
+            StopFault::SeatMissing => "SeatMissing",
+            StopFault::Mismatch => "Mismatch",
+            StopFault::NoMemory => "NoMemory",
+        }
+    }
+}
+
+impl From<AllocError> for StartFault {
+    ghost use Rattle.std.specs.Prelude.{◌≡◌};
+    ghost use Rattle.node_workers.specs.declared.fault.StartFault.TheVariants.{NoMemory};
+
+    ghost from_gives = { λ _ fault. fault ≡ NoMemory };
+
+    fn from(_: AllocError) -> StartFault {
+        StartFault::NoMemory
+    }
+}
+
+impl From<LoopFault> for StartFault {
+    ghost use Rattle.std.specs.Prelude.{◌≡◌};
+    ghost use Rattle.node_workers.specs.declared.fault.StartFault.TheVariants.{Loop};
+
+    ghost from_gives = { λ fault start. start ≡ Loop fault };
+
+    fn from(fault: LoopFault) -> StartFault {
+        StartFault::Loop(fault)
+    }
+}
+
+impl From<AllocError> for StopFault {
+    ghost use Rattle.std.specs.Prelude.{◌≡◌};
+    ghost use Rattle.node_workers.specs.declared.fault.StopFault.TheVariants.{NoMemory};
+
+    ghost from_gives = { λ _ fault. fault ≡ NoMemory };
+
+    fn from(_: AllocError) -> StopFault {
+        StopFault::NoMemory
+    }
+}
+
+impl From<CloseFault> for StopFault {
+    ghost use Rattle.std.specs.Prelude.{◌≡◌};
+    ghost use Rattle.node_workers.specs.Names.{stop_fault_of};
+
+    ghost from_gives = { λ fault stop. stop ≡ stop_fault_of fault };
+
+    fn from(fault: CloseFault) -> StopFault {
+        match fault {
+            CloseFault::SeatMissing => StopFault::SeatMissing,
+            CloseFault::Mismatch => StopFault::Mismatch,
+            CloseFault::NoMemory => StopFault::NoMemory,
+        }
+    }
+}

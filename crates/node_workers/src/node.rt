@@ -1,0 +1,200 @@
+//! The thread of a node.
+ghost use Rattle.std.specs.Prelude.{◌≡◌, ◌≤◌, ◌<◌, ◌+◌, [], IfOk};
+
+use crate::fault::{StartFault, StopFault};
+use crate::gate::Gate;
+use crate::station::Station;
+use crate::threads::{Kit, Shared, run_threads};
+use crate::worker::{Tools, refuse_all};
+use floor_rules::FloorStore;
+use job_queue::{Jobs, NewJobs, Pass, QueueName};
+use node_book::{NodeBook, Record};
+use node_seats::{Calls, Places};
+use node_shifts::{History, Shifts};
+use std::alloc::{AllocError, Global};
+use std::marker::Brand;
+use std::mem::replace;
+use std::net::{Net, TcpListener, TcpStream};
+use std::sync::ledger::Blank;
+use std::sync::{Mutex, Wait};
+use std::thread::Threads;
+use std::time::Clock;
+use udp_loop::NodeLoop;
+
+/// What the threads of a node work with, beside the node.
+#[derive(Drop)]
+pub(crate) struct Edge<G: Drop> {
+    pub(crate) station: Station<G>,
+    pub(crate) turner: NodeLoop,
+    pub(crate) tools: Vec<Tools>,
+    pub(crate) last: Tools,
+}
+
+/// A node that is opened, and how its shifts are to be.
+#[derive(Drop)]
+pub(crate) struct Prepared<S: FloorStore> {
+    pub(crate) book: NodeBook<S>,
+    pub(crate) places: Places,
+    pub(crate) count: u8,
+    pub(crate) history: History,
+    pub(crate) ghost fresh: { book.entries ≡ [] },
+    pub(crate) ghost some_seat: { 0 < count },
+}
+
+/// What the thread of a node begins with.
+#[derive(Drop)]
+pub(crate) struct Start<S: FloorStore, G: Drop> {
+    pub(crate) alloc: Global,
+    pub(crate) edge: Edge<G>,
+    pub(crate) prepared: Prepared<S>,
+}
+
+/// The workers' kits, each with a pass of its own; and the pass of the loop.
+fn kits_of<Q: QueueName, R: Wait>(
+    rt: &R,
+    alloc: Global,
+    jobs: &Jobs<Q>,
+    mut pass: Pass<Q>,
+    mut tools: Vec<Tools>,
+    count: u8,
+) -> Result<(Pass<Q>, Vec<Kit<Q>>), AllocError>
+    requires { pass.parts ≡ 1024 }
+{
+    let mut kits = Vec::with_capacity(alloc, usize::from(count))?;
+    for number in 0..count {
+        let Some(tools) = tools.pop() else {
+            break;
+        };
+        let (kept, own) = jobs.split(rt, pass);
+        pass = kept;
+        kits.push(Kit {
+            number,
+            pass: own,
+            tools,
+        })?;
+    }
+    Ok((pass, kits))
+}
+
+/// The first shift of a node.
+fn first_shift<S: FloorStore + Drop, L: Calls>(
+    alloc: Global,
+    prepared: Prepared<S>,
+    blank: Blank,
+) -> Result<Mutex<Shifts<S, L>>, AllocError>
+    requires name { blank.name ≡ L.name }
+    requires parts { (blank.parts ≡ L.parts) × (L.all ≡ L.parts) × (256 ≤ L.all) }
+{
+    let Prepared {
+        book,
+        places,
+        count,
+        history,
+    } = prepared;
+    match Shifts::open(alloc, book, count, history, blank, places) {
+        Ok(shifts) => Ok(Mutex::new(shifts)),
+        Err(_) => Err(AllocError),
+    }
+}
+
+/// Runs the threads of a node until it is stopped, and answers those who still wait.
+fn run_edge<
+    Q: QueueName + Send + Sync,
+    L: Calls + Send + Sync,
+    S: FloorStore + Drop + Send,
+    G: Gate + Drop + Send + Sync,
+    R: Threads + Wait + Clock + Net<Listener = TcpListener, Stream = TcpStream> + Sync,
+>(
+    rt: &R,
+    edge: &mut Edge<G>,
+    jobs: &Jobs<Q>,
+    node: &Mutex<Shifts<S, L>>,
+    kits: Vec<Kit<Q>>,
+    pass: Pass<Q>,
+) {
+    let shared = Shared {
+        rt,
+        station: &edge.station,
+        jobs,
+        node,
+    };
+    run_threads(&shared, kits, &mut edge.turner, pass);
+    refuse_all(rt, &edge.station, &mut edge.last);
+}
+
+/// Runs a node in its shifts until it is stopped.
+fn run_shifts<
+    Q: QueueName + Send + Sync,
+    L: Calls + Send + Sync,
+    S: FloorStore + Drop + Send,
+    G: Gate + Drop + Send + Sync,
+    R: Threads + Wait + Clock + Net<Listener = TcpListener, Stream = TcpStream> + Sync,
+>(
+    rt: &R,
+    alloc: Global,
+    mut edge: Edge<G>,
+    count: u8,
+    node: &Mutex<Shifts<S, L>>,
+    new: NewJobs,
+) -> Result<(), AllocError>
+    requires { new ≡ Q.table }
+{
+    let (jobs, pass) = new.name::<Q>();
+    let tools = replace(&mut edge.tools, Vec::new(alloc));
+    match kits_of(rt, alloc, &jobs, pass, tools, count) {
+        Ok((pass, kits)) => {
+            run_edge(rt, &mut edge, &jobs, node, kits, pass);
+            Ok(())
+        }
+        Err(fault) => Err(fault),
+    }
+}
+
+/// The records of a node that is stopped, with that of its last shift.
+fn records_of<S: FloorStore + Drop, L: Calls>(
+    node: Mutex<Shifts<S, L>>,
+) -> Result<Vec<Record>, StopFault> {
+    match node.into_inner().into_records() {
+        Ok(records) => Ok(records),
+        Err(fault) => Err(StopFault::from(fault)),
+    }
+}
+
+/// Runs a node by the names of its queue and of its ledger.
+fn run_named<
+    Q: QueueName + Send + Sync,
+    L: Calls + Send + Sync,
+    S: FloorStore + Drop + Send,
+    G: Gate + Drop + Send + Sync,
+    R: Threads + Wait + Clock + Net<Listener = TcpListener, Stream = TcpStream> + Sync,
+>(rt: &R, start: Start<S, G>, new: NewJobs, blank: Blank) -> Result<Vec<Record>, StopFault>
+    requires table { new ≡ Q.table }
+    requires name { blank.name ≡ L.name }
+    requires parts { (blank.parts ≡ L.parts) × (L.all ≡ L.parts) × (256 ≤ L.all) }
+{
+    let Start {
+        alloc,
+        edge,
+        prepared,
+    } = start;
+    let count = prepared.count;
+    match first_shift::<S, L>(alloc, prepared, blank) {
+        Ok(node) => match run_shifts::<Q, L, S, G, R>(rt, alloc, edge, count, &node, new) {
+            Ok(()) => records_of(node),
+            Err(_) => Err(StopFault::NoMemory),
+        },
+        Err(_) => Err(StopFault::NoMemory),
+    }
+}
+
+/// Runs a node until it is stopped, and gives the records that are kept. Those who wait get 503 then.
+pub(crate) fn run_node<
+    S: FloorStore + Drop + Send,
+    G: Gate + Drop + Send + Sync,
+    R: Threads + Wait + Clock + Net<Listener = TcpListener, Stream = TcpStream> + Sync,
+>(rt: &R, start: Start<S, G>) -> Result<Vec<Record>, StopFault> {
+    match NewJobs::new(start.alloc) {
+        Ok(new) => run_named::<Brand, Brand, S, G, R>(rt, start, new, Blank::new(256)),
+        Err(_) => Err(StopFault::NoMemory),
+    }
+}

@@ -1,0 +1,39 @@
+//! Where a node's thread tells how its start went.
+use crate::fault::StartFault;
+use std::sync::{Condvar, Mutex, Wait};
+
+/// What a node's thread tells the one that started it.
+#[derive(Drop)]
+pub(crate) struct Report {
+    told: Mutex<Option<Result<(), StartFault>>>,
+    has_told: Condvar,
+}
+
+impl Report {
+    pub(crate) fn new() -> Report {
+        Report {
+            told: Mutex::new(None),
+            has_told: Condvar::new(),
+        }
+    }
+
+    /// Tells how the start went. What was told first stands.
+    pub(crate) fn tell<R: Wait>(&self, rt: &R, start: Result<(), StartFault>) {
+        let mut told = self.told.lock(rt);
+        if told.is_none() {
+            *told = Some(start);
+        }
+        self.has_told.notify_all();
+    }
+
+    /// Waits until it is told.
+    pub(crate) fn wait<R: Wait>(&self, rt: &R) -> Result<(), StartFault> {
+        let told = self
+            .has_told
+            .wait_while(rt, self.told.lock(rt), |told| told.is_none());
+        match *told {
+            Some(start) => start,
+            None => Err(StartFault::NoThread),
+        }
+    }
+}

@@ -1,0 +1,83 @@
+//! What the threads of a node share beside the node itself.
+ghost use Rattle.std.specs.Prelude.{◌≡◌, ◌==◌, true, find, option_map};
+ghost use Rattle.roster.specs.Lookups.{is_member};
+ghost use Rattle.node_workers.specs.Addresses.{peer_source};
+
+use crate::bell::Bell;
+use crate::report::Report;
+use mio::net::TcpStream;
+use node_fetch::Source;
+use node_rules::Serve;
+use roster::{Address, Cache, Member, Roster};
+use std::alloc::Global;
+use std::sync::Arc;
+use std::sync::atomic::{AtomicBool, Ordering};
+use std::time::Clock;
+use udp_loop::Senders;
+use worker_tables::Tables;
+
+/// What the threads of a node share beside the node itself.
+#[derive(Drop)]
+pub(crate) struct Station<G: Drop> {
+    pub(crate) alloc: Global,
+    pub(crate) roster: Roster,
+    pub(crate) id: u8,
+    pub(crate) senders: Senders,
+    pub(crate) tables: Tables<TcpStream, Serve<()>>,
+    pub(crate) bell: Bell,
+    pub(crate) is_closed: AtomicBool,
+    pub(crate) is_stopped: Arc<AtomicBool, Global>,
+    pub(crate) report: Arc<Report, Global>,
+    pub(crate) gate: Arc<G, Global>,
+    pub(crate) ghost has_node: { is_member roster id ≡ true },
+}
+
+/// This moment in seconds; 0 where the system does not tell it.
+pub(crate) fn seconds<C: Clock>(clock: &C) -> u64 {
+    match clock.since_1970() {
+        Ok(since) => since.as_secs(),
+        Err(_) => 0,
+    }
+}
+
+/// This moment in milliseconds, as rounds are timed; 0 where the system does not tell it.
+pub(crate) fn milliseconds<C: Clock>(clock: &C) -> u64 {
+    match clock.monotonic() {
+        Ok(since) => u64::try_from(since.as_millis()).unwrap_or(u64::MAX),
+        Err(_) => 0,
+    }
+}
+
+/// The member of this id.
+fn member_in(members: &[Member], id: u8) -> Option<&Member>
+    ensures { option_map (λ m. m.now) result ≡ find (λ m. m.cache.id == id) members.now }
+{
+    members.iter().find(|member| member.cache.id == id)
+}
+
+/// The cache of this id.
+fn cache_in(caches: &[Cache], id: u8) -> Option<&Cache>
+    ensures { option_map (λ c. c.now) result ≡ find (λ c. c.id == id) caches.now }
+{
+    caches.iter().find(|cache| cache.id == id)
+}
+
+/// What a peer is, and where it serves HTTP.
+pub(crate) fn source_of(roster: &Roster, peer: u8) -> Option<(Source, Address)>
+    ensures { result ≡ peer_source roster.now peer }
+{
+    match member_in(roster.members(), peer) {
+        Some(member) => Some((Source::Member(peer), member.cache.http)),
+        None => match cache_in(roster.foreign(), peer) {
+            Some(cache) => Some((Source::Foreign(peer), cache.http)),
+            None => None,
+        },
+    }
+}
+
+impl<G: Drop> Station<G> {
+    /// Whether the node is to be stopped.
+    pub(crate) fn is_stopped(&self) -> bool {
+        self.is_stopped.load(Ordering::SeqCst)
+    }
+}

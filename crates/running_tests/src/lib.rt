@@ -1,0 +1,11 @@
+//! Tests of nodes that run: their clients, their peers and their master come over sockets of this machine.
+#![tactic(auto)]
+
+#[cfg(test)]
+mod gates;
+#[cfg(test)]
+mod network;
+#[cfg(test)]
+mod nodes;
+#[cfg(test)]
+mod starts;
