@@ -1,12 +1,12 @@
 -- Lines at the front of an input.
-use Rattle.std.proofs.Common.{◌≡◌, ◌≢◌, ℕ, suc, ◌+◌, ◌<◌, ◌≤◌, ◌||◌, true, false, Bool, cond, Option, Some, None, Result, Ok, Err, IfOk, IfErr, MatchBool, List, [], ◌∷◌, ◌++◌, length, take, drop, refl, sym, ap, ◌∙◌, subst, arith, append_assoc, append-nil, length-append, take-append-drop, ne_eqb}
+use Rattle.std.proofs.Common.{◌≡◌, ◌≢◌, ℕ, suc, ◌+◌, ◌<◌, ◌≤◌, true, false, Bool, cond, Option, Some, None, Result, Ok, Err, IfOk, IfErr, MatchBool, List, [], ◌∷◌, ◌++◌, length, take, drop, refl, sym, ap, ◌∙◌, subst, arith, append_assoc, append-nil, length-append, take-append-drop, ne_eqb}
 use Rattle.std.proofs.lemmas.Bool.{lt-ltb, le-ltb}
 use Rattle.std.proofs.lemmas.List.{get_or-take, length-take, drop_more}
 use Rattle.std.specs.Io.KnownBytes.{IsAtEnd}
 use Rattle.std.proofs.KnownBytes.{Consumes-trans}
 use Rattle.script_lines.specs.declared.fault.RunFault.{RunFault}
 use Rattle.script_lines.specs.declared.fault.RunFault.TheVariants.{LineTooLong}
-use Rattle.script_lines.specs.Lines.{newline, lines_of, in_first, is_long, has_long_line}
+use Rattle.script_lines.specs.Lines.{newline, lines_of, in_first, is_long, begins_long}
 use Rattle.script_lines.specs.Reading.{Takes, HasNoEnd, EndsAt, TakesLine, TakesNone, FailsToTake}
 
 -- a line, its end, and what follows it
@@ -77,10 +77,10 @@ takes_line old (Some xs) held (Some ys) n took at short =
     (ap lines_of whole ∙ lines_of-line (take n held) (drop (n + 1) held ++ ys) (front_open n held within at.2), le-ltb _ _ (omega (arith, length-take n held)))
 
 -- a line that has more octets already than a line may have
-long_line : (front : List ℕ) (lines : List (List ℕ)) → StartsWith front lines → 140000 < length front → has_long_line lines ≡ true
+long_line : (front : List ℕ) (lines : List (List ℕ)) → StartsWith front lines → 140000 < length front → begins_long lines ≡ true
 long_line front lines starts long =
     let first : is_long (front ++ starts.tail) ≡ true = lt-ltb _ _ (omega (arith, length-append front starts.tail)) in
-    ap has_long_line starts.is ∙ ap (λ b. b || has_long_line starts.others) first
+    ap begins_long starts.is ∙ first
 
 -- what is held has no end so far: the line that it begins is too long, if it is
 pub fails_open : (old : List ℕ) (before : Option (List ℕ)) (held : List ℕ) (after : Option (List ℕ)) (n : ℕ) (fault : RunFault) → Takes old before held after → n ≤ length held → HasNoEnd n held → (fault ≡ LineTooLong → 140000 < n) → FailsToTake old before fault
@@ -92,7 +92,7 @@ fails_open old (Some xs) held (Some ys) n fault took within none long = λ e.
     let whole : old ++ xs ≡ front ++ (drop n held ++ ys) =
     ap (λ t. old ++ t) took.2 ∙ joined old took.0 held ys took.1 ∙ ap (λ t. t ++ ys) (sym (take-append-drop n held)) ∙ append_assoc front (drop n held) ys in
     let over : 140000 < length front = omega (arith, size, long e) in
-    ap (λ t. has_long_line (lines_of t)) whole
+    ap (λ t. begins_long (lines_of t)) whole
     ∙ long_line front (lines_of (front ++ (drop n held ++ ys))) (lines_of-open front (drop n held ++ ys) (omega arith) (front_open n held within none)) over
 
 -- at the end of the input, what is held is the last line, if it is not empty

@@ -1,6 +1,6 @@
 -- The lines of an input.
-use Rattle.std.specs.Prelude.{ℕ, Bool, ◌==◌, nat_lt, List, [], ◌∷◌, length, if◌then◌else◌}
-use Rattle.std.specs.List.{list_any}
+use Rattle.std.specs.Prelude.{ℕ, Bool, false, not, ◌==◌, nat_lt, bytes_eq, List, [], ◌∷◌, length, Option, Some, None, if◌then◌else◌}
+use Rattle.std.specs.List.{list_any, take_while}
 
 -- LF, which ends a line
 abbrev pub newline : ℕ
@@ -26,3 +26,18 @@ is_long line = nat_lt longest_line (length line)
 -- some line is longer than that
 abbrev pub has_long_line : List (List ℕ) → Bool
 has_long_line lines = list_any is_long lines
+
+-- whether the first of these lines is too long
+abbrev pub begins_long : List (List ℕ) → Bool
+begins_long [] = false
+begins_long (line ∷ lines) = is_long line
+
+-- whether the line is the last one, where one is named
+abbrev pub is_last : Option (List ℕ) → List ℕ → Bool
+is_last None line = false
+is_last (Some last) line = bytes_eq line last
+
+-- the lines before the first that is the last one; all of them, where none is named or none is it
+abbrev pub lines_before : Option (List ℕ) → List (List ℕ) → List (List ℕ)
+lines_before None lines = lines
+lines_before (Some last) lines = take_while (λ line. not (bytes_eq line last)) lines

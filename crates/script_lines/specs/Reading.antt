@@ -3,7 +3,7 @@ use Rattle.std.specs.Prelude.{◌≡◌, ◌≢◌, ℕ, ◌+◌, ◌-◌, ◌*�
 use Rattle.std.specs.Io.KnownBytes.{Consumes}
 use Rattle.script_lines.specs.declared.fault.RunFault.{RunFault}
 use Rattle.script_lines.specs.declared.fault.RunFault.TheVariants.{LineTooLong}
-use Rattle.script_lines.specs.Lines.{newline, lines_of, is_long, has_long_line}
+use Rattle.script_lines.specs.Lines.{newline, lines_of, is_long, begins_long}
 
 -- what is held grew by a piece that was read
 abbrev pub Takes : List ℕ → Option (List ℕ) → List ℕ → Option (List ℕ) → Type 0
@@ -28,10 +28,10 @@ abbrev pub TakesNone : List ℕ → Option (List ℕ) → Type 0
 TakesNone old None = ⊤
 TakesNone old (Some xs) = lines_of (old ++ xs) ≡ []
 
--- a line is named too long only where one is
+-- a line is named too long only where the next one is
 abbrev pub FailsToTake : List ℕ → Option (List ℕ) → RunFault → Type 0
 FailsToTake old None fault = ⊤
-FailsToTake old (Some xs) fault = fault ≡ LineTooLong → has_long_line (lines_of (old ++ xs)) ≡ true
+FailsToTake old (Some xs) fault = fault ≡ LineTooLong → begins_long (lines_of (old ++ xs)) ≡ true
 
 -- reads made and octets to come are together no more than before: each read that counts took an octet at least
 abbrev pub IsCounted : ℕ → Option (List ℕ) → ℕ → Option (List ℕ) → Type 0

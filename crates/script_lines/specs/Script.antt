@@ -1,9 +1,9 @@
 -- Scripts: inputs whose lines are answered one after another.
-use Rattle.std.specs.Prelude.{◌≡◌, ℕ, ◌≤◌, true, false, List, [], ◌∷◌, ◌++◌, length, take, Option, Some, None, Result, MatchResult, ⊤}
+use Rattle.std.specs.Prelude.{◌≡◌, ℕ, ◌≤◌, true, false, List, [], ◌∷◌, ◌++◌, length, take, drop, Option, Some, None, Result, MatchResult, ⊤}
 use Rattle.std.specs.Io.KnownBytes.{Appends}
 use Rattle.script_lines.specs.declared.fault.RunFault.{RunFault}
 use Rattle.script_lines.specs.declared.fault.RunFault.TheVariants.{TooManyTurns, LineTooLong}
-use Rattle.script_lines.specs.Lines.{newline, lines_of, has_long_line}
+use Rattle.script_lines.specs.Lines.{newline, lines_of, lines_before, has_long_line, begins_long}
 use Rattle.text_writer.specs.Writing.{AppendsFront}
 
 -- From the first state the lines are answered one after another, and this is what is written: each answer, and LF.
@@ -12,26 +12,36 @@ Plays answers old [] text new = (text ≡ []) × (new ≡ old)
 Plays {S} answers old (line ∷ lines) text new =
     (answer : List ℕ) × (rest : List ℕ) × (middle : S) × answers old line answer middle × (text ≡ answer ++ newline ∷ rest) × Plays answers middle lines rest new
 
--- all lines are answered, and none is too long
-pub record PlaysAll {S : Type 0} (answers : S → List ℕ → List ℕ → S → Type 0) (start : S) (input : List ℕ) (old new : Option (List ℕ)) (end : S) : Type 0 where
+-- these lines are answered, and none of them is too long
+pub record PlaysAll {S : Type 0} (answers : S → List ℕ → List ℕ → S → Type 0) (start : S) (lines : List (List ℕ)) (old new : Option (List ℕ)) (end : S) : Type 0 where
   pub text : List ℕ
-  pub plays : Plays answers start (lines_of input) text end
+  pub plays : Plays answers start lines text end
   pub written : Appends old new text
-  pub short : has_long_line (lines_of input) ≡ false
+  pub short : has_long_line lines ≡ false
 
--- some first lines were answered, of which a front was written; the fault is named only with its cause
-pub record PlaysSome {S : Type 0} (answers : S → List ℕ → List ℕ → S → Type 0) (start : S) (input : List ℕ) (old new : Option (List ℕ)) (fault : RunFault) : Type 0 where
+-- some first lines were answered, of those before the last one where one is named; a front of the answers was written, and the fault is named only with its cause
+pub record PlaysSome {S : Type 0} (answers : S → List ℕ → List ℕ → S → Type 0) (start : S) (last : Option (List ℕ)) (input : List ℕ) (old new : Option (List ℕ)) (fault : RunFault) : Type 0 where
   pub count : ℕ
   pub text : List ℕ
   pub end : S
-  pub plays : Plays answers start (take count (lines_of input)) text end
+  pub within : count ≤ length (lines_before last (lines_of input))
+  pub plays : Plays answers start (take count (lines_before last (lines_of input))) text end
   pub written : AppendsFront old new text
-  pub cause : fault ≡ LineTooLong → has_long_line (lines_of input) ≡ true
+  -- the line behind them is too long
+  pub cause : fault ≡ LineTooLong → begins_long (drop count (lines_of input)) ≡ true
   -- 70,000 reads were made, each of which gave an octet at least
   pub turns : fault ≡ TooManyTurns → 70000 ≤ length input
 
--- what a run leaves in its writer, where the octets of its reader are known
+-- what a run up to a last line, where one is named, leaves in its writer, where the octets of its reader are known
+abbrev pub HasPlayedBefore : {S : Type 0} → (S → List ℕ → List ℕ → S → Type 0) → Option (List ℕ) → S → Option (List ℕ) → Option (List ℕ) → Option (List ℕ) → Result (Unit {0}) RunFault → S → Type 0
+HasPlayedBefore answers last start None old new r end = ⊤
+HasPlayedBefore answers last start (Some input) old new r end =
+    MatchResult r (λ _. PlaysAll answers start (lines_before last (lines_of input)) old new end) (λ fault. PlaysSome answers start last input old new fault)
+
+-- a run over all lines
 abbrev pub HasPlayed : {S : Type 0} → (S → List ℕ → List ℕ → S → Type 0) → S → Option (List ℕ) → Option (List ℕ) → Option (List ℕ) → Result (Unit {0}) RunFault → S → Type 0
-HasPlayed answers start None old new r end = ⊤
-HasPlayed answers start (Some input) old new r end =
-    MatchResult r (λ _. PlaysAll answers start input old new end) (λ fault. PlaysSome answers start input old new fault)
+HasPlayed answers start input old new r end = HasPlayedBefore answers None start input old new r end
+
+-- a run over the lines before the first that is the last one
+abbrev pub HasPlayedUntil : {S : Type 0} → (S → List ℕ → List ℕ → S → Type 0) → List ℕ → S → Option (List ℕ) → Option (List ℕ) → Option (List ℕ) → Result (Unit {0}) RunFault → S → Type 0
+HasPlayedUntil answers last start input old new r end = HasPlayedBefore answers (Some last) start input old new r end

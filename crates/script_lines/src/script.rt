@@ -1,6 +1,7 @@
 //! Scripts: inputs whose lines are answered one after another, each answer in a line of its own.
-ghost use Rattle.std.specs.Prelude.{◌≡◌, ℕ, List, [], ◌∷◌, ◌++◌, OnOk, OnErr};
-ghost use Rattle.script_lines.specs.Script.{HasPlayed};
+ghost use Rattle.std.specs.Prelude.{◌≡◌, ℕ, List, [], ◌∷◌, ◌++◌, option_map, OnOk, OnErr};
+ghost use Rattle.script_lines.specs.Lines.{is_last as is_last_line};
+ghost use Rattle.script_lines.specs.Script.{HasPlayed, HasPlayedUntil, HasPlayedBefore};
 
 use crate::fault::RunFault;
 use crate::lines::LineReader;
@@ -33,6 +34,38 @@ pub fn play<S: Script, R: Read, W: Write>(
     ensures { HasPlayed S.answers script.old (R.remaining reader.old) (W.contents writer.old)
         (W.contents writer.new) result script.new }
 {
+    play_before(alloc, script, None, reader, writer)
+}
+
+/// Answers the lines of an input before the first that is `last`, and asks the reader for nothing once that line was read;
+/// all of them, where there is no such line. What is answered is written before more is read.
+///
+/// Faults: those of `play`, by the lines up to the first that is `last`: what stands behind it is not looked at. A front of the
+/// answers is written then.
+pub fn play_until<S: Script, R: Read, W: Write>(
+    alloc: Global,
+    script: &mut S,
+    last: &[u8],
+    reader: &mut R,
+    writer: &mut W,
+) -> Result<(), RunFault>
+    ensures { HasPlayedUntil S.answers last.now script.old (R.remaining reader.old) (W.contents writer.old)
+        (W.contents writer.new) result script.new }
+{
+    play_before(alloc, script, Some(last), reader, writer)
+}
+
+/// Answers the lines before the first that is the last one, where one is named.
+fn play_before<S: Script, R: Read, W: Write>(
+    alloc: Global,
+    script: &mut S,
+    last: Option<&[u8]>,
+    reader: &mut R,
+    writer: &mut W,
+) -> Result<(), RunFault>
+    ensures { HasPlayedBefore S.answers (option_map (λ text. text.now) last.entry) script.old (R.remaining reader.old)
+        (W.contents writer.old) (W.contents writer.new) result script.new }
+{
     let mut source = match LineReader::new(alloc) {
         Ok(source) => source,
         Err(_) => return Err(RunFault::NoMemory),
@@ -45,6 +78,9 @@ pub fn play<S: Script, R: Read, W: Write>(
             Ok(false) => return write_text(writer, &text),
             Err(fault) => return Err(fault),
         }
+        if is_last(last, &line) {
+            return write_text(writer, &text);
+        }
         if let Err(_) = answer_line(alloc, script, &line, &mut text) {
             return Err(RunFault::NoMemory);
         }
@@ -55,6 +91,16 @@ pub fn play<S: Script, R: Read, W: Write>(
                 Err(fault) => return Err(fault),
             }
         }
+    }
+}
+
+/// Whether the line is the last one, where one is named.
+fn is_last(last: Option<&[u8]>, line: &[u8]) -> bool
+    ensures { result ≡ is_last_line (option_map (λ text. text.now) last.entry) line.now }
+{
+    match last {
+        Some(last) => line == last,
+        None => false,
     }
 }
 
