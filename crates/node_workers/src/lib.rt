@@ -21,4 +21,5 @@ mod workers;
 
 pub use fault::{StartFault, StopFault};
 pub use gate::{Gate, NoGate};
+pub use udp_loop::LoopFault;
 pub use workers::{Ground, Workers};
