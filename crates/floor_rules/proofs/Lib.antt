@@ -1,2 +1,3 @@
 pub mod Urls
 pub mod MapLemmas
+pub mod SameRows

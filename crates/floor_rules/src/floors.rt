@@ -1,4 +1,4 @@
-ghost use Rattle.std.specs.Prelude.{◌≡◌, ◌≤◌, false, is_some, None, IsTrue, IfOk, OnOk, OnErr};
+ghost use Rattle.std.specs.Prelude.{◌≡◌, ◌↔◌, ◌≤◌, false, is_some, None, IsTrue, IfOk, OnOk, OnErr};
 ghost use Rattle.std.specs.FinMap.{empty, get, insert, len};
 ghost use Rattle.floor_rules.specs.Floors.{HasRoom, floor, raised, seen};
 
@@ -80,6 +80,13 @@ impl Floors {
         ensures no { result ≡ false → (65536 ≤ len self.now) × (get self.now key.now ≡ None) }
     {
         self.rows() < MOST_ROWS || self.has(key)
+    }
+
+    /// Whether these are the same floors: the same keys have the same numbers. It takes no memory.
+    pub fn same(&self, other: &Floors) -> bool
+        ensures { IsTrue result ↔ (self.now ≡ other.now) }
+    {
+        self.rows.len() == other.rows.len() && self.rows == other.rows
     }
 
     /// The same floors once more.

@@ -100,7 +100,8 @@ fn same_htcp(one: &Htcp, other: &Htcp) -> bool
         && same_content(&one.content, &other.content)
 }
 
-fn same_message(one: &Message, other: &Message) -> bool
+/// Whether two messages are the same.
+pub fn same_message(one: &Message, other: &Message) -> bool
     ensures { IsTrue result ↔ (one.now ≡ other.now) }
 {
     match (one, other) {

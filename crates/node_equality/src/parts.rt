@@ -15,14 +15,14 @@ pub(crate) fn same_octets(one: &Octets, other: &Octets) -> bool
 }
 
 /// Whether two keys are the same URL.
-pub(crate) fn same_key(one: &Key, other: &Key) -> bool
+pub fn same_key(one: &Key, other: &Key) -> bool
     ensures { IsTrue result ↔ (one.now ≡ other.now) }
 {
     one.text() == other.text()
 }
 
 /// Whether two asks are the same.
-pub(crate) fn same_ask(one: &Ask, other: &Ask) -> bool
+pub fn same_ask(one: &Ask, other: &Ask) -> bool
     ensures { IsTrue result ↔ (one.now ≡ other.now) }
 {
     same_key(&one.key, &other.key)
@@ -41,7 +41,7 @@ fn same_field(one: &Field, other: &Field) -> bool
 
 /// Whether two lists have the same fields in the same order.
 #[cycle(fields)]
-fn same_fields(one: &[Field], other: &[Field]) -> bool
+pub fn same_fields(one: &[Field], other: &[Field]) -> bool
     ensures { IsTrue result ↔ (map field_text one.now ≡ map field_text other.now) }
 {
     match one {
@@ -54,7 +54,7 @@ fn same_fields(one: &[Field], other: &[Field]) -> bool
 }
 
 /// Whether two answers are the same.
-pub(crate) fn same_answer(one: &Answer, other: &Answer) -> bool
+pub fn same_answer(one: &Answer, other: &Answer) -> bool
     ensures { IsTrue result ↔ (one.now ≡ other.now) }
 {
     one.status() == other.status()
@@ -65,7 +65,7 @@ pub(crate) fn same_answer(one: &Answer, other: &Answer) -> bool
 }
 
 /// Whether two copies are the same.
-pub(crate) fn same_copy(one: &WebCopy<()>, other: &WebCopy<()>) -> bool
+pub fn same_copy(one: &WebCopy<()>, other: &WebCopy<()>) -> bool
     ensures { IsTrue result ↔ (one.now ≡ other.now) }
 {
     one.stamp == other.stamp

@@ -5,7 +5,8 @@ use crate::messages::same_sent;
 use crate::parts::{same_ask, same_copy};
 use node_rules::{Begin, Outgoing, Reply, Serve, Served, StepFault};
 
-fn same_served(one: &Served<()>, other: &Served<()>) -> bool
+/// Whether two things that are served are the same: a copy with its age, or a bare status.
+pub fn same_served(one: &Served<()>, other: &Served<()>) -> bool
     ensures { IsTrue result ↔ (one.now ≡ other.now) }
 {
     match (one, other) {

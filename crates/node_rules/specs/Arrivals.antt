@@ -64,7 +64,7 @@ peer_gave g s p peer asked stamp answer tag now mark =
     then use_answer g s p stamp asked answer tag now
     else try_on g s p peer now mark
 
--- an origin's answer is used unless a purge of the key came after its read began
+-- an origin's answer is used unless the key's floor is above the stamp of its read by now
 unfoldable pub origin_gave : {X : Type 0} → Setting → NodeState X → Pending X → ℕ → ℕ → X → AnswerText → ℕ → X → Stepped X
 origin_gave g s p stamp asked read_mark answer now mark =
     if nat_le (floor s.floors p.ask.key) stamp

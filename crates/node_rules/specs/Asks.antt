@@ -24,7 +24,7 @@ abbrev pub is_siblings_ask : Setting → Option ℕ → Bool
 is_siblings_ask g None = false
 is_siblings_ask g (Some asker) = names_sibling g.roster asker g.id
 
--- an ask that may be answered from the store alone: it says so (RFC 9111, section 5.2.1.7), or its asker's entry names this node a sibling (RFC 2187, section 1)
+-- an ask that may be answered from the store alone: it says so (RFC 9111, section 5.2.1.7), or its asker's entry names this node a sibling (RFC 2187, section 2)
 abbrev pub is_cached_only : Setting → Option ℕ → Ask → Bool
 is_cached_only g asker ask = ask.only_if_cached || is_siblings_ask g asker
 

@@ -1,4 +1,4 @@
--- Questions that a cache answers from what it holds (RFC 2187, section 2.2): a sibling makes it fetch nothing.
+-- Questions that a cache answers from what it holds (RFC 2187, section 2): a sibling makes it fetch nothing.
 use Rattle.std.specs.Prelude.{◌≡◌, Bool, true, false, Option, None, Result, Ok, Err}
 use Rattle.icp_wire.specs.declared.message.IcpOp.{IcpOp}
 use Rattle.icp_wire.specs.declared.message.IcpOp.TheVariants as op

@@ -79,7 +79,7 @@ ending s block = with_pending s (filter (λ q. not (is_of_block block q)) s.pend
 abbrev pub age_of : {X : Type 0} → WebCopy X → ℕ
 age_of c = unwrap_or c.answer.age 0
 
--- a copy may be served at this floor and moment: it is fresh (RFC 9111, section 4.2), and no purge of its key came after its read began
+-- a copy may be served at this floor and moment: it is fresh (RFC 9111, section 4.2), and its stamp is no less than the floor
 abbrev pub is_good : {X : Type 0} → ℕ → ℕ → WebCopy X → Bool
 is_good floor now c = nat_le floor c.stamp && is_fresh (age_of c) c.asked now c.lifetime
 

@@ -42,7 +42,7 @@ is_parent_miss floor tried t = is_open floor tried t.peer && (is_parent t.peer.r
 abbrev pub is_over : RoundText → Bool
 is_over r = r.expired || list_all (λ p. has_told r.told p.id) r.asked
 
--- a sibling is asked only for what it holds (RFC 2187, section 1; RFC 9111, section 5.2.1.7)
+-- a sibling is asked only for what it holds (RFC 2187, section 2; RFC 9111, section 5.2.1.7)
 abbrev pub from : Peer → Source
 from p = source.Peer p.id (is_sibling p.role)
 

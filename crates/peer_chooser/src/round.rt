@@ -112,6 +112,13 @@ impl Round {
         &self.told[..self.told_count]
     }
 
+    /// Whether the time for answers is over.
+    pub fn has_expired(&self) -> bool
+        ensures { result ≡ self.now.expired }
+    {
+        self.has_expired
+    }
+
     /// A peer has answered. Its first answer counts, also after the round has expired; a later one, and that of a
     /// cache that was not asked, change nothing. It takes no memory.
     pub fn answer(&mut self, peer: u8, said: Said)

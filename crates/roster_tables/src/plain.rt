@@ -18,7 +18,7 @@ pub enum Udp {
     Htcp,
 }
 
-/// What a peer is to the node that names it (RFC 2187, section 1).
+/// What a peer is to the node that names it (RFC 2187, section 2).
 #[derive(Clone, Copy, Debug, PartialEq, Eq)]
 pub enum Role {
     /// It gives only what it holds.

@@ -1,8 +1,8 @@
 //! Keys: the canonical texts of http URLs, under which caches keep their copies and purge them.
 //!
-//! Two texts that name one resource by the equivalences of RFC 9110, section 4.2.3, have one key: the scheme
-//! and the host in lower case, no port where it is 80, and `/` for an empty path. Percent-encoded octets are
-//! left as they came.
+//! Texts that differ in the case of the scheme or the host, in a port of 80 that is written out, or in `/` for an
+//! empty path have one key (RFC 9110, section 4.2.3). Percent-encoded octets are left as they came: `%7E` and `~`
+//! are two keys, which that section takes for one.
 #![tactic(auto)]
 
 mod fault;
