@@ -1,10 +1,16 @@
 //! The command line of `cache`.
+ghost use Rattle.std.specs.Prelude.{◌≤◌};
+
 use answer_script::run_answer;
-use clap::{Arg, ArgMatches, Command, Error};
-use roster::{Roster, RosterFault};
+use clap::error::ErrorKind;
+use clap::{Arg, ArgMatches, Command, Error, value_parser};
+use origin_server::OriginFault;
+use roster::{Address, Roster, RosterError};
+use running_cluster::{ClusterFault, Stores, is_worker_count, open_stores};
 use script_lines::RunFault;
 use std::alloc::{AllocError, Global};
 use std::io::{BufRead, Write};
+use std::net::SocketAddrV4;
 use std::process::ExitCode;
 use std::rt::{Env, Files};
 use std::{env, fs, io};
@@ -14,9 +20,12 @@ use world_script::run_world;
 /// The status where the command line is at fault.
 const BAD_COMMAND_LINE: u8 = 2;
 
-/// What the command line asks for.
+/// How many workers a node has where the command line does not say.
+const FEWEST_WORKERS: u8 = 2;
+
+/// A script between standard input and standard output.
 #[derive(Drop)]
-enum Task {
+pub(crate) enum Scripted {
     /// `cache answer`.
     Answer,
     /// `cache wire CODEC`.
@@ -25,15 +34,39 @@ enum Task {
     World(String),
 }
 
+/// What the command line asks for.
+#[derive(Drop)]
+pub(crate) enum Task {
+    /// The lines of a script.
+    Script(Scripted),
+    /// `cache cluster FILE --data DIR --workers N`.
+    Cluster {
+        file: String,
+        dir: String,
+        workers: u8,
+    },
+    /// `cache origin ADDRESS COUNT`.
+    Origin {
+        at: Address,
+        count: u32,
+    },
+}
+
 /// Why a task ended before its end.
 #[derive(Drop)]
-enum Failure {
-    /// The file could not be opened or read.
+pub(crate) enum Failure {
+    /// The roster's file could not be read.
     File,
-    /// The file has no roster.
-    Roster(RosterFault),
+    /// The roster's file is no text in UTF-8.
+    NotText,
+    /// The text has no roster.
+    Roster(RosterError),
     /// The run over the input stopped.
     Run(RunFault),
+    /// The cluster did not start, or stopped.
+    Cluster(ClusterFault),
+    /// The origin did not start, or stopped.
+    Origin(OriginFault),
 }
 
 impl Failure {
@@ -41,44 +74,95 @@ impl Failure {
     fn name(&self) -> &'static str {
         match self {
             Failure::File => "Io",
-            Failure::Roster(fault) => fault.name(),
+            Failure::NotText => "BadToml",
+            Failure::Roster(error) => error.fault.name(),
             Failure::Run(fault) => fault.name(),
+            Failure::Cluster(fault) => fault.name(),
+            Failure::Origin(fault) => fault.name(),
+        }
+    }
+
+    /// Says what was at fault, where that is more than the name.
+    fn explain(&self, rt: &impl Eprint) -> io::Result<()> {
+        match self {
+            Failure::Cluster(fault) => eprintln!(rt; "{fault}"),
+            Failure::Origin(fault) => eprintln!(rt; "{fault}"),
+            Failure::File => eprintln!(rt; "the roster's file could not be read"),
+            Failure::NotText => eprintln!(rt; "the roster's file is no text in UTF-8"),
+            Failure::Roster(error) => eprintln!(rt; "the roster's file: {error}"),
+            Failure::Run(_) => Ok(()),
         }
     }
 }
 
-/// Runs what the process's command line asks for, between standard input and standard output, and gives the
-/// status: 0 at the end of the input or after help, 2 where the command line is at fault, and 1 after another
-/// fault, whose name is on standard error.
-pub(crate) fn run<R: Env + Files + Input + Print + Eprint + AllocGlobal>(rt: &R) -> ExitCode {
+/// What the process's command line asks for, or the status with which it ends at once: 0 after help, 2 where the command line is at fault, which standard error tells, and 1 where there is no memory.
+pub(crate) fn task_of<R: Env + Print + Eprint + AllocGlobal>(rt: &R) -> Result<Task, ExitCode> {
     let words = match words_of(rt) {
         Ok(words) => words,
-        Err(_) => return failed(rt, &Failure::Run(RunFault::NoMemory)),
+        Err(_) => return Err(failed(rt, &Failure::Run(RunFault::NoMemory))),
     };
-    let asked = match asked_for(rt.alloc(), words.as_slice()) {
-        Ok(asked) => asked,
-        Err(error) => return refused(rt, &error),
-    };
-    match carried_out(rt, &asked) {
+    match asked_for(rt.alloc(), words.as_slice()) {
+        Ok(task) => Ok(task),
+        Err(error) => Err(refused(rt, &error)),
+    }
+}
+
+/// Carries out a script between standard input and standard output.
+pub(crate) fn play<R: Files + Input + Print + AllocGlobal>(
+    rt: &R,
+    script: &Scripted,
+) -> Result<(), Failure> {
+    let (alloc, mut reader, mut writer) = (rt.alloc(), rt.reader(), io::writer(rt));
+    match script {
+        Scripted::Answer => run_answer(alloc, &mut reader, &mut writer).map_err(Failure::Run),
+        Scripted::Wire(codec) => {
+            run_wire(alloc, *codec, &mut reader, &mut writer).map_err(Failure::Run)
+        }
+        Scripted::World(file) => {
+            let roster = roster_in(rt, file.as_str())?;
+            run_world(alloc, &roster, &mut reader, &mut writer).map_err(Failure::Run)
+        }
+    }
+}
+
+/// The status with which the process ends: 0, or 1 after a fault, whose name is on standard error.
+pub(crate) fn status_of(rt: &impl Eprint, done: Result<(), Failure>) -> ExitCode {
+    match done {
         Ok(()) => ExitCode::SUCCESS,
         Err(failure) => failed(rt, &failure),
     }
 }
 
-/// Carries out a task between standard input and standard output.
-fn carried_out<R: Files + Input + Print + AllocGlobal>(rt: &R, task: &Task) -> Result<(), Failure> {
-    let alloc = rt.alloc();
-    let mut reader = rt.reader();
-    let mut writer = io::writer(rt);
-    let done = match task {
-        Task::Answer => run_answer(alloc, &mut reader, &mut writer),
-        Task::Wire(codec) => run_wire(alloc, *codec, &mut reader, &mut writer),
-        Task::World(path) => {
-            let roster = roster_in(rt, path.as_str())?;
-            run_world(alloc, &roster, &mut reader, &mut writer)
-        }
-    };
-    done.map_err(Failure::Run)
+/// How many workers a node has where the command line asks for so many; the command line lets no other number than 2 to 8 through.
+pub(crate) fn workers_of(asked: u8) -> u8
+    ensures { (2 ≤ result) × (result ≤ 8) }
+{
+    if is_worker_count(asked) {
+        asked
+    } else {
+        FEWEST_WORKERS
+    }
+}
+
+/// What a cluster runs on.
+#[derive(Drop)]
+pub(crate) struct Grounds {
+    pub(crate) roster: Roster,
+    pub(crate) stores: Stores,
+}
+
+/// The roster in a file, and the stores of its members and its master in a folder.
+pub(crate) fn grounds_of(
+    rt: &HostRuntime,
+    alloc: Global,
+    file: &str,
+    dir: &str,
+) -> Result<Grounds, Failure> {
+    let roster = roster_in(rt, file)?;
+    match open_stores(rt, alloc, &roster, dir) {
+        Ok(stores) => Ok(Grounds { roster, stores }),
+        Err(fault) => Err(Failure::Cluster(fault)),
+    }
 }
 
 /// The roster in a file, which is read whole.
@@ -87,11 +171,11 @@ fn roster_in<R: Files + AllocGlobal>(rt: &R, path: &str) -> Result<Roster, Failu
         return Err(Failure::File);
     };
     let Ok(text) = String::from_utf8(octets) else {
-        return Err(Failure::Roster(RosterFault::BadToml));
+        return Err(Failure::NotText);
     };
     match Roster::read(rt.alloc(), text.as_str()) {
         Ok(roster) => Ok(roster),
-        Err(error) => Err(Failure::Roster(error.fault)),
+        Err(error) => Err(Failure::Roster(error)),
     }
 }
 
@@ -107,6 +191,7 @@ fn words_of<R: Env + AllocGlobal>(rt: &R) -> io::Result<Vec<String>> {
 /// Says the fault on standard error.
 fn failed(rt: &impl Eprint, failure: &Failure) -> ExitCode {
     let _ = eprintln!(rt; "fault: {}", failure.name());
+    let _ = failure.explain(rt);
     ExitCode::FAILURE
 }
 
@@ -125,9 +210,15 @@ fn asked_for(alloc: Global, words: &[String]) -> Result<Task, Error> {
     let command = cache_command(alloc)?;
     let matches = command.try_get_matches_from(words)?;
     Ok(match matches.subcommand() {
-        Some(("wire", wire)) => Task::Wire(codec_of(wire)),
-        Some(("world", world)) => Task::World(file_of(alloc, world)?),
-        _ => Task::Answer,
+        Some(("wire", wire)) => Task::Script(Scripted::Wire(codec_of(wire))),
+        Some(("world", world)) => Task::Script(Scripted::World(word_of(alloc, world, "FILE")?)),
+        Some(("cluster", cluster)) => Task::Cluster {
+            file: word_of(alloc, cluster, "FILE")?,
+            dir: word_of(alloc, cluster, "data")?,
+            workers: cluster.get_one("workers").unwrap_or(FEWEST_WORKERS),
+        },
+        Some(("origin", origin)) => return origin_of(alloc, origin),
+        _ => Task::Script(Scripted::Answer),
     })
 }
 
@@ -139,10 +230,36 @@ fn codec_of(matches: &ArgMatches<'_>) -> Codec {
     }
 }
 
-/// The file that `world` names.
-fn file_of(alloc: Global, matches: &ArgMatches<'_>) -> Result<String, AllocError> {
-    let name = matches.get_str("FILE").unwrap_or("");
-    String::from_str(alloc, name)
+/// The word of this argument, which is required.
+fn word_of(alloc: Global, matches: &ArgMatches<'_>, name: &str) -> Result<String, AllocError> {
+    String::from_str(alloc, matches.get_str(name).unwrap_or(""))
+}
+
+/// What `origin` asks for.
+fn origin_of(alloc: Global, matches: &ArgMatches<'_>) -> Result<Task, Error> {
+    let at = matches
+        .get_one::<SocketAddrV4>("ADDRESS")
+        .and_then(address_of);
+    match (at, matches.get_one("COUNT")) {
+        (Some(at), Some(count)) => Ok(Task::Origin { at, count }),
+        _ => {
+            let message =
+                "ADDRESS is four decimal numbers of 0 to 255 with dots, `:` and a port of 1 to 65535";
+            let mut command = origin_command(alloc)?;
+            Err(command.error(ErrorKind::ValueValidation, message)?)
+        }
+    }
+}
+
+/// The address, unless its port is 0.
+fn address_of(address: SocketAddrV4) -> Option<Address> {
+    if address.port() == 0 {
+        return None;
+    }
+    Some(Address {
+        ip: u32::from(*address.ip()),
+        port: address.port(),
+    })
 }
 
 fn cache_command<'a>(alloc: Global) -> Result<Command<'a>, AllocError> {
@@ -152,7 +269,9 @@ fn cache_command<'a>(alloc: Global) -> Result<Command<'a>, AllocError> {
         .arg_required_else_help(true)
         .subcommand(answer_command(alloc))?
         .subcommand(wire_command(alloc)?)?
-        .subcommand(world_command(alloc)?)
+        .subcommand(world_command(alloc)?)?
+        .subcommand(cluster_command(alloc)?)?
+        .subcommand(origin_command(alloc)?)
 }
 
 fn answer_command<'a>(alloc: Global) -> Command<'a> {
@@ -185,4 +304,49 @@ fn world_command<'a>(alloc: Global) -> Result<Command<'a>, AllocError> {
             "Lines:\n  clock T                           set the clock, in seconds\n  client N URL [only-if-cached]     a client asks member N\n  datagram K | ask K                what was sent comes, for the first time or again\n  answer K [SERIAL]                 a member's answer comes, under another serial if one is given\n  origin N SERIAL STATUS BODY       the origin answers a read, to be kept for 60 seconds\n  fail N SERIAL | expire N SERIAL   a fetch fails, a round has waited\n  fault N | restart N               a member's store fails, a member starts again\n  issue URL | resend                a purge is issued, what is due is sent again\n  status P | master                 how far purge P is, the master starts again\nEach line is answered by its number and what is told: serve STATUS [stamp S body BODY], answer K, purge P,\npending C, done P, unknown, round SERIAL, send K .., ask K, read SERIAL, refused NAME, or -",
         )
         .arg(file)
+}
+
+fn cluster_command<'a>(alloc: Global) -> Result<Command<'a>, AllocError> {
+    let file = Arg::new(alloc, "FILE")
+        .required(true)
+        .help("The roster, in TOML");
+    let data = Arg::new(alloc, "data")
+        .long("data")
+        .value_name("DIR")
+        .required(true)
+        .help(
+            "The folder of the files node-N.db and master.db, which are made where they are not there",
+        );
+    let workers = Arg::new(alloc, "workers")
+        .long("workers")
+        .value_name("N")
+        .value_parser(value_parser!(u8).range(2..=8))
+        .default_value("2")
+        .help("How many workers each member has");
+    Command::new(alloc, "cluster")
+        .about(
+            "Runs the roster's members and its master in this process, and answers each line of standard input",
+        )
+        .after_help(
+            "Lines:\n  purge URL    issue a purge: purge P, or the fault's name\n  status P     how far purge P is: pending C (members are missing), done P, or unknown\n  get N URL    ask member N by HTTP: the status and the body in hex (- where empty), or the fault's name\n  quit         stop, as the end of the input does\nAny other line is answered by: bad line",
+        )
+        .arg(file)?
+        .arg(data)?
+        .arg(workers)
+}
+
+fn origin_command<'a>(alloc: Global) -> Result<Command<'a>, AllocError> {
+    let address = Arg::new(alloc, "ADDRESS").required(true).help(
+        "Where it serves: four decimal numbers with dots, `:` and a port",
+    );
+    let count = Arg::new(alloc, "COUNT")
+        .required(true)
+        .value_parser(value_parser!(u32).range(1..))
+        .help("How many asks it answers before it ends");
+    Command::new(alloc, "origin")
+        .about(
+            "Answers asks over HTTP for trials, each by the path that is asked for and the count so far",
+        )
+        .arg(address)?
+        .arg(count)
 }

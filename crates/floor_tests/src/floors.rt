@@ -87,6 +87,7 @@ fn floors_by_themselves(rt: HostRuntime) -> Result<(), Fail> {
     floors.raise(rt.alloc(), &b, 5)?;
     floors.raise(rt.alloc(), &a, 9)?;
     assert!(rt; floors.floor(&a) == 9 && floors.floor(&b) == 5 && floors.seen() == 9);
+    assert!(rt; floors.same(&floors.copy()?) && !floors.same(&copy) && !copy.same(&floors));
     assert!(rt; floors.rows() == 2 && floors.has_room(&a));
     assert!(rt; copy.floor(&a) == 7 && copy.floor(&b) == 0 && copy.rows() == 1);
     Ok(())

@@ -11,3 +11,5 @@ mod held;
 mod http;
 #[cfg(test)]
 mod octets;
+#[cfg(test)]
+mod parts;

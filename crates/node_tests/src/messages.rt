@@ -146,7 +146,10 @@ fn round_of_one(roster: &Roster) -> Option<Round> {
 #[test]
 fn peers_of_a_round(rt: HostRuntime) -> Result<(), Fail> {
     let roster = roster_of(&rt)?;
-    let round = round_of_one(&roster).ok_or("member")?;
+    let mut round = round_of_one(&roster).ok_or("member")?;
+    assert!(rt; !round.has_expired());
+    round.expire();
+    assert!(rt; round.has_expired());
     let table = [
         (3002, Udp::Icp, Some(2)),
         (4003, Udp::Htcp, Some(3)),

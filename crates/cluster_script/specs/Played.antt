@@ -1,0 +1,70 @@
+-- Which text may answer a line of a cluster's script.
+use Rattle.std.specs.Prelude.{◌≡◌, ◌≢◌, ◌⊎◌, ℕ, true, false, List, codes, Result, Ok, Err, IfOk, IfErr, IsTrue, option_map, Option}
+use Rattle.url_key.specs.declared.fault.KeyFault.{KeyFault}
+use Rattle.url_key.specs.Fault.{key_fault_name}
+use Rattle.url_key.specs.Key.{HasKey}
+use Rattle.fetch_messages.specs.Answer.{AnswerText, is_writable}
+use Rattle.fetch_messages.specs.declared.fault.FetchFault.{FetchFault}
+use Rattle.purge_rules.specs.declared.calls.Status.{Status}
+use Rattle.purge_rules.specs.declared.fault.MasterFault.{MasterFault}
+use Rattle.purge_rules.specs.declared.fault.MasterFault.TheVariants.{ShiftFull}
+use Rattle.roster.specs.Lookups.{member_of, is_member}
+use Rattle.roster_tables.specs.declared.plain.Address.{Address}
+use Rattle.roster_tables.specs.declared.plain.Tables.{Tables}
+use Rattle.script_lines.specs.declared.fault.RunFault.{RunFault}
+use Rattle.script_lines.specs.Script.{HasPlayedUntil}
+use Rattle.script_lines.specs.Words.{words_of}
+use Rattle.cluster_script.specs.Command.{quit, Command, PurgeLine, StatusLine, GetLine, BadLine, command_of}
+use Rattle.cluster_script.specs.Shown.{purge_shown, asked_shown, got_shown}
+
+-- the fault of a URL that is no key, or what is told of one that is
+abbrev pub IsSaidOf : (List ℕ → Type 0) → Result (List ℕ) KeyFault → List ℕ → Type 0
+IsSaidOf Tells (Ok key) text = Tells text
+IsSaidOf Tells (Err fault) text = text ≡ key_fault_name fault
+
+abbrev pub IsSaid : (List ℕ → Type 0) → List ℕ → List ℕ → Type 0
+IsSaid Tells url text = (outcome : Result (List ℕ) KeyFault) × HasKey url outcome × IsSaidOf Tells outcome text
+
+-- a fault that is told: that the master's book is full is not, since its page is turned first
+abbrev pub IsTold : MasterFault → Type 0
+IsTold fault = fault ≢ ShiftFull
+
+-- the number of a purge, or why none was issued
+abbrev pub TellsPurge : List ℕ → Type 0
+TellsPurge text = (issued : Result ℕ MasterFault) × IfErr issued IsTold × (text ≡ purge_shown issued)
+
+-- how far the purge of this number is, or why the master does not tell
+abbrev pub TellsStatus : ℕ → List ℕ → Type 0
+TellsStatus number text = (asked : Result Status MasterFault) × IfErr asked IsTold × (text ≡ asked_shown number asked)
+
+-- an answer of a member, which has a status of 200 to 599 and a body of at most 65,536 octets, or why there is none
+abbrev pub TellsAnswer : List ℕ → Type 0
+TellsAnswer text = (got : Result AnswerText FetchFault) × IfOk got (λ answer. IsTrue (is_writable answer)) × (text ≡ got_shown got)
+
+-- an ask of a node that is no member is a bad line
+abbrev pub GetTells : Tables → ℕ → List ℕ → List ℕ → Type 0
+GetTells roster node url text =
+    ((is_member roster node ≡ false) × (text ≡ codes "bad line"))
+    ⊎ ((is_member roster node ≡ true) × IsSaid TellsAnswer url text)
+
+abbrev pub CommandTells : Tables → Command → List ℕ → Type 0
+CommandTells roster (PurgeLine url) text = IsSaid TellsPurge url text
+CommandTells roster (StatusLine number) text = TellsStatus number text
+CommandTells roster (GetLine node url) text = GetTells roster node url text
+CommandTells roster BadLine text = text ≡ codes "bad line"
+
+-- the text may answer the line
+abbrev pub LineTells : Tables → List ℕ → List ℕ → Type 0
+LineTells roster line text = CommandTells roster (command_of (words_of line)) text
+
+-- the same of what answers line after line, by a roster that stays
+abbrev pub LineAnswers : Tables → List ℕ → List ℕ → Tables → Type 0
+LineAnswers old line text new = LineTells old line text × (new ≡ old)
+
+-- the lines before the first `quit` are answered one after another, each by a text that may answer it
+abbrev pub HasAnswered : Tables → Option (List ℕ) → Option (List ℕ) → Option (List ℕ) → Result (Unit {0}) RunFault → Type 0
+HasAnswered roster input old new r = HasPlayedUntil {S = Unit {0}} (λ _ line text _. LineTells roster line text) quit tt input old new r tt
+
+-- where the member of an id serves HTTP
+abbrev pub http_of : Tables → ℕ → Option Address
+http_of roster id = option_map (λ m. m.cache.http) (member_of roster id)

@@ -1,0 +1,9 @@
+//! Tests of a hierarchy that runs in one process, by the lines of its script, with an origin on this machine.
+#![tactic(auto)]
+
+#[cfg(test)]
+mod faults;
+#[cfg(test)]
+mod purges;
+#[cfg(test)]
+mod trial;

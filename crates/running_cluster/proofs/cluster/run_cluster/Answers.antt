@@ -1,0 +1,12 @@
+use denote.Param.Send.{sendable}
+use Rattle.running_cluster.proofs.Sending.{node_send, master_send}
+use Rattle.running_cluster.proofs.cluster.run_cluster.Goals as goal
+
+pub start-requires-send-S : goal.start-requires-send-S
+start-requires-send-S g c κs = search (sendable, master_send)
+
+pub run_nodes-ended-requires-send-F : goal.run_nodes-ended-requires-send-F
+run_nodes-ended-requires-send-F g c κs = search (sendable, node_send)
+
+pub stop-stopped-requires-send-S : goal.stop-stopped-requires-send-S
+stop-stopped-requires-send-S g c κs = search (sendable, master_send)

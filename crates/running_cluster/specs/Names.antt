@@ -1,0 +1,26 @@
+-- The names of the faults of a cluster, as the program prints them.
+use Rattle.std.specs.Prelude.{ℕ, List, codes}
+use Rattle.floor_rules.specs.Fault.{floor_fault_name}
+use Rattle.purge_rules.specs.Names.{purge_fault_name}
+use Rattle.purge_master.specs.Names.{open_fault_name}
+use Rattle.master_loop.specs.Names as master
+use Rattle.node_workers.specs.Names as node
+use Rattle.script_lines.specs.Fault.{run_fault_name}
+use Rattle.running_cluster.specs.declared.fault.ClusterFault.{ClusterFault}
+use Rattle.running_cluster.specs.declared.fault.ClusterFault.TheVariants as cluster
+
+-- the name of the fault inside, where there is one, and `Io` of a file or a socket that is not opened
+abbrev pub cluster_fault_name : ClusterFault → List ℕ
+cluster_fault_name (cluster.File path) = codes "Io"
+cluster_fault_name (cluster.Ports id http icp htcp) = codes "Io"
+cluster_fault_name (cluster.Floors path fault) = floor_fault_name fault
+cluster_fault_name (cluster.Purges path fault) = purge_fault_name fault
+cluster_fault_name (cluster.MasterOpen fault) = open_fault_name fault
+cluster_fault_name (cluster.MasterStart fault) = master.start_fault_name fault
+cluster_fault_name (cluster.Node id fault) = node.start_fault_name fault
+cluster_fault_name cluster.NoThread = codes "NoThread"
+cluster_fault_name cluster.System = codes "Io"
+cluster_fault_name (cluster.Run fault) = run_fault_name fault
+cluster_fault_name (cluster.Stop id fault) = node.stop_fault_name fault
+cluster_fault_name cluster.MasterStopped = codes "Io"
+cluster_fault_name cluster.NoMemory = codes "NoMemory"

@@ -1,0 +1,118 @@
+//! The thread at the master's socket.
+use crate::fault::ClusterFault;
+use master_loop::{History, MasterLoop, MasterSender, SharedMaster};
+use node_seats::Places;
+use purge_master::{Master, MasterBook};
+use purge_rules::PurgeStore;
+use roster::Roster;
+use std::alloc::Global;
+use std::net::Net;
+use std::sync::atomic::{AtomicBool, Ordering};
+use std::sync::{Arc, Wait};
+use std::thread::{self, JoinHandle, Threads};
+use std::time::Clock;
+
+/// A master whose thread runs.
+#[derive(Drop)]
+pub(crate) struct MasterThread<S: PurgeStore> {
+    pub(crate) master: Arc<SharedMaster<S>, Global>,
+    pub(crate) sender: MasterSender,
+    is_stopped: Arc<AtomicBool, Global>,
+    thread: JoinHandle<bool>,
+}
+
+/// What the master's thread has.
+#[derive(Drop)]
+struct Turned<S: PurgeStore> {
+    turner: MasterLoop,
+    roster: Roster,
+    master: Arc<SharedMaster<S>, Global>,
+    is_stopped: Arc<AtomicBool, Global>,
+}
+
+impl<S: PurgeStore + Drop> Turned<S> {
+    /// Has its turns until it is told to stop. Whether it was.
+    fn run<R: Wait + Clock>(mut self, rt: &R) -> bool {
+        let ended = self
+            .turner
+            .run_until(rt, &self.roster, &self.master, &self.is_stopped);
+        ended.is_ok()
+    }
+}
+
+/// The master of a roster's members over a store, shared.
+fn shared<S: PurgeStore + Drop>(
+    alloc: Global,
+    roster: &Roster,
+    purges: S,
+    places: Places,
+) -> Result<Arc<SharedMaster<S>, Global>, ClusterFault> {
+    let master = match Master::open(alloc, roster, purges) {
+        Ok(master) => master,
+        Err(fault) => return Err(ClusterFault::MasterOpen(fault)),
+    };
+    let book = MasterBook::open(master);
+    match Arc::new(
+        alloc,
+        SharedMaster::open(alloc, book, places, History::Dropped),
+    ) {
+        Ok(master) => Ok(master),
+        Err(_) => Err(ClusterFault::NoMemory),
+    }
+}
+
+/// A flag that is not set.
+fn flag(alloc: Global) -> Result<Arc<AtomicBool, Global>, ClusterFault> {
+    match Arc::new(alloc, AtomicBool::new(false)) {
+        Ok(flag) => Ok(flag),
+        Err(_) => Err(ClusterFault::NoMemory),
+    }
+}
+
+impl<S: PurgeStore + Drop + Send + 'static> MasterThread<S> {
+    /// Opens the master's socket, and starts its thread.
+    ///
+    /// Faults: `MasterOpen`, `MasterStart`, `NoThread` and `NoMemory`. Nothing runs or is open then.
+    pub(crate) fn start<R: Threads + Wait + Clock + Net + Copy + Drop + Send + Sync + 'static>(
+        rt: R,
+        alloc: Global,
+        roster: &Roster,
+        purges: S,
+        places: Places,
+    ) -> Result<MasterThread<S>, ClusterFault> {
+        let master = shared(alloc, roster, purges, places)?;
+        let is_stopped = flag(alloc)?;
+        let turner = match MasterLoop::open(&rt, alloc, roster) {
+            Ok(turner) => turner,
+            Err(fault) => return Err(ClusterFault::MasterStart(fault)),
+        };
+        let sender = turner.sender()?;
+        let turned = Turned {
+            turner,
+            roster: roster.copy(alloc)?,
+            master: Arc::try_clone(&master)?,
+            is_stopped: Arc::try_clone(&is_stopped)?,
+        };
+        match thread::spawn(&rt, move || turned.run(&rt)) {
+            Ok(thread) => Ok(MasterThread {
+                master,
+                sender,
+                is_stopped,
+                thread,
+            }),
+            Err(_) => Err(ClusterFault::NoThread),
+        }
+    }
+
+    /// Ends the thread and waits for its end.
+    ///
+    /// Faults: `MasterStopped` where it had ended before.
+    pub(crate) fn stop<R: Threads>(self, rt: &R) -> Result<(), ClusterFault> {
+        self.is_stopped.store(true, Ordering::SeqCst);
+        if self.thread.join(rt) {
+            Ok(())
+        } else {
+            Err(ClusterFault::MasterStopped)
+        }
+    }
+}

@@ -1,0 +1,127 @@
+//! The files of a cluster, in one folder: `node-N.db` of each member, and `master.db`.
+use crate::fault::ClusterFault;
+use crate::files::{MasterStore, NodeStore};
+use purge_numbers::SqliteFloors;
+use purge_records::SqlitePurges;
+use roster::Roster;
+use sqlite::{Connection, Error, ErrorCode, File, FileStore};
+use std::alloc::Global;
+
+/// The greatest id of a member.
+pub(crate) const LAST_MEMBER: u8 = 16;
+
+/// A node's floors, in a store.
+#[derive(Drop)]
+pub(crate) struct NodeFloors<F> {
+    pub(crate) id: u8,
+    pub(crate) floors: F,
+}
+
+/// The stores of a cluster, each over a file: those of the nodes by ascending id, and the master's.
+#[derive(Drop)]
+pub struct Stores {
+    pub(crate) nodes: Vec<NodeFloors<NodeStore>>,
+    pub(crate) purges: MasterStore,
+}
+
+/// Opens the files of a roster's members and of its master in a folder: `node-N.db` of each member, by ascending id, and `master.db`. A file that is not there is made; the folder is there.
+///
+/// Faults: of the first file that is not opened, `File` or `NoMemory`, or that of its tables. No file is open then.
+pub fn open_stores(
+    files: &HostRuntime,
+    alloc: Global,
+    roster: &Roster,
+    dir: &str,
+) -> Result<Stores, ClusterFault> {
+    let nodes = open_nodes(files, alloc, roster, dir)?;
+    match open_master(files, alloc, dir) {
+        Ok(purges) => Ok(Stores { nodes, purges }),
+        Err(fault) => Err(fault),
+    }
+}
+
+/// Opens the files of the nodes by ascending id. A file that is not there is made.
+///
+/// Faults: of the first file that is not opened, `File` or `NoMemory`, or that of its tables.
+fn open_nodes(
+    rt: &HostRuntime,
+    alloc: Global,
+    roster: &Roster,
+    dir: &str,
+) -> Result<Vec<NodeFloors<NodeStore>>, ClusterFault> {
+    let mut nodes = Vec::with_capacity(alloc, roster.members().len())?;
+    for id in 1..=LAST_MEMBER {
+        if is_member(roster, id) {
+            open_node(rt, alloc, dir, id, &mut nodes)?;
+        }
+    }
+    Ok(nodes)
+}
+
+/// Opens the file of a node, and puts it behind those that are open.
+fn open_node(
+    rt: &HostRuntime,
+    alloc: Global,
+    dir: &str,
+    id: u8,
+    nodes: &mut Vec<NodeFloors<NodeStore>>,
+) -> Result<(), ClusterFault> {
+    match node_store(rt, alloc, dir, id) {
+        Ok(floors) => put_node(nodes, NodeFloors { id, floors }),
+        Err(fault) => Err(fault),
+    }
+}
+
+/// Puts a node's floors behind those that are there.
+fn put_node<F: Drop>(
+    nodes: &mut Vec<NodeFloors<F>>,
+    node: NodeFloors<F>,
+) -> Result<(), ClusterFault> {
+    match nodes.push(node) {
+        Ok(()) => Ok(()),
+        Err(_) => Err(ClusterFault::NoMemory),
+    }
+}
+
+fn is_member(roster: &Roster, id: u8) -> bool {
+    roster.members().iter().any(|member| member.cache.id == id)
+}
+
+fn node_store(
+    rt: &HostRuntime,
+    alloc: Global,
+    dir: &str,
+    id: u8,
+) -> Result<NodeStore, ClusterFault> {
+    let path = format!(in alloc; "{dir}/node-{id}.db")?;
+    let connection = connected(rt, alloc, path.as_str())?;
+    match SqliteFloors::open(alloc, connection) {
+        Ok(floors) => Ok(NodeStore { floors }),
+        Err((_, fault)) => Err(ClusterFault::Floors { path, fault }),
+    }
+}
+
+/// Opens the file of the master, with the faults of the nodes' files.
+fn open_master(rt: &HostRuntime, alloc: Global, dir: &str) -> Result<MasterStore, ClusterFault> {
+    let path = format!(in alloc; "{dir}/master.db")?;
+    let connection = connected(rt, alloc, path.as_str())?;
+    match SqlitePurges::open(alloc, connection) {
+        Ok(purges) => Ok(MasterStore { purges }),
+        Err((_, fault)) => Err(ClusterFault::Purges { path, fault }),
+    }
+}
+
+/// A connection to a file.
+fn connected(
+    rt: &HostRuntime,
+    alloc: Global,
+    path: &str,
+) -> Result<Connection<FileStore<File>>, ClusterFault> {
+    match Connection::open(rt, path) {
+        Ok(connection) => Ok(connection),
+        Err(Error::SqliteFailure(ErrorCode::OutOfMemory)) => Err(ClusterFault::NoMemory),
+        Err(_) => Err(ClusterFault::File {
+            path: String::from_str(alloc, path)?,
+        }),
+    }
+}
