@@ -1,6 +1,6 @@
 //! The command `cache`: its command line, over the terminal's streams. What it runs stands in `answer_script`, `wire_script`, `world_script`, `running_cluster` and `origin_server`.
 //!
-//! The command line has no clauses: tests of the scripts go by their own calls.
+//! The command line has no clauses but that of the number of workers: tests of the scripts go by their own calls.
 #![tactic(auto)]
 
 mod commands;
