@@ -1,0 +1,5 @@
+pub mod Steps
+pub mod Posts
+pub mod Judging
+pub mod Counting
+pub mod Boards

@@ -1,0 +1,95 @@
+-- A step of a node over floors in memory.
+use Rattle.std.proofs.Common.{◌≡◌, ◌≢◌, ℕ, List, Option, true, false, refl, sym, ◌∙◌, ap, Result, Ok, Err, inl, inr, arith}
+use Rattle.floor_rules.specs.Floors.{FloorMap}
+use Rattle.floor_rules.specs.Store.{HaveRisen}
+use Rattle.roster_tables.specs.declared.plain.Tables.{Tables}
+use Rattle.key_texts.specs.KeyOf.{GivesKeys, key_of}
+use Rattle.key_texts.proofs.Outcomes.{gives_keys}
+use Rattle.node_rules.specs.declared.state.NodeState.{NodeState}
+use Rattle.node_rules.specs.declared.event.Event.{Event}
+use Rattle.node_rules.specs.declared.reply.Reply.{Reply}
+use Rattle.node_rules.specs.declared.reply.StepFault.{StepFault}
+use Rattle.node_rules.specs.declared.reply.StepFault.TheVariants as fault
+use Rattle.node_rules.specs.State.{Setting, Stepped}
+use Rattle.node_rules.specs.Relation.{Steps}
+use Rattle.node_rules.specs.Effect.{Effect, Stays, Serves, Brings, Purges, Drops}
+use Rattle.node_rules.specs.Step.{step}
+use Rattle.node_rules.proofs.Effects.{step_does}
+use Rattle.node_book.specs.declared.book.NodeEntry.{NodeEntry}
+use Rattle.node_core.specs.Closing.{FailsWithCause}
+use Rattle.node_core.specs.View.{NodeText, IsSameMember, IsTied, setting_of}
+use Rattle.world_rules.specs.Hierarchy.{setting}
+use Rattle.run_rules.specs.declared.verdict.Cause.TheVariants as cause
+use Rattle.run_rules.specs.Board.{Open}
+use Rattle.run_rules.specs.Judging.{StepsBy}
+use Rattle.run_check.specs.Held.{IsSeated}
+
+abbrev NodeHere : Type 0
+NodeHere = NodeText (Unit {0}) FloorMap
+
+abbrev Outcome : Type 0
+Outcome = Result (Reply (Unit {0})) StepFault
+
+effect_closed : {X : Type 0} (g : Setting) (s : NodeState X) (e : Event X) (mark : X) (r : Stepped X) → Effect g s e mark r → r.state.closed ≡ s.closed
+effect_closed g s e mark r (Stays pending next outcome _ _) = refl
+effect_closed g s e mark r (Serves key c pending next outcome _ _ _ _) = refl
+effect_closed g s e mark r (Brings c life pending next outcome _ _ _ _ _) = refl
+effect_closed g s e mark r (Purges key n pending next outcome _ _ _) = refl
+effect_closed g s e mark r (Drops key pending next outcome _ _) = refl
+
+-- the function leaves a node as open as it was
+step_closed : {X : Type 0} (g : Setting) (s : NodeState X) (e : Event X) (mark : X) → (step g s e mark).state.closed ≡ s.closed
+step_closed g s e mark = effect_closed g s e mark _ (step_does g s mark e)
+
+-- where neither memory nor the store fails, the step is the function's
+by_function : {X : Type 0} (g : Setting) (s : NodeState X) (e : Event X) (mark : X) (outcome : Result (Reply X) StepFault) (next : NodeState X) →
+    outcome ≢ Err fault.NoMemory → outcome ≢ Err fault.StoreFault → Steps g s e mark outcome next → step g s e mark ≡ record { state = next; outcome = outcome }
+by_function g s e mark (Ok reply) next memory store steps = steps
+by_function g s e mark (Err fault.NoMemory) next memory store steps = absurd (memory refl)
+by_function g s e mark (Err fault.StoreFault) next memory store steps = absurd (store refl)
+by_function g s e mark (Err fault.Closed) next memory store steps = steps
+by_function g s e mark (Err fault.UnknownSerial) next memory store steps = steps
+by_function g s e mark (Err fault.Busy) next memory store steps = steps
+
+-- floors in memory never fail
+never_fails : (outcome : Outcome) → FailsWithCause (Unit {0}) (HaveRisen 0 0) outcome → outcome ≢ Err fault.StoreFault
+never_fails outcome cause is = elim (cause is tt) [ inl less ↦ absurd (omega arith) | inr most ↦ absurd (omega arith) ]
+
+same_setting : (roster : Tables) (id : ℕ) (n : NodeHere) → IsSeated roster id n → setting_of n key_of ≡ setting roster id
+same_setting roster id n seated =
+    ap (λ t. setting t n.id) seated.roster ∙ ap (λ i. setting roster i) seated.id
+
+-- the node has taken the step that is defined
+stepped : (roster : Tables) (id : ℕ) (before after : NodeHere) (e : Event (Unit {0})) (outcome : Outcome) → IsSeated roster id before → FailsWithCause (Unit {0}) (HaveRisen 0 0) outcome →
+    ((key_of : List ℕ → Option (List ℕ)) → GivesKeys key_of → Steps (setting_of before key_of) before.state e tt outcome after.state) → outcome ≢ Err fault.NoMemory →
+    step (setting roster id) before.state e tt ≡ record { state = after.state; outcome = outcome }
+stepped roster id before after e outcome seated cause steps memory =
+    ap (λ g. step g before.state e tt) (sym (same_setting roster id before seated))
+    ∙ by_function (setting_of before key_of) before.state e tt outcome after.state memory (never_fails outcome cause) (steps key_of gives_keys)
+
+-- also where the event that it took is a copy
+pub copy_stepped : (roster : Tables) (id : ℕ) (before after : NodeHere) (e copy : Event (Unit {0})) (outcome : Outcome) → copy ≡ e → IsSeated roster id before → FailsWithCause (Unit {0}) (HaveRisen 0 0) outcome →
+    ((key_of : List ℕ → Option (List ℕ)) → GivesKeys key_of → Steps (setting_of before key_of) before.state copy tt outcome after.state) → outcome ≢ Err fault.NoMemory →
+    step (setting roster id) before.state e tt ≡ record { state = after.state; outcome = outcome }
+copy_stepped roster id before after e copy outcome same seated cause steps memory =
+    ap (λ x. step (setting roster id) before.state x tt) (sym same) ∙ stepped roster id before after copy outcome seated cause steps memory
+
+-- it is open behind it, and its store has its floors
+pub seated_after : (roster : Tables) (id : ℕ) (before after : NodeHere) (e : Event (Unit {0})) (outcome : Outcome) → IsSeated roster id before → IsSameMember before after →
+    step (setting roster id) before.state e tt ≡ record { state = after.state; outcome = outcome } → IsTied after.state.closed after.state.floors true (Unit {0}) after.store → IsSeated roster id after
+seated_after roster id before after e outcome seated same is tied =
+    let still : after.state.closed ≡ false = sym (ap (λ r. r.state.closed) is) ∙ step_closed (setting roster id) before.state e tt ∙ seated.is_open in
+    record {
+      roster = same.roster ∙ seated.roster;
+      id = same.id ∙ seated.id;
+      is_open = still;
+      stored = (tied still).1 tt;
+    }
+
+pub steps_so : (roster : Tables) (id : ℕ) (before after : NodeHere) (e : NodeEntry) (outcome : Outcome) → step (setting roster id) before.state e.event tt ≡ record { state = after.state; outcome = outcome } → outcome ≡ e.outcome →
+    StepsBy (setting roster id) before.state e (Ok (Open after.state))
+steps_so roster id before after e outcome is same = inl (after.state, is ∙ ap (λ o. record { state = after.state; outcome = o }) same, refl)
+
+pub steps_otherwise : (roster : Tables) (id : ℕ) (before after : NodeHere) (e : NodeEntry) (outcome : Outcome) → step (setting roster id) before.state e.event tt ≡ record { state = after.state; outcome = outcome } → (outcome ≡ e.outcome → ⊥) →
+    StepsBy (setting roster id) before.state e (Err cause.OtherReply)
+steps_otherwise roster id before after e outcome is other = inr (λ same. other (sym (ap (λ r. r.outcome) is) ∙ same), refl)

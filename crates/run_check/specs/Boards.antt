@@ -1,0 +1,52 @@
+-- Where a run stands, as it is held.
+use Rattle.std.specs.Prelude.{◌≡◌, ℕ, suc, All, Bool, true, false, not, ◌&&◌, ◌==◌, List, [], ◌∷◌, map, option_map, Option, Some, None, if◌then◌else◌}
+use Rattle.roster_tables.specs.declared.plain.Tables.{Tables}
+use Rattle.purge_rules.specs.Members.{members_of}
+use Rattle.run_rules.specs.declared.verdict.Cause.{Cause}
+use Rattle.run_rules.specs.Notes.{Note}
+use Rattle.run_rules.specs.Sent.{Network, without_waiting}
+use Rattle.run_rules.specs.Board.{Standing, Post, Board}
+use Rattle.run_rules.specs.Judging.{Fine, Flawed, Judges, is_astray}
+use Rattle.run_network.specs.Held.{Holds}
+use Rattle.run_check.specs.declared.board.Post.{Post as HeldPost}
+use Rattle.run_check.specs.declared.board.Posts.{Posts}
+use Rattle.run_check.specs.declared.board.Board.{Board as Held}
+use Rattle.run_check.specs.Held.{standing_of, IsSound, master_of}
+
+abbrev pub post_of : HeldPost → Post
+post_of p = record { id = p.id; standing = standing_of p.standing }
+
+abbrev pub posts_of : Posts → List Post
+posts_of p = map post_of p.posts.items
+
+-- the place of the first of these that has this id
+abbrev pub place_by : Bool → Option ℕ → Option ℕ
+place_by true later = Some 0
+place_by false later = option_map suc later
+
+abbrev pub place_of : ℕ → List Post → Option ℕ
+place_of id [] = None
+place_of id (p ∷ ps) = place_by (p.id == id) (place_of id ps)
+
+-- each open node is that of its id, and its store has its floors
+abbrev pub AreSeated : Tables → Posts → Type 0
+AreSeated roster p = All (λ q. IsSound roster q.id q.standing) p.posts.items
+
+-- the board, where the network is this one
+abbrev pub board_of : Held → Network → Board
+board_of b sent = record { posts = posts_of b.posts; master = master_of b.ledger; network = sent }
+
+-- what waits at a node whose record opens with this block of serials, and that stands so then: nothing where it has taken no block
+abbrev pub opened_network : Network → ℕ → ℕ → Standing → Network
+opened_network sent id next after = if (next == 1) && not (is_astray after) then without_waiting sent id else sent
+
+-- what is held is in order, and holds this network
+pub record IsBoard (roster : Tables) (b : Held) (sent : Network) : Type 0 where
+  pub seated : AreSeated roster b.posts
+  pub members : b.ledger.members ≡ members_of roster
+  pub network : Holds roster b.network sent
+
+-- what the note comes to where the run stood so: it stands so now, or the note has this flaw
+abbrev pub IsJudged : Tables → Board → Note → Held → Option Cause → Type 0
+IsJudged roster before note now None = (sent : Network) × IsBoard roster now sent × Judges roster before note (Fine (board_of now sent))
+IsJudged roster before note now (Some cause) = Judges roster before note (Flawed cause)

@@ -1,0 +1,272 @@
+//! The master's purges, and its calls.
+ghost use Rattle.std.specs.Prelude.{◌≡◌, ◌↔◌, ◌≤◌, true, false, option_map, IsTrue, IfOk, OnOk};
+ghost use Rattle.purge_rules.specs.declared.calls.MasterCall.TheVariants as calls;
+ghost use Rattle.purge_rules.specs.Members.{members_of};
+ghost use Rattle.purge_rules.specs.Purges.{no_purges, pending_at};
+ghost use Rattle.purge_rules.specs.Calls.{called, opened, is_written as is_written_by, is_news as is_news_of, is_acknowledging as acknowledges, is_due as is_due_call, issue_fault as issue_fault_of, counted};
+ghost use Rattle.run_check.specs.Held.{master_of, IsAnswered, IsWanting, IsFailing, IsTaken};
+
+use purge_master::MasterEntry;
+use purge_rules::{MasterAnswer, MasterCall, MasterFault, MemberSet, Purge, Purges};
+use roster::Roster;
+use std::alloc::{AllocError, Global};
+use url_key::Key;
+
+/// The greatest number of a purge.
+const LAST_NUMBER: u32 = 4294967295;
+
+/// What a call answers.
+type Outcome = Result<MasterAnswer, MasterFault>;
+
+/// What the master of a roster's members stands on: its purges, and whether it is closed.
+#[derive(Drop)]
+pub(crate) struct Ledger {
+    members: MemberSet,
+    purges: Purges,
+    closed: bool,
+}
+
+/// Whether a response of this code acknowledges a purge.
+fn is_acknowledging(code: u8) -> bool
+    ensures { result ≡ acknowledges code }
+{
+    code == 0 || code == 2
+}
+
+/// Whether a call lists what is due.
+fn is_due(call: &MasterCall) -> bool
+    ensures { result ≡ is_due_call call.now }
+{
+    matches!(call, MasterCall::Due)
+}
+
+/// Whether an acknowledgement marks a member that was not marked, or makes a purge done.
+fn is_news(members: MemberSet, member: u8, purge: Option<&Purge>) -> bool
+    ensures { result ≡ is_news_of members member (option_map (λ p. p.now) purge.entry) }
+{
+    match purge {
+        Some(purge) => !purge.marked.has(member) || members.are_in(purge.marked),
+        None => false,
+    }
+}
+
+/// Whether the same is due, in the same order.
+fn same_due(one: &[(u32, u8)], other: &[(u32, u8)]) -> bool
+    ensures { IsTrue result ↔ (one.now ≡ other.now) }
+{
+    one == other
+}
+
+/// Whether two answers are the same.
+fn same_answer(one: &MasterAnswer, other: &MasterAnswer) -> bool
+    ensures { IsTrue result ↔ (one.now ≡ other.now) }
+{
+    match (one, other) {
+        (MasterAnswer::Issue(one), MasterAnswer::Issue(other)) => one == other,
+        (MasterAnswer::Acknowledge(one), MasterAnswer::Acknowledge(other)) => one == other,
+        (MasterAnswer::Due(one), MasterAnswer::Due(other)) => {
+            same_due(one.as_slice(), other.as_slice())
+        }
+        (MasterAnswer::Status(one), MasterAnswer::Status(other)) => one == other,
+        _ => false,
+    }
+}
+
+/// Whether two outcomes of a call are the same answer, or the same fault.
+fn same_outcome(one: &Outcome, other: &Outcome) -> bool
+    ensures { IsTrue result ↔ (one.now ≡ other.now) }
+{
+    match (one, other) {
+        (Ok(one), Ok(other)) => same_answer(one, other),
+        (Err(one), Err(other)) => one == other,
+        _ => false,
+    }
+}
+
+impl Ledger {
+    /// Nothing was issued.
+    pub(crate) fn new(alloc: Global, roster: &Roster) -> Ledger
+        ensures members { result.members ≡ members_of roster.now }
+        ensures state { master_of result ≡ opened no_purges }
+    {
+        Ledger {
+            members: MemberSet::of(roster),
+            purges: Purges::new(alloc),
+            closed: false,
+        }
+    }
+
+    /// Why no number is given, if none is.
+    fn issue_fault(&self) -> Option<MasterFault>
+        ensures { result ≡ issue_fault_of self.now.purges }
+    {
+        if self.purges.last() == LAST_NUMBER {
+            return Some(MasterFault::NumbersSpent);
+        }
+        if self.purges.is_full() {
+            return Some(MasterFault::TooManyPending);
+        }
+        None
+    }
+
+    /// Whether a call changes what is stored.
+    fn is_written(&self, call: &MasterCall) -> bool
+        ensures { result ≡ is_written_by self.now.members self.now.purges call.now }
+    {
+        match call {
+            MasterCall::Issue(_) => self.issue_fault().is_none(),
+            MasterCall::Acknowledge {
+                member,
+                trans,
+                code,
+            } => {
+                is_acknowledging(*code)
+                    && self.members.has(*member)
+                    && is_news(self.members, *member, self.purges.find(*trans))
+            }
+            MasterCall::Due | MasterCall::Status(_) => false,
+        }
+    }
+
+    /// A purge of the key is issued.
+    fn issue(&mut self, alloc: Global, key: &Key) -> Result<Outcome, AllocError>
+        requires { self.old.closed ≡ false }
+        ensures called { IfOk result (λ outcome. called self.old.members (master_of self.old) (calls.Issue key.now) ≡ record { state = master_of self.new; outcome = outcome }) }
+        ensures members { OnOk result (self.new.members ≡ self.old.members) }
+    {
+        match self.issue_fault() {
+            Some(fault) => Ok(Err(fault)),
+            None => {
+                let number = self.purges.last() + 1;
+                self.purges.add(alloc, number, key)?;
+                Ok(Ok(MasterAnswer::Issue(number)))
+            }
+        }
+    }
+
+    /// A member of the roster has acknowledged the purge of a number: the purge that is done by it, if one is.
+    fn count(&mut self, member: u8, number: u32) -> Option<u32>
+        requires { (1 ≤ member) × (member ≤ 16) }
+        ensures counted { record { purges = self.new.purges; done = result } ≡ counted self.old.members self.old.purges member (pending_at self.old.purges number) }
+        ensures members { self.new.members ≡ self.old.members }
+        ensures closed { self.new.closed ≡ self.old.closed }
+    {
+        let mut marked = self.purges.find(number)?.marked;
+        marked.insert(member);
+        if self.members.are_in(marked) {
+            self.purges.finish(number);
+            Some(number)
+        } else {
+            self.purges.mark(number, member);
+            None
+        }
+    }
+
+    /// A member responds to a CLR.
+    fn acknowledge(&mut self, member: u8, trans: u32, code: u8) -> Outcome
+        requires { self.old.closed ≡ false }
+        ensures called { called self.old.members (master_of self.old) (calls.Acknowledge member trans code) ≡ record { state = master_of self.new; outcome = result } }
+        ensures members { self.new.members ≡ self.old.members }
+    {
+        if is_acknowledging(code) && self.members.has(member) {
+            return Ok(MasterAnswer::Acknowledge(self.count(member, trans)));
+        }
+        Ok(MasterAnswer::Acknowledge(None))
+    }
+
+    /// How far the purge of a number is.
+    fn status(&self, number: u32) -> Outcome
+        ensures { called self.now.members (master_of self.now) (calls.Status number) ≡ record { state = master_of self.now; outcome = result } }
+    {
+        Ok(MasterAnswer::Status(self.purges.status(self.members, number)))
+    }
+
+    /// An open master takes a call.
+    fn open_call(&mut self, alloc: Global, call: &MasterCall) -> Result<Outcome, AllocError>
+        requires { self.old.closed ≡ false }
+        ensures called { IfOk result (λ outcome. called self.old.members (master_of self.old) call.now ≡ record { state = master_of self.new; outcome = outcome }) }
+        ensures members { OnOk result (self.new.members ≡ self.old.members) }
+    {
+        match call {
+            MasterCall::Issue(key) => self.issue(alloc, key),
+            MasterCall::Acknowledge {
+                member,
+                trans,
+                code,
+            } => Ok(self.acknowledge(*member, *trans, *code)),
+            MasterCall::Due => Ok(Ok(MasterAnswer::Due(self.purges.due(alloc, self.members)?))),
+            MasterCall::Status(number) => Ok(self.status(*number)),
+        }
+    }
+
+    /// A closed master takes a call: it still tells a status.
+    fn closed_call(&self, call: &MasterCall) -> Outcome
+        requires { self.now.closed ≡ true }
+        ensures { called self.now.members (master_of self.now) call.now ≡ record { state = master_of self.now; outcome = result } }
+    {
+        match call {
+            MasterCall::Status(number) => self.status(*number),
+            _ => Err(MasterFault::Closed),
+        }
+    }
+
+    /// Takes a call, and tells whether this is what it answers.
+    fn answers(
+        &mut self,
+        alloc: Global,
+        call: &MasterCall,
+        answer: &Outcome,
+    ) -> Result<bool, AllocError>
+        ensures called { IfOk result (IsAnswered (called self.old.members (master_of self.old) call.now) answer.now (master_of self.new)) }
+        ensures members { OnOk result (self.new.members ≡ self.old.members) }
+    {
+        let outcome = if self.closed {
+            self.closed_call(call)
+        } else {
+            self.open_call(alloc, call)?
+        };
+        Ok(same_outcome(&outcome, answer))
+    }
+
+    /// A call wants memory, and what the master's list says next tells whether that closes it. Tells whether the call may want memory.
+    fn wants_memory(&mut self, call: &MasterCall, is_closed: bool) -> bool
+        ensures wants { IsWanting self.old.members (master_of self.old) call.now is_closed (master_of self.new) result }
+        ensures members { self.new.members ≡ self.old.members }
+    {
+        let is_written = self.is_written(call);
+        if self.closed || (!is_written && !is_due(call)) {
+            return false;
+        }
+        self.closed = is_written && is_closed;
+        true
+    }
+
+    /// The store fails at a call, which closes the master. Tells whether the call comes to the store.
+    fn fails(&mut self, call: &MasterCall) -> bool
+        ensures fails { IsFailing self.old.members (master_of self.old) call.now (master_of self.new) result }
+        ensures members { self.new.members ≡ self.old.members }
+    {
+        if self.closed || !self.is_written(call) {
+            return false;
+        }
+        self.closed = true;
+        true
+    }
+
+    /// Takes the call of an entry, and tells whether it may have the entry's answer. What the master's list says next tells whether the master is closed behind it.
+    pub(crate) fn take(
+        &mut self,
+        alloc: Global,
+        entry: &MasterEntry,
+        is_closed: bool,
+    ) -> Result<bool, AllocError>
+        ensures taken { IfOk result (IsTaken self.old.members (master_of self.old) entry.now is_closed (master_of self.new)) }
+        ensures members { OnOk result (self.new.members ≡ self.old.members) }
+    {
+        match &entry.answer {
+            Err(MasterFault::NoMemory) => Ok(self.wants_memory(&entry.call, is_closed)),
+            Err(MasterFault::StoreFault) => Ok(self.fails(&entry.call)),
+            answer => self.answers(alloc, &entry.call, answer),
+        }
+    }
+}

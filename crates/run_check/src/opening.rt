@@ -1,0 +1,144 @@
+//! Records open and close.
+ghost use Rattle.std.specs.Prelude.{◌≡◌, ◌↔◌, true, IsTrue, IfOk, find, option_map, ◌==◌};
+ghost use Rattle.roster.specs.Lookups.{is_member as is_member_of};
+ghost use Rattle.run_rules.specs.Board.{Open, Shut};
+ghost use Rattle.run_rules.specs.Judging.{ClosesAs};
+ghost use Rattle.run_check.specs.declared.standing.Standing.TheVariants as held;
+ghost use Rattle.run_check.specs.Held.{standing_of, IsSound, IsOpened, IsOpening, IsRestart};
+
+use crate::standing::{Standing, opened_with};
+use crate::states::{is_opened, is_shut, same_state};
+use floor_rules::{FloorStore, MemoryFloors};
+use node_core::Node;
+use node_rules::NodeState;
+use roster::{Member, Roster};
+use std::alloc::{AllocError, Global};
+use std::hash::RandomState;
+
+/// The member of this id among these.
+fn member_in(members: &[Member], id: u8) -> Option<&Member>
+    ensures { option_map (λ m. m.now) result ≡ find (λ m. m.cache.id == id) members.now }
+{
+    members.iter().find(|member| member.cache.id == id)
+}
+
+/// Whether a member has this id.
+fn is_member(roster: &Roster, id: u8) -> bool
+    ensures { result ≡ is_member_of roster.now id }
+{
+    member_in(roster.members(), id).is_some()
+}
+
+/// A member's node starts again with these floors, if this is its state then; else it is astray.
+fn restarted(
+    alloc: Global,
+    keys: RandomState,
+    roster: &Roster,
+    id: u8,
+    mut floors: MemoryFloors,
+    state: &NodeState<()>,
+) -> Result<Standing, AllocError>
+    requires { is_member_of roster.now id ≡ true }
+    ensures standing { IfOk result (λ standing. IsRestart floors state.now (standing_of standing)) }
+    ensures sound { IfOk result (IsSound roster.now id) }
+{
+    let Ok(stored) = floors.load(alloc) else {
+        return Err(AllocError);
+    };
+    if is_opened(state, &stored) {
+        opened_with(alloc, keys, roster, id, floors)
+    } else {
+        Ok(Standing::Astray)
+    }
+}
+
+/// The record of a member opens whose node is open.
+fn open_goes_on(
+    alloc: Global,
+    keys: RandomState,
+    roster: &Roster,
+    id: u8,
+    node: Node<(), MemoryFloors>,
+    state: &NodeState<()>,
+) -> Result<Standing, AllocError>
+    requires { is_member_of roster.now id ≡ true }
+    ensures standing { IsSound roster.now id (held.Open node) → IfOk result (λ standing. IsOpening (Open node.state) state.now (standing_of standing)) }
+    ensures sound { IsSound roster.now id (held.Open node) → IfOk result (IsSound roster.now id) }
+{
+    if same_state(&node.state()?, state) {
+        Ok(Standing::Open(node))
+    } else {
+        restarted(alloc, keys, roster, id, node.into_floors(), state)
+    }
+}
+
+/// The record of a member opens whose node has closed.
+fn shut_goes_on(
+    alloc: Global,
+    keys: RandomState,
+    roster: &Roster,
+    id: u8,
+    floors: MemoryFloors,
+    state: &NodeState<()>,
+) -> Result<Standing, AllocError>
+    requires { is_member_of roster.now id ≡ true }
+    ensures standing { IfOk result (λ standing. IsOpening (Shut floors) state.now (standing_of standing)) }
+    ensures sound { IfOk result (IsSound roster.now id) }
+{
+    if is_shut(state) {
+        Ok(Standing::Shut(floors))
+    } else {
+        restarted(alloc, keys, roster, id, floors, state)
+    }
+}
+
+/// How a member's node stands as its record opens in this state: as it stood, or as it starts again with its floors; else it is astray.
+fn goes_on(
+    alloc: Global,
+    keys: RandomState,
+    roster: &Roster,
+    id: u8,
+    standing: Standing,
+    state: &NodeState<()>,
+) -> Result<Standing, AllocError>
+    requires { is_member_of roster.now id ≡ true }
+    ensures standing { IsSound roster.now id standing → IfOk result (λ after. IsOpening (standing_of standing) state.now (standing_of after)) }
+    ensures sound { IsSound roster.now id standing → IfOk result (IsSound roster.now id) }
+{
+    match standing {
+        Standing::New => restarted(alloc, keys, roster, id, MemoryFloors::new(alloc), state),
+        Standing::Open(node) => open_goes_on(alloc, keys, roster, id, node, state),
+        Standing::Shut(floors) => shut_goes_on(alloc, keys, roster, id, floors, state),
+        Standing::Astray => Ok(Standing::Astray),
+    }
+}
+
+/// How a node stands as its record opens in this state: nothing is known of it where the roster has no such member, or where it may not open so.
+pub(crate) fn opens(
+    alloc: Global,
+    keys: RandomState,
+    roster: &Roster,
+    id: u8,
+    standing: Standing,
+    state: &NodeState<()>,
+) -> Result<Standing, AllocError>
+    ensures standing { IsSound roster.now id standing → IfOk result (λ after. IsOpened roster.now id (standing_of standing) state.now (standing_of after)) }
+    ensures sound { IsSound roster.now id standing → IfOk result (IsSound roster.now id) }
+{
+    if is_member(roster, id) {
+        goes_on(alloc, keys, roster, id, standing, state)
+    } else {
+        Ok(Standing::Astray)
+    }
+}
+
+/// Whether the record of a node that stands so may close in this state.
+pub(crate) fn may_close(standing: &Standing, state: &NodeState<()>) -> Result<bool, AllocError>
+    ensures { IfOk result (λ may. IsTrue may ↔ ClosesAs (standing_of standing.now) state.now) }
+{
+    match standing {
+        Standing::New | Standing::Astray => Ok(false),
+        Standing::Open(node) => Ok(same_state(state, &node.state()?)),
+        Standing::Shut(_) => Ok(is_shut(state)),
+    }
+}

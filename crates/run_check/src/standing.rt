@@ -1,0 +1,44 @@
+//! How a node stands.
+ghost use Rattle.std.specs.Prelude.{◌≡◌, true, IfOk};
+ghost use Rattle.roster.specs.Lookups.{is_member};
+ghost use Rattle.node_rules.specs.State.{opened};
+ghost use Rattle.run_rules.specs.Board.{Open};
+ghost use Rattle.run_check.specs.Held.{standing_of, IsSound};
+
+use floor_rules::MemoryFloors;
+use node_core::Node;
+use roster::Roster;
+use std::alloc::{AllocError, Global};
+use std::hash::RandomState;
+
+/// How a node stands.
+#[derive(Drop)]
+pub(crate) enum Standing {
+    /// It has no record yet, and nothing, not even a floor.
+    New,
+    /// It is open.
+    Open(Node<(), MemoryFloors>),
+    /// It has closed, and these floors are stored.
+    Shut(MemoryFloors),
+    /// Its record opened in a state that the run does not allow: nothing is known of it.
+    Astray,
+}
+
+/// A node that opens with these floors, and finds its copies by hashes with these keys.
+pub(crate) fn opened_with(
+    alloc: Global,
+    keys: RandomState,
+    roster: &Roster,
+    id: u8,
+    floors: MemoryFloors,
+) -> Result<Standing, AllocError>
+    requires { is_member roster.now id ≡ true }
+    ensures standing { IfOk result (λ standing. standing_of standing ≡ Open (opened floors)) }
+    ensures sound { IfOk result (IsSound roster.now id) }
+{
+    let copy = roster.copy(alloc)?;
+    match Node::open_with_random_keys(alloc, copy, id, floors, keys) {
+        Ok(node) => Ok(Standing::Open(node)),
+        Err(_) => Err(AllocError),
+    }
+}

@@ -1,0 +1,140 @@
+//! Whether two states of a node are the same: in each field, and octet by octet.
+ghost use Rattle.std.specs.Prelude.{◌≡◌, ◌↔◌, true, [], IsTrue};
+ghost use Rattle.node_rules.specs.State.{opened};
+
+use floor_rules::Floors;
+use node_equality::{same_ask, same_copy};
+use node_rules::{Fetch, NodeState, Pending};
+use object_store::WebCopy;
+use peer_chooser::{Round, Told};
+use roster::Peer;
+
+/// Whether the same peers are listed, in the same order.
+fn same_peers(one: &[Peer], other: &[Peer]) -> bool
+    ensures { IsTrue result ↔ (one.now ≡ other.now) }
+{
+    one == other
+}
+
+/// Whether the same was told, in the same order.
+fn same_told(one: &[Told], other: &[Told]) -> bool
+    ensures { IsTrue result ↔ (one.now ≡ other.now) }
+{
+    one == other
+}
+
+/// Whether two rounds are the same.
+fn same_round(one: &Round, other: &Round) -> bool
+    ensures { IsTrue result ↔ (one.now ≡ other.now) }
+{
+    one.has_expired() == other.has_expired()
+        && same_peers(one.asked(), other.asked())
+        && same_told(one.told(), other.told())
+}
+
+/// Whether two asks have the same round, or none.
+fn same_rounds(one: &Option<Round>, other: &Option<Round>) -> bool
+    ensures { IsTrue result ↔ (one.now ≡ other.now) }
+{
+    match (one, other) {
+        (Some(one), Some(other)) => same_round(one, other),
+        (None, None) => true,
+        _ => false,
+    }
+}
+
+/// Whether two fetches are the same.
+fn same_fetch(one: &Fetch<()>, other: &Fetch<()>) -> bool
+    ensures { IsTrue result ↔ (one.now ≡ other.now) }
+{
+    match (one, other) {
+        (Fetch::Nowhere, Fetch::Nowhere) => true,
+        (
+            Fetch::AtPeer { peer, asked },
+            Fetch::AtPeer {
+                peer: source,
+                asked: later,
+            },
+        ) => peer == source && asked == later,
+        (
+            Fetch::AtOrigin { stamp, asked, .. },
+            Fetch::AtOrigin {
+                stamp: other,
+                asked: later,
+                ..
+            },
+        ) => stamp == other && asked == later,
+        _ => false,
+    }
+}
+
+/// Whether two asks that wait are the same.
+fn same_pending(one: &Pending<()>, other: &Pending<()>) -> bool
+    ensures { IsTrue result ↔ (one.now ≡ other.now) }
+{
+    one.block == other.block
+        && one.asker == other.asker
+        && one.fetches == other.fetches
+        && one.reads == other.reads
+        && one.tried.as_slice() == other.tried.as_slice()
+        && same_rounds(&one.round, &other.round)
+        && same_ask(&one.ask, &other.ask)
+        && same_fetch(&one.fetch, &other.fetch)
+}
+
+/// Whether the same asks wait, in the same order.
+fn same_asks(one: &[Pending<()>], other: &[Pending<()>]) -> bool
+    ensures { IsTrue result ↔ (one.now ≡ other.now) }
+{
+    match one {
+        [] => other.is_empty(),
+        [first, one @ ..] => match other {
+            [] => false,
+            [second, other @ ..] => same_pending(first, second) && same_asks(one, other),
+        },
+    }
+}
+
+/// Whether the same copies are held, in the same order.
+fn same_copies(one: &[WebCopy<()>], other: &[WebCopy<()>]) -> bool
+    ensures { IsTrue result ↔ (one.now ≡ other.now) }
+{
+    if one.len() != other.len() {
+        return false;
+    }
+    for at in 0..one.len() {
+        if !same_copy(&one[at], &other[at]) {
+            return false;
+        }
+    }
+    true
+}
+
+/// Whether two states are the same.
+pub(crate) fn same_state(one: &NodeState<()>, other: &NodeState<()>) -> bool
+    ensures { IsTrue result ↔ (one.now ≡ other.now) }
+{
+    one.closed == other.closed
+        && one.next == other.next
+        && one.floors.same(&other.floors)
+        && same_asks(one.pending.as_slice(), other.pending.as_slice())
+        && same_copies(one.copies.as_slice(), other.copies.as_slice())
+}
+
+/// Whether a state is that of a node as it opens with these floors.
+pub(crate) fn is_opened(state: &NodeState<()>, floors: &Floors) -> bool
+    ensures { IsTrue result ↔ (state.now ≡ opened floors.now) }
+{
+    !state.closed
+        && state.next == 1
+        && state.pending.as_slice().is_empty()
+        && state.copies.as_slice().is_empty()
+        && state.floors.same(floors)
+}
+
+/// Whether a state is that of a node that has closed: with no ask pending.
+pub(crate) fn is_shut(state: &NodeState<()>) -> bool
+    ensures { IsTrue result ↔ ((state.now.closed ≡ true) × (state.now.pending ≡ [])) }
+{
+    state.closed && state.pending.as_slice().is_empty()
+}

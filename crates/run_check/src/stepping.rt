@@ -1,0 +1,169 @@
+//! An entry of a node is played on the node itself.
+ghost use Rattle.std.specs.Prelude.{◌≡◌, ◌↔◌, ◌≤◌, IsTrue, IfOk, Err};
+ghost use Rattle.node_rules.specs.declared.reply.StepFault.TheVariants as fault;
+ghost use Rattle.node_rules.specs.Relation.{purge_in as purge_of_event};
+ghost use Rattle.world_rules.specs.Hierarchy.{setting};
+ghost use Rattle.run_rules.specs.Board.{Shut};
+ghost use Rattle.run_rules.specs.Judging.{StepsSo, StepsBy, OpenStepsBy, wanting, failing, shut_by, stored_by};
+ghost use Rattle.run_check.specs.Held.{standing_of, stepped_of, IsSound, IsSeated, AreSound};
+
+use crate::purging::{purge_in, stored};
+use crate::reaching::reaches;
+use crate::standing::Standing;
+use floor_rules::{Floors, MemoryFloors};
+use node_book::NodeEntry;
+use node_copies::copy_of_event;
+use node_core::Node;
+use node_equality::same_outcome;
+use node_rules::{Event, Reply, StepFault};
+use roster::Roster;
+use run_rules::Cause;
+use std::alloc::{AllocError, Global};
+use url_key::Key;
+
+/// Whether a step wanted memory.
+fn has_wanted_memory(outcome: &Result<Reply<()>, StepFault>) -> bool
+    ensures { IsTrue result ↔ (outcome.now ≡ Err fault.NoMemory) }
+{
+    matches!(outcome, Err(StepFault::NoMemory))
+}
+
+/// An open node takes the step of an entry: it stands as the step leaves it where the outcome is the entry's.
+fn play(
+    alloc: Global,
+    roster: &Roster,
+    id: u8,
+    mut node: Node<(), MemoryFloors>,
+    entry: &NodeEntry,
+) -> Result<Result<Standing, Cause>, AllocError>
+    ensures stepped { IsSeated roster.now id node → IfOk result (λ stepped. StepsBy (setting roster.now id) node.state entry.now (stepped_of stepped)) }
+    ensures sound { IsSeated roster.now id node → IfOk result (AreSound roster.now id) }
+{
+    let outcome = node.step(copy_of_event(alloc, &entry.event)?, ());
+    let _closed = node.is_closed();
+    if has_wanted_memory(&outcome) {
+        return Err(AllocError);
+    }
+    if same_outcome(&outcome, &entry.outcome) {
+        Ok(Ok(Standing::Open(node)))
+    } else {
+        Ok(Err(Cause::OtherReply))
+    }
+}
+
+/// A node closes at a purge of this key and number.
+fn closed_by(
+    alloc: Global,
+    roster: &Roster,
+    id: u8,
+    node: Node<(), MemoryFloors>,
+    purge: &(Key, u32),
+    kept: &Floors,
+) -> Result<Standing, AllocError>
+    requires { 1 ≤ purge.now.1 }
+    ensures { IsSeated roster.now id node → IfOk result (λ standing. standing_of standing ≡ Shut (stored_by node.state.floors purge.now.0 purge.now.1 kept.now)) }
+{
+    let floors = stored(alloc, node.into_floors(), &purge.0, purge.1, kept)?;
+    Ok(Standing::Shut(floors))
+}
+
+/// An open node's step wanted memory: nothing changes, but at a purge it may have closed the node.
+fn wants_memory(
+    alloc: Global,
+    roster: &Roster,
+    id: u8,
+    node: Node<(), MemoryFloors>,
+    event: &Event<()>,
+    is_closed: bool,
+    kept: &Floors,
+) -> Result<Standing, AllocError>
+    ensures standing { IsSeated roster.now id node → IfOk result (λ standing. standing_of standing ≡ wanting node.state (purge_of_event (setting roster.now id) event.now) is_closed kept.now) }
+    ensures sound { IsSeated roster.now id node → IfOk result (IsSound roster.now id) }
+{
+    match purge_in(alloc, roster, event)? {
+        Some(purge) if is_closed => closed_by(alloc, roster, id, node, &purge, kept),
+        _ => Ok(Standing::Open(node)),
+    }
+}
+
+/// An open node's store of floors failed: that is so at a purge alone, and closes the node.
+fn fails(
+    alloc: Global,
+    roster: &Roster,
+    id: u8,
+    node: Node<(), MemoryFloors>,
+    event: &Event<()>,
+    kept: &Floors,
+) -> Result<Result<Standing, Cause>, AllocError>
+    ensures stepped { IsSeated roster.now id node → IfOk result (λ stepped. stepped_of stepped ≡ failing node.state (purge_of_event (setting roster.now id) event.now) kept.now) }
+    ensures sound { IsSeated roster.now id node → IfOk result (AreSound roster.now id) }
+{
+    match purge_in(alloc, roster, event)? {
+        Some(purge) => Ok(Ok(closed_by(alloc, roster, id, node, &purge, kept)?)),
+        None => Ok(Err(Cause::OtherReply)),
+    }
+}
+
+/// An open node has an entry.
+fn open_steps(
+    alloc: Global,
+    roster: &Roster,
+    id: u8,
+    node: Node<(), MemoryFloors>,
+    entry: &NodeEntry,
+    is_closed: bool,
+    kept: &Floors,
+) -> Result<Result<Standing, Cause>, AllocError>
+    ensures stepped { IsSeated roster.now id node → IfOk result (λ stepped. OpenStepsBy (setting roster.now id) node.state entry.now is_closed kept.now entry.now.outcome (stepped_of stepped)) }
+    ensures sound { IsSeated roster.now id node → IfOk result (AreSound roster.now id) }
+{
+    match &entry.outcome {
+        Err(StepFault::NoMemory) => {
+            let event = &entry.event;
+            Ok(Ok(wants_memory(alloc, roster, id, node, event, is_closed, kept)?))
+        }
+        Err(StepFault::StoreFault) => fails(alloc, roster, id, node, &entry.event, kept),
+        Err(_) => play(alloc, roster, id, node, entry),
+        Ok(_) => {
+            if reaches(&node, &entry.event) {
+                play(alloc, roster, id, node, entry)
+            } else {
+                Ok(Err(Cause::OtherReply))
+            }
+        }
+    }
+}
+
+/// A closed node has an entry: it answers that it is closed.
+fn shut_steps(
+    floors: MemoryFloors,
+    outcome: &Result<Reply<()>, StepFault>,
+) -> Result<Standing, Cause>
+    ensures { stepped_of result ≡ shut_by floors outcome.now }
+{
+    match outcome {
+        Err(StepFault::Closed) => Ok(Standing::Shut(floors)),
+        _ => Err(Cause::OtherReply),
+    }
+}
+
+/// How a node that stands so stands after an entry, or why it may not have the entry. What its records say next tells whether it is closed then, and with which floors it opens again.
+pub(crate) fn steps(
+    alloc: Global,
+    roster: &Roster,
+    id: u8,
+    standing: Standing,
+    entry: &NodeEntry,
+    is_closed: bool,
+    kept: &Floors,
+) -> Result<Result<Standing, Cause>, AllocError>
+    ensures stepped { IsSound roster.now id standing → IfOk result (λ stepped. StepsSo (setting roster.now id) (standing_of standing) entry.now is_closed kept.now (stepped_of stepped)) }
+    ensures sound { IsSound roster.now id standing → IfOk result (AreSound roster.now id) }
+{
+    match standing {
+        Standing::New => Ok(Err(Cause::OtherReply)),
+        Standing::Open(node) => open_steps(alloc, roster, id, node, entry, is_closed, kept),
+        Standing::Shut(floors) => Ok(shut_steps(floors, &entry.outcome)),
+        Standing::Astray => Ok(Ok(Standing::Astray)),
+    }
+}

@@ -1,0 +1,4 @@
+pub mod Bags
+pub mod Written
+pub mod Prints
+pub mod Held

@@ -1,0 +1,284 @@
+//! Datagrams that members and the master sent.
+ghost use Rattle.std.specs.Prelude.{◌≡◌, ◌⊎◌, ◌↔◌, ℕ, [], ◌∷◌, ◌++◌, List, map, Some, true, IsTrue, OnOk};
+ghost use Rattle.roster.specs.Lookups.{member_of as member_by_id, is_master as is_master_at};
+ghost use Rattle.world_rules.specs.Turn.{clear_to, clears_of};
+ghost use Rattle.purge_rules.specs.Clear.{clear as clear_of};
+ghost use Rattle.world_rules.specs.World.{Datagram, datagrams_from};
+ghost use Rattle.run_network.specs.declared.letters.Letter.{Letter as ALetter};
+ghost use Rattle.run_network.specs.declared.letters.Acknowledgement.{Acknowledgement as AnAcknowledgement};
+ghost use Rattle.run_network.specs.Bags.{Has};
+ghost use Rattle.run_network.specs.Held.{HasLetter, HasAcknowledged, HoldsLetters, datagram_from};
+
+use crate::bags::Bags;
+use crate::members::{address_by, clear_answer, is_master, member_of, udp_of};
+use crate::prints::letter_print;
+use node_copies::copy_of_sent;
+use node_equality::same_message;
+use node_rules::{Message, Outgoing, Sent};
+use purge_rules::clear;
+use roster::{Address, Cache, Roster, Udp};
+use std::alloc::{AllocError, Global};
+use std::hash::RandomState;
+use url_key::Key;
+
+/// A datagram that comes to a member.
+#[derive(Drop)]
+pub struct Letter {
+    sender: Address,
+    receiver: u8,
+    message: Sent,
+}
+
+/// A member's answer to a CLR of the master.
+#[derive(Drop)]
+pub struct Acknowledgement {
+    member: u8,
+    code: u8,
+}
+
+/// The datagrams that were sent: those that come to a member, and of those that come to the master each answer to a CLR.
+///
+/// A contract sees them by `HasLetter` and `HasAcknowledged`.
+#[derive(Drop)]
+pub struct Letters {
+    keys: RandomState,
+    bags: Bags<Letter>,
+    acknowledged: Bags<Acknowledgement>,
+}
+
+/// Whether a datagram is this one.
+fn is_letter(letter: &Letter, sender: Address, receiver: u8, message: &Message) -> bool
+    ensures { IsTrue result ↔ (letter.now ≡ record { sender = sender; receiver = receiver; message = message.now }) }
+{
+    letter.sender == sender
+        && letter.receiver == receiver
+        && same_message(letter.message.message(), message)
+}
+
+/// Whether one of these datagrams is this one.
+fn has_letter_in(letters: &[Letter], sender: Address, receiver: u8, message: &Message) -> bool
+    ensures { IsTrue result ↔ Has (λ l. l) letters.now (record { sender = sender; receiver = receiver; message = message.now }) }
+{
+    for letter in letters {
+        if is_letter(letter, sender, receiver, message) {
+            return true;
+        }
+    }
+    false
+}
+
+/// Whether an answer to a CLR is this one.
+fn is_answer(answer: &Acknowledgement, member: u8, code: u8) -> bool
+    ensures { IsTrue result ↔ (answer.now ≡ record { member = member; code = code }) }
+{
+    answer.member == member && answer.code == code
+}
+
+/// Whether one of these answers to CLRs is this one.
+fn has_acknowledged_in(answers: &[Acknowledgement], member: u8, code: u8) -> bool
+    ensures { IsTrue result ↔ Has (λ a. a) answers.now (record { member = member; code = code }) }
+{
+    for answer in answers {
+        if is_answer(answer, member, code) {
+            return true;
+        }
+    }
+    false
+}
+
+impl Letters {
+    /// Nothing was sent. It takes no memory.
+    pub(crate) fn new(alloc: Global, keys: RandomState) -> Letters
+        ensures letters { (l : ALetter) → HasLetter result l → ⊥ }
+        ensures acknowledged { (trans : ℕ) (a : AnAcknowledgement) → HasAcknowledged result trans a → ⊥ }
+    {
+        Letters {
+            keys,
+            bags: Bags::new(alloc),
+            acknowledged: Bags::new(alloc),
+        }
+    }
+
+    /// Whether a datagram was sent to this member.
+    pub(crate) fn has_letter(&self, sender: Address, receiver: u8, message: &Message) -> bool
+        ensures { IsTrue result ↔ HasLetter self.now (record { sender = sender; receiver = receiver; message = message.now }) }
+    {
+        let print = letter_print(self.keys, sender, receiver, message);
+        has_letter_in(self.bags.bag(print), sender, receiver, message)
+    }
+
+    /// Whether a member has answered the CLR of this TRANS-ID with this code.
+    pub(crate) fn has_acknowledged(&self, member: u8, trans: u32, code: u8) -> bool
+        ensures { IsTrue result ↔ HasAcknowledged self.now trans (record { member = member; code = code }) }
+    {
+        let answers = self.acknowledged.bag(u64::from(trans));
+        has_acknowledged_in(answers, member, code)
+    }
+
+    /// A datagram more.
+    fn put_letter(&mut self, alloc: Global, letter: Letter) -> Result<(), AllocError>
+        ensures letters { OnOk result ((l : ALetter) → HasLetter self.new l ↔ (HasLetter self.old l ⊎ (letter ≡ l))) }
+        ensures acknowledged { OnOk result ((trans : ℕ) (a : AnAcknowledgement) → HasAcknowledged self.new trans a ↔ HasAcknowledged self.old trans a) }
+    {
+        let text = letter.message.message();
+        let print = letter_print(self.keys, letter.sender, letter.receiver, text);
+        self.bags.put(alloc, print, letter)
+    }
+
+    /// A datagram is sent to a member. What was sent before stays as it is.
+    fn add_letter(
+        &mut self,
+        alloc: Global,
+        sender: Address,
+        receiver: u8,
+        message: &Sent,
+    ) -> Result<(), AllocError>
+        ensures letters { OnOk result ((l : ALetter) → HasLetter self.new l ↔ (HasLetter self.old l ⊎ (record { sender = sender; receiver = receiver; message = message.now } ≡ l))) }
+        ensures acknowledged { OnOk result ((trans : ℕ) (a : AnAcknowledgement) → HasAcknowledged self.new trans a ↔ HasAcknowledged self.old trans a) }
+    {
+        let text = message.message();
+        if self.has_letter(sender, receiver, text) {
+            return Ok(());
+        }
+        let message = copy_of_sent(alloc, message)?;
+        self.put_letter(
+            alloc,
+            Letter {
+                sender,
+                receiver,
+                message,
+            },
+        )
+    }
+
+    /// A member answers a CLR. What was sent before stays as it is.
+    fn add_acknowledged(
+        &mut self,
+        alloc: Global,
+        member: u8,
+        trans: u32,
+        code: u8,
+    ) -> Result<(), AllocError>
+        ensures letters { OnOk result ((l : ALetter) → HasLetter self.new l ↔ HasLetter self.old l) }
+        ensures acknowledged { OnOk result ((other : ℕ) (a : AnAcknowledgement) → HasAcknowledged self.new other a ↔ (HasAcknowledged self.old other a ⊎ ((trans ≡ other) × (record { member = member; code = code } ≡ a)))) }
+    {
+        if self.has_acknowledged(member, trans, code) {
+            return Ok(());
+        }
+        let number = u64::from(trans);
+        self.acknowledged
+            .put(alloc, number, Acknowledgement { member, code })
+    }
+
+    /// A datagram is sent to the master.
+    fn tell_master(
+        &mut self,
+        alloc: Global,
+        roster: &Roster,
+        sender: Address,
+        receiver: Address,
+        message: &Message,
+    ) -> Result<(), AllocError>
+        requires { is_master_at roster.now receiver ≡ true }
+        ensures { OnOk result ((sent : List Datagram) → HoldsLetters roster.now self.old sent → HoldsLetters roster.now self.new (sent ++ record { sender = sender; receiver = receiver; message = message.now } ∷ [])) }
+    {
+        match (clear_answer(message), roster.member_at(sender, Udp::Htcp)) {
+            (Some((trans, code)), Some(member)) => self.add_acknowledged(
+                alloc, member, trans, code,
+            ),
+            _ => Ok(()),
+        }
+    }
+
+    /// A datagram is sent.
+    fn send(
+        &mut self,
+        alloc: Global,
+        roster: &Roster,
+        sender: Address,
+        receiver: Address,
+        message: &Sent,
+    ) -> Result<(), AllocError>
+        ensures { OnOk result ((sent : List Datagram) → HoldsLetters roster.now self.old sent → HoldsLetters roster.now self.new (sent ++ record { sender = sender; receiver = receiver; message = message.now } ∷ [])) }
+    {
+        let text = message.message();
+        if is_master(roster, receiver) {
+            return self.tell_master(alloc, roster, sender, receiver, text);
+        }
+        match roster.member_at(receiver, udp_of(text)) {
+            Some(member) => self.add_letter(alloc, sender, member, message),
+            None => Ok(()),
+        }
+    }
+
+    /// The datagrams of a cache are sent.
+    fn send_all(
+        &mut self,
+        alloc: Global,
+        roster: &Roster,
+        cache: &Cache,
+        outgoing: &[Outgoing],
+    ) -> Result<(), AllocError>
+        ensures { OnOk result ((sent : List Datagram) → HoldsLetters roster.now self.old sent → HoldsLetters roster.now self.new (sent ++ map (datagram_from cache.now) outgoing.now)) }
+    {
+        for one in outgoing {
+            let text = one.message.message();
+            let sender = address_by(udp_of(text), cache);
+            self.send(alloc, roster, sender, one.to, &one.message)?;
+        }
+        Ok(())
+    }
+
+    /// The datagrams of a member are sent.
+    pub(crate) fn post(
+        &mut self,
+        alloc: Global,
+        roster: &Roster,
+        node: u8,
+        outgoing: &[Outgoing],
+    ) -> Result<(), AllocError>
+        ensures { OnOk result ((sent : List Datagram) → HoldsLetters roster.now self.old sent → HoldsLetters roster.now self.new (sent ++ datagrams_from (member_by_id roster.now node) outgoing.now)) }
+    {
+        match member_of(roster, node) {
+            Some(member) => self.send_all(alloc, roster, &member.cache, outgoing),
+            None => Ok(()),
+        }
+    }
+
+    /// The CLR of a new purge is sent to the member of this id, if there is one.
+    fn clear_one(
+        &mut self,
+        alloc: Global,
+        roster: &Roster,
+        member: u8,
+        number: u32,
+        key: &Key,
+    ) -> Result<(), AllocError>
+        ensures { OnOk result ((sent : List Datagram) → HoldsLetters roster.now self.old sent → HoldsLetters roster.now self.new (sent ++ clear_to roster.now (Some (clear_of number key.now)) (member_by_id roster.now member))) }
+    {
+        match member_of(roster, member) {
+            Some(member) => {
+                let clr = Sent::new(Message::Htcp(clear(alloc, number, key)?));
+                self.send(alloc, roster, roster.master(), member.cache.htcp, &clr)
+            }
+            None => Ok(()),
+        }
+    }
+
+    /// The CLR of a new purge is sent to each member.
+    pub(crate) fn clear_all(
+        &mut self,
+        alloc: Global,
+        roster: &Roster,
+        number: u32,
+        key: &Key,
+    ) -> Result<(), AllocError>
+        ensures { OnOk result ((sent : List Datagram) → HoldsLetters roster.now self.old sent → HoldsLetters roster.now self.new (sent ++ clears_of roster.now number key.now)) }
+    {
+        let ids = [1u8, 2, 3, 4, 5, 6, 7, 8, 9, 10, 11, 12, 13, 14, 15, 16];
+        for id in &ids {
+            self.clear_one(alloc, roster, *id, number, key)?;
+        }
+        Ok(())
+    }
+}

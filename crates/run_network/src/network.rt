@@ -1,0 +1,181 @@
+//! All that was sent, and what waits.
+ghost use Rattle.std.specs.Prelude.{◌↔◌, ◌≡◌, List, option_map, IsTrue, OnOk};
+ghost use Rattle.roster_tables.specs.declared.plain.Tables.{Tables};
+ghost use Rattle.run_rules.specs.Sent.{Network as ANetwork, Waits as AWait, IsSent, IsCallSent, answers_by, key_by, waits_by, with_reply, with_clears, without_waiting, silence, serial_of as serial_of_begin};
+ghost use Rattle.run_network.specs.Held.{Holds, HoldsWaits, with_answers, with_waits};
+
+use crate::answers::Answers;
+use crate::asks::Asks;
+use crate::letters::Letters;
+use crate::members::is_own;
+use crate::waits::Waits;
+use node_rules::{Begin, Event, Reply, Serve};
+use purge_rules::{MasterAnswer, MasterCall, MasterFault};
+use roster::Roster;
+use std::alloc::{AllocError, Global};
+use std::hash::RandomState;
+use url_key::Key;
+
+/// The serials of a block.
+const SERIALS: u32 = 32;
+
+/// All that was sent in a run, and what waits.
+///
+/// A contract sees which network it holds, by `Holds`: it has what that one has, and nothing else.
+#[derive(Drop)]
+pub struct Network<'a> {
+    letters: Letters,
+    asks: Asks<'a>,
+    answers: Answers<'a>,
+    waits: Waits<'a>,
+}
+
+/// The serial with which something begins.
+fn serial_of(begin: &Begin) -> u32
+    ensures { result ≡ serial_of_begin begin.now }
+{
+    match begin {
+        Begin::Round { serial } => *serial,
+        Begin::Peer { serial, .. } => *serial,
+        Begin::Read { serial, .. } => *serial,
+    }
+}
+
+impl<'a> Network<'a> {
+    /// Nothing was sent. What was sent is found by hashes with these keys, which are best random ones, so that nobody can pick texts whose look-ups are slow. It takes no memory.
+    pub fn new(alloc: Global, keys: RandomState) -> Network<'a>
+        ensures { (roster : Tables) → Holds roster result silence }
+    {
+        Network {
+            letters: Letters::new(alloc, keys),
+            asks: Asks::new(alloc, keys),
+            answers: Answers::new(alloc, keys),
+            waits: Waits::new(alloc),
+        }
+    }
+
+    /// Whether what comes to a node was sent before, where it comes from a member or from the master.
+    pub fn is_sent(&self, roster: &Roster, node: u8, event: &Event<()>) -> bool
+        ensures { (sent : ANetwork) → Holds roster.now self.now sent → IsTrue result ↔ IsSent roster.now sent node event.now }
+    {
+        match event {
+            Event::Datagram { from, message, .. } => {
+                !is_own(roster, *from) || self.letters.has_letter(*from, node, message.message())
+            }
+            Event::PeerAsk { asker, ask, .. } => self.asks.has_ask(*asker, node, ask),
+            Event::PeerAnswer {
+                peer,
+                key,
+                answer,
+                ..
+            } => self.answers.has_answer(*peer, node, key, answer),
+            _ => true,
+        }
+    }
+
+    /// Whether what a call of the master counts was sent before.
+    pub fn is_call_sent(&self, call: &MasterCall) -> bool
+        ensures { (roster : Tables) (sent : ANetwork) → Holds roster self.now sent → IsTrue result ↔ IsCallSent roster sent call.now }
+    {
+        match call {
+            MasterCall::Acknowledge {
+                member,
+                trans,
+                code,
+            } => self.letters.has_acknowledged(*member, *trans, *code),
+            _ => true,
+        }
+    }
+
+    /// The URL of the ask that is answered: the one that waits as the block, or else the event.
+    fn key_for(&self, node: u8, event: &'a Event<()>, waiter: Option<u32>) -> Option<&'a Key>
+        ensures { (waiting : List AWait) → HoldsWaits self.now.waits waiting → option_map (λ k. k.now) result ≡ key_by waiting node event.now waiter }
+    {
+        match (waiter, event) {
+            (Some(block), _) => self.waits.key(node, block),
+            (None, Event::PeerAsk { ask, .. }) => Some(&ask.key),
+            (None, _) => None,
+        }
+    }
+
+    /// What a node serves is sent, if a member asked.
+    fn answer(
+        &mut self,
+        alloc: Global,
+        node: u8,
+        event: &'a Event<()>,
+        serve: &'a Option<Serve<()>>,
+    ) -> Result<(), AllocError>
+        ensures { OnOk result ((roster : Tables) (sent : ANetwork) → Holds roster self.old sent → Holds roster self.new (with_answers sent (answers_by sent.waiting node event.now serve.now))) }
+    {
+        match serve {
+            Some(serve) => {
+                let key = self.key_for(node, event, serve.waiter);
+                self.answers.post(alloc, node, serve, key)
+            }
+            None => Ok(()),
+        }
+    }
+
+    /// The ask of a member waits for what begins.
+    fn wait(
+        &mut self,
+        alloc: Global,
+        node: u8,
+        event: &'a Event<()>,
+        begin: &Option<Begin>,
+    ) -> Result<(), AllocError>
+        ensures { OnOk result ((roster : Tables) (sent : ANetwork) → Holds roster self.old sent → Holds roster self.new (with_waits sent (waits_by node event.now begin.now))) }
+    {
+        match (event, begin) {
+            (Event::PeerAsk { ask, .. }, Some(begin)) => {
+                self.waits
+                    .add(alloc, node, serial_of(begin) / SERIALS, &ask.key)
+            }
+            _ => Ok(()),
+        }
+    }
+
+    /// All is sent that a node's reply to an event sends. Where there is no memory for it, nothing is said of the network.
+    pub fn send(
+        &mut self,
+        alloc: Global,
+        roster: &Roster,
+        node: u8,
+        event: &'a Event<()>,
+        reply: &'a Reply<()>,
+    ) -> Result<(), AllocError>
+        ensures { OnOk result ((sent : ANetwork) → Holds roster.now self.old sent → Holds roster.now self.new (with_reply roster.now sent node event.now reply.now)) }
+    {
+        self.letters
+            .post(alloc, roster, node, reply.send.as_slice())?;
+        self.asks.post(alloc, node, &reply.begin)?;
+        self.answer(alloc, node, event, &reply.serve)?;
+        self.wait(alloc, node, event, &reply.begin)
+    }
+
+    /// What waited at a node waits no more. It takes no memory.
+    pub fn forget(&mut self, node: u8)
+        ensures { (roster : Tables) (sent : ANetwork) → Holds roster self.old sent → Holds roster self.new (without_waiting sent node) }
+    {
+        self.waits.forget(node);
+    }
+
+    /// All is sent that the master's answer to a call sends: the CLR of a new purge to each member. Where there is no memory for it, nothing is said of the network.
+    pub fn clear(
+        &mut self,
+        alloc: Global,
+        roster: &Roster,
+        call: &MasterCall,
+        answer: &Result<MasterAnswer, MasterFault>,
+    ) -> Result<(), AllocError>
+        ensures { OnOk result ((sent : ANetwork) → Holds roster.now self.old sent → Holds roster.now self.new (with_clears roster.now sent call.now answer.now)) }
+    {
+        match (call, answer) {
+            (MasterCall::Issue(key), Ok(MasterAnswer::Issue(number))) => {
+                self.letters.clear_all(alloc, roster, *number, key)
+            }
+            _ => Ok(()),
+        }
+    }
+}

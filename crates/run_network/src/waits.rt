@@ -1,0 +1,89 @@
+//! Asks of members that wait at members' nodes.
+ghost use Rattle.std.specs.Prelude.{◌≡◌, ℕ, [], ◌∷◌, ◌++◌, List, ◌==◌, nat_eq, not, false, Some, None, filter, option_map, OnOk, if◌then◌else◌};
+ghost use Rattle.std.specs.HashMap.{get};
+ghost use Rattle.run_rules.specs.Sent.{Waits as AWait};
+ghost use Rattle.run_network.specs.Held.{key_at, or_else, HoldsWaits};
+
+use std::alloc::{AllocError, Global};
+use std::collections::HashMap;
+use url_key::Key;
+
+/// What waits, by the node at which it waits and its block of serials: the URL that is asked for.
+///
+/// A contract sees it by `key_at`.
+#[derive(Drop)]
+pub struct Waits<'a> {
+    nodes: HashMap<u8, HashMap<u32, &'a Key>>,
+}
+
+/// Puts a URL under a block, unless one lies there.
+fn enter<'a>(blocks: &mut HashMap<u32, &'a Key>, block: u32, key: &'a Key) -> Result<(), AllocError>
+    ensures { OnOk result ((other : ℕ) → option_map (λ k. k.now) (get nat_eq blocks.new other) ≡ or_else (option_map (λ k. k.now) (get nat_eq blocks.old other)) (if block == other then Some key.now else None)) }
+{
+    if !blocks.contains_key(&block) {
+        blocks.insert(block, key)?;
+    }
+    Ok(())
+}
+
+impl<'a> Waits<'a> {
+    /// Nothing waits. It takes no memory.
+    pub(crate) fn new(alloc: Global) -> Waits<'a>
+        ensures { HoldsWaits result [] }
+    {
+        Waits {
+            nodes: HashMap::new(alloc),
+        }
+    }
+
+    /// The URL of what waits at a node as this block.
+    pub(crate) fn key(&self, node: u8, block: u32) -> Option<&'a Key>
+        ensures { option_map (λ k. k.now) result ≡ key_at self.now node block }
+    {
+        match self.nodes.get(&node) {
+            Some(blocks) => blocks.get(&block).copied(),
+            None => None,
+        }
+    }
+
+    /// Takes what waits at a node, by its blocks, to be put back by `put`. It takes no memory.
+    fn take(&mut self, alloc: Global, node: u8) -> HashMap<u32, &'a Key>
+        ensures taken { (block : ℕ) → option_map (λ k. k.now) (get nat_eq result block) ≡ key_at self.old node block }
+        ensures others { (other block : ℕ) → (node == other) ≡ false → key_at self.new other block ≡ key_at self.old other block }
+    {
+        match self.nodes.remove(&node) {
+            Some(blocks) => blocks,
+            None => HashMap::new(alloc),
+        }
+    }
+
+    /// This waits at a node, by its blocks.
+    fn put(&mut self, node: u8, blocks: HashMap<u32, &'a Key>) -> Result<(), AllocError>
+        ensures { OnOk result ((other block : ℕ) → key_at self.new other block ≡ (if node == other then option_map (λ k. k.now) (get nat_eq blocks.entry block) else key_at self.old other block)) }
+    {
+        self.nodes.insert(node, blocks)?;
+        Ok(())
+    }
+
+    /// An ask waits at a node as this block, unless one does already.
+    pub(crate) fn add(
+        &mut self,
+        alloc: Global,
+        node: u8,
+        block: u32,
+        key: &'a Key,
+    ) -> Result<(), AllocError>
+        ensures { OnOk result ((waiting : List AWait) → HoldsWaits self.old waiting → HoldsWaits self.new (waiting ++ record { node = node; block = block; key = key.now } ∷ [])) }
+    {
+        let mut blocks = self.take(alloc, node);
+        enter(&mut blocks, block, key)?;
+        self.put(node, blocks)
+    }
+
+    /// What waited at a node waits no more. It takes no memory.
+    pub(crate) fn forget(&mut self, node: u8)
+        ensures { (waiting : List AWait) → HoldsWaits self.old waiting → HoldsWaits self.new (filter (λ w. not (w.node == node)) waiting) }
+    {
+        let _ = self.nodes.remove(&node);
+    }
+}

@@ -1,0 +1,4 @@
+pub mod Stacks
+pub mod Building
+pub mod Falling
+pub mod Taking

@@ -1,0 +1,130 @@
+//! Which note comes next: an opening or a closing at once, else the entry of the least place; of several the one of the first track.
+ghost use Rattle.std.specs.Prelude.{◌≡◌, ◌≤◌, ◌<◌, ◌∷◌, [], length, nat_le, Some, None, MatchOption, IfSome, IfOk, if◌then◌else◌};
+ghost use Rattle.run_rules.specs.Notes.{turn_of as turn_of_track, turns_of, least, count_of, tracks_of};
+ghost use Rattle.run_rules.specs.Verdict.{order_of};
+ghost use Rattle.run_notes.specs.Held.{track_of, tracks_in, place_at as place_of_turn, double_by, order_in, listed_of};
+
+use crate::Note;
+use crate::falls::least_fall;
+use crate::tracks::tracks;
+use node_book::Record;
+use purge_master::MasterEntry;
+use std::alloc::{AllocError, Global};
+
+/// A note in its turn.
+#[derive(Clone, Copy)]
+pub struct Listed<'a> {
+    /// The note.
+    pub note: Note<'a>,
+    /// The place that is doubled there, if one is.
+    pub double: Option<u64>,
+}
+
+/// The notes of a run that are left, each in its turn.
+///
+/// A contract sees them as a list, by `order_in`.
+#[derive(Drop)]
+pub struct Notes<'a> {
+    tracks: Vec<Vec<Note<'a>>>,
+    fall: Option<u64>,
+}
+
+/// The turn of the first note of a track, if there is one.
+fn turn_of(track: &[Note<'_>]) -> Option<u128>
+    ensures { result ≡ turn_of_track (track_of track.now) }
+{
+    match track.last() {
+        Some(note) => Some(note.turn()),
+        None => None,
+    }
+}
+
+/// The least of the tracks' turns, if there is one.
+fn least_turn(tracks: &[Vec<Note<'_>>]) -> Option<u128>
+    ensures { result ≡ least (turns_of (tracks_in tracks.now)) }
+{
+    match tracks {
+        [] => None,
+        [first, rest @ ..] => match (turn_of(first.as_slice()), least_turn(rest)) {
+            (Some(turn), Some(later)) if later < turn => Some(later),
+            (Some(turn), _) => Some(turn),
+            (None, later) => later,
+        },
+    }
+}
+
+/// Where the first track stands that has this turn.
+fn place_at(tracks: &[Vec<Note<'_>>], turn: u128) -> Option<usize>
+    ensures place { result ≡ place_of_turn turn (tracks_in tracks.now) }
+    ensures below { IfSome result (λ place. place < length tracks.now) }
+{
+    match tracks {
+        [] => None,
+        [first, rest @ ..] => {
+            if turn_of(first.as_slice()) == Some(turn) {
+                return Some(0);
+            }
+            match place_at(rest, turn) {
+                Some(place) => Some(place + 1),
+                None => None,
+            }
+        }
+    }
+}
+
+/// How many tracks have this turn.
+fn count_at(tracks: &[Vec<Note<'_>>], turn: u128) -> usize
+    ensures count { result ≡ count_of turn (turns_of (tracks_in tracks.now)) }
+    ensures few { result ≤ length tracks.now }
+{
+    match tracks {
+        [] => 0,
+        [first, rest @ ..] => {
+            let others = count_at(rest, turn);
+            if turn_of(first.as_slice()) == Some(turn) {
+                others + 1
+            } else {
+                others
+            }
+        }
+    }
+}
+
+/// The place that is doubled at a note of this place: one that does not rise and is no later, or its own where two tracks have it.
+fn double_at(fall: Option<u64>, is_shared: bool, place: Option<u64>) -> Option<u64>
+    ensures { result ≡ double_by fall is_shared place }
+{
+    match (place, fall) {
+        (None, _) => None,
+        (Some(place), Some(fall)) if fall <= place => Some(fall),
+        (Some(place), _) if is_shared => Some(place),
+        (Some(_), _) => None,
+    }
+}
+
+impl<'a> Notes<'a> {
+    /// The notes of these records and entries.
+    pub fn new(
+        alloc: Global,
+        records: &'a [Record],
+        entries: &'a [MasterEntry],
+    ) -> Result<Notes<'a>, AllocError>
+        ensures { IfOk result (λ notes. order_in notes ≡ order_of (tracks_of records.now entries.now)) }
+    {
+        let tracks = tracks(alloc, records, entries)?;
+        let fall = least_fall(tracks.as_slice());
+        Ok(Notes { tracks, fall })
+    }
+
+    /// Takes the note that comes next; none where all are taken. It takes no memory.
+    pub fn take(&mut self) -> Option<Listed<'a>>
+        ensures { MatchOption result (order_in self.old ≡ []) (λ listed. order_in self.old ≡ listed_of listed ∷ order_in self.new) }
+    {
+        let turn = least_turn(self.tracks.as_slice())?;
+        let is_shared = count_at(self.tracks.as_slice(), turn) >= 2;
+        let at = place_at(self.tracks.as_slice(), turn)?;
+        let note = self.tracks[at].pop()?;
+        let double = double_at(self.fall, is_shared, note.place());
+        Some(Listed { note, double })
+    }
+}
