@@ -12,15 +12,15 @@ use std::net::{Ipv4Addr, Net, Shutdown, SocketAddr};
 use std::sync::Wait;
 use std::test::Fail;
 use std::time::{Clock, Duration};
-use udp_loop::{LoopFault, NodeLoop, Senders};
+use udp_loop::{LoopFault, Never, NodeLoop, Senders};
 
 /// What clients do, and the loop.
 #[derive(Clone, Copy)]
 enum Act {
     /// A datagram of these octets comes by this protocol.
     Datagram(Udp, &'static [u8]),
-    /// So many datagrams of one octet come by ICP.
-    Flood(u32),
+    /// So many datagrams come by ICP, each an octet longer than the one before it; the first of all has one.
+    Flood(usize),
     /// So many clients connect.
     Connect(u32),
     /// The client of this number sends this.
@@ -56,6 +56,7 @@ fn socket_at(port: u16) -> SocketAddr {
 struct Clients {
     udp: UdpSocket,
     streams: Vec<TcpStream>,
+    flooded: usize,
     port: u16,
 }
 
@@ -64,14 +65,16 @@ impl Clients {
         Ok(Clients {
             udp: UdpSocket::bind(net, socket_at(0))?,
             streams: Vec::new(alloc),
+            flooded: 0,
             port,
         })
     }
 
-    fn flood(&mut self, count: u32) -> io::Result<()> {
+    fn flood(&mut self, count: usize) -> io::Result<()> {
+        let to = socket_at(u16::saturating_add(self.port, 1));
         for _ in 0..count {
-            self.udp
-                .send_to(b"x", socket_at(u16::saturating_add(self.port, 1)))?;
+            self.flooded = self.flooded.saturating_add(1).min(LONG.len());
+            self.udp.send_to(&LONG[..self.flooded], to)?;
         }
         Ok(())
     }
@@ -163,7 +166,7 @@ fn turn<Q: QueueName, R: Wait + Clock>(
 ) -> (Pass<Q>, Result<(), LoopFault>) {
     let mut ended = Ok(());
     for _ in 0..count {
-        let (after, turned) = turner.turn(rt, jobs, pass);
+        let (after, turned) = turner.turn(rt, jobs, pass, &mut Never);
         pass = after;
         ended = ended.and(turned);
     }
@@ -213,6 +216,17 @@ fn played<Q: QueueName, R: Net + Wait + Clock>(
     taken(rt, alloc, &jobs, pass)
 }
 
+/// Plays the acts with a queue of its own.
+fn run_at<R: Net + Wait + Clock>(
+    rt: &R,
+    alloc: Global,
+    held: &mut Held,
+    acts: &[Act],
+) -> Result<String, Fail> {
+    let new = NewJobs::new(alloc)?;
+    played::<Brand, R>(rt, alloc, new, held, acts)
+}
+
 /// Plays the acts at a node of its own.
 fn run<R: Net + Wait + Clock>(
     rt: &R,
@@ -220,9 +234,8 @@ fn run<R: Net + Wait + Clock>(
     port: u16,
     acts: &[Act],
 ) -> Result<String, Fail> {
-    let new = NewJobs::new(alloc)?;
     let mut held = held_at(rt, alloc, port)?;
-    played::<Brand, R>(rt, alloc, new, &mut held, acts)
+    run_at(rt, alloc, &mut held, acts)
 }
 
 /// The front of a request's head, and its end.
@@ -317,17 +330,47 @@ fn a_head_has_five_seconds(rt: HostRuntime) -> Result<(), Fail> {
     Ok(())
 }
 
-const FLOOD: [Act; 4] = [
-    Act::Flood(200),
+/// More datagrams come than the queue has places, and then a client whose request is whole.
+const FLOOD: [Act; 10] = [
+    Act::Flood(100),
     Act::Turns(2),
-    Act::Flood(200),
+    Act::Flood(100),
+    Act::Turns(2),
+    Act::Flood(100),
+    Act::Turns(2),
+    Act::Connect(1),
+    Act::Turns(2),
+    Act::Send(0, WHOLE),
     Act::Turns(3),
 ];
 
+/// The jobs in the queue after a flood, and how many octets the client reads then: none, as its stream is closed.
+fn flooded<R: Net + Wait + Clock>(
+    rt: &R,
+    alloc: Global,
+    port: u16,
+) -> Result<(String, usize), Fail> {
+    let mut held = held_at(rt, alloc, port)?;
+    let jobs = run_at(rt, alloc, &mut held, &FLOOD)?;
+    let mut buffer = [0; 16];
+    let read = held.clients.client(0)?.read(&mut buffer)?;
+    Ok((jobs, read))
+}
+
+/// The first 256 datagrams of a flood.
+fn first_of_flood(alloc: Global) -> Result<String, Fail> {
+    let mut text = String::new(alloc);
+    for length in 1..257 {
+        write!(text, "icp {length}; ")?;
+    }
+    Ok(text)
+}
+
 #[test]
-fn a_flood_fills_the_queue_alone(rt: HostRuntime) -> Result<(), Fail> {
-    let jobs = run(&rt, rt.alloc(), 21140, &FLOOD)?;
-    assert_eq!(rt; jobs.as_str().len(), 256 * "icp 1; ".len());
+fn a_full_queue_takes_no_more(rt: HostRuntime) -> Result<(), Fail> {
+    let (jobs, read) = flooded(&rt, rt.alloc(), 21140)?;
+    assert_eq!(rt; jobs.as_str(), first_of_flood(rt.alloc())?.as_str());
+    assert_eq!(rt; read, 0);
     Ok(())
 }
 

@@ -1,6 +1,6 @@
 //! Streams with a moment at which they end, between two ends in one thread.
 use mio::net::{TcpListener, TcpStream};
-use std::alloc::Global;
+use std::alloc::{AllocError, Global};
 use std::io::{self, Error, ErrorKind, Read, Write};
 use std::net::{Ipv4Addr, Net, SocketAddr};
 use std::test::Fail;
@@ -62,6 +62,60 @@ fn read_and_refused<R: Net + Clock>(
     };
     let waited = begun.elapsed(rt)?.as_millis();
     Ok((count, refused, 200 <= waited && waited < 3000))
+}
+
+/// So many octets, of which those that stand 251 apart are the same.
+fn octets_of(alloc: Global, length: usize) -> Result<Vec<u8>, AllocError> {
+    let mut octets = Vec::with_capacity(alloc, length)?;
+    for place in 0..length {
+        octets.push((place % 251) as u8)?;
+    }
+    Ok(octets)
+}
+
+/// Writes a head and a body at once each, within five seconds, and reads so many octets at the other end.
+fn carried<C: Clock>(
+    clock: &C,
+    alloc: Global,
+    pair: &mut Pair,
+    head: &[u8],
+    body: &[u8],
+) -> io::Result<Vec<u8>> {
+    let most = Duration::from_secs(5);
+    let mut writer = Timed::new(clock, &mut pair.waiter, &mut pair.near, most)?;
+    writer.write_all(head)?;
+    writer.write_all(body)?;
+    writer.flush()?;
+    let mut octets = vec![in alloc; 0; head.len().saturating_add(body.len())]?;
+    Timed::new(clock, &mut pair.waiter, &mut pair.far, most)?.read_exact(octets.as_mut_slice())?;
+    Ok(octets)
+}
+
+/// Lengths of a head and of a body, which together are more than the 16,384 octets that are kept.
+const MESSAGES: [(usize, usize); 5] = [
+    (40, 65_536),
+    (40, 16_345),
+    (16_384, 1),
+    (16_384, 65_536),
+    (16_385, 16_384),
+];
+
+#[test]
+fn long_messages_come_whole(rt: HostRuntime) -> Result<(), Fail> {
+    let alloc = rt.alloc();
+    let mut pair = connected(&rt, alloc, 21200)?;
+    for (head, body) in MESSAGES {
+        let octets = octets_of(alloc, head.saturating_add(body))?;
+        let (head, body) = octets.as_slice().split_at(head.min(octets.len()));
+        let come = carried(&rt, alloc, &mut pair, head, body)?;
+        assert!(rt;
+            come.as_slice() == octets.as_slice(),
+            "{} and {}",
+            head.len(),
+            body.len()
+        );
+    }
+    Ok(())
 }
 
 #[test]

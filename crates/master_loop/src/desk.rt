@@ -1,9 +1,9 @@
 //! The locked book of a master, and the pages of it that were turned.
-ghost use Rattle.std.specs.Prelude.{◌≡◌, ◌≢◌, ◌⊎◌, ◌<◌, ◌++◌, [], length, Err, IfOk, IfSome, OnOk, OnErr};
+ghost use Rattle.std.specs.Prelude.{◌≡◌, ◌≢◌, ◌⊎◌, ◌<◌, ◌++◌, [], length, false, Err, IfOk, IfSome, OnOk, OnErr};
 ghost use Rattle.htcp_wire.specs.Written.{Fits};
 ghost use Rattle.purge_master.specs.Store.{witness};
 ghost use Rattle.purge_rules.specs.declared.fault.MasterFault.TheVariants as faults;
-ghost use Rattle.master_loop.specs.Desk.{IsCalledAt, IsUnmade, IsTaken, ready, turned, emptied};
+ghost use Rattle.master_loop.specs.Desk.{IsCalledAt, IsUnmade, IsTaken, IsNothingDue, is_dropped, keeps, may_be_due_after as may_be_due_by, ready, turned, emptied};
 ghost use Rattle.master_loop.specs.Answers.{IsToldOf, IsClearOf};
 
 use htcp_wire::Htcp;
@@ -17,31 +17,58 @@ use std::mem::replace;
 /// What becomes of the entries of a page that is turned.
 #[derive(Clone, Copy, Debug, PartialEq, Eq)]
 pub enum History {
-    /// They are kept until they are taken.
-    Kept,
+    /// They are kept until they are taken, while fewer than so many are. Where a page would come behind so many, all of them are dropped, and none is kept from then on.
+    UpTo(u32),
     /// They are dropped.
     Dropped,
 }
 
-/// A master's book under its lock, and the entries of the pages that were turned.
+/// Whether a page is kept behind so many entries.
+fn has_place(history: History, kept: usize) -> bool
+    ensures { result ≡ keeps history kept }
+{
+    match history {
+        History::UpTo(most) => (kept as u64) < u64::from(most),
+        History::Dropped => false,
+    }
+}
+
+/// Whether a CLR may be due after an answer: not once it is answered that nothing is due, or that the master is closed, which it stays; but from the next purge or response on.
+fn may_be_due_after(answer: &Result<MasterAnswer, MasterFault>, was: bool) -> bool
+    ensures { result ≡ may_be_due_by answer.now was }
+{
+    match answer {
+        Ok(MasterAnswer::Due(pairs)) => !pairs.as_slice().is_empty(),
+        Ok(MasterAnswer::Status(_)) => was,
+        Ok(MasterAnswer::Issue(_) | MasterAnswer::Acknowledge(_)) => true,
+        Err(MasterFault::Closed) => false,
+        Err(_) => was,
+    }
+}
+
+/// A master's book under its lock, and the entries of the pages that were turned. Where no CLR may be due, none is.
 #[derive(Drop)]
 pub(crate) struct Desk<S: PurgeStore> {
     pub(crate) alloc: Global,
     pub(crate) book: MasterBook<S>,
     pub(crate) kept: Vec<MasterEntry>,
     pub(crate) history: History,
+    pub(crate) may_be_due: bool,
     pub(crate) places: Places,
 }
 
 impl<S: PurgeStore> Model for Desk<S> {
+    ghost use Rattle.std.specs.Prelude.{◌≡◌, false};
     ghost use Rattle.std.specs.Coded.{codes};
-    ghost use Rattle.master_loop.specs.Desk.{DeskView};
+    ghost use Rattle.master_loop.specs.Desk.{DeskView, IsNothingDue};
 
     ghost Value = { DeskView S };
 
     ghost coded = { Prim.hlevel (codes) };
 
-    ghost view = { λ desk. record { book = desk.book; kept = desk.kept.items; history = desk.history } };
+    ghost view = { λ desk. record { book = desk.book; kept = desk.kept.items; history = desk.history; may_be_due = desk.may_be_due } };
+
+    ghost invariant = { λ desk. desk.may_be_due ≡ false → IsNothingDue desk.book.master };
 }
 
 /// Puts the book's entries behind those that are kept, or leaves both where there is no memory. Where none are kept it takes none.
@@ -71,13 +98,13 @@ impl<S: PurgeStore> Desk<S> {
         ensures turned { OnOk result (self.new ≡ turned self.old) }
         ensures refused { OnErr result (self.new ≡ self.old) }
     {
-        match self.history {
-            History::Kept => keep(&mut self.kept, &mut self.book),
-            History::Dropped => {
-                let _page = self.book.take_entries();
-                Ok(())
-            }
+        if has_place(self.history, self.kept.len()) {
+            return keep(&mut self.kept, &mut self.book);
         }
+        let _page = self.book.take_entries();
+        self.kept.clear();
+        self.history = History::Dropped;
+        Ok(())
     }
 
     /// Makes room for an entry: a page that is full is turned.
@@ -103,7 +130,17 @@ impl<S: PurgeStore> Desk<S> {
     {
         self.make_ready()?;
         let place = self.places.draw();
-        self.book.call(place, call)
+        let answer = self.book.call(place, call);
+        self.may_be_due = may_be_due_after(&answer, self.may_be_due);
+        answer
+    }
+
+    /// Whether a CLR may be due. It is no call, and makes no entry.
+    pub(crate) fn may_be_due(&self) -> bool
+        ensures value { result ≡ self.now.may_be_due }
+        ensures nothing { result ≡ false → IsNothingDue self.now.book.master }
+    {
+        self.may_be_due
     }
 
     /// The CLR of the pending purge of a number, if there is one.
@@ -122,5 +159,12 @@ impl<S: PurgeStore> Desk<S> {
         // (a page that is not kept now stays in the book)
         let _ = keep(&mut self.kept, &mut self.book);
         replace(&mut self.kept, Vec::new(self.alloc))
+    }
+
+    /// Whether entries are dropped: there is no history of the calls from the first one on.
+    pub(crate) fn has_forgotten(&self) -> bool
+        ensures { result ≡ is_dropped self.now.history }
+    {
+        matches!(self.history, History::Dropped)
     }
 }

@@ -2,7 +2,7 @@
 //!
 //! A [`SharedMaster`] is a master's book under a lock. Each call is made at a place that is drawn while the lock is held. A book has 4,096 entries at most: where they are all
 //! there, the page is turned, and the call is made of the book without them. A [`MasterLoop`] has the master's UDP socket. Each [`MasterLoop::turn`] waits until something is
-//! ready, for a while at most, makes the calls that datagrams make (RFC 2756, "CLR"), and once a second sends again what is due. A [`MasterSender`] issues a purge and sends its CLR to
+//! ready, for a while at most, makes the calls that datagrams make (RFC 2756, "CLR"), and once a second sends again what is due; where nothing can be, no call is made and entered. A [`MasterSender`] issues a purge and sends its CLR to
 //! each member, from any thread. No lock is held while a socket is waited for or written.
 //!
 //! A contract sees no value under a lock, and none that a socket takes or gives. So what a call does to the book is said of the desk that the lock holds (`specs/Desk`), and what

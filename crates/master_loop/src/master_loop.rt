@@ -15,6 +15,7 @@ use std::io::{self, ErrorKind};
 use std::net::{Net, SocketAddr};
 use std::sync::atomic::{AtomicBool, Ordering};
 use std::sync::{Arc, Wait};
+use std::thread;
 use std::time::{Clock, Duration, Instant};
 
 const SOCKET: Token = Token(0);
@@ -28,7 +29,7 @@ const LONGEST: usize = 65_536;
 /// How many datagrams a turn reads at most, so that what is due has its turn.
 const MOST_AT_ONCE: usize = 256;
 
-/// For how many milliseconds a turn waits at most.
+/// For how many milliseconds a turn waits at most, and how long the loop pauses after a turn that was refused something.
 const WAIT: u64 = 100;
 
 /// How many seconds lie between one sending of what is due and the next.
@@ -180,21 +181,23 @@ impl MasterLoop {
         waited.and(taken).and(sent)
     }
 
-    /// Has its turns until it is told to stop, which it sees within 100 milliseconds; or until one is refused, with that error.
+    /// Has its turns until it is told to stop, which it sees within 100 milliseconds and a turn. After a turn that was refused something it pauses for 100 milliseconds, and goes on:
+    /// what was done without is done, and purges are sent again as soon as the system serves.
     pub fn run_until<S: PurgeStore, R: Wait + Clock>(
         &mut self,
         rt: &R,
         roster: &Roster,
         master: &SharedMaster<S>,
         stop: &AtomicBool,
-    ) -> io::Result<()> {
+    ) {
         for _ in rt.forever() {
             if stop.load(Ordering::SeqCst) {
-                return Ok(());
+                return;
             }
-            self.turn(rt, roster, master)?;
+            if self.turn(rt, roster, master).is_err() {
+                thread::sleep(rt, Duration::from_millis(WAIT));
+            }
         }
-        unreachable!()
     }
 }
 

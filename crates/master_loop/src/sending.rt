@@ -102,13 +102,16 @@ impl MasterSender {
     }
 
     /// Sends what is due: the CLR of each pending purge to each member that has not acknowledged it, by number and then by id. Nothing is sent where the master
-    /// does not answer.
+    /// does not answer. Where nothing can be due, no call is made, so a master that has nothing to do makes no entries.
     pub(crate) fn send_due<S: PurgeStore, R: Wait>(
         &self,
         rt: &R,
         roster: &Roster,
         master: &SharedMaster<S>,
     ) {
+        if !master.may_be_due(rt) {
+            return;
+        }
         let Ok(MasterAnswer::Due(pairs)) = master.call(rt, MasterCall::Due) else {
             return;
         };

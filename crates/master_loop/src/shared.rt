@@ -30,6 +30,7 @@ impl<S: PurgeStore> SharedMaster<S> {
             book,
             kept: Vec::new(alloc),
             history,
+            may_be_due: true,
             places,
         };
         SharedMaster {
@@ -46,6 +47,13 @@ impl<S: PurgeStore> SharedMaster<S> {
         self.desk.lock(rt).call(call)
     }
 
+    /// Whether a CLR may be due: `false` only where none is, since the master is closed, or no member is missing of a pending purge. It is no call, and makes no entry.
+    ///
+    /// It is `true` of a book that was just shared, and after each purge that is issued and each response that is taken, until `Due` is answered with nothing.
+    pub fn may_be_due<R: Wait>(&self, rt: &R) -> bool {
+        self.desk.lock(rt).may_be_due()
+    }
+
     /// The CLR of the pending purge of a number, if there is one (RFC 2756, "CLR"). It is no call, and makes no entry. `AllocError` comes where there is no memory for it.
     pub fn message<R: Wait>(&self, rt: &R, number: u32) -> Result<Option<Htcp>, AllocError>
         ensures clear { IfOk result (λ message. IfSome message (IsClearOf number)) }
@@ -58,6 +66,11 @@ impl<S: PurgeStore> SharedMaster<S> {
     /// behind the pages that are kept, its entries come with the next take.
     pub fn take_entries<R: Wait>(&self, rt: &R) -> Vec<MasterEntry> {
         self.desk.lock(rt).take_entries()
+    }
+
+    /// Whether entries were dropped, or none is kept: what is taken is not all that there was then.
+    pub fn has_forgotten<R: Wait>(&self, rt: &R) -> bool {
+        self.desk.lock(rt).has_forgotten()
     }
 
     /// Gives the book back, with the entries of the pages that are kept, which stand before its own.

@@ -2,13 +2,14 @@
 use crate::starts::{roster_at, shared};
 use master_loop::{History, MasterLoop, MasterSender, MasterStartFault, SharedMaster};
 use mio::net::UdpSocket;
+use purge_master::MasterEntry;
 use purge_rules::{MasterAnswer, MasterCall, MasterFault, MemoryPurges, Status};
 use roster::Roster;
 use std::alloc::Global;
-use std::io::ErrorKind;
+use std::io::{self, ErrorKind};
 use std::net::{Ipv4Addr, Net, SocketAddr};
 use std::sync::Wait;
-use std::sync::atomic::{AtomicBool, Ordering};
+use std::sync::atomic::{AtomicBool, AtomicU32, Ordering};
 use std::test::Fail;
 use std::thread::{self, Threads};
 use std::time::{Clock, Duration, Instant};
@@ -116,6 +117,34 @@ impl Held {
         }
         Ok(())
     }
+
+    /// Has turns for so many milliseconds.
+    fn turn_for<R: Wait + Clock>(&mut self, rt: &R, most: u64) -> Result<(), Fail> {
+        let begun = Instant::now(rt)?;
+        for _ in 0..1000 {
+            if begun.elapsed(rt)? >= Duration::from_millis(most) {
+                break;
+            }
+            self.turner.turn(rt, &self.roster, &self.master)?;
+        }
+        Ok(())
+    }
+
+    /// Has turns for so many milliseconds. How many entries there are since they were last taken, and in how many of these the two members are listed as due.
+    fn entered<R: Wait + Clock>(&mut self, rt: &R, most: u64) -> Result<(usize, usize), Fail> {
+        self.turn_for(rt, most)?;
+        let entries = self.master.take_entries(rt);
+        let due = entries.iter().filter(|entry| lists_both(entry)).count();
+        Ok((entries.len(), due))
+    }
+}
+
+/// Whether purge 1 is listed as due to both members.
+fn lists_both(entry: &MasterEntry) -> bool {
+    match &entry.answer {
+        Ok(MasterAnswer::Due(pairs)) => pairs.as_slice() == [(1, 1), (1, 2)].as_slice(),
+        _ => false,
+    }
 }
 
 /// Who sends to the master.
@@ -201,13 +230,7 @@ fn again<R: Net + Wait + Clock>(
     let _number = held.issue(rt, key)?;
     let _come = held.come()?;
     held.answer(rt, Who::First)?;
-    let begun = Instant::now(rt)?;
-    for _ in 0..1000 {
-        if begun.elapsed(rt)? >= Duration::from_millis(1500) {
-            break;
-        }
-        held.turner.turn(rt, &held.roster, &held.master)?;
-    }
+    held.turn_for(rt, 1500)?;
     held.come()
 }
 
@@ -217,6 +240,72 @@ fn what_is_due_is_sent_again(rt: HostRuntime) -> Result<(), Fail> {
     assert!(rt; first.is_empty());
     assert_eq!(rt; second.as_str(), CLEAR);
     Ok(())
+}
+
+/// What is entered within some seconds while nothing is pending, and then while a purge is; and whether something may be due before these, between them and behind them.
+#[derive(Drop)]
+struct Counts {
+    idle: (usize, usize),
+    pending: (usize, usize),
+    may_be_due: [bool; 3],
+}
+
+fn entered<R: Net + Wait + Clock>(rt: &R, alloc: Global, port: u16) -> Result<Counts, Fail> {
+    let key = key(alloc)?;
+    let mut held = held_at(rt, alloc, port)?;
+    let before = held.master.may_be_due(rt);
+    let idle = held.entered(rt, 3500)?;
+    let between = held.master.may_be_due(rt);
+    let _number = held.issue(rt, key)?;
+    let pending = held.entered(rt, 1500)?;
+    let may_be_due = [before, between, held.master.may_be_due(rt)];
+    Ok(Counts {
+        idle,
+        pending,
+        may_be_due,
+    })
+}
+
+/// Where nothing is pending, that is found once and not each second; a purge that is pending is listed each second.
+#[test]
+fn what_is_due_is_listed_while_something_may_be(rt: HostRuntime) -> Result<(), Fail> {
+    let Counts {
+        idle,
+        pending: (entries, due),
+        may_be_due,
+    } = entered(&rt, rt.alloc(), 21470)?;
+    assert!(rt; idle == (1, 0));
+    assert!(rt; due > 0 && entries == due.saturating_add(1));
+    assert!(rt; may_be_due == [true, false, true]);
+    Ok(())
+}
+
+/// A clock that is refused so many times more.
+#[derive(Drop)]
+struct Refusing<'a, R> {
+    rt: &'a R,
+    left: &'a AtomicU32,
+}
+
+impl<R: Wait> Wait for Refusing<'_, R> {}
+
+impl<R: Clock> Clock for Refusing<'_, R> {
+    fn monotonic(&self) -> io::Result<Duration> {
+        let left = self.left.load(Ordering::SeqCst);
+        if left == 0 {
+            return self.rt.monotonic();
+        }
+        self.left.store(left.saturating_sub(1), Ordering::SeqCst);
+        Err(io::Error::from(ErrorKind::Other))
+    }
+
+    fn since_1970(&self) -> io::Result<Duration> {
+        self.rt.since_1970()
+    }
+
+    fn sleep(&self, duration: Duration) {
+        self.rt.sleep(duration)
+    }
 }
 
 /// Issues a purge; both members answer, and the purge is done within ten seconds. Then the loop is told to stop.
@@ -245,7 +334,18 @@ fn commanded<R: Wait + Clock>(
     issued && done
 }
 
-/// Whether a thread turns the loop until it is told to stop, and a purge is done by then.
+/// Waits until the clock was refused as often as it is to be, for ten seconds at most. Whether it was.
+fn are_spent<R: Wait + Clock>(rt: &R, left: &AtomicU32) -> bool {
+    for _ in 0..1000 {
+        if left.load(Ordering::SeqCst) == 0 {
+            return true;
+        }
+        thread::sleep(rt, Duration::from_millis(10));
+    }
+    false
+}
+
+/// Whether a thread turns the loop until it is told to stop, also after three turns that were refused the clock, and a purge that is issued after these is done by then.
 fn turned<R: Threads + Net + Wait + Clock + Sync>(
     rt: &R,
     alloc: Global,
@@ -260,14 +360,18 @@ fn turned<R: Threads + Net + Wait + Clock + Sync>(
         members,
         ..
     } = held_at(rt, alloc, port)?;
-    let stop = AtomicBool::new(false);
-    let (roster, master, stop) = (&roster, &master, &stop);
-    let (ended, done) = thread::join(
+    let (stop, left) = (AtomicBool::new(false), AtomicU32::new(3));
+    let (roster, master, stop, left) = (&roster, &master, &stop, &left);
+    let (_, done) = thread::join(
         rt,
-        move || turner.run_until(rt, roster, master, stop).is_ok(),
-        move || commanded(rt, roster, master, &sender, &members, port, key, stop),
+        move || turner.run_until(&Refusing { rt, left }, roster, master, stop),
+        move || {
+            let spent = are_spent(rt, left);
+            let done = commanded(rt, roster, master, &sender, &members, port, key, stop);
+            spent && done
+        },
     );
-    Ok(ended && done)
+    Ok(done)
 }
 
 #[test]

@@ -70,7 +70,7 @@ fn taken<R: Wait>(
 
 #[test]
 fn no_entry_is_lost_where_a_page_is_turned(rt: HostRuntime) -> Result<(), Fail> {
-    let (told, entries) = taken(&rt, rt.alloc(), History::Kept)?;
+    let (told, entries) = taken(&rt, rt.alloc(), History::UpTo(8192))?;
     assert!(rt; told && are_all(entries.as_slice(), 4096));
     Ok(())
 }
@@ -84,7 +84,7 @@ fn a_page_is_dropped_without_a_history(rt: HostRuntime) -> Result<(), Fail> {
 
 /// After 4,097 calls: how many entries the book has that is given back, and how many stand before them.
 fn closed<R: Wait>(rt: &R, alloc: Global) -> Result<(usize, usize), Fail> {
-    let master = shared(alloc, &roster_at(alloc, 21400)?, History::Kept)?;
+    let master = shared(alloc, &roster_at(alloc, 21400)?, History::UpTo(8192))?;
     filled(rt, alloc, &master, 4096)?;
     let (book, kept) = master.close();
     Ok((book.entries().len(), kept.len()))

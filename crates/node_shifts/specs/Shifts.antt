@@ -1,5 +1,5 @@
 -- A node in its shifts: one call, and from one shift to the next.
-use Rattle.std.specs.Prelude.{◌≡◌, ◌⊎◌, ℕ, ◌-◌, ◌<◌, ◌≤◌, min, List, [], ◌∷◌, ◌++◌, length, Option, Some, None, Result, Ok, Err, slice_index_or, MatchOption, IsSome}
+use Rattle.std.specs.Prelude.{◌≡◌, ◌⊎◌, ℕ, ◌+◌, ◌-◌, ◌<◌, ◌≤◌, nat_lt, min, Bool, false, if◌then◌else◌, List, [], ◌∷◌, ◌++◌, length, Option, Some, None, Result, Ok, Err, slice_index_or, MatchOption, IsSome}
 use Rattle.std.specs.List.{insert, remove, sum_by}
 use Rattle.node_rules.specs.declared.event.Event.{Event}
 use Rattle.node_rules.specs.declared.reply.Reply.{Reply}
@@ -11,11 +11,13 @@ use Rattle.node_book.specs.declared.record.Record.{Record}
 use Rattle.node_seats.specs.Seats.{SeatView, Called}
 use Rattle.node_seats.specs.Shifts.{ShiftView, Closes, Opens}
 use Rattle.node_shifts.specs.declared.history.History.{History}
-use Rattle.node_shifts.specs.declared.history.History.TheVariants.{Kept, Dropped}
+use Rattle.node_shifts.specs.declared.history.History.TheVariants.{UpTo, Dropped}
+use Rattle.node_shifts.specs.Weight.{octets_of}
 
--- the seats of the shift that is open, or what is left of one that is closed; how many seats a shift has, and the records that are kept
+-- the seats of the shift that is open, and how many octets its events brought along, or what is left of one that is closed; how many seats a shift has, and the records that are kept
 pub record ShiftsView (S : Type 0) : Type 0 where
   pub row : List SeatView
+  pub octets : ℕ
   pub closed : Option (ShiftView S)
   pub seats : ℕ
   pub history : History
@@ -50,20 +52,30 @@ pub record CallsInRow (place : ℕ) (event : Event (Unit {0})) (outcome : Result
 -- one call in the shift that is open
 pub record CallsAt {S : Type 0} (place : ℕ) (event : Event (Unit {0})) (outcome : Result (Reply (Unit {0})) StepFault) (old new : ShiftsView S) : Type 0 where
   pub calls : CallsInRow place event outcome old.row new.row
+  pub octets : new.octets ≡ old.octets + octets_of event
   pub closed : new.closed ≡ old.closed
   pub seats : new.seats ≡ old.seats
   pub history : new.history ≡ old.history
   pub records : new.records ≡ old.records
 
--- the records with that of the shift which is closed, or without it
-abbrev pub kept_by : History → List Record → Record → List Record
-kept_by Kept records last = records ++ last ∷ []
-kept_by Dropped records last = records
+-- whether one record more is kept beside so many
+abbrev pub keeps : History → ℕ → Bool
+keeps (UpTo most) kept = nat_lt kept most
+keeps Dropped kept = false
 
--- the shift after this one has so many seats, and its record is kept or dropped
-pub record IsNextOf {S : Type 0} (shift : ShiftView S) (seats : ℕ) (history : History) (records : List Record) (row : List SeatView) (after : List Record) : Type 0 where
+-- the records with that of the shift which is closed; or none, where that is not kept
+abbrev pub kept_by : History → List Record → Record → List Record
+kept_by history records last = if keeps history (length records) then records ++ last ∷ [] else []
+
+-- once a record is not kept, none is
+abbrev pub history_after : History → List Record → History
+history_after history records = if keeps history (length records) then history else Dropped
+
+-- the shift after this one has so many seats, and its record is kept, or all are dropped
+pub record IsNextOf {S : Type 0} (shift : ShiftView S) (seats : ℕ) (history : History) (records : List Record) (row : List SeatView) (later : History) (after : List Record) : Type 0 where
   pub opens : Opens shift shift.record_of seats row
   pub kept : after ≡ kept_by history records shift.record_of
+  pub afterwards : later ≡ history_after history records
 
 -- the shift that is closed; or that of the open one's seats, each of whose calls are the entries with its number
 abbrev pub IsShiftOf : {S : Type 0} → List SeatView → Option (ShiftView S) → ShiftView S → Type 0
@@ -75,16 +87,17 @@ pub record IsEnded {S : Type 0} (old new : ShiftsView S) : Type 0 where
   pub shift : ShiftView S
   pub was : IsShiftOf old.row old.closed shift
   pub closed : new.closed ≡ Some shift
+  pub octets : new.octets ≡ old.octets
   pub seats : new.seats ≡ old.seats
   pub history : new.history ≡ old.history
   pub records : new.records ≡ old.records
 
 -- the shift after this one is open
 pub record IsAfter {S : Type 0} (shift : ShiftView S) (old new : ShiftsView S) : Type 0 where
-  pub next : IsNextOf shift old.seats old.history old.records new.row new.records
+  pub next : IsNextOf shift old.seats old.history old.records new.row new.history new.records
   pub is_open : new.closed ≡ None
+  pub octets : new.octets ≡ 0
   pub seats : new.seats ≡ old.seats
-  pub history : new.history ≡ old.history
 
 -- the shift after the one that is closed is open, or nothing changes where none is closed
 abbrev pub IsBegun : {S : Type 0} → ShiftsView S → ShiftsView S → Type 0
@@ -100,13 +113,13 @@ pub record IsTurned {S : Type 0} (old new : ShiftsView S) : Type 0 where
 abbrev pub IsLeft : {S : Type 0} → ShiftsView S → ShiftsView S → Type 0
 IsLeft old new = (new ≡ old) ⊎ IsEnded old new
 
--- no shift is open, or its seats have made all 4,096 calls for which a book has room
+-- no shift is open, or its events brought 4,194,304 octets along, or its seats have made all 4,096 calls for which a book has room
 abbrev pub IsOver : {S : Type 0} → ShiftsView S → Type 0
-IsOver shifts = IsSome shifts.closed ⊎ (4096 ≤ calls_in shifts.row)
+IsOver shifts = IsSome shifts.closed ⊎ (4194304 ≤ shifts.octets) ⊎ (4096 ≤ calls_in shifts.row)
 
--- a shift is open, and its book has room
+-- a shift is open, and has room
 abbrev pub HasRoom : {S : Type 0} → ShiftsView S → Type 0
-HasRoom shifts = (shifts.closed ≡ None) × (calls_in shifts.row < 4096)
+HasRoom shifts = (shifts.closed ≡ None) × (shifts.octets < 4194304) × (calls_in shifts.row < 4096)
 
 -- this shift where it has room, and else the next one
 abbrev pub IsReady : {S : Type 0} → ShiftsView S → ShiftsView S → Type 0
@@ -124,3 +137,15 @@ IsStepAt S number event outcome = (old : ShiftsView S) × (new : ShiftsView S) �
 -- these are the records with that of the last shift, or without it
 abbrev pub IsHandedOut : {S : Type 0} → ShiftsView S → List Record → Type 0
 IsHandedOut {S} shifts records = (shift : ShiftView S) × IsShiftOf shifts.row shifts.closed shift × (records ≡ kept_by shifts.history shifts.records shift.record_of)
+
+-- the records that are taken out, where a history is kept
+abbrev pub taken_by : History → List Record → Option (List Record)
+taken_by (UpTo most) records = Some records
+taken_by Dropped records = None
+
+-- the shift is closed and the one after it is open, these are the records then, and none of them is left
+pub record IsTakenOut {S : Type 0} (old : ShiftsView S) (taken : Option (List Record)) (new : ShiftsView S) : Type 0 where
+  pub turned : ShiftsView S
+  pub has_turned : IsTurned old turned
+  pub records : taken ≡ taken_by turned.history turned.records
+  pub after : new ≡ record { row = turned.row; octets = turned.octets; closed = turned.closed; seats = turned.seats; history = turned.history; records = [] }

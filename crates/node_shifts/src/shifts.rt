@@ -1,11 +1,12 @@
 //! A node in its shifts.
-ghost use Rattle.std.specs.Prelude.{◌≡◌, ◌≤◌, ◌<◌, ◌↔◌, ◌⊎◌, [], vec_len, None, IsSome, IsNone, Err, IsTrue, IsFalse, IfOk, IfErr, MatchResult};
+ghost use Rattle.std.specs.Prelude.{◌≡◌, ◌≤◌, ◌<◌, ◌↔◌, ◌⊎◌, [], vec_len, option_map, None, IsSome, IsNone, Err, IsTrue, IsFalse, IfOk, IfErr, MatchResult};
 ghost use Rattle.node_bytes.specs.Stepping.{AnswersAsk};
 ghost use Rattle.node_rules.specs.declared.reply.StepFault.TheVariants as step;
 ghost use Rattle.node_seats.specs.Shifts.{IsFirstOf};
-ghost use Rattle.node_shifts.specs.Shifts.{CallsAt, CallsInRow, IsBegun, IsEnded, IsHandedOut, HasRoom, IsOver, IsLeft, IsNextOf, IsTurned, StepsInShifts, calls_in, outcome_of, place_of};
+ghost use Rattle.node_shifts.specs.Shifts.{CallsAt, CallsInRow, IsBegun, IsEnded, IsHandedOut, IsTakenOut, HasRoom, IsOver, IsLeft, IsNextOf, IsTurned, StepsInShifts, calls_in, keeps, outcome_of, place_of};
 
 use crate::history::History;
+use crate::weight::octets_of;
 use floor_rules::FloorStore;
 use node_book::{BookFault, MOST_ENTRIES, NodeBook, Record};
 use node_rules::{Event, Reply, StepFault};
@@ -15,6 +16,9 @@ use std::marker::Model;
 use std::mem::replace;
 use std::sync::Wait;
 use std::sync::ledger::Blank;
+
+/// Once the events of a shift have brought so many octets along, it has no room for more: what its entries keep in memory is bounded by that.
+const MOST_OCTETS: u64 = 4_194_304;
 
 /// What is given back where there is no memory for the seats.
 pub type Refused<S> = (NodeBook<S>, Blank, Places, AllocError);
@@ -27,6 +31,7 @@ pub struct Shifts<S: FloorStore, L: Calls> {
     alloc: Global,
     node: Option<SharedNode<S, L>>,
     row: Vec<Seat<L>>,
+    octets: u64,
     closed: Option<Shift<S, L>>,
     seats: u8,
     history: History,
@@ -47,7 +52,7 @@ impl<S: FloorStore, L: Calls> Model for Shifts<S, L> {
 
     ghost coded = { Prim.hlevel (codes, map_code {R = slice_cmp nat_cmp} (coded_list coded_ℕ) coded_ℕ) };
 
-    ghost view = { λ s. record { row = s.row.items; closed = s.closed; seats = s.seats; history = s.history; records = s.records.items } };
+    ghost view = { λ s. record { row = s.row.items; octets = s.octets; closed = s.closed; seats = s.seats; history = s.history; records = s.records.items } };
 
     ghost invariant = { λ s. (IsSome s.node → (length s.row.items ≡ s.seats) × (s.closed ≡ None)) × (IsNone s.node → IsSome s.closed) × (L.all ≡ L.parts) };
 }
@@ -67,7 +72,7 @@ impl<S: FloorStore + Drop, L: Calls> Shifts<S, L> {
         requires parts { (blank.parts ≡ L.parts) × (L.all ≡ L.parts) }
         requires seats { (0 < seats) × (seats ≤ L.all) }
         ensures { MatchResult result
-            (λ made. IsFirstOf 0 made.row × (made.closed ≡ None) × (made.seats ≡ seats) × (made.history ≡ history) × (made.records ≡ []))
+            (λ made. IsFirstOf 0 made.row × (made.octets ≡ 0) × (made.closed ≡ None) × (made.seats ≡ seats) × (made.history ≡ history) × (made.records ≡ []))
             (λ refused. refused.0 ≡ book) }
     {
         match SharedNode::open(alloc, book, seats, blank, places) {
@@ -75,6 +80,7 @@ impl<S: FloorStore + Drop, L: Calls> Shifts<S, L> {
                 alloc,
                 node: Some(node),
                 row,
+                octets: 0,
                 closed: None,
                 seats,
                 history,
@@ -84,7 +90,8 @@ impl<S: FloorStore + Drop, L: Calls> Shifts<S, L> {
         }
     }
 
-    /// Makes one call by the seat of this number, or by the last one where there are not so many. Where the book is full, or no shift is open, the next shift is opened first.
+    /// Makes one call by the seat of this number, or by the last one where there are not so many. Where the shift has no room or none is open, the next shift is opened first: a shift has room
+    /// for 4,096 calls, and until its events have brought 4,194,304 octets along.
     ///
     /// Faults: those of the step; and `NoMemory` where there is no memory for the call, for its reply (the step stands then), or for closing a shift or opening one: the call is not made
     /// then, and the next one tries again. An ask that is answered is served at once, and nothing else is done then; or it waits for what begins with it.
@@ -103,12 +110,12 @@ impl<S: FloorStore + Drop, L: Calls> Shifts<S, L> {
         self.call_now(rt, number, event)
     }
 
-    /// Whether the shift has no room for a call: its seats have made 4,096, or none is open.
+    /// Whether the shift has no room for a call, or none is open.
     fn is_over(&self) -> bool
         ensures over { IsTrue result → IsOver self.now }
         ensures room { IsFalse result → HasRoom self.now }
     {
-        self.closed.is_some() || are_spent(self.row.as_slice())
+        self.closed.is_some() || MOST_OCTETS <= self.octets || are_spent(self.row.as_slice())
     }
 
     /// Makes one call in the shift that is open.
@@ -118,10 +125,12 @@ impl<S: FloorStore + Drop, L: Calls> Shifts<S, L> {
         number: u8,
         event: Event<()>,
     ) -> Result<Reply<()>, StepFault>
+        requires { self.old.octets < 4194304 }
         ensures calls { self.old.closed ≡ None → CallsAt (place_of number self.old.seats) event result self.old self.new }
         ensures asks { IfOk result (AnswersAsk event) }
     {
         let place = usize::from(number.min(self.seats - 1));
+        self.octets += octets_of(&event);
         call_at(rt, &self.node, &mut self.row, place, event)
     }
 
@@ -171,16 +180,31 @@ impl<S: FloorStore + Drop, L: Calls> Shifts<S, L> {
         let Some(shift) = self.closed.take() else {
             return Ok(());
         };
-        match open_next(shift, self.seats, self.history, &mut self.records) {
+        match open_next(shift, self.seats, &mut self.history, &mut self.records) {
             Ok((node, row)) => {
                 self.node = Some(node);
                 self.row = row;
+                self.octets = 0;
                 Ok(())
             }
             Err(shift) => {
                 self.closed = Some(shift);
                 Err(AllocError)
             }
+        }
+    }
+
+    /// Ends the shift that is open, opens the next, and takes the records out that are kept, the oldest first; or none, where the history is dropped. The faults are those of
+    /// [`Shifts::turn`]: the records stay then.
+    #[tactic(auto, using(crate::proofs::Turns::taken_out))]
+    pub fn take_records(&mut self) -> Result<Option<Vec<Record>>, CloseFault>
+        ensures { MatchResult result (λ taken. IsTakenOut self.old (option_map (λ records. records.items) taken) self.new) (λ _. IsLeft self.old self.new) }
+    {
+        self.turn()?;
+        let records = replace(&mut self.records, Vec::new(self.alloc));
+        match self.history {
+            History::UpTo(_) => Ok(Some(records)),
+            History::Dropped => Ok(None),
         }
     }
 
@@ -249,26 +273,40 @@ fn answered(answer: Result<Reply<()>, BookFault>) -> Result<Reply<()>, StepFault
 /// A node and the seats of a shift that is open.
 type Open<S, L> = (SharedNode<S, L>, Vec<Seat<L>>);
 
+/// Whether one record more is kept beside so many.
+fn has_place(history: History, kept: usize) -> bool
+    ensures { result ≡ keeps history kept }
+{
+    match history {
+        History::UpTo(most) => (kept as u64) < u64::from(most),
+        History::Dropped => false,
+    }
+}
+
 /// Opens the shift after one that is closed, by so many seats, and keeps the record of the closed one or drops it. Where there is no memory the closed shift is given back, and no record
 /// is kept.
 fn open_next<S: FloorStore, L: Calls>(
     shift: Shift<S, L>,
     seats: u8,
-    history: History,
+    history: &mut History,
     records: &mut Vec<Record>,
 ) -> Result<Open<S, L>, Shift<S, L>>
     requires { (0 < seats) × (seats ≤ L.all) }
     ensures { MatchResult result
-        (λ opened. IsNextOf shift seats history records.old.items opened.1.items records.new.items)
-        (λ back. (back ≡ shift) × (records.new.items ≡ records.old.items)) }
+        (λ opened. IsNextOf shift seats history.old records.old.items opened.1.items history.new records.new.items)
+        (λ back. (back ≡ shift) × (history.new ≡ history.old) × (records.new.items ≡ records.old.items)) }
 {
-    if history == History::Kept && records.reserve(1).is_err() {
+    let is_kept = has_place(*history, records.len());
+    if is_kept && records.reserve(1).is_err() {
         return Err(shift);
     }
     match shift.next(seats) {
         Ok((record, node, row)) => {
-            if history == History::Kept {
+            if is_kept {
                 records.push_reserved(record);
+            } else {
+                records.clear();
+                *history = History::Dropped;
             }
             Ok((node, row))
         }

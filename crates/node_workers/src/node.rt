@@ -4,8 +4,9 @@ ghost use Rattle.std.specs.Prelude.{◌≡◌, ◌≤◌, ◌<◌, ◌+◌, [], 
 use crate::fault::{StartFault, StopFault};
 use crate::gate::Gate;
 use crate::station::Station;
-use crate::threads::{Kit, Shared, run_threads};
-use crate::worker::{Tools, refuse_all};
+use crate::telling::refuse_all;
+use crate::threads::{FetchKit, Kit, Kits, Shared, run_threads};
+use crate::tools::Tools;
 use floor_rules::FloorStore;
 use job_queue::{Jobs, NewJobs, Pass, QueueName};
 use node_book::{NodeBook, Record};
@@ -26,7 +27,8 @@ use udp_loop::NodeLoop;
 pub(crate) struct Edge<G: Drop> {
     pub(crate) station: Station<G>,
     pub(crate) turner: NodeLoop,
-    pub(crate) tools: Vec<Tools>,
+    pub(crate) working: Vec<Tools>,
+    pub(crate) fetching: Vec<Tools>,
     pub(crate) last: Tools,
 }
 
@@ -76,6 +78,19 @@ fn kits_of<Q: QueueName, R: Wait>(
     Ok((pass, kits))
 }
 
+/// The fetchers' kits. Their seats come after those of so many workers.
+fn fetch_kits_of(
+    alloc: Global,
+    tools: Vec<Tools>,
+    workers: u8,
+) -> Result<Vec<FetchKit>, AllocError> {
+    let mut kits = Vec::with_capacity(alloc, tools.len())?;
+    for (number, tools) in (workers..=u8::MAX).zip(tools) {
+        kits.push(FetchKit { number, tools })?;
+    }
+    Ok(kits)
+}
+
 /// The first shift of a node.
 fn first_shift<S: FloorStore + Drop, L: Calls>(
     alloc: Global,
@@ -91,7 +106,9 @@ fn first_shift<S: FloorStore + Drop, L: Calls>(
         count,
         history,
     } = prepared;
-    match Shifts::open(alloc, book, count, history, blank, places) {
+    // (a seat for each worker and each fetcher, and one for the thread at the sockets)
+    let seats = count.saturating_mul(2).saturating_add(1);
+    match Shifts::open(alloc, book, seats, history, blank, places) {
         Ok(shifts) => Ok(Mutex::new(shifts)),
         Err(_) => Err(AllocError),
     }
@@ -109,7 +126,7 @@ fn run_edge<
     edge: &mut Edge<G>,
     jobs: &Jobs<Q>,
     node: &Mutex<Shifts<S, L>>,
-    kits: Vec<Kit<Q>>,
+    kits: Kits<Q>,
     pass: Pass<Q>,
 ) {
     let shared = Shared {
@@ -140,9 +157,12 @@ fn run_shifts<
     requires { new ≡ Q.table }
 {
     let (jobs, pass) = new.name::<Q>();
-    let tools = replace(&mut edge.tools, Vec::new(alloc));
-    match kits_of(rt, alloc, &jobs, pass, tools, count) {
-        Ok((pass, kits)) => {
+    let working = replace(&mut edge.working, Vec::new(alloc));
+    let fetching = replace(&mut edge.fetching, Vec::new(alloc));
+    let fetchers = fetch_kits_of(alloc, fetching, count)?;
+    match kits_of(rt, alloc, &jobs, pass, working, count) {
+        Ok((pass, workers)) => {
+            let kits = Kits { workers, fetchers };
             run_edge(rt, &mut edge, &jobs, node, kits, pass);
             Ok(())
         }

@@ -4,8 +4,11 @@ ghost use Rattle.roster.specs.Lookups.{is_member};
 ghost use Rattle.node_workers.specs.Addresses.{peer_source};
 
 use crate::bell::Bell;
+use crate::errands::Errands;
+use crate::halt::Halt;
 use crate::report::Report;
 use mio::net::TcpStream;
+use node_bytes::Packet;
 use node_fetch::Source;
 use node_rules::Serve;
 use roster::{Address, Cache, Member, Roster};
@@ -25,9 +28,11 @@ pub(crate) struct Station<G: Drop> {
     pub(crate) senders: Senders,
     pub(crate) tables: Tables<TcpStream, Serve<()>>,
     pub(crate) bell: Bell,
+    pub(crate) errands: Errands,
     pub(crate) is_closed: AtomicBool,
     pub(crate) is_stopped: Arc<AtomicBool, Global>,
     pub(crate) report: Arc<Report, Global>,
+    pub(crate) halt: Arc<Halt, Global>,
     pub(crate) gate: Arc<G, Global>,
     pub(crate) ghost has_node: { is_member roster id ≡ true },
 }
@@ -76,6 +81,16 @@ pub(crate) fn source_of(roster: &Roster, peer: u8) -> Option<(Source, Address)>
 }
 
 impl<G: Drop> Station<G> {
+    /// Sends datagrams on the node's sockets.
+    pub(crate) fn send_all(&self, packets: &[Packet]) {
+        for packet in packets {
+            // (what the system does not take is lost, as a datagram may be on its way)
+            let _ = self
+                .senders
+                .send(packet.by, packet.to, packet.octets.as_slice());
+        }
+    }
+
     /// Whether the node is to be stopped.
     pub(crate) fn is_stopped(&self) -> bool {
         self.is_stopped.load(Ordering::SeqCst)

@@ -1,10 +1,15 @@
-//! The threads of a node: its workers, and the loop at its sockets.
+//! The threads of a node: its workers, its fetchers, and the loop at its sockets.
 ghost use Rattle.std.specs.Thread.{IsSend};
 
-use crate::fault::StartFault;
+use crate::fault::{StartFault, StopFault};
+use crate::fetcher::Fetcher;
 use crate::gate::Gate;
+use crate::halt::{Halt, Taken};
+use crate::questions::Questions;
+use crate::seated::Seated;
 use crate::station::{Station, milliseconds};
-use crate::worker::{Tools, Worker};
+use crate::tools::Tools;
+use crate::worker::Worker;
 use floor_rules::FloorStore;
 use job_queue::{Job, Jobs, Pass, QueueName};
 use node_bytes::Stepper;
@@ -16,7 +21,7 @@ use std::thread::{self, Scope, Threads};
 use std::time::Clock;
 use udp_loop::NodeLoop;
 
-/// How many timers are put after one turn of the loop at most.
+/// How many timers are put before one turn of the loop at most.
 const MOST_TIMERS: u32 = 256;
 
 /// What a worker has of its own.
@@ -25,6 +30,20 @@ pub(crate) struct Kit<Q: QueueName> {
     pub(crate) number: u8,
     pub(crate) pass: Pass<Q>,
     pub(crate) tools: Tools,
+}
+
+/// What a fetcher has of its own.
+#[derive(Drop)]
+pub(crate) struct FetchKit {
+    pub(crate) number: u8,
+    pub(crate) tools: Tools,
+}
+
+/// What the workers have, and the fetchers.
+#[derive(Drop)]
+pub(crate) struct Kits<Q: QueueName> {
+    pub(crate) workers: Vec<Kit<Q>>,
+    pub(crate) fetchers: Vec<FetchKit>,
 }
 
 /// What the threads of a node share.
@@ -36,28 +55,43 @@ pub(crate) struct Shared<'a, Q: QueueName, S: FloorStore + Drop, L: Calls, G: Ga
     pub(crate) node: &'a Mutex<Shifts<S, L>>,
 }
 
+/// Who takes the steps of a node by the seat of this number.
+fn seated<'a, Q: QueueName, S: FloorStore + Drop, L: Calls, G: Gate + Drop, R: Wait>(
+    shared: &Shared<'a, Q, S, L, G, R>,
+    number: u8,
+    tools: Tools,
+) -> Seated<'a, AtSeat<'a, S, L, R>, G, R> {
+    Seated {
+        rt: shared.rt,
+        station: shared.station,
+        node: AtSeat::new(shared.rt, shared.node, number),
+        tools,
+    }
+}
+
 /// Has a worker do jobs until the node is stopped.
-fn do_jobs<N: Stepper + Drop, Q: QueueName, G: Gate + Drop, R: Net + Wait + Clock>(
+fn do_jobs<N: Stepper + Drop, Q: QueueName, G: Gate + Drop, R: Wait + Clock>(
     worker: &mut Worker<'_, N, G, R>,
     jobs: &Jobs<Q>,
     mut pass: Pass<Q>,
 ) {
-    for _ in worker.rt.forever() {
-        let seen = worker.station.bell.look(worker.rt);
+    let (rt, station) = (worker.seated.rt, worker.seated.station);
+    for _ in rt.forever() {
+        let seen = station.bell.look(rt);
         if seen.is_over {
             break;
         }
-        let (after, job) = jobs.take(worker.rt, pass);
+        let (after, job) = jobs.take(rt, pass);
         pass = after;
         match job {
             Some(job) => worker.do_job(job),
-            None => worker.station.bell.wait_past(worker.rt, seen.count),
+            None => station.bell.wait_past(rt, seen.count),
         }
     }
 }
 
-/// The work of one thread.
-fn work<Q: QueueName, S: FloorStore + Drop, L: Calls, G: Gate + Drop, R: Net + Wait + Clock>(
+/// The work of a worker's thread.
+fn work<Q: QueueName, S: FloorStore + Drop, L: Calls, G: Gate + Drop, R: Wait + Clock>(
     shared: &Shared<'_, Q, S, L, G, R>,
     kit: Kit<Q>,
 ) {
@@ -67,12 +101,33 @@ fn work<Q: QueueName, S: FloorStore + Drop, L: Calls, G: Gate + Drop, R: Net + W
         tools,
     } = kit;
     let mut worker = Worker {
-        rt: shared.rt,
-        station: shared.station,
-        node: AtSeat::new(shared.rt, shared.node, number),
-        tools,
+        seated: seated(shared, number, tools),
     };
     do_jobs(&mut worker, shared.jobs, pass);
+}
+
+/// Has a fetcher do errands until the node is stopped.
+fn do_errands<N: Stepper + Drop, G: Gate + Drop, R: Net + Wait + Clock>(
+    fetcher: &mut Fetcher<'_, N, G, R>,
+) {
+    let (rt, station) = (fetcher.seated.rt, fetcher.seated.station);
+    for _ in rt.forever() {
+        match station.errands.take(rt) {
+            Some(errand) => fetcher.do_errand(errand),
+            None => break,
+        }
+    }
+}
+
+/// The work of a fetcher's thread.
+fn fetch<Q: QueueName, S: FloorStore + Drop, L: Calls, G: Gate + Drop, R: Net + Wait + Clock>(
+    shared: &Shared<'_, Q, S, L, G, R>,
+    kit: FetchKit,
+) {
+    let mut fetcher = Fetcher {
+        seated: seated(shared, kit.number, kit.tools),
+    };
+    do_errands(&mut fetcher);
 }
 
 /// Starts the workers. Whether each of them was.
@@ -93,55 +148,111 @@ fn start_workers<
     are_all
 }
 
-/// Puts a timer for each round whose time is over, 256 at most.
+/// Starts the fetchers. Whether each of them was.
+fn start_fetchers<
+    's,
+    E,
+    Q: QueueName + Send + Sync,
+    S: FloorStore + Drop + Send,
+    L: Calls + Send + Sync,
+    G: Gate + Drop + Send + Sync,
+    R: Threads + Wait + Clock + Net<Listener = TcpListener, Stream = TcpStream> + Sync,
+>(scope: &Scope<'s, E>, shared: &'s Shared<'s, Q, S, L, G, R>, kits: Vec<FetchKit>) -> bool {
+    let mut are_all = true;
+    for kit in kits {
+        let started = scope.spawn(move || fetch(shared, kit));
+        are_all = are_all && started.is_ok();
+    }
+    are_all
+}
+
+/// Puts a timer for each round whose time is over, 256 at most. Whether there was one. The one that finds no place is owed: it is put first the next time.
 fn put_due<Q: QueueName, G: Drop, R: Wait + Clock>(
     rt: &R,
     station: &Station<G>,
     jobs: &Jobs<Q>,
     mut pass: Pass<Q>,
-) -> Pass<Q> {
+    owed: &mut Option<u32>,
+) -> (Pass<Q>, bool) {
     let now = milliseconds(rt);
+    let mut is_due = false;
     for _ in 0..MOST_TIMERS {
-        let Some(serial) = station.tables.due(rt, now) else {
+        let Some(serial) = owed.take().or_else(|| station.tables.due(rt, now)) else {
             break;
         };
         let (after, put) = jobs.put(rt, pass, Job::Timer { serial });
         pass = after;
+        is_due = true;
         if put.is_err() {
-            // (it waits again, for the next turn; where there is no memory for that, its round waits for its answers alone)
-            let _ = station.tables.begin(rt, now, serial);
+            *owed = Some(serial);
             break;
         }
     }
-    pass
+    (pass, is_due)
 }
 
-/// Turns the loop at the sockets until the node is to be stopped.
-fn turn_until_stopped<Q: QueueName, G: Drop, R: Wait + Clock>(
-    rt: &R,
-    station: &Station<G>,
-    turner: &mut NodeLoop,
-    jobs: &Jobs<Q>,
-    mut pass: Pass<Q>,
-) {
+/// Ends the node's shift, and takes its records out.
+fn records_of<S: FloorStore + Drop, L: Calls>(shifts: &mut Shifts<S, L>) -> Taken {
+    match shifts.take_records() {
+        Ok(records) => Ok(records),
+        Err(fault) => Err(StopFault::from(fault)),
+    }
+}
+
+/// Holds the node under its lock until it is to go on, and gives its records whenever they are asked for.
+fn hold<S: FloorStore + Drop, L: Calls, R: Wait>(rt: &R, halt: &Halt, node: &Mutex<Shifts<S, L>>) {
+    let mut shifts = node.lock(rt);
+    for _ in rt.forever() {
+        if !halt.stand_by(rt) {
+            break;
+        }
+        halt.give(rt, records_of(&mut shifts));
+    }
+}
+
+/// Turns the loop at the sockets until the node is to be stopped, and holds the node whenever that is wanted.
+fn turn_until_stopped<
+    Q: QueueName,
+    S: FloorStore + Drop,
+    L: Calls,
+    G: Gate + Drop,
+    R: Wait + Clock,
+>(shared: &Shared<'_, Q, S, L, G, R>, turner: &mut NodeLoop, mut pass: Pass<Q>) {
+    let (rt, station, jobs) = (shared.rt, shared.station, shared.jobs);
+    let mut questions = Questions {
+        station,
+        // (the last seat is that of no worker and of no fetcher)
+        node: AtSeat::new(rt, shared.node, u8::MAX),
+    };
+    let mut owed = None;
     for _ in rt.forever() {
         if station.is_stopped() {
             break;
         }
-        let (after, _) = turner.turn(rt, jobs, pass);
-        pass = put_due(rt, station, jobs, after);
-        station.bell.ring(rt);
+        if station.halt.is_wanted(rt) {
+            hold(rt, &station.halt, shared.node);
+        }
+        // (timers come first, so that they find places also where more comes over the sockets than the queue holds)
+        let (after, is_due) = put_due(rt, station, jobs, pass, &mut owed);
+        if is_due {
+            station.bell.ring(rt);
+        }
+        let (after, _) = turner.turn(rt, jobs, after, &mut questions);
+        pass = after;
+        if turner.had_jobs() {
+            station.bell.ring(rt);
+        }
     }
 }
 
-/// Runs the workers and the loop until the node is to be stopped, and tells first whether each worker could be started. Where one could not, the others end at once.
+/// Runs the workers, the fetchers and the loop until the node is to be stopped, and tells first whether each thread could be started. Where one could not, the others end at once.
 pub(crate) fn run_threads<
     Q: QueueName + Send + Sync,
     S: FloorStore + Drop + Send,
     L: Calls + Send + Sync,
     G: Gate + Drop + Send + Sync,
     R: Threads + Wait + Clock + Net<Listener = TcpListener, Stream = TcpStream> + Sync,
->(shared: &Shared<'_, Q, S, L, G, R>, kits: Vec<Kit<Q>>, turner: &mut NodeLoop, pass: Pass<Q>) {
+>(shared: &Shared<'_, Q, S, L, G, R>, kits: Kits<Q>, turner: &mut NodeLoop, pass: Pass<Q>) {
     let (rt, station) = (shared.rt, shared.station);
     thread::scope(
         thread::scope_env(),
@@ -149,13 +260,15 @@ pub(crate) fn run_threads<
         move |scope|
             requires { IsSend Q.row × IsSend S.row × IsSend L.row × IsSend G.row }
         {
-            if start_workers(scope, shared, kits) {
+            let Kits { workers, fetchers } = kits;
+            if start_workers(scope, shared, workers) && start_fetchers(scope, shared, fetchers) {
                 station.report.tell(rt, Ok(()));
-                turn_until_stopped(rt, station, turner, shared.jobs, pass);
+                turn_until_stopped(shared, turner, pass);
             } else {
                 station.report.tell(rt, Err(StartFault::NoThread));
             }
             station.bell.end(rt);
+            station.errands.end(rt);
         },
     );
 }

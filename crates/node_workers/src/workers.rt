@@ -5,12 +5,14 @@ ghost use Rattle.node_core.specs.declared.opening.OpenFault.TheVariants as openi
 ghost use Rattle.node_workers.specs.declared.fault.StartFault.TheVariants as starting;
 
 use crate::bell::Bell;
+use crate::errands::Errands;
 use crate::fault::{StartFault, StopFault};
 use crate::gate::Gate;
+use crate::halt::Halt;
 use crate::node::{Edge, Prepared, Start, run_node};
 use crate::report::Report;
 use crate::station::Station;
-use crate::worker::Tools;
+use crate::tools::Tools;
 use floor_rules::FloorStore;
 use node_book::{NodeBook, Record};
 use node_core::{Node, OpenFault};
@@ -44,11 +46,12 @@ pub struct Ground<S: FloorStore> {
     pub keys: RandomState,
 }
 
-/// A node that runs: its thread, its sockets and its workers.
+/// A node that runs: its thread, its sockets, its workers and its fetchers.
 #[derive(Drop)]
 pub struct Workers {
     node: JoinHandle<Result<Vec<Record>, StopFault>>,
     is_stopped: Arc<AtomicBool, Global>,
+    halt: Arc<Halt, Global>,
 }
 
 /// A book that has no entry.
@@ -107,7 +110,7 @@ fn tools<N: Net>(net: &N, alloc: Global) -> Result<Tools, StartFault> {
     }
 }
 
-/// What so many workers wait on.
+/// What so many threads wait on.
 fn all_tools<N: Net>(net: &N, alloc: Global, count: u8) -> Result<Vec<Tools>, StartFault> {
     let mut row = Vec::with_capacity(alloc, usize::from(count))?;
     for _number in 0..count {
@@ -119,11 +122,12 @@ fn all_tools<N: Net>(net: &N, alloc: Global, count: u8) -> Result<Vec<Tools>, St
     Ok(row)
 }
 
-/// What passes between a node's thread and the one that started it: whether it is to be stopped, and how its start went.
+/// What passes between a node's thread and the one that started it: whether it is to be stopped, how its start went, and whether the node is held.
 #[derive(Drop)]
 struct Signals {
     is_stopped: Arc<AtomicBool, Global>,
     report: Arc<Report, Global>,
+    halt: Arc<Halt, Global>,
 }
 
 impl Signals {
@@ -134,7 +138,14 @@ impl Signals {
         let Ok(report) = Arc::new(alloc, Report::new()) else {
             return Err(StartFault::NoMemory);
         };
-        Ok(Signals { is_stopped, report })
+        let Ok(halt) = Arc::new(alloc, Halt::new()) else {
+            return Err(StartFault::NoMemory);
+        };
+        Ok(Signals {
+            is_stopped,
+            report,
+            halt,
+        })
     }
 
     /// The same for the other thread.
@@ -142,6 +153,7 @@ impl Signals {
         Ok(Signals {
             is_stopped: Arc::try_clone(&self.is_stopped)?,
             report: Arc::try_clone(&self.report)?,
+            halt: Arc::try_clone(&self.halt)?,
         })
     }
 }
@@ -165,20 +177,35 @@ fn station<G: Gate + Drop>(
             senders,
             tables: Tables::new(alloc),
             bell: Bell::new(),
+            errands: Errands::new(alloc),
             is_closed: AtomicBool::new(false),
             is_stopped: signals.is_stopped,
             report: signals.report,
+            halt: signals.halt,
             gate,
         }),
         Err(_) => Err(StartFault::NoMemory),
     }
 }
 
-/// What the workers and the node's thread wait on.
-fn tools_for<N: Net>(net: &N, alloc: Global, count: u8) -> Result<(Vec<Tools>, Tools), StartFault> {
-    let row = all_tools(net, alloc, count)?;
+/// What the threads of a node wait on.
+#[derive(Drop)]
+struct ToolsOfAll {
+    working: Vec<Tools>,
+    fetching: Vec<Tools>,
+    last: Tools,
+}
+
+/// What so many workers, as many fetchers and the node's thread wait on.
+fn tools_for<N: Net>(net: &N, alloc: Global, count: u8) -> Result<ToolsOfAll, StartFault> {
+    let working = all_tools(net, alloc, count)?;
+    let fetching = all_tools(net, alloc, count)?;
     match tools(net, alloc) {
-        Ok(last) => Ok((row, last)),
+        Ok(last) => Ok(ToolsOfAll {
+            working,
+            fetching,
+            last,
+        }),
         Err(fault) => Err(fault),
     }
 }
@@ -198,10 +225,17 @@ fn edge_of<G: Gate + Drop, R: Net + Clock>(
     let (turner, senders) = sockets(rt, alloc, roster, id)?;
     let station = station(alloc, roster, id, senders, gate, signals)?;
     match tools_for(rt, alloc, count) {
-        Ok((tools, last)) => Ok(Edge {
+        Ok(
+            ToolsOfAll {
+                working,
+                fetching,
+                last,
+            },
+        ) => Ok(Edge {
             station,
             turner,
-            tools,
+            working,
+            fetching,
             last,
         }),
         Err(fault) => Err(fault),
@@ -248,7 +282,7 @@ fn start_prepared<
     }
 }
 
-/// Starts the thread of a node, and waits until its workers are started.
+/// Starts the thread of a node, and waits until its workers and its fetchers are started.
 fn begin<
     S: FloorStore + Drop + Send + 'static,
     G: Gate + Drop + Send + Sync + 'static,
@@ -262,13 +296,21 @@ fn begin<
         + Sync
         + 'static,
 >(rt: R, start: Start<S, G>, signals: Signals) -> Result<Workers, StartFault> {
-    let Signals { is_stopped, report } = signals;
-    let telling = Arc::try_clone(&report)?;
+    let telling = signals.try_clone()?;
     let Ok(node) = thread::spawn(&rt, move || run_and_tell(&rt, start, &telling)) else {
         return Err(StartFault::NoThread);
     };
+    let Signals {
+        is_stopped,
+        report,
+        halt,
+    } = signals;
     match report.wait(&rt) {
-        Ok(()) => Ok(Workers { node, is_stopped }),
+        Ok(()) => Ok(Workers {
+            node,
+            is_stopped,
+            halt,
+        }),
         Err(fault) => {
             let _ended = node.join(&rt);
             Err(fault)
@@ -281,15 +323,16 @@ fn run_and_tell<
     S: FloorStore + Drop + Send,
     G: Gate + Drop + Send + Sync,
     R: Threads + Wait + Clock + Net<Listener = TcpListener, Stream = TcpStream> + Sync,
->(rt: &R, start: Start<S, G>, report: &Report) -> Result<Vec<Record>, StopFault> {
+>(rt: &R, start: Start<S, G>, signals: &Signals) -> Result<Vec<Record>, StopFault> {
     let ended = run_node(rt, start);
     // (nothing was told before only where there was no memory to begin with)
-    report.tell(rt, Err(StartFault::NoMemory));
+    signals.report.tell(rt, Err(StartFault::NoMemory));
+    signals.halt.end(rt);
     ended
 }
 
 impl Workers {
-    /// Starts a node of the roster with so many workers, 2 to 8, over a store of floors. It is reached at its addresses when this returns.
+    /// Starts a node of the roster with so many workers, 2 to 8, and as many fetchers, over a store of floors. It is reached at its addresses when this returns.
     ///
     /// Faults: `Open` where the node is not opened, `Loop` where its sockets are not, `NoThread` where its thread cannot be made, `NoMemory`. Nothing of it runs or is open then.
     pub fn start<
@@ -336,12 +379,40 @@ impl Workers {
         start_prepared(rt, alloc, roster, id, prepared, gate)
     }
 
-    /// Stops the node: its workers end the jobs that they have, its last shift is closed, those who wait get 503, and its sockets are closed. The records that are kept, oldest first.
+    /// Holds the node, and waits until it is held: no step is taken, and nothing is taken from its sockets, until [`Workers::resume`]. Who waits for an answer goes on to wait. One thread at a time holds a node.
+    pub fn hold<R: Wait>(&self, rt: &R) {
+        self.halt.hold(rt);
+    }
+
+    /// Ends the shift of the node, opens the next, and hands out the records that are kept and were not handed out before, oldest first; or none, where the history is dropped, from the start or since
+    /// there were more records than are kept. The node is held then, also where it was not before.
     ///
-    /// Faults: those of a shift that is not closed, and `NoMemory` where the next one is not opened; the records are lost then. A node that met such a fault has stopped by itself.
-    pub fn stop<R: Threads>(self, rt: &R) -> Result<Vec<Record>, StopFault> {
-        let Workers { node, is_stopped } = self;
-        is_stopped.store(true, Ordering::SeqCst);
-        node.join(rt)
+    /// Faults: those of a shift that is not closed, and `NoMemory` where the next one is not opened. The node stays held, its records stay with it, and they may be asked for again. `SeatMissing`
+    /// comes also where the node's thread has ended.
+    pub fn records<R: Wait>(&self, rt: &R) -> Result<Option<Vec<Record>>, StopFault> {
+        self.halt.hold(rt);
+        self.halt.ask(rt)
+    }
+
+    /// Has a node that is held go on.
+    pub fn resume<R: Wait>(&self, rt: &R) {
+        self.halt.resume(rt);
+    }
+
+    /// Tells the node to stop, also one that is held, and waits for nothing: it takes no more from its sockets, and begins no more fetches. So several nodes can be stopped at once: each is told first, and then each is
+    /// waited for by [`Workers::stop`]. To tell it again changes nothing.
+    pub fn begin_stop<R: Wait>(&self, rt: &R) {
+        self.is_stopped.store(true, Ordering::SeqCst);
+        self.halt.resume(rt);
+    }
+
+    /// Stops the node, also one that is held, and waits for its end: its workers end the jobs that they have, and its fetchers the fetches that are under way, its last shift is closed, those who wait get 503, and its
+    /// sockets are closed. The records that are kept, oldest first.
+    ///
+    /// Faults: those of a shift that is not closed, and `NoMemory` where the next one is not opened; the records are lost then. They are those of the last shift alone: where one comes while the node runs, its step is
+    /// refused, and the node goes on.
+    pub fn stop<R: Threads + Wait>(self, rt: &R) -> Result<Vec<Record>, StopFault> {
+        self.begin_stop(rt);
+        self.node.join(rt)
     }
 }

@@ -2,10 +2,16 @@
 #![tactic(auto)]
 
 #[cfg(test)]
+mod fetchers;
+#[cfg(test)]
 mod gates;
+#[cfg(test)]
+mod holds;
 #[cfg(test)]
 mod network;
 #[cfg(test)]
 mod nodes;
+#[cfg(test)]
+mod origins;
 #[cfg(test)]
 mod starts;

@@ -23,6 +23,10 @@ pub(crate) const CACHED: &[u8] =
 /// An ask for what an origin has.
 pub(crate) const PLAIN: &[u8] = b"GET http://o/a HTTP/1.1\r\nHost: o\r\n\r\n";
 
+/// An ICP query for `http://o/a` (RFC 2186).
+pub(crate) const QUERY: &[u8] =
+    b"\x01\x02\x00\x23\0\0\0\x07\0\0\0\0\0\0\0\0\0\0\0\0\0\0\0\0http://o/a\0";
+
 /// For how many turns of a millisecond a datagram is waited for.
 const MOST_TURNS: u32 = 5000;
 
@@ -32,6 +36,29 @@ pub(crate) fn roster_of(alloc: Global, text: &str) -> Result<Roster, Fail> {
         Ok(roster) => Ok(roster),
         Err(error) => Err(error.fault.name().into()),
     }
+}
+
+/// A roster of two members that are siblings, and an origin: the master is at this port, the origin at the fifth after it, and each member at the ports from the tenth and the twentieth after it on.
+pub(crate) fn siblings(alloc: Global, port: u16) -> Result<String, Fail> {
+    let mut text = format!(in alloc;
+        "default_lifetime = 60\ncopies = 1000\nbytes = 1048576\nquery_wait = 50\n\n[master]\naddress = \"127.0.0.1\"\nhtcp = {port}\n"
+    )?;
+    for id in 1..=2u16 {
+        let peer = 3 - id;
+        let http = u16::saturating_add(port, 10 * id);
+        let icp = u16::saturating_add(http, 1);
+        let htcp = u16::saturating_add(http, 2);
+        let node = format!(in alloc;
+            "\n[[node]]\nid = {id}\nname = \"n{id}\"\naddress = \"127.0.0.1\"\nhttp = {http}\nicp = {icp}\nhtcp = {htcp}\n[[node.peer]]\nid = {peer}\nrole = \"sibling\"\nby = \"icp\"\n"
+        )?;
+        text.push_str(node.as_str())?;
+    }
+    let connect = u16::saturating_add(port, 5);
+    let origin = format!(in alloc;
+        "\n[[origin]]\nhost = \"o\"\nport = 80\naddress = \"127.0.0.1\"\nconnect = {connect}\n"
+    )?;
+    text.push_str(origin.as_str())?;
+    Ok(text)
 }
 
 /// The address of a port of this machine.
@@ -74,12 +101,12 @@ pub(crate) fn started<
     gate: Arc<G, Global>,
 ) -> Result<Result<Workers, StartFault>, Fail> {
     let roster = roster_of(alloc, text)?;
-    let ground = ground(&rt, alloc, History::Kept)?;
+    let ground = ground(&rt, alloc, History::UpTo(16))?;
     Ok(Workers::start(rt, alloc, &roster, id, 2, ground, gate))
 }
 
 /// How many steps the records have.
-fn steps_in(records: &[Record]) -> usize {
+pub(crate) fn steps_in(records: &[Record]) -> usize {
     records
         .iter()
         .map(|record| record.entries.as_slice().len())
@@ -87,7 +114,7 @@ fn steps_in(records: &[Record]) -> usize {
 }
 
 /// Stops a node: how many steps its records have.
-pub(crate) fn stopped<R: Threads>(rt: &R, workers: Workers) -> Result<usize, Fail> {
+pub(crate) fn stopped<R: Threads + Wait>(rt: &R, workers: Workers) -> Result<usize, Fail> {
     match workers.stop(rt) {
         Ok(records) => Ok(steps_in(records.as_slice())),
         Err(fault) => Err(fault.name().into()),
@@ -123,7 +150,11 @@ pub(crate) fn answer_to<N: Net<Stream = TcpStream>>(
 }
 
 /// The datagram that comes next to a socket, within five seconds.
-fn received<C: Clock>(clock: &C, socket: &UdpSocket, into: &mut [u8]) -> Result<usize, Fail> {
+pub(crate) fn received<C: Clock>(
+    clock: &C,
+    socket: &UdpSocket,
+    into: &mut [u8],
+) -> Result<usize, Fail> {
     for _ in 0..MOST_TURNS {
         match socket.recv_from(into) {
             Ok((length, _)) => return Ok(length),

@@ -1,5 +1,5 @@
 //! A node that runs, and its clients.
-use crate::network::{CACHED, PLAIN, answer_to, started, stopped, told};
+use crate::network::{CACHED, PLAIN, QUERY, answer_to, started, stopped, told};
 use node_workers::{Gate, NoGate, Workers};
 use std::alloc::Global;
 use std::net::{Net, TcpListener, TcpStream};
@@ -71,9 +71,7 @@ fn clients_ask<R: Net<Stream = TcpStream>>(rt: &R, alloc: Global) -> Result<[boo
     ])
 }
 
-/// An ICP query for `http://o/a` (RFC 2186), and that it is not held; from an unknown address it is denied.
-const QUERY: &[u8] = b"\x01\x02\x00\x23\0\0\0\x07\0\0\0\0\0\0\0\0\0\0\0\0\0\0\0\0http://o/a\0";
-
+/// That the query is denied, as it is from an unknown address (RFC 2186).
 const DENIED: &[u8] = b"\x16\x02\x00\x1f\0\0\0\x07\0\0\0\0\0\0\0\0\0\0\0\0http://o/a\0";
 
 /// The CLR of purge 7 (RFC 2756), and that the entity was not held.

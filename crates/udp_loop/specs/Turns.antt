@@ -5,8 +5,8 @@ use Rattle.job_queue.specs.declared.order.Sight.TheVariants as sight
 use Rattle.job_queue.specs.declared.order.Step.TheVariants.{Put}
 use Rattle.job_queue.specs.declared.order.View.{View}
 use Rattle.job_queue.specs.Order.{sight_of, Begins}
-use Rattle.udp_loop.specs.declared.streams.Accepted.{Accepted}
-use Rattle.udp_loop.specs.declared.streams.Accepted.TheVariants.{Taken, Nothing}
+use Rattle.udp_loop.specs.declared.putting.Come.{Come}
+use Rattle.udp_loop.specs.declared.putting.Come.TheVariants.{Taken, Nothing}
 
 -- the job came over a socket: it is no timer
 abbrev pub HasCome : Sight → Type 0
@@ -20,7 +20,7 @@ pub record HasPut (before after : View) : Type 0 where
   pub seen : Begins before.seen after.seen
   pub own : (come : List Sight) × (after.own ≡ before.own ++ map Put come) × All HasCome come
 
--- the job of a stream that was accepted, if it has one, has come over a socket
-abbrev pub IsSound : Accepted → Type 0
+-- the job of what came, if it has one, has come over a socket
+abbrev pub IsSound : Come → Type 0
 IsSound (Taken job) = IfSome job (λ j. HasCome (sight_of j))
 IsSound Nothing = Unit {0}

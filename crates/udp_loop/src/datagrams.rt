@@ -1,16 +1,18 @@
 //! Datagrams, from the sockets into the queue.
-ghost use Rattle.std.specs.Prelude.{IfOk, IfSome};
-ghost use Rattle.job_queue.specs.Order.{sight_of};
-ghost use Rattle.udp_loop.specs.Turns.{HasCome, HasPut};
+ghost use Rattle.std.specs.Prelude.{IfOk};
+ghost use Rattle.udp_loop.specs.Turns.{HasPut, IsSound};
 
+use crate::at_once::AtOnce;
 use crate::fault::LoopFault;
-use crate::putting::put;
+use crate::putting::{Come, put};
 use crate::sockets::{Sockets, address_of};
 use job_queue::{Job, Jobs, Pass, QueueName};
 use roster_tables::Udp;
 use std::alloc::{AllocError, Global};
 use std::io::ErrorKind;
+use std::mem::replace;
 use std::sync::{Arc, Wait};
+use std::time::Clock;
 
 /// The longest datagram that is read: none of IPv4 is longer.
 const LONGEST: usize = 65_536;
@@ -26,6 +28,7 @@ pub(crate) struct Datagrams {
     buffer: Vec<u8>,
     icp_is_ready: bool,
     htcp_is_ready: bool,
+    had_jobs: bool,
 }
 
 impl Datagrams {
@@ -39,6 +42,7 @@ impl Datagrams {
             buffer: vec![in alloc; 0; LONGEST]?,
             icp_is_ready: true,
             htcp_is_ready: true,
+            had_jobs: false,
         })
     }
 
@@ -50,6 +54,11 @@ impl Datagrams {
         }
     }
 
+    /// Whether a datagram had a job since this was asked the last time.
+    pub(crate) fn had_jobs(&mut self) -> bool {
+        replace(&mut self.had_jobs, false)
+    }
+
     fn is_ready(&self, udp: Udp) -> bool {
         match udp {
             Udp::Icp => self.icp_is_ready,
@@ -57,32 +66,39 @@ impl Datagrams {
         }
     }
 
-    /// The next datagram of a protocol, if one is there.
-    fn next(&mut self, udp: Udp) -> Result<Option<Job>, LoopFault>
-        ensures { IfOk result (λ job. IfSome job (λ job. HasCome (sight_of job))) }
+    /// The next datagram of a protocol, if one is there, which is dealt with at once or has a job.
+    fn next<A: AtOnce, R: Wait + Clock>(
+        &mut self,
+        rt: &R,
+        udp: Udp,
+        at_once: &mut A,
+    ) -> Result<Come, LoopFault>
+        ensures { IfOk result IsSound }
     {
         match self.sockets.by(udp).recv_from(self.buffer.as_mut_slice()) {
             Ok((length, from)) => {
+                let (from, came) = (address_of(from), &self.buffer.as_slice()[..length]);
+                if at_once.deals_with(rt, udp, from, came) {
+                    return Ok(Come::Taken(None));
+                }
                 let mut octets = Vec::with_capacity(self.alloc, length)?;
-                octets.extend_from_slice(&self.buffer.as_slice()[..length])?;
-                Ok(Some(Job::Datagram {
-                    udp,
-                    from: address_of(from),
-                    octets,
-                }))
+                octets.extend_from_slice(came)?;
+                self.had_jobs = true;
+                Ok(Come::Taken(Some(Job::Datagram { udp, from, octets })))
             }
-            Err(error) if error.kind() == ErrorKind::WouldBlock => Ok(None),
+            Err(error) if error.kind() == ErrorKind::WouldBlock => Ok(Come::Nothing),
             Err(_) => Err(LoopFault::Io),
         }
     }
 
-    /// Puts what is ready of a protocol, 256 datagrams at most. Whether there may be more.
-    pub(crate) fn put_ready<Q: QueueName, R: Wait>(
+    /// Deals with what is ready of a protocol at once, or puts it, 256 datagrams at most. Whether there may be more.
+    pub(crate) fn put_ready<Q: QueueName, A: AtOnce, R: Wait + Clock>(
         &mut self,
         rt: &R,
         jobs: &Jobs<Q>,
         mut pass: Pass<Q>,
         udp: Udp,
+        at_once: &mut A,
     ) -> (Pass<Q>, Result<bool, LoopFault>)
         ensures { HasPut pass result.0 }
     {
@@ -90,9 +106,9 @@ impl Datagrams {
             return (pass, Ok(false));
         }
         for _ in 0..MOST_AT_ONCE {
-            match self.next(udp) {
-                Ok(Some(job)) => pass = put(rt, jobs, pass, Some(job)),
-                Ok(None) => {
+            match self.next(rt, udp, at_once) {
+                Ok(Come::Taken(job)) => pass = put(rt, jobs, pass, job),
+                Ok(Come::Nothing) => {
                     self.set_ready(udp, false);
                     return (pass, Ok(false));
                 }

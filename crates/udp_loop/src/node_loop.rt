@@ -1,6 +1,7 @@
 //! The loop at a node's sockets.
 ghost use Rattle.udp_loop.specs.Turns.{HasPut};
 
+use crate::at_once::AtOnce;
 use crate::datagrams::Datagrams;
 use crate::fault::LoopFault;
 use crate::sockets::{Senders, Sockets, socket_address};
@@ -72,6 +73,12 @@ impl NodeLoop {
         self.wait = most;
     }
 
+    /// Whether a turn had a job for the queue since this was asked the last time; also one for which the queue had no place.
+    pub fn had_jobs(&mut self) -> bool {
+        let datagrams = self.datagrams.had_jobs();
+        self.streams.had_jobs() || datagrams
+    }
+
     /// Waits until something is ready, and notes what is.
     fn wait_for_sockets(&mut self) -> Result<(), LoopFault> {
         let most = if self.has_more {
@@ -91,20 +98,21 @@ impl NodeLoop {
         Ok(())
     }
 
-    /// Waits until something is ready, or for as long as a turn may, and puts a job for each datagram and each stream whose request has come; of each source some
+    /// Waits until something is ready, or for as long as a turn may, and puts a job for each datagram that is not dealt with at once, and for each stream whose request has come; of each source some
     /// at most, and the rest with the next turn. `Io` comes where the system refuses the clock, a wait, a read or an accept, and `NoMemory` where there is no memory for
     /// what was read; what is ready is then read by a later turn. Other sources have been read all the same.
-    pub fn turn<Q: QueueName, R: Wait + Clock>(
+    pub fn turn<Q: QueueName, A: AtOnce, R: Wait + Clock>(
         &mut self,
         rt: &R,
         jobs: &Jobs<Q>,
         pass: Pass<Q>,
+        at_once: &mut A,
     ) -> (Pass<Q>, Result<(), LoopFault>)
         ensures { HasPut pass result.0 }
     {
         let waited = self.wait_for_sockets();
-        let (pass, icp) = self.datagrams.put_ready(rt, jobs, pass, Udp::Icp);
-        let (pass, htcp) = self.datagrams.put_ready(rt, jobs, pass, Udp::Htcp);
+        let (pass, icp) = self.datagrams.put_ready(rt, jobs, pass, Udp::Icp, at_once);
+        let (pass, htcp) = self.datagrams.put_ready(rt, jobs, pass, Udp::Htcp, at_once);
         let (pass, streams) = self.put_streams(rt, jobs, pass);
         self.has_more = icp == Ok(true) || htcp == Ok(true) || streams == Ok(true);
         (

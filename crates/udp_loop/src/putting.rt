@@ -6,6 +6,14 @@ ghost use Rattle.udp_loop.specs.Turns.{HasCome, HasPut};
 use job_queue::{Job, Jobs, Pass, QueueName};
 use std::sync::Wait;
 
+/// What a look at a socket gave.
+pub(crate) enum Come {
+    /// Something came, with its job if there is one: a stream whose request is not there has none, nor has a datagram that was answered.
+    Taken(Option<Job>),
+    /// Nothing is there.
+    Nothing,
+}
+
 /// Puts a job that came over a socket, if there is one, or drops it where the queue is full: a stream is closed by that.
 pub(crate) fn put<Q: QueueName, R: Wait>(
     rt: &R,

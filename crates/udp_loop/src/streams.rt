@@ -5,13 +5,14 @@ ghost use Rattle.udp_loop.specs.Turns.{HasCome, HasPut, IsSound};
 
 use crate::fault::LoopFault;
 use crate::heads::{Head, Reading};
-use crate::putting::put;
+use crate::putting::{Come, put};
 use job_queue::{Job, Jobs, Pass, QueueName};
 use mio::Registry;
 use mio::net::{TcpListener, TcpStream};
 use slab::Slab;
 use std::alloc::{AllocError, Global};
 use std::io::ErrorKind;
+use std::mem::replace;
 use std::sync::Wait;
 use std::time::Instant;
 
@@ -27,14 +28,6 @@ const MOST_LATE: usize = 64;
 /// After how many milliseconds streams whose time is over are looked for again.
 const BETWEEN_LOOKS: u128 = 100;
 
-/// What an accept gave.
-enum Accepted {
-    /// A stream, and its job if its request is there.
-    Taken(Option<Job>),
-    /// No stream is there.
-    Nothing,
-}
-
 /// Accepts a node's streams, and keeps those whose requests have not come.
 #[derive(Drop)]
 pub(crate) struct Streams {
@@ -45,6 +38,7 @@ pub(crate) struct Streams {
     came: Vec<usize>,
     number: u64,
     looked: Instant,
+    had_jobs: bool,
 }
 
 impl Streams {
@@ -61,12 +55,18 @@ impl Streams {
             came: Vec::with_capacity(alloc, MOST_HEADS)?,
             number: 0,
             looked: now,
+            had_jobs: false,
         })
     }
 
     /// The listener has streams to accept.
     pub(crate) fn set_ready(&mut self) {
         self.is_ready = true;
+    }
+
+    /// Whether a stream had a job since this was asked the last time.
+    pub(crate) fn had_jobs(&mut self) -> bool {
+        replace(&mut self.had_jobs, false)
     }
 
     /// More has come of the stream under this key. `AllocError` comes where there is no room to note it; the stream then waits until its time is over.
@@ -80,6 +80,7 @@ impl Streams {
     {
         let mut head = self.heads.try_remove(key)?;
         head.deregister(registry);
+        self.had_jobs = true;
         Some(head.into_job())
     }
 
@@ -192,7 +193,10 @@ impl Streams {
         let mut head = Head::new(self.alloc, self.number, stream, now);
         self.number = self.number.wrapping_add(1);
         match head.read() {
-            Reading::Came => Some(head.into_job()),
+            Reading::Came => {
+                self.had_jobs = true;
+                Some(head.into_job())
+            }
             Reading::Waits => {
                 self.keep(registry, head);
                 None
@@ -202,13 +206,13 @@ impl Streams {
     }
 
     /// Accepts a stream, if there is one.
-    fn accept(&mut self, registry: &Registry, now: Instant) -> Result<Accepted, LoopFault>
+    fn accept(&mut self, registry: &Registry, now: Instant) -> Result<Come, LoopFault>
         ensures { IfOk result IsSound }
     {
         match self.listener.accept() {
-            Ok((stream, _)) => Ok(Accepted::Taken(self.begin(registry, stream, now))),
-            Err(error) if error.kind() == ErrorKind::WouldBlock => Ok(Accepted::Nothing),
-            Err(error) if error.kind() == ErrorKind::ConnectionAborted => Ok(Accepted::Taken(None)),
+            Ok((stream, _)) => Ok(Come::Taken(self.begin(registry, stream, now))),
+            Err(error) if error.kind() == ErrorKind::WouldBlock => Ok(Come::Nothing),
+            Err(error) if error.kind() == ErrorKind::ConnectionAborted => Ok(Come::Taken(None)),
             Err(_) => Err(LoopFault::Io),
         }
     }
@@ -229,8 +233,8 @@ impl Streams {
         }
         for _ in 0..MOST_AT_ONCE {
             match self.accept(registry, now) {
-                Ok(Accepted::Taken(job)) => pass = put(rt, jobs, pass, job),
-                Ok(Accepted::Nothing) => {
+                Ok(Come::Taken(job)) => pass = put(rt, jobs, pass, job),
+                Ok(Come::Nothing) => {
                     self.is_ready = false;
                     return (pass, Ok(false));
                 }

@@ -1,6 +1,7 @@
 //! A node from shift to shift.
 ghost use Rattle.std.specs.Prelude.{◌≡◌, ◌≤◌, [], IfOk};
 
+use fetch_messages::{Answer, Body, Fields};
 use floor_rules::MemoryFloors;
 use node_book::{NodeBook, Record};
 use node_bytes::Stepper;
@@ -14,6 +15,7 @@ use std::marker::Brand;
 use std::sync::ledger::Blank;
 use std::sync::{Mutex, Wait};
 use std::test::Fail;
+use url_key::Key;
 
 /// One member.
 const ONE: &str = "default_lifetime = 60
@@ -137,7 +139,7 @@ fn shifts_follow_one_another(rt: HostRuntime) -> Result<(), Fail> {
         &rt,
         alloc,
         book,
-        History::Kept,
+        History::UpTo(3),
         Blank::new(2),
         places,
     );
@@ -159,5 +161,115 @@ fn records_are_dropped(rt: HostRuntime) -> Result<(), Fail> {
         places,
     );
     assert!(rt; done == Some((4101, [0, 0, 0])));
+    Ok(())
+}
+
+#[test]
+fn more_records_than_are_kept_are_dropped(rt: HostRuntime) -> Result<(), Fail> {
+    let alloc = rt.alloc();
+    let places = Places::new(alloc)?;
+    let book = book_of(alloc)?;
+    let done = stepped::<Brand, HostRuntime>(
+        &rt,
+        alloc,
+        book,
+        History::UpTo(2),
+        Blank::new(2),
+        places,
+    );
+    assert!(rt; done == Some((4101, [0, 0, 0])));
+    Ok(())
+}
+
+/// Takes the records out after one step and after two more, and once more where so many are kept that none is left: the entries of the first two, and whether there is a history at the end.
+fn taken_out<L: Calls, R: Wait>(
+    rt: &R,
+    alloc: Global,
+    book: NodeBook<MemoryFloors>,
+    blank: Blank,
+    places: Places,
+) -> Option<([usize; 3], [usize; 3], bool)>
+    requires fresh { book.entries ≡ [] }
+    requires name { blank.name ≡ L.name }
+    requires parts { (blank.parts ≡ L.parts) × (L.all ≡ L.parts) × (2 ≤ L.all) }
+{
+    let node = shifts_of::<L>(alloc, book, History::UpTo(1), blank, places)?;
+    steps_by(rt, &node, 0, 1);
+    let first = entries_of(node.lock(rt).take_records().ok()??.as_slice());
+    steps_by(rt, &node, 1, 2);
+    let second = entries_of(node.lock(rt).take_records().ok()??.as_slice());
+    node.lock(rt).turn().ok()?;
+    let is_kept = node.lock(rt).take_records().ok()?.is_some();
+    Some((first, second, is_kept))
+}
+
+#[test]
+fn records_are_taken_out_once(rt: HostRuntime) -> Result<(), Fail> {
+    let alloc = rt.alloc();
+    let places = Places::new(alloc)?;
+    let book = book_of(alloc)?;
+    let done = taken_out::<Brand, HostRuntime>(&rt, alloc, book, Blank::new(2), places);
+    assert!(rt; done == Some(([1, 0, 0], [2, 0, 0], false)));
+    Ok(())
+}
+
+/// An origin's answer of 65,536 octets to no read.
+fn heavy(alloc: Global) -> Result<Event<()>, Fail> {
+    let fields = Fields::new(alloc, Vec::new(alloc))?;
+    let body = Body::from_vec(vec![in alloc; 120; 65_536]?)?;
+    Ok(Event::OriginAnswer {
+        serial: 33,
+        key: Key::read(alloc, b"http://o/a")?,
+        answer: Answer::new(200, fields, None, None, body).ok_or("writable")?,
+        now: 9,
+    })
+}
+
+/// Takes so many steps with heavy answers.
+fn heavy_steps<L: Calls, R: Wait>(
+    rt: &R,
+    alloc: Global,
+    node: &Mutex<Shifts<MemoryFloors, L>>,
+    count: u32,
+) -> Result<(), Fail> {
+    let mut seat = AtSeat::new(rt, node, 0);
+    for _ in 0..count {
+        if !matches!(seat.step(heavy(alloc)?), Err(StepFault::UnknownSerial)) {
+            return Err("another answer".into());
+        }
+    }
+    Ok(())
+}
+
+/// Takes so many steps with heavy answers by one of two seats: the entries of the records.
+fn weighed<L: Calls, R: Wait>(
+    rt: &R,
+    alloc: Global,
+    book: NodeBook<MemoryFloors>,
+    blank: Blank,
+    places: Places,
+    count: u32,
+) -> Result<[usize; 3], Fail>
+    requires fresh { book.entries ≡ [] }
+    requires name { blank.name ≡ L.name }
+    requires parts { (blank.parts ≡ L.parts) × (L.all ≡ L.parts) × (2 ≤ L.all) }
+{
+    let Some(node) = shifts_of::<L>(alloc, book, History::UpTo(3), blank, places) else {
+        return Err("shifts".into());
+    };
+    heavy_steps(rt, alloc, &node, count)?;
+    match node.into_inner().into_records() {
+        Ok(records) => Ok(entries_of(records.as_slice())),
+        Err(_) => Err("records".into()),
+    }
+}
+
+#[test]
+fn heavy_events_end_a_shift(rt: HostRuntime) -> Result<(), Fail> {
+    let alloc = rt.alloc();
+    let places = Places::new(alloc)?;
+    let book = book_of(alloc)?;
+    let entries = weighed::<Brand, HostRuntime>(&rt, alloc, book, Blank::new(2), places, 130)?;
+    assert!(rt; entries == [64, 64, 2]);
     Ok(())
 }

@@ -1,4 +1,4 @@
-use Rattle.std.proofs.Common.{ap, sym}
+use Rattle.std.proofs.Common.{ap}
 use Rattle.node_shifts.proofs.Turns.{handed_out}
 use Rattle.node_shifts.proofs.shifts.Shifts.into_records.Goals as goal
 

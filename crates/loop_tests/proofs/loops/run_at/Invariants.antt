@@ -1,4 +1,4 @@
-use Rattle.loop_tests.proofs.loops.run.Given as goal
+use Rattle.loop_tests.proofs.loops.run_at.Given as goal
 
 abbrev pub ghosts-played : goal.ghosts-played
 ghosts-played g a = record { table = a.new }

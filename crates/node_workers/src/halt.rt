@@ -1,0 +1,113 @@
+//! Where a node's thread holds the node while its records are taken.
+use crate::fault::StopFault;
+use node_book::Record;
+use std::mem::replace;
+use std::sync::{Condvar, Mutex, Wait};
+
+/// What became of the records that were asked for: the records, if a history is kept.
+pub(crate) type Taken = Result<Option<Vec<Record>>, StopFault>;
+
+/// How far a node's thread and the one that holds the node are.
+#[derive(Drop)]
+enum Stand {
+    /// The node runs.
+    Going,
+    /// It is to be held.
+    Wanted,
+    /// It is held: no step is taken.
+    Held,
+    /// It is held, and its records are asked for.
+    Asked,
+    /// It is held, and these are its records.
+    Given(Taken),
+    /// Its thread has ended.
+    Ended,
+}
+
+/// A word between a node's thread and the one that holds the node.
+#[derive(Drop)]
+pub(crate) struct Halt {
+    stand: Mutex<Stand>,
+    has_moved: Condvar,
+}
+
+impl Halt {
+    pub(crate) fn new() -> Halt {
+        Halt {
+            stand: Mutex::new(Stand::Going),
+            has_moved: Condvar::new(),
+        }
+    }
+
+    /// Whether the node is to be held.
+    pub(crate) fn is_wanted<R: Wait>(&self, rt: &R) -> bool {
+        matches!(*self.stand.lock(rt), Stand::Wanted)
+    }
+
+    /// The node's thread, which holds the node, says so, and waits until its records are asked for, or it is to go on. Whether they are asked for.
+    pub(crate) fn stand_by<R: Wait>(&self, rt: &R) -> bool {
+        let mut stand = self.stand.lock(rt);
+        if matches!(*stand, Stand::Wanted) {
+            *stand = Stand::Held;
+            self.has_moved.notify_all();
+        }
+        let stand = self.has_moved.wait_while(rt, stand, |stand| {
+            matches!(*stand, Stand::Held | Stand::Given(_))
+        });
+        matches!(*stand, Stand::Asked)
+    }
+
+    /// The node's thread gives the records that were asked for.
+    pub(crate) fn give<R: Wait>(&self, rt: &R, taken: Taken) {
+        let mut stand = self.stand.lock(rt);
+        if matches!(*stand, Stand::Asked) {
+            *stand = Stand::Given(taken);
+            self.has_moved.notify_all();
+        }
+    }
+
+    /// The node's thread ends: nobody waits for it.
+    pub(crate) fn end<R: Wait>(&self, rt: &R) {
+        *self.stand.lock(rt) = Stand::Ended;
+        self.has_moved.notify_all();
+    }
+
+    /// Has the node held, and waits until it is.
+    pub(crate) fn hold<R: Wait>(&self, rt: &R) {
+        let mut stand = self.stand.lock(rt);
+        if matches!(*stand, Stand::Going) {
+            *stand = Stand::Wanted;
+        }
+        let _held = self
+            .has_moved
+            .wait_while(rt, stand, |stand| matches!(*stand, Stand::Wanted));
+    }
+
+    /// Asks for the records of a node that is held, and waits for them. `SeatMissing` where its thread has ended.
+    pub(crate) fn ask<R: Wait>(&self, rt: &R) -> Taken {
+        let mut stand = self.stand.lock(rt);
+        if matches!(*stand, Stand::Held) {
+            *stand = Stand::Asked;
+            self.has_moved.notify_all();
+        }
+        let mut stand = self
+            .has_moved
+            .wait_while(rt, stand, |stand| matches!(*stand, Stand::Asked));
+        if !matches!(*stand, Stand::Given(_)) {
+            return Err(StopFault::SeatMissing);
+        }
+        match replace(&mut *stand, Stand::Held) {
+            Stand::Given(taken) => taken,
+            _ => Err(StopFault::SeatMissing),
+        }
+    }
+
+    /// Has the node go on.
+    pub(crate) fn resume<R: Wait>(&self, rt: &R) {
+        let mut stand = self.stand.lock(rt);
+        if !matches!(*stand, Stand::Ended) {
+            *stand = Stand::Going;
+            self.has_moved.notify_all();
+        }
+    }
+}

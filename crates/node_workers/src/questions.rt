@@ -1,0 +1,69 @@
+//! Questions of other caches, which the thread at the sockets answers itself.
+ghost use Rattle.std.specs.Prelude.{◌≡◌};
+ghost use Rattle.node_workers.specs.Questions.{is_question as asks};
+
+use crate::gate::Gate;
+use crate::station::{Station, seconds};
+use node_bytes::{Stepper, Turn, on_datagram};
+use roster::{Address, Udp};
+use std::sync::Wait;
+use std::time::Clock;
+use udp_loop::AtOnce;
+
+/// The opcode of an ICP QUERY (RFC 2186) and that of an HTCP TST (RFC 2756).
+const QUESTION: u8 = 1;
+
+/// Answers the questions whether the node has a copy as they come: ICP QUERY and HTCP TST. A step with one begins nothing and serves nobody, so no fetch and no client is waited for, and no worker is woken.
+#[derive(Drop)]
+pub(crate) struct Questions<'a, N: Stepper + Drop, G: Gate + Drop> {
+    pub(crate) station: &'a Station<G>,
+    pub(crate) node: N,
+}
+
+impl<N: Stepper + Drop, G: Gate + Drop> Questions<'_, N, G> {
+    /// Sends what a step says. What is not a question's, a fetcher does, since it would have to be waited for.
+    fn carry_out<R: Wait>(&self, rt: &R, turn: Turn) {
+        if turn.serve.is_none() && turn.begin.is_none() {
+            self.station.send_all(turn.send.as_slice());
+        } else {
+            // (where there is no memory for that it is lost, as a reply is for which there is none)
+            let _ = self.station.errands.put(rt, turn);
+        }
+    }
+}
+
+/// Whether octets are a question, if they are a message: by their opcode, and in HTCP by the bit RR, which is not set in a request.
+fn is_question(udp: Udp, octets: &[u8]) -> bool
+    ensures { result ≡ asks udp octets.now }
+{
+    match (udp, octets) {
+        (Udp::Icp, [code, ..]) => *code == QUESTION,
+        (Udp::Htcp, [_, _, _, _, _, _, code, flags, ..]) => {
+            code >> 4 == QUESTION && flags & 1 == 0
+        }
+        _ => false,
+    }
+}
+
+impl<N: Stepper + Drop, G: Gate + Drop> AtOnce for Questions<'_, N, G> {
+    fn deals_with<R: Wait + Clock>(
+        &mut self,
+        rt: &R,
+        udp: Udp,
+        from: Address,
+        octets: &[u8],
+    ) -> bool {
+        if !is_question(udp, octets) {
+            return false;
+        }
+        let now = seconds(rt);
+        match on_datagram(self.station.alloc, &mut self.node, udp, from, octets, now) {
+            Ok(turn) => {
+                self.carry_out(rt, turn);
+                true
+            }
+            // (a worker tries it again, and tells those who wait if the node has closed)
+            Err(_) => false,
+        }
+    }
+}
