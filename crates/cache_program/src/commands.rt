@@ -23,6 +23,9 @@ const BAD_COMMAND_LINE: u8 = 2;
 /// How many workers a node has where the command line does not say.
 const FEWEST_WORKERS: u8 = 2;
 
+/// How many shifts of each member are kept where the command line does not say.
+const SHIFTS: u32 = 16;
+
 /// A script between standard input and standard output.
 #[derive(Drop)]
 pub(crate) enum Scripted {
@@ -39,11 +42,12 @@ pub(crate) enum Scripted {
 pub(crate) enum Task {
     /// The lines of a script.
     Script(Scripted),
-    /// `cache cluster FILE --data DIR --workers N`.
+    /// `cache cluster FILE --data DIR --workers N --history N`.
     Cluster {
         file: String,
         dir: String,
         workers: u8,
+        history: u32,
     },
     /// `cache origin ADDRESS COUNT`.
     Origin {
@@ -216,6 +220,7 @@ fn asked_for(alloc: Global, words: &[String]) -> Result<Task, Error> {
             file: word_of(alloc, cluster, "FILE")?,
             dir: word_of(alloc, cluster, "data")?,
             workers: cluster.get_one("workers").unwrap_or(FEWEST_WORKERS),
+            history: cluster.get_one("history").unwrap_or(SHIFTS),
         },
         Some(("origin", origin)) => return origin_of(alloc, origin),
         _ => Task::Script(Scripted::Answer),
@@ -323,16 +328,23 @@ fn cluster_command<'a>(alloc: Global) -> Result<Command<'a>, AllocError> {
         .value_parser(value_parser!(u8).range(2..=8))
         .default_value("2")
         .help("How many workers each member has");
+    let history = Arg::new(alloc, "history")
+        .long("history")
+        .value_name("N")
+        .value_parser(value_parser!(u32).range(0..=65536))
+        .default_value("16")
+        .help("How many shifts of 4096 steps each member keeps in memory for check; 0 keeps none");
     Command::new(alloc, "cluster")
         .about(
             "Runs the roster's members and its master in this process, and answers each line of standard input",
         )
         .after_help(
-            "Lines:\n  purge URL    issue a purge: purge P, or the fault's name\n  status P     how far purge P is: pending C (members are missing), done P, or unknown\n  get N URL    ask member N by HTTP: the status and the body in hex (- where empty), or the fault's name\n  quit         stop, as the end of the input does\nAny other line is answered by: bad line",
+            "Lines:\n  purge URL    issue a purge: purge P, or the fault's name\n  status P     how far purge P is: pending C (members are missing), done P, or unknown\n  get N URL    ask member N by HTTP: the status and the body in hex (- where empty), or the fault's name\n  check        whether all that was done so far is a run in which purges are safe: yes, no PLACE CAUSE,\n               or forgotten, where there was more of it than --history keeps\n  quit         stop, as the end of the input does\nAny other line is answered by: bad line",
         )
         .arg(file)?
         .arg(data)?
-        .arg(workers)
+        .arg(workers)?
+        .arg(history)
 }
 
 fn origin_command<'a>(alloc: Global) -> Result<Command<'a>, AllocError> {

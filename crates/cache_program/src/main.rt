@@ -21,7 +21,12 @@ fn main(rt: HostRuntime) -> ExitCode {
         Task::Origin { at, count } => run_origin(&rt, rt.alloc(), at, count).map_err(
             Failure::Origin,
         ),
-        Task::Cluster { file, dir, workers } => {
+        Task::Cluster {
+            file,
+            dir,
+            workers,
+            history,
+        } => {
             let workers = workers_of(workers);
             match commands::grounds_of(&rt, rt.alloc(), file.as_str(), dir.as_str()) {
                 Ok(Grounds { roster, stores }) => {
@@ -32,10 +37,12 @@ fn main(rt: HostRuntime) -> ExitCode {
                         &roster,
                         stores,
                         workers,
+                        history,
                         &mut input,
                         &mut output,
                     )
                     .map_err(Failure::Cluster)
+                    .map(|_kept| ())
                 }
                 Err(failure) => Err(failure),
             }

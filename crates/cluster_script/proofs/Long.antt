@@ -1,12 +1,11 @@
--- Lines of few words and of many.
+-- Lines of no word and of many.
 use Rattle.std.proofs.Common.{◌≡◌, ℕ, ◌≤◌, ◌<◌, Bor, List, [], ◌∷◌, length, map, refl, arith}
 use Rattle.cluster_script.specs.Command.{BadLine, command_of}
 
--- no line has less than two words
-pub short_lines_are_bad : (words : List (Bor (List ℕ))) → length words < 2 → BadLine ≡ command_of (map (λ word. word.now) words)
+-- no line has no word
+pub short_lines_are_bad : (words : List (Bor (List ℕ))) → length words < 1 → BadLine ≡ command_of (map (λ word. word.now) words)
 short_lines_are_bad [] h = refl
-short_lines_are_bad (a ∷ []) h = refl
-short_lines_are_bad (a ∷ b ∷ rest) h = absurd (omega arith)
+short_lines_are_bad (a ∷ rest) h = absurd (omega arith)
 
 -- no line has more than three
 pub long_lines_are_bad : (words : List (Bor (List ℕ))) → 4 ≤ length words → BadLine ≡ command_of (map (λ word. word.now) words)

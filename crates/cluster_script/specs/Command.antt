@@ -9,6 +9,7 @@ pub data Command : Type 0 where
   PurgeLine : (url : List ℕ) → Command
   StatusLine : (number : ℕ) → Command
   GetLine : (node : ℕ) (url : List ℕ) → Command
+  CheckLine : Command
   BadLine : Command
 
 -- a line as the code has it
@@ -16,7 +17,12 @@ abbrev pub command_text : Line → Command
 command_text (lines.Purge url) = PurgeLine url.now
 command_text (lines.Status number) = StatusLine number
 command_text (lines.Get node url) = GetLine node url.now
+command_text lines.Check = CheckLine
 command_text lines.Bad = BadLine
+
+-- `check`
+abbrev pub alone : List ℕ → Command
+alone keyword = if bytes_eq keyword (codes "check") then CheckLine else BadLine
 
 -- `purge URL`
 abbrev pub purge_of : List ℕ → Command
@@ -54,6 +60,7 @@ quit = codes "quit"
 
 -- what a line of these words asks for
 abbrev pub command_of : List (List ℕ) → Command
+command_of (keyword ∷ []) = alone keyword
 command_of (keyword ∷ word ∷ []) = with_one keyword word
 command_of (keyword ∷ node ∷ url ∷ []) = with_two keyword node url
 command_of _ = BadLine

@@ -1,3 +1,4 @@
 pub mod Command
+pub mod Checked
 pub mod Shown
 pub mod Played

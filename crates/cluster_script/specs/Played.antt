@@ -14,8 +14,10 @@ use Rattle.roster_tables.specs.declared.plain.Tables.{Tables}
 use Rattle.script_lines.specs.declared.fault.RunFault.{RunFault}
 use Rattle.script_lines.specs.Script.{HasPlayedUntil}
 use Rattle.script_lines.specs.Words.{words_of}
-use Rattle.cluster_script.specs.Command.{quit, Command, PurgeLine, StatusLine, GetLine, BadLine, command_of}
-use Rattle.cluster_script.specs.Shown.{purge_shown, asked_shown, got_shown}
+use Rattle.cluster_script.specs.declared.check.Checked.{Checked}
+use Rattle.cluster_script.specs.Checked.{IsChecked}
+use Rattle.cluster_script.specs.Command.{quit, Command, PurgeLine, StatusLine, GetLine, CheckLine, BadLine, command_of}
+use Rattle.cluster_script.specs.Shown.{purge_shown, asked_shown, got_shown, checked_shown}
 
 -- the fault of a URL that is no key, or what is told of one that is
 abbrev pub IsSaidOf : (List ℕ → Type 0) → Result (List ℕ) KeyFault → List ℕ → Type 0
@@ -47,10 +49,15 @@ GetTells roster node url text =
     ((is_member roster node ≡ false) × (text ≡ codes "bad line"))
     ⊎ ((is_member roster node ≡ true) × IsSaid TellsAnswer url text)
 
+-- a verdict on the run so far, or why there is none
+abbrev pub TellsCheck : Tables → List ℕ → Type 0
+TellsCheck roster text = (checked : Checked) × IsChecked roster checked × (text ≡ checked_shown checked)
+
 abbrev pub CommandTells : Tables → Command → List ℕ → Type 0
 CommandTells roster (PurgeLine url) text = IsSaid TellsPurge url text
 CommandTells roster (StatusLine number) text = TellsStatus number text
 CommandTells roster (GetLine node url) text = GetTells roster node url text
+CommandTells roster CheckLine text = TellsCheck roster text
 CommandTells roster BadLine text = text ≡ codes "bad line"
 
 -- the text may answer the line

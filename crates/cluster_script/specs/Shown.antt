@@ -8,6 +8,12 @@ use Rattle.purge_rules.specs.declared.calls.Status.{Status}
 use Rattle.purge_rules.specs.declared.calls.Status.TheVariants as status
 use Rattle.purge_rules.specs.declared.fault.MasterFault.{MasterFault}
 use Rattle.purge_rules.specs.Names.{master_fault_name}
+use Rattle.run_rules.specs.declared.verdict.Cause.{Cause}
+use Rattle.run_rules.specs.declared.verdict.Cause.TheVariants.{DoublePlace, NotSent, OtherReply, OtherState}
+use Rattle.run_rules.specs.declared.verdict.Verdict.{Verdict}
+use Rattle.run_rules.specs.declared.verdict.Verdict.TheVariants.{Yes, No}
+use Rattle.cluster_script.specs.declared.check.Checked.{Checked}
+use Rattle.cluster_script.specs.declared.check.Checked.TheVariants as checked
 
 -- the number of a purge that was issued, or the fault's name
 abbrev pub purge_shown : Result ℕ MasterFault → List ℕ
@@ -38,3 +44,21 @@ answer_shown answer = decimal answer.status ++ codes " " ++ body_shown answer.bo
 abbrev pub got_shown : Result AnswerText FetchFault → List ℕ
 got_shown (Ok answer) = answer_shown answer
 got_shown (Err fault) = fetch_fault_name fault
+
+abbrev pub cause_name : Cause → List ℕ
+cause_name DoublePlace = codes "DoublePlace"
+cause_name NotSent = codes "NotSent"
+cause_name OtherReply = codes "OtherReply"
+cause_name OtherState = codes "OtherState"
+
+-- `yes`, or the place of the first flaw and what is wrong there
+abbrev pub verdict_shown : Verdict → List ℕ
+verdict_shown Yes = codes "yes"
+verdict_shown (No place cause) = codes "no " ++ decimal place ++ codes " " ++ cause_name cause
+
+-- the verdict, or why there is none
+abbrev pub checked_shown : Checked → List ℕ
+checked_shown (checked.Judged verdict) = verdict_shown verdict
+checked_shown checked.Forgotten = codes "forgotten"
+checked_shown checked.SeatMissing = codes "SeatMissing"
+checked_shown checked.Mismatch = codes "Mismatch"

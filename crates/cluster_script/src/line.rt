@@ -1,6 +1,6 @@
 //! What a line asks for.
 ghost use Rattle.std.specs.Prelude.{◌≡◌, map};
-ghost use Rattle.cluster_script.specs.Command.{command_text, command_of, with_one, purge_of, status_of, with_two, get_of};
+ghost use Rattle.cluster_script.specs.Command.{command_text, command_of, alone, with_one, purge_of, status_of, with_two, get_of};
 
 use script_lines::{decimal_u8, decimal_u32};
 
@@ -12,6 +12,8 @@ pub(crate) enum Line<'a> {
     Status { number: u32 },
     /// `get N URL`: a client asks a member.
     Get { node: u8, url: &'a [u8] },
+    /// `check`: what was done so far is judged.
+    Check,
     /// Anything else.
     Bad,
 }
@@ -23,8 +25,20 @@ pub(crate) fn line_of<'a>(words: &[&'a [u8]]) -> Line<'a>
     match words {
         [keyword, word] => line_with_one(keyword, word),
         [keyword, first, second] => line_with_two(keyword, first, second),
-        [] | [_] => Line::Bad,
+        [keyword] => line_alone(keyword),
+        [] => Line::Bad,
         [_, _, _, _, ..] => Line::Bad,
+    }
+}
+
+/// A line of one word.
+fn line_alone<'a>(keyword: &[u8]) -> Line<'a>
+    ensures { command_text result ≡ alone keyword.now }
+{
+    if keyword == b"check".as_slice() {
+        Line::Check
+    } else {
+        Line::Bad
     }
 }
 

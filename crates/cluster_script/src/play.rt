@@ -1,10 +1,11 @@
 //! The lines of an input, answered by a hierarchy that runs.
 ghost use Rattle.std.specs.Prelude.{◌≡◌, ◌++◌, ℕ, List, OnOk, IfErr};
 ghost use Rattle.cluster_script.specs.Command.{command_text};
-ghost use Rattle.cluster_script.specs.Played.{IsSaid, IsTold, TellsPurge, TellsStatus, TellsAnswer, GetTells, CommandTells, LineAnswers, HasAnswered, http_of as http_of_member};
+ghost use Rattle.cluster_script.specs.Played.{IsSaid, IsTold, TellsPurge, TellsStatus, TellsAnswer, TellsCheck, GetTells, CommandTells, LineAnswers, HasAnswered, http_of as http_of_member};
 
+use crate::check::Checker;
 use crate::line::{Line, line_of};
-use crate::show::{push_asked, push_got, push_purge};
+use crate::show::{push_asked, push_checked, push_got, push_purge};
 use fetch_messages::{Answer, Ask, FetchFault};
 use master_loop::{MasterSender, SharedMaster};
 use node_fetch::exchange;
@@ -27,13 +28,14 @@ const QUIT: &[u8] = b"quit";
 /// The name under which a member is asked.
 const CLIENT: &[u8] = b"client";
 
-/// What answers the lines: the master, what tells the members, and a client's waiter.
+/// What answers the lines: the master, what tells the members, who judges the run, and a client's waiter.
 #[derive(Drop)]
-struct Player<'a, S: PurgeStore, R> {
+struct Player<'a, S: PurgeStore, C, R> {
     rt: &'a R,
     roster: &'a Roster,
     master: &'a SharedMaster<S>,
     sender: &'a MasterSender,
+    checker: &'a mut C,
     waiter: Waiter,
 }
 
@@ -41,16 +43,18 @@ struct Player<'a, S: PurgeStore, R> {
 /// such line. Nothing is asked of the input once that line was read.
 ///
 /// The lines: `purge URL` issues a purge and prints `purge P`, the fault of a URL that is no key, or the master's; `status P` prints `pending C`, `done P` or `unknown`, or
-/// the master's fault; `get N URL` asks member N over HTTP, as a client, and prints the status and the body in hex (`-` where it is empty), or the fault's name. Any other
-/// line, also one that names no member, prints `bad line`. Numbers are decimal, without leading zeros.
+/// the master's fault; `get N URL` asks member N over HTTP, as a client, and prints the status and the body in hex (`-` where it is empty), or the fault's name; `check` has the run so far judged,
+/// and prints `yes`, `no PLACE CAUSE`, `forgotten`, or why the records of a member are not given. Any other line, also one that names no member, prints `bad line`. Numbers are decimal, without
+/// leading zeros.
 ///
 /// Faults: `Io` where the input or the output fails, `LineTooLong`, `TooManyTurns` after 70,000 reads, and `NoMemory`. A front of the answers is written then.
-pub fn answer_lines<S: PurgeStore, R: Wait + Clock + Net, I: Read, O: Write>(
+pub fn answer_lines<S: PurgeStore, C: Checker, R: Wait + Clock + Net, I: Read, O: Write>(
     rt: &R,
     alloc: Global,
     roster: &Roster,
     master: &SharedMaster<S>,
     sender: &MasterSender,
+    checker: &mut C,
     waiter: Waiter,
     input: &mut I,
     output: &mut O,
@@ -62,12 +66,13 @@ pub fn answer_lines<S: PurgeStore, R: Wait + Clock + Net, I: Read, O: Write>(
         roster,
         master,
         sender,
+        checker,
         waiter,
     };
     play_until(alloc, &mut player, QUIT, input, output)
 }
 
-impl<S: PurgeStore, R: Wait + Clock + Net> Script for Player<'_, S, R> {
+impl<S: PurgeStore, C: Checker, R: Wait + Clock + Net> Script for Player<'_, S, C, R> {
     ghost answers = { λ old line text new. LineAnswers old.roster.now line text new.roster.now };
 
     fn answer(&mut self, alloc: Global, line: &[u8], text: &mut Vec<u8>) -> Result<(), AllocError> {
@@ -76,7 +81,7 @@ impl<S: PurgeStore, R: Wait + Clock + Net> Script for Player<'_, S, R> {
     }
 }
 
-impl<S: PurgeStore, R: Wait + Clock + Net> Player<'_, S, R> {
+impl<S: PurgeStore, C: Checker, R: Wait + Clock + Net> Player<'_, S, C, R> {
     /// Answers what a line asks for.
     fn tell(&mut self, alloc: Global, line: Line<'_>, text: &mut Vec<u8>) -> Result<(), AllocError>
         ensures told { OnOk result ((answer : List ℕ) × CommandTells self.old.roster.now (command_text line.entry) answer × (text.new.items ≡ text.old.items ++ answer)) }
@@ -86,6 +91,7 @@ impl<S: PurgeStore, R: Wait + Clock + Net> Player<'_, S, R> {
             Line::Purge { url } => self.purge(alloc, url, text),
             Line::Status { number } => self.status(number, text),
             Line::Get { node, url } => self.get(alloc, node, url, text),
+            Line::Check => self.check(alloc, text),
             Line::Bad => text.extend_from_slice(b"bad line"),
         }
     }
@@ -120,6 +126,15 @@ impl<S: PurgeStore, R: Wait + Clock + Net> Player<'_, S, R> {
             Ok(_) => unreachable!(),
             Err(fault) => Err(fault),
         }
+    }
+
+    /// Answers `check`.
+    fn check(&mut self, alloc: Global, text: &mut Vec<u8>) -> Result<(), AllocError>
+        ensures told { OnOk result ((answer : List ℕ) × TellsCheck self.old.roster.now answer × (text.new.items ≡ text.old.items ++ answer)) }
+        ensures roster { self.new.roster.now ≡ self.old.roster.now }
+    {
+        let checked = self.checker.check(self.rt, alloc, self.roster)?;
+        push_checked(checked, text)
     }
 
     /// Answers `get N URL`.

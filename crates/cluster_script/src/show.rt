@@ -1,11 +1,13 @@
 //! How the answer to a line reads.
 ghost use Rattle.std.specs.Prelude.{◌≡◌, ◌++◌, OnOk, IfOk, IsTrue, decimal};
 ghost use Rattle.fetch_messages.specs.Answer.{is_writable};
-ghost use Rattle.cluster_script.specs.Shown.{purge_shown, status_shown, asked_shown, got_shown, body_shown, answer_shown};
+ghost use Rattle.cluster_script.specs.Shown.{purge_shown, status_shown, asked_shown, got_shown, body_shown, answer_shown, cause_name as name_of_cause, verdict_shown, checked_shown};
 
+use crate::check::Checked;
 use fetch_messages::{Answer, FetchFault};
 use itoa::Buffer;
 use purge_rules::{MasterFault, Status};
+use run_rules::{Cause, Verdict};
 use std::alloc::{AllocError, Global};
 
 /// Writes a number.
@@ -96,5 +98,44 @@ fn push_body(alloc: Global, body: &[u8], text: &mut Vec<u8>) -> Result<(), Alloc
         text.extend_from_slice(b"-")
     } else {
         text.extend_from_slice(hex::encode(alloc, body)?.as_bytes())
+    }
+}
+
+/// The name of what is wrong with a run.
+const fn cause_name(cause: Cause) -> &'static str
+    ensures { result.now ≡ name_of_cause cause }
+{
+    match cause {
+        Cause::DoublePlace => "DoublePlace",
+        Cause::NotSent => "NotSent",
+        Cause::OtherReply => "OtherReply",
+        Cause::OtherState => "OtherState",
+    }
+}
+
+/// Writes the verdict on a run.
+fn push_verdict(verdict: Verdict, text: &mut Vec<u8>) -> Result<(), AllocError>
+    ensures { OnOk result (text.new.items ≡ text.old.items ++ verdict_shown verdict) }
+{
+    match verdict {
+        Verdict::Yes => text.extend_from_slice(b"yes"),
+        Verdict::No { place, cause } => {
+            text.extend_from_slice(b"no ")?;
+            push_number(place, text)?;
+            text.extend_from_slice(b" ")?;
+            text.extend_from_slice(cause_name(cause).as_bytes())
+        }
+    }
+}
+
+/// Writes what is said of a run.
+pub(crate) fn push_checked(checked: Checked, text: &mut Vec<u8>) -> Result<(), AllocError>
+    ensures { OnOk result (text.new.items ≡ text.old.items ++ checked_shown checked) }
+{
+    match checked {
+        Checked::Judged(verdict) => push_verdict(verdict, text),
+        Checked::Forgotten => text.extend_from_slice(b"forgotten"),
+        Checked::SeatMissing => text.extend_from_slice(b"SeatMissing"),
+        Checked::Mismatch => text.extend_from_slice(b"Mismatch"),
     }
 }

@@ -1,5 +1,5 @@
 //! Clusters that do not start.
-use crate::trial::{answers_to, fresh_folder, refusal, siblings, stores_in};
+use crate::trial::{Trial, answers_to, fresh_folder, refusal, siblings, stores_in};
 use roster::Roster;
 use running_cluster::{is_worker_count, open_stores};
 use std::alloc::Global;
@@ -29,7 +29,8 @@ fn a_port_in_use_is_refused(rt: HostRuntime) -> Result<(), Fail> {
     let _listener = TcpListener::bind(&rt, SocketAddr::from((Ipv4Addr::LOCALHOST, 21680)))?;
     let stores = stores_in(&rt, alloc, &roster, "cluster-21660")?;
     let mut answers = Vec::new(alloc);
-    let begun = answers_to(rt, alloc, &roster, stores, (b"quit\n", 0), &mut answers);
+    let trial = Trial::of(b"quit\n", 0);
+    let begun = answers_to(rt, alloc, &roster, stores, trial, &mut answers);
     let (name, sentence) = refusal(alloc, begun)?;
     assert_eq!(rt; name, "Io");
     assert_eq!(rt;

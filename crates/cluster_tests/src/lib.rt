@@ -2,8 +2,14 @@
 #![tactic(auto)]
 
 #[cfg(test)]
+mod changes;
+#[cfg(test)]
+mod court;
+#[cfg(test)]
 mod faults;
 #[cfg(test)]
 mod purges;
+#[cfg(test)]
+mod records;
 #[cfg(test)]
 mod trial;

@@ -1,5 +1,5 @@
 //! Purges among the asks of clients, copies that siblings share, and what is left after a restart.
-use crate::trial::{answers_to, fresh_folder, siblings, stores_in};
+use crate::trial::{Trial, answers_to, fresh_folder, siblings, stores_in};
 use fetch_messages::{Answer, Ask};
 use node_fetch::exchange;
 use origin_server::run_origin;
@@ -23,25 +23,25 @@ const ANSWERS: u32 = 100;
 const TRIES: u32 = 2000;
 
 /// How often the status is asked.
-const ASKINGS: u32 = 300;
+const ASKINGS: u32 = 500;
 
-fn put(script: &mut Vec<u8>, count: u32, line: &[u8]) -> Result<(), Fail> {
+pub(crate) fn put(script: &mut Vec<u8>, count: u32, line: &[u8]) -> Result<(), Fail> {
     for _ in 0..count {
         script.extend_from_slice(line)?;
     }
     Ok(())
 }
 
-/// A purge of `http://o/a` while a client asks for it, its status, and `http://o/b` at both members.
+/// A purge of `http://o/a` while a client asks for it, whether that is a run so far, its status, `http://o/b` at both members, and whether that is a run, asked twice.
 fn script(alloc: Global) -> Result<Vec<u8>, Fail> {
     let mut script = Vec::new(alloc);
     put(&mut script, 10, b"get 2 http://o/a\n")?;
-    put(&mut script, 1, b"purge http://o/a\n")?;
+    put(&mut script, 1, b"purge http://o/a\ncheck\n")?;
     put(&mut script, ASKINGS, b"status 1\n")?;
     put(
         &mut script,
         1,
-        b"get 1 http://o/b\nget 2 http://o/b\nquit\nstatus 1\n",
+        b"get 1 http://o/b\nget 2 http://o/b\ncheck\ncheck\nquit\nstatus 1\n",
     )?;
     Ok(script)
 }
@@ -99,16 +99,14 @@ fn asked<R: Net + Clock>(rt: &R, alloc: Global, at: Address) -> Got {
     got
 }
 
-/// Asks the origin until it has ended.
-fn end_origin<R: Net + Clock>(rt: &R, alloc: Global, at: Address) -> Result<(), Fail> {
+/// Asks the origin until it has answered all asks and ended; what it does not answer is asked again.
+pub(crate) fn end_origin<R: Net + Clock>(rt: &R, alloc: Global, at: Address) -> Result<(), Fail> {
     let mut waiter = Waiter::new(rt, alloc)?;
     let Some(ask) = ask_for(alloc, b"http://o/c") else {
         return Err("no ask".into());
     };
-    for _ in 0..ASKS {
-        if exchange(rt, alloc, &mut waiter, at, &ask, AskForm::Origin, b"n1").is_err() {
-            return Ok(());
-        }
+    for _ in 0..u32::saturating_mul(2, ASKS) {
+        let _ = exchange(rt, alloc, &mut waiter, at, &ask, AskForm::Origin, b"n1");
     }
     Ok(())
 }
@@ -145,49 +143,100 @@ fn count_of(lines: &[u8]) -> usize {
 }
 
 /// The port of this machine.
-const fn local(port: u16) -> Address {
+pub(crate) const fn local(port: u16) -> Address {
     Address {
         ip: 0x7f00_0001,
         port,
     }
 }
 
+/// The ports, the folders and the workers a node of two clusters.
+const CLUSTERS: [(u16, &str, u8); 2] = [(21600, "cluster-21600", 2), (21830, "cluster-21830", 8)];
+
+/// Whether the lines that answer the script are those of a purge that is done, of a page that siblings share, and of a run.
+fn are_of_a_purge(lines: &[u8]) -> bool {
+    let last = count_of(lines);
+    let first = line_at(lines, last.saturating_sub(4));
+    line_at(lines, 10) == b"purge 1".as_slice()
+        && line_at(lines, 11) == b"yes".as_slice()
+        && line_at(lines, last.saturating_sub(5)) == b"done 1".as_slice()
+        && first.starts_with(b"200 2f6220")
+        && line_at(lines, last.saturating_sub(3)) == first
+        && line_at(lines, last.saturating_sub(2)) == b"yes".as_slice()
+        && line_at(lines, last.saturating_sub(1)) == b"yes".as_slice()
+}
+
 #[test]
 fn a_purge_is_done_and_siblings_share_a_copy(rt: HostRuntime) -> Result<(), Fail> {
     let alloc = rt.alloc();
-    let at = local(21605);
-    let roster = siblings(alloc, 21600)?;
     let script = script(alloc)?;
-    fresh_folder(&rt, "cluster-21600")?;
-    let stores = stores_in(&rt, alloc, &roster, "cluster-21600")?;
-    let Ok(origin) = thread::spawn(&rt, move || run_origin(&rt, alloc, at, ASKS)) else {
-        return Err("no thread".into());
-    };
-    let Ok(client) = thread::spawn(&rt, move || asked(&rt, alloc, local(21610))) else {
-        return Err("no thread".into());
-    };
-    let mut answers = Vec::new(alloc);
-    let ended = answers_to(
-        rt,
-        alloc,
-        &roster,
-        stores,
-        (script.as_slice(), 10),
-        &mut answers,
-    );
-    let got = client.join(&rt);
-    end_origin(&rt, alloc, at)?;
-    assert!(rt; origin.join(&rt) == Ok(()));
-    assert!(rt; ended.is_ok());
-    assert_eq!(rt; got.answers, ANSWERS);
-    assert!(rt; got.changes >= 1, "the purge fell among the asks");
-    let lines = answers.as_slice();
-    let last = count_of(lines);
-    let first = line_at(lines, last.saturating_sub(2));
-    assert!(rt; line_at(lines, 10) == b"purge 1".as_slice());
-    assert!(rt; line_at(lines, last.saturating_sub(3)) == b"done 1".as_slice());
-    assert!(rt; first.starts_with(b"200 2f6220"));
-    assert!(rt; line_at(lines, last.saturating_sub(1)) == first);
+    for (port, folder, workers) in CLUSTERS {
+        let at = local(u16::saturating_add(port, 5));
+        let asking = local(u16::saturating_add(port, 10));
+        let roster = siblings(alloc, port)?;
+        fresh_folder(&rt, folder)?;
+        let stores = stores_in(&rt, alloc, &roster, folder)?;
+        let Ok(origin) = thread::spawn(&rt, move || run_origin(&rt, alloc, at, ASKS)) else {
+            return Err("no thread".into());
+        };
+        let Ok(client) = thread::spawn(&rt, move || asked(&rt, alloc, asking)) else {
+            return Err("no thread".into());
+        };
+        let mut answers = Vec::new(alloc);
+        let trial = Trial {
+            workers,
+            ..Trial::of(script.as_slice(), 10)
+        };
+        let ended = answers_to(rt, alloc, &roster, stores, trial, &mut answers);
+        let got = client.join(&rt);
+        end_origin(&rt, alloc, at)?;
+        assert!(rt; origin.join(&rt) == Ok(()));
+        assert!(rt; ended.is_ok());
+        assert_eq!(rt; got.answers, ANSWERS);
+        assert!(rt; got.changes >= 1, "the purge fell among the asks");
+        assert!(rt; are_of_a_purge(answers.as_slice()));
+    }
+    Ok(())
+}
+
+/// A check, 8,300 calls of the master, and another check.
+fn script_of_calls(alloc: Global) -> Result<Vec<u8>, Fail> {
+    let mut script = Vec::new(alloc);
+    put(&mut script, 1, b"check\n")?;
+    put(&mut script, 8300, b"status 1\n")?;
+    put(&mut script, 1, b"check\n")?;
+    Ok(script)
+}
+
+#[test]
+fn what_is_not_kept_is_forgotten(rt: HostRuntime) -> Result<(), Fail> {
+    let alloc = rt.alloc();
+    let roster = siblings(alloc, 21780)?;
+    let script = script_of_calls(alloc)?;
+    for (history, before, after) in [
+        (0u32, "forgotten", "forgotten"),
+        (1, "yes", "forgotten"),
+        (3, "yes", "yes"),
+    ] {
+        fresh_folder(&rt, "cluster-21780")?;
+        let stores = stores_in(&rt, alloc, &roster, "cluster-21780")?;
+        let mut answers = Vec::new(alloc);
+        let trial = Trial {
+            history,
+            ..Trial::of(script.as_slice(), 0)
+        };
+        let kept = answers_to(rt, alloc, &roster, stores, trial, &mut answers);
+        let lines = answers.as_slice();
+        assert!(rt;
+            line_at(lines, 0) == before.as_bytes(),
+            "before, at {history}"
+        );
+        assert!(rt;
+            line_at(lines, 8301) == after.as_bytes(),
+            "after, at {history}"
+        );
+        assert!(rt; matches!(kept, Ok(Some(_))) == (after == "yes"));
+    }
     Ok(())
 }
 
@@ -208,20 +257,21 @@ fn a_purge_outlives_a_restart(rt: HostRuntime) -> Result<(), Fail> {
     fresh_folder(&rt, folder)?;
     let stores = stores_in(&rt, alloc, &roster, folder)?;
     let mut before = Vec::new(alloc);
-    let first = answers_to(
-        rt,
-        alloc,
-        &roster,
-        stores,
-        (script.as_slice(), 5),
-        &mut before,
-    );
-    assert!(rt; first.is_ok() && before.ends_with(b"done 1\n"));
+    let trial = Trial::of(script.as_slice(), 5);
+    let first = answers_to(rt, alloc, &roster, stores, trial, &mut before);
+    assert!(rt; matches!(first, Ok(Some(_))) && before.ends_with(b"done 1\n"));
     let stores = stores_in(&rt, alloc, &roster, folder)?;
     let mut after = Vec::new(alloc);
-    let lines = b"status 1\nstatus 2\npurge http://o/a#b\npurge http://o/b\nget 3 http://o/b\n";
-    let second = answers_to(rt, alloc, &roster, stores, (lines, 0), &mut after);
+    let lines =
+        b"status 1\nstatus 2\npurge http://o/a#b\npurge http://o/b\nget 3 http://o/b\ncheck\n";
+    let trial = Trial::of(lines, 0);
+    let second = answers_to(rt, alloc, &roster, stores, trial, &mut after);
     assert!(rt; second.is_ok());
-    assert!(rt; after.as_slice() == b"done 1\nunknown\nFragment\npurge 2\nbad line\n".as_slice());
+    let answers = after.as_slice();
+    assert!(rt; answers.starts_with(b"done 1\nunknown\nFragment\npurge 2\nbad line\n"));
+    assert!(rt;
+        line_at(answers, 5).starts_with(b"no "),
+        "a run over older files is none of a new world"
+    );
     Ok(())
 }

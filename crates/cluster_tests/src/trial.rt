@@ -1,6 +1,6 @@
 //! A run of a cluster over lines and answers in memory.
 use roster::Roster;
-use running_cluster::{ClusterFault, Stores, open_stores, run_cluster};
+use running_cluster::{ClusterFault, Kept, Stores, open_stores, run_cluster};
 use std::alloc::Global;
 use std::fs;
 use std::io::{self, Read, Write};
@@ -72,7 +72,31 @@ pub(crate) fn fresh_folder(files: &HostRuntime, dir: &str) -> Result<(), Fail> {
     Ok(())
 }
 
-/// What a cluster of two workers a node, over these stores, answers to a script, each line of which is read so many milliseconds after the one before.
+/// The lines that a cluster is given, and how it runs.
+#[derive(Clone, Copy)]
+pub(crate) struct Trial<'a> {
+    pub(crate) script: &'a [u8],
+    /// How many milliseconds after the one before a line is read.
+    pub(crate) pause: u64,
+    /// How many workers a node has, 2 to 8.
+    pub(crate) workers: u8,
+    /// How many shifts of each member are kept.
+    pub(crate) history: u32,
+}
+
+impl Trial<'_> {
+    /// These lines, one in so many milliseconds, for a cluster of two workers a node that keeps sixteen shifts.
+    pub(crate) fn of(script: &[u8], pause: u64) -> Trial<'_> {
+        Trial {
+            script,
+            pause,
+            workers: 2,
+            history: 16,
+        }
+    }
+}
+
+/// What a cluster over these stores answers to a trial's lines.
 pub(crate) fn answers_to<
     R: Threads
         + Wait
@@ -89,16 +113,24 @@ pub(crate) fn answers_to<
     alloc: Global,
     roster: &Roster,
     stores: Stores,
-    script: (&[u8], u64),
+    trial: Trial<'_>,
     answers: &mut Vec<u8>,
-) -> Result<(), ClusterFault> {
-    let (rest, pause) = script;
+) -> Result<Option<Kept>, ClusterFault> {
+    let Trial {
+        script,
+        pause,
+        workers,
+        history,
+    } = trial;
     let mut input = Slow {
         clock: &rt,
-        rest,
+        rest: script,
         pause,
     };
-    run_cluster(rt, alloc, roster, stores, 2, &mut input, answers)
+    let workers = workers.clamp(2, 8);
+    run_cluster(
+        rt, alloc, roster, stores, workers, history, &mut input, answers,
+    )
 }
 
 /// The stores of a roster's cluster in a folder.

@@ -22,5 +22,4 @@ cluster_fault_name cluster.NoThread = codes "NoThread"
 cluster_fault_name cluster.System = codes "Io"
 cluster_fault_name (cluster.Run fault) = run_fault_name fault
 cluster_fault_name (cluster.Stop id fault) = node.stop_fault_name fault
-cluster_fault_name cluster.MasterStopped = codes "Io"
 cluster_fault_name cluster.NoMemory = codes "NoMemory"

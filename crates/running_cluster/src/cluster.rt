@@ -4,6 +4,8 @@ ghost use Rattle.node_workers.specs.Names.{start_fault_name};
 ghost use Rattle.running_cluster.specs.Names.{cluster_fault_name};
 
 use crate::fault::ClusterFault;
+use crate::judge::Judge;
+use crate::kept::{Kept, Memory};
 use crate::master_thread::MasterThread;
 use crate::stores::{NodeFloors, Stores};
 use cluster_script::answer_lines;
@@ -32,9 +34,9 @@ pub fn is_worker_count(workers: u8) -> bool
 
 /// A node that runs.
 #[derive(Drop)]
-struct Running {
+pub(crate) struct Running {
     id: u8,
-    workers: Workers,
+    pub(crate) workers: Workers,
 }
 
 /// What all nodes start on.
@@ -42,6 +44,7 @@ struct Running {
 struct Common<'a> {
     roster: &'a Roster,
     workers: u8,
+    history: u32,
     places: &'a Places,
     ghost enough: { 2 ≤ workers },
     ghost few: { workers ≤ 8 },
@@ -51,10 +54,11 @@ struct Common<'a> {
 /// workers for each member. Each line is answered in a line of its own.
 ///
 /// The lines: `purge URL` issues a purge and prints `purge P`, the fault of a URL that is no key, or the master's; `status P` prints `pending C`, `done P` or `unknown`;
-/// `get N URL` asks member N by HTTP, as a client, and prints the status and the body in hex (`-` where it is empty), or the fault's name; `quit` prints nothing. Any
-/// other line, also one that names no member, prints `bad line`.
+/// `get N URL` asks member N by HTTP, as a client, and prints the status and the body in hex (`-` where it is empty), or the fault's name; `check` has all that the members and the
+/// master did so far judged, and prints `yes`, `no PLACE CAUSE`, `forgotten`, or why the records of a member are not given; `quit` prints nothing. Any other line, also one that names no member, prints `bad line`.
 ///
-/// Nothing that the nodes and the master did is kept in memory.
+/// For `check` what the members and the master did is kept in memory: so many shifts of every member and of the master, of 4,096 steps or calls each, or fewer where the events of a shift have brought 4 MiB along. Where there
+/// would be more, all of it is dropped, and `check` prints `forgotten` from then on. With 0 nothing is kept. What is kept at the end is handed out, if that is all that was done until then.
 ///
 /// Faults, the first that comes: those of the master's purges, of its socket and its thread, of the nodes' floors, sockets and threads by ascending id, and of the input.
 /// Whichever it is, every thread has ended and every socket and store is closed when this returns.
@@ -77,22 +81,35 @@ pub fn run_cluster<
     roster: &Roster,
     stores: Stores,
     workers: u8,
+    history: u32,
     input: &mut I,
     output: &mut O,
-) -> Result<(), ClusterFault>
+) -> Result<Option<Kept>, ClusterFault>
     requires { (2 ≤ workers) × (workers ≤ 8) }
 {
     let places = Places::new(alloc)?;
     let Stores { nodes, purges } = stores;
-    let master = MasterThread::start(rt, alloc, roster, purges, places.try_clone()?)?;
+    let master = MasterThread::start(rt, alloc, roster, purges, places.try_clone()?, history)?;
     let common = Common {
         roster,
         workers,
+        history,
         places: &places,
     };
-    let ended = run_nodes(rt, alloc, common, nodes, &master, input, output);
-    let stopped = master.stop(&rt);
-    ended.and(stopped)
+    let mut memory = Memory::new(alloc, nodes.len(), history);
+    let ended = run_nodes(
+        rt,
+        alloc,
+        common,
+        nodes,
+        &master,
+        &mut memory,
+        input,
+        output,
+    );
+    master.stop(&rt);
+    ended?;
+    Ok(memory.into_kept())
 }
 
 /// Starts the nodes beside the master, answers the lines, and stops the nodes.
@@ -117,12 +134,13 @@ fn run_nodes<
     common: Common<'_>,
     nodes: Vec<NodeFloors<F>>,
     master: &MasterThread<P>,
+    memory: &mut Memory,
     input: &mut I,
     output: &mut O,
 ) -> Result<(), ClusterFault> {
     let mut running = Vec::with_capacity(alloc, nodes.len())?;
     let ended = match start_nodes(rt, alloc, &common, nodes, &mut running) {
-        Ok(()) => answer(&rt, alloc, common.roster, master, input, output),
+        Ok(()) => answer(&rt, alloc, &common, &running, master, memory, input, output),
         Err(fault) => Err(fault),
     };
     let stopped = stop_nodes(&rt, running);
@@ -159,6 +177,15 @@ fn start_nodes<
     Ok(())
 }
 
+/// What becomes of the records of a node of which so many are kept.
+fn history_of(most: u32) -> History {
+    if most == 0 {
+        History::Dropped
+    } else {
+        History::UpTo(most)
+    }
+}
+
 /// Starts a node.
 fn start_node<
     S: FloorStore + Drop + Send + 'static,
@@ -179,7 +206,7 @@ fn start_node<
     let ground = Ground {
         floors,
         places: common.places.try_clone()?,
-        history: History::Dropped,
+        history: history_of(common.history),
         keys,
     };
     let Ok(gate) = Arc::new(alloc, NoGate) else {
@@ -207,8 +234,16 @@ fn start_fault(roster: &Roster, id: u8, fault: StartFault) -> ClusterFault
     }
 }
 
-/// Stops the nodes in their order, each of them; the first fault is told.
-fn stop_nodes<R: Threads>(rt: &R, running: Vec<Running>) -> Result<(), ClusterFault> {
+/// Tells each node to stop, so that all end side by side.
+fn begin_stop<R: Wait>(rt: &R, running: &[Running]) {
+    for node in running {
+        node.workers.begin_stop(rt);
+    }
+}
+
+/// Stops the nodes, and waits for each of them; the first fault is told.
+fn stop_nodes<R: Threads + Wait>(rt: &R, running: Vec<Running>) -> Result<(), ClusterFault> {
+    begin_stop(rt, running.as_slice());
     let mut stopped = Ok(());
     for Running { id, workers } in running {
         if let Err(fault) = workers.stop(rt) {
@@ -219,19 +254,35 @@ fn stop_nodes<R: Threads>(rt: &R, running: Vec<Running>) -> Result<(), ClusterFa
 }
 
 /// Answers the lines of the input.
-fn answer<I: Read, O: Write, S: PurgeStore, R: Wait + Clock + Net>(
+fn answer<I: Read, O: Write, S: PurgeStore, R: Wait + Clock + RandomSource + Net>(
     rt: &R,
     alloc: Global,
-    roster: &Roster,
+    common: &Common<'_>,
+    nodes: &[Running],
     running: &MasterThread<S>,
+    memory: &mut Memory,
     input: &mut I,
     output: &mut O,
 ) -> Result<(), ClusterFault> {
-    let Ok(waiter) = Waiter::new(rt, alloc) else {
+    let (Ok(waiter), Ok(keys)) = (Waiter::new(rt, alloc), RandomState::new(rt)) else {
         return Err(ClusterFault::System);
     };
     let MasterThread { master, sender, .. } = running;
-    match answer_lines(rt, alloc, roster, master, sender, waiter, input, output) {
+    let roster = common.roster;
+    let mut judge = Judge {
+        nodes,
+        master,
+        memory,
+        keys,
+    };
+    let answered = answer_lines(
+        rt, alloc, roster, master, sender, &mut judge, waiter, input, output,
+    );
+    // (what is not gathered now is not handed out)
+    if judge.memory.kept().is_some() && judge.gather(rt).is_err() {
+        judge.memory.forget();
+    }
+    match answered {
         Ok(()) => Ok(()),
         Err(fault) => Err(ClusterFault::Run(fault)),
     }

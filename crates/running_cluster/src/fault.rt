@@ -78,9 +78,6 @@ pub enum ClusterFault {
         /// Why.
         fault: StopFault,
     },
-    /// The system refused the master's thread a wait or a read, and it ended before the input did.
-    #[error("the master's socket failed")]
-    MasterStopped,
     /// A growth was refused.
     #[error("there was no memory")]
     NoMemory,
@@ -92,10 +89,7 @@ impl ClusterFault {
         ensures { result.now ≡ cluster_fault_name self.now }
     {
         match self {
-            ClusterFault::File { .. }
-            | ClusterFault::Ports { .. }
-            | ClusterFault::System
-            | ClusterFault::MasterStopped => "Io",
+            ClusterFault::File { .. } | ClusterFault::Ports { .. } | ClusterFault::System => "Io",
             ClusterFault::Floors { fault, .. } => fault.name(),
             ClusterFault::Purges { fault, .. } => fault.name(),
             ClusterFault::MasterOpen(fault) => fault.name(),

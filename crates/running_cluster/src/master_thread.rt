@@ -1,6 +1,7 @@
 //! The thread at the master's socket.
 use crate::fault::ClusterFault;
 use master_loop::{History, MasterLoop, MasterSender, SharedMaster};
+use node_book::MOST_ENTRIES;
 use node_seats::Places;
 use purge_master::{Master, MasterBook};
 use purge_rules::PurgeStore;
@@ -18,7 +19,7 @@ pub(crate) struct MasterThread<S: PurgeStore> {
     pub(crate) master: Arc<SharedMaster<S>, Global>,
     pub(crate) sender: MasterSender,
     is_stopped: Arc<AtomicBool, Global>,
-    thread: JoinHandle<bool>,
+    thread: JoinHandle<()>,
 }
 
 /// What the master's thread has.
@@ -31,12 +32,10 @@ struct Turned<S: PurgeStore> {
 }
 
 impl<S: PurgeStore + Drop> Turned<S> {
-    /// Has its turns until it is told to stop. Whether it was.
-    fn run<R: Wait + Clock>(mut self, rt: &R) -> bool {
-        let ended = self
-            .turner
+    /// Has its turns until it is told to stop.
+    fn run<R: Wait + Clock>(mut self, rt: &R) {
+        self.turner
             .run_until(rt, &self.roster, &self.master, &self.is_stopped);
-        ended.is_ok()
     }
 }
 
@@ -46,18 +45,25 @@ fn shared<S: PurgeStore + Drop>(
     roster: &Roster,
     purges: S,
     places: Places,
+    history: History,
 ) -> Result<Arc<SharedMaster<S>, Global>, ClusterFault> {
     let master = match Master::open(alloc, roster, purges) {
         Ok(master) => master,
         Err(fault) => return Err(ClusterFault::MasterOpen(fault)),
     };
     let book = MasterBook::open(master);
-    match Arc::new(
-        alloc,
-        SharedMaster::open(alloc, book, places, History::Dropped),
-    ) {
+    match Arc::new(alloc, SharedMaster::open(alloc, book, places, history)) {
         Ok(master) => Ok(master),
         Err(_) => Err(ClusterFault::NoMemory),
+    }
+}
+
+/// What becomes of the master's entries where so many pages of 4,096 are kept.
+fn history_of(most: u32) -> History {
+    if most == 0 {
+        History::Dropped
+    } else {
+        History::UpTo(most.saturating_mul(MOST_ENTRIES as u32))
     }
 }
 
@@ -70,7 +76,7 @@ fn flag(alloc: Global) -> Result<Arc<AtomicBool, Global>, ClusterFault> {
 }
 
 impl<S: PurgeStore + Drop + Send + 'static> MasterThread<S> {
-    /// Opens the master's socket, and starts its thread.
+    /// Opens the master's socket, and starts its thread. So many pages of its book are kept, of 4,096 entries each.
     ///
     /// Faults: `MasterOpen`, `MasterStart`, `NoThread` and `NoMemory`. Nothing runs or is open then.
     pub(crate) fn start<R: Threads + Wait + Clock + Net + Copy + Drop + Send + Sync + 'static>(
@@ -79,8 +85,9 @@ impl<S: PurgeStore + Drop + Send + 'static> MasterThread<S> {
         roster: &Roster,
         purges: S,
         places: Places,
+        history: u32,
     ) -> Result<MasterThread<S>, ClusterFault> {
-        let master = shared(alloc, roster, purges, places)?;
+        let master = shared(alloc, roster, purges, places, history_of(history))?;
         let is_stopped = flag(alloc)?;
         let turner = match MasterLoop::open(&rt, alloc, roster) {
             Ok(turner) => turner,
@@ -105,14 +112,8 @@ impl<S: PurgeStore + Drop + Send + 'static> MasterThread<S> {
     }
 
     /// Ends the thread and waits for its end.
-    ///
-    /// Faults: `MasterStopped` where it had ended before.
-    pub(crate) fn stop<R: Threads>(self, rt: &R) -> Result<(), ClusterFault> {
+    pub(crate) fn stop<R: Threads>(self, rt: &R) {
         self.is_stopped.store(true, Ordering::SeqCst);
-        if self.thread.join(rt) {
-            Ok(())
-        } else {
-            Err(ClusterFault::MasterStopped)
-        }
+        self.thread.join(rt);
     }
 }

@@ -8,5 +8,5 @@ start-requires-send-S g c κs = search (sendable, master_send)
 pub run_nodes-ended-requires-send-F : goal.run_nodes-ended-requires-send-F
 run_nodes-ended-requires-send-F g c κs = search (sendable, node_send)
 
-pub stop-stopped-requires-send-S : goal.stop-stopped-requires-send-S
-stop-stopped-requires-send-S g c κs = search (sendable, master_send)
+pub stop-requires-send-S : goal.stop-requires-send-S
+stop-requires-send-S g c κs = search (sendable, master_send)

@@ -1,0 +1,33 @@
+//! What judges the run of a hierarchy.
+ghost use Rattle.std.specs.Prelude.{IfOk};
+ghost use Rattle.cluster_script.specs.Checked.{IsChecked};
+
+use roster::Roster;
+use run_rules::Verdict;
+use std::alloc::{AllocError, Global};
+use std::sync::Wait;
+
+/// What is said of a run so far.
+#[derive(Clone, Copy, Debug, PartialEq, Eq)]
+pub enum Checked {
+    /// The verdict on all that the members and the master did.
+    Judged(Verdict),
+    /// Not all of it is kept, so there is no verdict.
+    Forgotten,
+    /// A member's records are not given: a seat did not come back.
+    SeatMissing,
+    /// A member's records are not given: what a worker was told is not what the member's book has.
+    Mismatch,
+}
+
+/// Judges the run of a hierarchy.
+pub trait Checker {
+    /// What is said of the run so far of the members and the master of this roster. `AllocError` comes where there is no memory to judge it.
+    fn check<R: Wait>(
+        &mut self,
+        rt: &R,
+        alloc: Global,
+        roster: &Roster,
+    ) -> Result<Checked, AllocError>
+        ensures { IfOk result (IsChecked roster.now) };
+}

@@ -1,0 +1,91 @@
+//! What judges the run of the members and of their master.
+ghost use Rattle.std.specs.Prelude.{IfOk};
+ghost use Rattle.cluster_script.specs.Checked.{IsChecked};
+
+use crate::cluster::Running;
+use crate::kept::Memory;
+use cluster_script::{Checked, Checker};
+use master_loop::SharedMaster;
+use node_workers::StopFault;
+use purge_rules::PurgeStore;
+use roster::Roster;
+use run_check::check_run;
+use std::alloc::{AllocError, Global};
+use std::hash::RandomState;
+use std::sync::Wait;
+
+/// What the members and the master did so far, as far as it was gathered, and where the rest of it is to be had.
+#[derive(Drop)]
+pub(crate) struct Judge<'a, S: PurgeStore> {
+    pub(crate) nodes: &'a [Running],
+    pub(crate) master: &'a SharedMaster<S>,
+    pub(crate) memory: &'a mut Memory,
+    /// Random keys, by which what was sent is found.
+    pub(crate) keys: RandomState,
+}
+
+impl<S: PurgeStore> Judge<'_, S> {
+    /// Puts the records of the members and the calls of the master behind what was gathered, while the members are held.
+    fn take_all<R: Wait>(&mut self, rt: &R) -> Result<(), StopFault> {
+        for node in self.nodes {
+            match node.workers.records(rt)? {
+                Some(records) => self.memory.put_records(records)?,
+                None => self.memory.forget(),
+            }
+        }
+        // (where there is no memory to put the open page behind the others, the first take leaves it, and the second has it)
+        for _ in 0..2 {
+            self.memory.put_entries(self.master.take_entries(rt))?;
+        }
+        if self.master.has_forgotten(rt) {
+            self.memory.forget();
+        }
+        self.memory.limit();
+        Ok(())
+    }
+
+    /// Holds all members, gathers what they and the master did since the last time, and has them go on. The master goes on meanwhile: each of its calls rests on what was done before it.
+    ///
+    /// Faults: those of [`Workers::records`](node_workers::Workers::records). What was gathered before such a fault stays, and the rest is gathered the next time.
+    pub(crate) fn gather<R: Wait>(&mut self, rt: &R) -> Result<(), StopFault> {
+        for node in self.nodes {
+            node.workers.hold(rt);
+        }
+        let taken = self.take_all(rt);
+        for node in self.nodes {
+            node.workers.resume(rt);
+        }
+        taken
+    }
+
+    /// The verdict on what was gathered, if all of it is kept.
+    fn judged(&self, alloc: Global, roster: &Roster) -> Result<Checked, AllocError>
+        ensures { IfOk result (IsChecked roster.now) }
+    {
+        let Some(kept) = self.memory.kept() else {
+            return Ok(Checked::Forgotten);
+        };
+        let (records, entries) = (kept.records.as_slice(), kept.entries.as_slice());
+        let verdict = check_run(alloc, self.keys, roster, records, entries)?;
+        Ok(Checked::Judged(verdict))
+    }
+}
+
+impl<S: PurgeStore> Checker for Judge<'_, S> {
+    fn check<R: Wait>(
+        &mut self,
+        rt: &R,
+        alloc: Global,
+        roster: &Roster,
+    ) -> Result<Checked, AllocError> {
+        if self.memory.kept().is_none() {
+            return Ok(Checked::Forgotten);
+        }
+        match self.gather(rt) {
+            Ok(()) => self.judged(alloc, roster),
+            Err(StopFault::NoMemory) => Err(AllocError),
+            Err(StopFault::SeatMissing) => Ok(Checked::SeatMissing),
+            Err(StopFault::Mismatch) => Ok(Checked::Mismatch),
+        }
+    }
+}

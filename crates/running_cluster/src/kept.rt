@@ -1,0 +1,143 @@
+//! What is kept of a run, and how much of it.
+ghost use Rattle.std.specs.Prelude.{◌≡◌, ◌++◌, OnOk};
+
+use node_book::{MOST_ENTRIES, Record};
+use purge_master::MasterEntry;
+use std::alloc::{AllocError, Global};
+
+/// What the members and the master of a hierarchy did, from the start on.
+#[derive(Drop)]
+pub struct Kept {
+    /// The records of the members, those of one member in the order of its shifts.
+    pub records: Vec<Record>,
+    /// The master's calls, in their order.
+    pub entries: Vec<MasterEntry>,
+}
+
+/// What is kept of a run so far; or that some of it is lost.
+#[derive(Drop)]
+pub(crate) struct Memory {
+    most: u64,
+    kept: Option<Kept>,
+}
+
+/// So many floors, copies and asks of a state are weighed as one entry.
+const ROWS_OF_AN_ENTRY: u64 = 4;
+
+/// How much is kept of so many members and a master, where so many shifts of each are: as many entries as these have, all told.
+fn most_entries(members: usize, shifts: u32) -> u64 {
+    let each = u64::from(shifts).saturating_mul(MOST_ENTRIES as u64);
+    each.saturating_mul((members as u64).saturating_add(1))
+}
+
+/// What a record takes, in entries: its own, and its two states by what they hold.
+fn weight(record: &Record) -> u64 {
+    let mut rows = 0u64;
+    for state in [&record.opening, &record.closing] {
+        for part in [
+            state.floors.rows(),
+            state.copies.as_slice().len(),
+            state.pending.as_slice().len(),
+        ] {
+            rows = rows.saturating_add(part as u64);
+        }
+    }
+    (record.entries.as_slice().len() as u64).saturating_add(rows / ROWS_OF_AN_ENTRY)
+}
+
+/// Whether a shift tells nothing: nothing was done in it, and it is not the first of its member.
+fn is_idle(records: &[Record], next: &Record) -> bool {
+    next.entries.as_slice().is_empty() && records.iter().any(|record| record.node == next.node)
+}
+
+impl Kept {
+    /// What it takes, in entries.
+    fn weight(&self) -> u64 {
+        self.records
+            .iter()
+            .map(|record| weight(record))
+            .fold(self.entries.len() as u64, |sum, each| {
+                u64::saturating_add(sum, each)
+            })
+    }
+
+    /// Puts the next record of a member behind those that are kept, unless it tells nothing. Where there is no memory for it, nothing changes.
+    fn put_record(&mut self, next: Record) -> Result<(), AllocError> {
+        if is_idle(self.records.as_slice(), &next) {
+            return Ok(());
+        }
+        Ok(self.records.push(next)?)
+    }
+
+    /// Puts the next calls of the master behind those that are kept. Where there is no memory for them, nothing changes.
+    fn put_entries(&mut self, mut entries: Vec<MasterEntry>) -> Result<(), AllocError>
+        ensures entries { OnOk result (self.new.entries.items ≡ self.old.entries.items ++ entries.items) }
+        ensures records { self.new.records ≡ self.old.records }
+    {
+        self.entries.append(&mut entries)
+    }
+}
+
+impl Memory {
+    /// Nothing was done so far. Of so many members so many shifts each are kept, and the master's calls in the same measure; nothing, where that is 0.
+    pub(crate) fn new(alloc: Global, members: usize, shifts: u32) -> Memory {
+        let kept = Kept {
+            records: Vec::new(alloc),
+            entries: Vec::new(alloc),
+        };
+        Memory {
+            most: most_entries(members, shifts),
+            kept: if shifts == 0 { None } else { Some(kept) },
+        }
+    }
+
+    /// All that was done so far, if it is kept.
+    pub(crate) fn kept(&self) -> Option<&Kept> {
+        self.kept.as_ref()
+    }
+
+    /// All that was done, if it is kept.
+    pub(crate) fn into_kept(self) -> Option<Kept> {
+        self.kept
+    }
+
+    /// Drops all that was kept: some of the run is lost.
+    pub(crate) fn forget(&mut self) {
+        self.kept = None;
+    }
+
+    /// Drops all where there is more of it than is kept.
+    pub(crate) fn limit(&mut self) {
+        if let Some(kept) = &self.kept {
+            if self.most < kept.weight() {
+                self.forget();
+            }
+        }
+    }
+
+    /// Puts the next records of a member behind those that are kept. Where there is no memory for that, all is dropped.
+    pub(crate) fn put_records(&mut self, records: Vec<Record>) -> Result<(), AllocError> {
+        let Some(kept) = &mut self.kept else {
+            return Ok(());
+        };
+        for record in records {
+            if kept.put_record(record).is_err() {
+                self.kept = None;
+                return Err(AllocError);
+            }
+        }
+        Ok(())
+    }
+
+    /// Puts the next calls of the master behind those that are kept. Where there is no memory for that, all is dropped.
+    pub(crate) fn put_entries(&mut self, entries: Vec<MasterEntry>) -> Result<(), AllocError> {
+        let Some(kept) = &mut self.kept else {
+            return Ok(());
+        };
+        let put = kept.put_entries(entries);
+        if put.is_err() {
+            self.forget();
+        }
+        put
+    }
+}
