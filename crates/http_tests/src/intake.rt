@@ -74,18 +74,24 @@ fn chunked(rt: &HostRuntime, reader: &mut Pieces<'_>) -> Result<(Vec<u8>, usize)
     Intake::new(rt.alloc()).read_chunked_body(rt.alloc(), reader, 0)
 }
 
-/// A request's head with one field of so many octets in its value.
-fn head_with_value(rt: &HostRuntime, len: usize) -> Result<Vec<u8>, AllocError> {
-    let mut text = b"GET / HTTP/1.1\r\na: ".to_vec(rt.alloc())?;
+/// The first line of a request, and that of a response.
+const ASKS: &[u8] = b"GET / HTTP/1.1\r\n";
+
+const ANSWERS: &[u8] = b"HTTP/1.1 200 \r\n";
+
+/// A head of this first line, with one field of so many octets in its value.
+fn head_with_value(rt: &HostRuntime, line: &[u8], len: usize) -> Result<Vec<u8>, AllocError> {
+    let mut text = line.to_vec(rt.alloc())?;
+    text.extend_from_slice(b"a: ")?;
     let grown = text.len().saturating_add(len);
     text.resize(grown, b'x')?;
     text.extend_from_slice(b"\r\n\r\n")?;
     Ok(text)
 }
 
-/// A request's head with so many fields.
-fn head_with_fields(rt: &HostRuntime, count: usize) -> Result<Vec<u8>, AllocError> {
-    let mut text = b"GET / HTTP/1.1\r\n".to_vec(rt.alloc())?;
+/// A head of this first line, with so many fields.
+fn head_with_fields(rt: &HostRuntime, line: &[u8], count: usize) -> Result<Vec<u8>, AllocError> {
+    let mut text = line.to_vec(rt.alloc())?;
     for _ in 0..count {
         text.extend_from_slice(b"a:b\r\n")?;
     }
@@ -146,6 +152,11 @@ fn heads_of_responses(rt: HostRuntime) -> Result<(), Fail> {
                 b"HTTP/1.1 2x0 \r\n\r\n".as_slice(),
                 Some(FetchFault::BadHead),
             ),
+            // A malformed head that is cut goes before the end of the input.
+            (
+                b"HTTP/1.1 200 \r\na b".as_slice(),
+                Some(FetchFault::BadHead),
+            ),
         ] {
             let read = response(&rt, &mut Pieces::new(text, len));
             assert_eq!(rt; read.err(), fault, "{text:?} in pieces of {len}");
@@ -204,13 +215,13 @@ fn a_whole_head_waits_for_no_call(rt: HostRuntime) -> Result<(), Fail> {
 fn limits_of_heads(rt: HostRuntime) -> Result<(), Fail> {
     for len in PIECES {
         for (value, fault) in [(16361, None), (16362, Some(FetchFault::HeadTooLong))] {
-            let text = head_with_value(&rt, value)?;
+            let text = head_with_value(&rt, ASKS, value)?;
             assert_eq!(rt; text.len(), value + 23);
             let read = request(&rt, &mut Pieces::failing(text.as_slice(), len));
             assert_eq!(rt; read.err(), fault, "{value} octets in pieces of {len}");
         }
         for (fields, fault) in [(64, None), (65, Some(FetchFault::HeadTooLong))] {
-            let text = head_with_fields(&rt, fields)?;
+            let text = head_with_fields(&rt, ASKS, fields)?;
             let read = request(&rt, &mut Pieces::failing(text.as_slice(), len));
             assert_eq!(rt; read.err(), fault, "{fields} fields in pieces of {len}");
         }
@@ -219,6 +230,24 @@ fn limits_of_heads(rt: HostRuntime) -> Result<(), Fail> {
     let blank = "\n".repeat(rt.alloc(), 16384)?;
     let read = request(&rt, &mut Pieces::failing(blank.as_bytes(), 1));
     assert_eq!(rt; read.err(), Some(FetchFault::HeadTooLong));
+    Ok(())
+}
+
+#[test]
+fn limits_of_heads_of_responses(rt: HostRuntime) -> Result<(), Fail> {
+    for len in PIECES {
+        for (value, fault) in [(16362, None), (16363, Some(FetchFault::HeadTooLong))] {
+            let text = head_with_value(&rt, ANSWERS, value)?;
+            assert_eq!(rt; text.len(), value + 22);
+            let read = response(&rt, &mut Pieces::failing(text.as_slice(), len));
+            assert_eq!(rt; read.err(), fault, "{value} octets in pieces of {len}");
+        }
+        for (fields, fault) in [(64, None), (65, Some(FetchFault::HeadTooLong))] {
+            let text = head_with_fields(&rt, ANSWERS, fields)?;
+            let read = response(&rt, &mut Pieces::failing(text.as_slice(), len));
+            assert_eq!(rt; read.err(), fault, "{fields} fields in pieces of {len}");
+        }
+    }
     Ok(())
 }
 
@@ -308,6 +337,8 @@ fn bad_chunks(rt: HostRuntime) -> Result<(), Fail> {
             (b"g".as_slice(), FetchFault::BadBody),
             (b"3\r\nonetwo".as_slice(), FetchFault::BadBody),
             (b"0\r\na b\r\n\r\n".as_slice(), FetchFault::BadBody),
+            // A malformed trailer that is cut goes before the end of the input.
+            (b"0\r\nabcd e".as_slice(), FetchFault::BadBody),
             (b"10001\r\n".as_slice(), FetchFault::BodyTooLong),
             (b"1\r\no\r\n10000\r\n".as_slice(), FetchFault::BodyTooLong),
             // The greatest number of 64 bits, and a digit more.

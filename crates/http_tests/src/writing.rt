@@ -240,7 +240,7 @@ fn a_writer_that_fails_holds_a_front(rt: HostRuntime) -> Result<(), Fail> {
             room,
         };
         let Some(answer) = answer_of(&rt, 200, &[], Some(1), None, b"one")? else {
-            return Ok(());
+            return Err("writable".into());
         };
         let expected = if room < ONE.len() {
             Err(FetchFault::Io)

@@ -234,7 +234,12 @@ fn show(rt: &HostRuntime, reply: &Reply<u64>) -> Result<String, Fail> {
     }
     match &reply.begin {
         Some(Begin::Round { serial }) => write!(text, " round {serial}")?,
-        Some(Begin::Peer { serial, peer, .. }) => write!(text, " peer {peer} {serial}")?,
+        Some(Begin::Peer { serial, peer, ask }) => {
+            write!(text, " peer {peer} {serial}")?;
+            if ask.only_if_cached {
+                text.push_str(" only-if-cached")?;
+            }
+        }
         Some(Begin::Read { serial, .. }) => write!(text, " read {serial}")?,
         None => {}
     }
@@ -285,7 +290,7 @@ fn a_purge_overtakes_a_read(rt: HostRuntime) -> Result<(), Fail> {
     Ok(())
 }
 
-/// A foreign cache's stamp is not trusted, and it is not asked for what was purged.
+/// A foreign sibling is asked only for what it has; its stamp is not trusted, and it is not asked for what was purged.
 #[test]
 fn a_foreign_sibling(rt: HostRuntime) -> Result<(), Fail> {
     let mut held = node_of(&rt, FOREIGN)?;
@@ -303,7 +308,7 @@ fn a_foreign_sibling(rt: HostRuntime) -> Result<(), Fail> {
         (icp(&rt, 3201, IcpOp::Hit, 32, "http://o/b")?, ""),
         (
             icp(&rt, 3201, IcpOp::Hit, 32, "http://o/a")?,
-            " peer 101 33",
+            " peer 101 33 only-if-cached",
         ),
         (given, " serve stamp 0 tag 0 age 0"),
         (icp(&rt, 3201, IcpOp::Query, 9, "HTTP://O/a")?, " Hit"),

@@ -1,5 +1,5 @@
 -- The names of faults.
-use Rattle.std.specs.Prelude.{ℕ, List, codes}
+use Rattle.std.specs.Prelude.{◌≡◌, ℕ, List, codes}
 use Rattle.origin_server.specs.declared.fault.OriginFault.{OriginFault}
 use Rattle.origin_server.specs.declared.fault.OriginFault.TheVariants.{Port, Io, NoMemory}
 
@@ -8,3 +8,9 @@ abbrev pub origin_fault_name : OriginFault → List ℕ
 origin_fault_name (Port port) = codes "Io"
 origin_fault_name Io = codes "Io"
 origin_fault_name NoMemory = codes "NoMemory"
+
+-- where a port is named, it is this one
+abbrev pub IsAtPort : ℕ → OriginFault → Type 0
+IsAtPort port (Port named) = named ≡ port
+IsAtPort port Io = Unit {0}
+IsAtPort port NoMemory = Unit {0}

@@ -43,6 +43,11 @@ impl From<AllocError> for OriginFault {
 }
 
 impl From<io::Error> for OriginFault {
+    ghost use Rattle.std.specs.Prelude.{ℕ};
+    ghost use Rattle.origin_server.specs.Names.{IsAtPort};
+
+    ghost from_gives = { λ _ fault. (port : ℕ) → IsAtPort port fault };
+
     fn from(error: io::Error) -> OriginFault {
         match error.kind() {
             io::ErrorKind::OutOfMemory => OriginFault::NoMemory,

@@ -1,4 +1,7 @@
 //! The origin at its port.
+ghost use Rattle.std.specs.Prelude.{IfErr};
+ghost use Rattle.origin_server.specs.Names.{IsAtPort};
+
 use crate::fault::OriginFault;
 use crate::serving::serve_next;
 use roster_tables::Address;
@@ -41,14 +44,27 @@ pub fn run_origin<R: Net + Clock>(
 }
 
 /// A listener at this address, which waits for clients.
-fn listen<N: Net>(net: &N, at: Address) -> Result<TcpListener, OriginFault> {
+fn listen<N: Net>(net: &N, at: Address) -> Result<TcpListener, OriginFault>
+    ensures { IfErr result (IsAtPort at.port) }
+{
     let address = SocketAddr::from((Ipv4Addr::from(at.ip), at.port));
-    let Ok(listener) = mio::net::TcpListener::bind(net, address) else {
-        return Err(OriginFault::Port(at.port));
+    let listener = match mio::net::TcpListener::bind(net, address) {
+        Ok(listener) => TcpListener::from(listener),
+        Err(error) => return Err(fault_of(&error, at.port)),
     };
-    let listener = TcpListener::from(listener);
     listener.set_nonblocking(false)?;
     Ok(listener)
+}
+
+/// Why there is no listener at this port.
+fn fault_of(error: &io::Error, port: u16) -> OriginFault
+    ensures { IsAtPort port result }
+{
+    match error.kind() {
+        ErrorKind::AddrInUse | ErrorKind::AddrNotAvailable => OriginFault::Port(port),
+        ErrorKind::OutOfMemory => OriginFault::NoMemory,
+        _ => OriginFault::Io,
+    }
 }
 
 /// Serves clients until one of them is answered, as the one of this number.

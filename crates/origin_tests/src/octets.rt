@@ -3,7 +3,7 @@ use fetch_messages::{Ask, FetchFault};
 use origin_server::{OriginFault, answer_to, serve_next};
 use std::io::{self, Error, ErrorKind, Read};
 use std::test::Fail;
-use url_key::Key;
+use url_key::{Key, KeyFault};
 
 /// The answer to the seventh ask.
 const SEVENTH: &[u8] =
@@ -23,7 +23,7 @@ const REFUSED_501: &[u8] =
 const LONG: [u8; 16_385] = [b'a'; 16_385];
 
 /// Asks, what a call with them is answered, and what is written.
-const ASKS: [(&[u8], Option<FetchFault>, &[u8]); 8] = [
+const ASKS: [(&[u8], Option<FetchFault>, &[u8]); 9] = [
     (b"GET /b?x HTTP/1.1\r\nHost: o\r\n\r\n", None, SEVENTH),
     (
         b"GET http://o/b?x HTTP/1.1\r\nHost: o\r\n\r\n",
@@ -33,6 +33,11 @@ const ASKS: [(&[u8], Option<FetchFault>, &[u8]); 8] = [
     (
         b"GET /b?x HTTP/1.1\r\n\r\n",
         Some(FetchFault::BadHead),
+        REFUSED_400,
+    ),
+    (
+        b"GET https://o/b?x HTTP/1.1\r\nHost: o\r\n\r\n",
+        Some(FetchFault::BadTarget(KeyFault::NotHttp)),
         REFUSED_400,
     ),
     (

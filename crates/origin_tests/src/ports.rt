@@ -3,14 +3,14 @@ use fetch_messages::{Ask, FetchFault};
 use mio::net::TcpStream;
 use node_fetch::exchange;
 use origin_server::{OriginFault, run_origin};
-use peer_writing::AskForm;
+use peer_writing::{AskForm, is_name};
 use roster_tables::Address;
 use std::alloc::Global;
 use std::io::{self, Read, Write};
-use std::net::{Ipv4Addr, SocketAddr, TcpListener};
+use std::net::{Ipv4Addr, Net, SocketAddr, TcpListener};
 use std::test::Fail;
-use std::thread;
-use std::time::Duration;
+use std::thread::{self, Threads};
+use std::time::{Clock, Duration};
 use timed_streams::{Timed, Waiter};
 use url_key::Key;
 
@@ -104,11 +104,100 @@ fn an_origin_answers_and_ends(rt: HostRuntime) -> Result<(), Fail> {
     Ok(())
 }
 
+/// In which form `http://o/a` is asked for, and under which name; and the octets of the ask (RFC 9112, section 3.2; RFC 9110, section 7.6.3).
+const SENT: [(AskForm, &[u8], &[u8]); 2] = [
+    (
+        AskForm::Absolute,
+        b"n1",
+        b"GET http://o/a HTTP/1.1\r\nhost: o\r\nconnection: close\r\nvia: 1.1 n1\r\n\r\n",
+    ),
+    (
+        AskForm::Origin,
+        b"edge2",
+        b"GET /a HTTP/1.1\r\nhost: o\r\nconnection: close\r\nvia: 1.1 edge2\r\n\r\n",
+    ),
+];
+
+/// The octets that a client sends up to an empty line. It is answered with status 204.
+fn heard(alloc: Global, listener: &TcpListener) -> io::Result<Vec<u8>> {
+    let (mut stream, _) = listener.accept()?;
+    let mut octets = Vec::new(alloc);
+    let mut buffer = [0; 64];
+    for _ in 0..100 {
+        let count = stream.read(&mut buffer)?;
+        octets.extend_from_slice(&buffer[..count])?;
+        if count == 0 || octets.as_slice().ends_with(b"\r\n\r\n") {
+            break;
+        }
+    }
+    stream.write_all(b"HTTP/1.1 204 \r\n\r\n")?;
+    Ok(octets)
+}
+
+/// The status that an ask is answered with, under a name that a cache may have.
+fn status_of<R: Net + Clock>(
+    rt: &R,
+    alloc: Global,
+    port: u16,
+    ask: &Ask,
+    form: AskForm,
+    name: &[u8],
+) -> Option<u16> {
+    if !is_name(name) {
+        return None;
+    }
+    let mut waiter = Waiter::new(rt, alloc).ok()?;
+    match exchange(rt, alloc, &mut waiter, address_at(port), ask, form, name) {
+        Ok(answer) => Some(answer.status()),
+        Err(_) => None,
+    }
+}
+
+/// What a peer at this port hears, and the status that the one who asks is told.
+fn exchanged<R: Threads + Net<Listener = TcpListener, Stream = std::net::TcpStream> + Clock + Sync>(
+    rt: &R,
+    alloc: Global,
+    port: u16,
+    form: AskForm,
+    name: &[u8],
+) -> Result<(Option<Vec<u8>>, Option<u16>), Fail> {
+    let ask = ask_for(alloc, b"http://o/a")?;
+    let listener = TcpListener::bind(rt, socket_at(port))?;
+    Ok(thread::join(
+        rt,
+        move || heard(alloc, &listener).ok(),
+        || status_of(rt, alloc, port, &ask, form, name),
+    ))
+}
+
 #[test]
-fn a_port_in_use_is_refused(rt: HostRuntime) -> Result<(), Fail> {
+fn an_exchange_sends_the_ask(rt: HostRuntime) -> Result<(), Fail> {
+    for ((form, name, text), port) in SENT.iter().zip(21330u16..) {
+        let (heard, status) = exchanged(&rt, rt.alloc(), port, *form, *name)?;
+        assert!(rt;
+            heard
+                .as_ref()
+                .is_some_and(|octets| octets.as_slice() == *text),
+            "{port}"
+        );
+        assert!(rt; status == Some(204), "{port}");
+    }
+    Ok(())
+}
+
+/// An address for documentation, which is no machine's (RFC 5737, section 3).
+const ELSEWHERE: Address = Address {
+    ip: 0xc000_0201,
+    port: 21340,
+};
+
+#[test]
+fn ports_that_are_not_had_are_named(rt: HostRuntime) -> Result<(), Fail> {
     let _listener = TcpListener::bind(&rt, socket_at(21310))?;
     let ended = run_origin(&rt, rt.alloc(), address_at(21310), 1);
     assert!(rt; ended == Err(OriginFault::Port(21310)));
+    let ended = run_origin(&rt, rt.alloc(), ELSEWHERE, 1);
+    assert!(rt; ended == Err(OriginFault::Port(21340)));
     Ok(())
 }
 

@@ -346,6 +346,27 @@ fn repeats_and_their_faults(rt: HostRuntime) -> Result<(), Fail> {
     Ok(())
 }
 
+/// A roster with so many origins, each of a host of its own.
+fn with_origins(rt: &HostRuntime, count: u32) -> Result<String, Fail> {
+    let mut all = String::from_str(rt.alloc(), TWO)?;
+    for number in 1..count {
+        let origin = format!(in rt.alloc();
+            "[[origin]]\nhost = \"o{number}\"\nport = 80\naddress = \"127.0.0.1\"\nconnect = 8080\n"
+        )?;
+        all.push_str(origin.as_str())?;
+    }
+    Ok(all)
+}
+
+#[test]
+fn there_are_256_origins_at_most(rt: HostRuntime) -> Result<(), Fail> {
+    for (count, fault) in [(256, None), (257, Some(RosterFault::TooMany))] {
+        let all = with_origins(&rt, count)?;
+        assert_eq!(rt; fault_of(&rt, all.as_str()), fault, "{count} origins");
+    }
+    Ok(())
+}
+
 #[test]
 fn three_parents_in_a_circle(rt: HostRuntime) -> Result<(), Fail> {
     let turned = TWO.replace(rt.alloc(), "id = 1\nrole", "id = 3\nrole")?;

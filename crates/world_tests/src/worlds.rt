@@ -3,7 +3,9 @@ use fetch_messages::{Answer, Ask, Body, Field, Fields};
 use hierarchy_world::{Datagram, World};
 use htcp_wire::{Content, Htcp, Specifier};
 use http_header::{HeaderName, HeaderValue};
-use node_rules::{Message, Received, can_be_answered};
+use icp_wire::{Icp, IcpOp};
+use node_rules::{Message, Received, Serve, Served, can_be_answered};
+use purge_rules::Status;
 use roster::{Address, Roster};
 use std::test::Fail;
 use url_key::Key;
@@ -32,6 +34,20 @@ address = \"127.0.0.1\"
 connect = 8080
 ";
 
+/// What stands before the origin where the member has a foreign sibling.
+const SIBLING: &str = "[[node.peer]]
+id = 101
+role = \"sibling\"
+by = \"icp\"
+[[foreign]]
+id = 101
+name = \"f1\"
+address = \"127.0.0.1\"
+http = 8201
+icp = 3201
+htcp = 4201
+[[origin]]";
+
 fn key_of(rt: &HostRuntime) -> Result<Key, Fail> {
     Ok(Key::read(rt.alloc(), b"http://o/a")?)
 }
@@ -54,6 +70,14 @@ fn answer_of(rt: &HostRuntime) -> Result<Answer, Fail> {
     let fields = Fields::new(rt.alloc(), vec![in rt.alloc(); Field { name, value }]?)?;
     let body = Body::from_slice(rt.alloc(), b"one")?;
     Ok(Answer::new(200, fields, None, None, body).ok_or("writable")?)
+}
+
+/// The address of a port of this machine.
+fn local(port: u16) -> Address {
+    Address {
+        ip: 0x7f00_0001,
+        port,
+    }
 }
 
 /// A CLR of `http://o/a` under the number 7, which comes to the first member.
@@ -79,10 +103,7 @@ fn strange(rt: &HostRuntime, ip: u32, port: u16) -> Result<WorldEvent, Fail> {
         return Err("no answer has a text".into());
     }
     Ok(WorldEvent::Strange {
-        to: Address {
-            ip: 0x7f00_0001,
-            port: 4101,
-        },
+        to: local(4101),
         from: Address { ip, port },
         message: Received::new(message),
     })
@@ -97,8 +118,8 @@ fn origin(rt: &HostRuntime) -> Result<WorldEvent, Fail> {
     })
 }
 
-fn roster_of(rt: &HostRuntime) -> Result<Roster, Fail> {
-    match Roster::read(rt.alloc(), ONE) {
+fn roster_of(rt: &HostRuntime, text: &str) -> Result<Roster, Fail> {
+    match Roster::read(rt.alloc(), text) {
         Ok(roster) => Ok(roster),
         Err(error) => Err(error.fault.name().into()),
     }
@@ -127,9 +148,29 @@ fn sent_by(world: &mut World, event: WorldEvent) -> Result<usize, Fail> {
     Ok(world.apply(event)?.sent.as_slice().len())
 }
 
-/// Whether the event has something served.
-fn is_served(world: &mut World, event: WorldEvent) -> Result<bool, Fail> {
-    Ok(world.apply(event)?.serve.is_some())
+/// Whether an answer of status 200 and of the body `one` is served, of no known purge number.
+fn is_one(serve: &Serve<u64>) -> bool {
+    match &serve.served {
+        Served::Copy { copy, .. } => {
+            copy.stamp == 0
+                && copy.answer.status() == 200
+                && copy.answer.body() == b"one".as_slice()
+        }
+        Served::Status(_) => false,
+    }
+}
+
+/// Whether a copy of this mark is served.
+fn is_marked(serve: &Serve<u64>, mark: u64) -> bool {
+    match &serve.served {
+        Served::Copy { copy, .. } => copy.tag == mark,
+        Served::Status(_) => false,
+    }
+}
+
+/// What the event has served.
+fn served_by(world: &mut World, event: WorldEvent) -> Result<Option<Serve<u64>>, Fail> {
+    Ok(world.apply(event)?.serve)
 }
 
 /// Whether a datagram refuses a CLR of the stranger.
@@ -168,8 +209,8 @@ fn answers_come(rt: &HostRuntime, world: &mut World) -> Result<(), Fail> {
     check(read == Some(33), "a read")?;
     let refused = is_refused(world, foreign(rt)?, WorldFault::NotPending);
     check(refused, "no fetch of a foreign cache")?;
-    let served = is_served(world, origin(rt)?)?;
-    check(served, "an answer")
+    let served = served_by(world, origin(rt)?)?;
+    check(served.is_some_and(|serve| is_one(&serve)), "an answer")
 }
 
 /// A foreign cache answers the first member's fetch 33.
@@ -181,9 +222,52 @@ fn foreign(rt: &HostRuntime) -> Result<WorldEvent, Fail> {
     })
 }
 
+/// The foreign sibling has `http://o/a` (RFC 2186, "ICP_OP_HIT"): it answers the query of round 32.
+fn hit(rt: &HostRuntime) -> Result<WorldEvent, Fail> {
+    let message = Message::Icp(Icp {
+        op: IcpOp::Hit,
+        number: 32,
+        url: Octets::from_slice(rt.alloc(), b"http://o/a")?,
+        object: Octets::new(rt.alloc()),
+    });
+    if !can_be_answered(&message) {
+        return Err("no answer has a text".into());
+    }
+    Ok(WorldEvent::Strange {
+        to: local(3101),
+        from: local(3201),
+        message: Received::new(message),
+    })
+}
+
+/// The serial of the round that the event begins.
+fn round_by(world: &mut World, event: WorldEvent) -> Result<Option<u32>, Fail> {
+    Ok(world.apply(event)?.round)
+}
+
+/// A foreign cache that has what is asked for is asked, and its answer is served, of no known purge number or mark.
+fn foreign_answers(rt: &HostRuntime, world: &mut World) -> Result<(), Fail> {
+    let round = round_by(world, client(rt)?)?;
+    check(round == Some(32), "a round")?;
+    let served = served_by(world, hit(rt)?)?;
+    check(served.is_none(), "a fetch")?;
+    let served = served_by(world, foreign(rt)?)?;
+    let is_foreign = served.is_some_and(|serve| is_one(&serve) && is_marked(&serve, 0));
+    check(is_foreign, "the foreign answer")?;
+    let refused = is_refused(world, foreign(rt)?, WorldFault::NotPending);
+    check(refused, "the same answer again")
+}
+
+#[test]
+fn a_foreign_sibling_answers(rt: HostRuntime) -> Result<(), Fail> {
+    let text = ONE.replace(rt.alloc(), "[[origin]]", SIBLING)?;
+    let mut world = World::new(rt.alloc(), &roster_of(&rt, text.as_str())?)?;
+    foreign_answers(&rt, &mut world)
+}
+
 #[test]
 fn strangers_and_answers(rt: HostRuntime) -> Result<(), Fail> {
-    let mut world = World::new(rt.alloc(), &roster_of(&rt)?)?;
+    let mut world = World::new(rt.alloc(), &roster_of(&rt, ONE)?)?;
     match strangers_come(&rt, &mut world) {
         Ok(()) => answers_come(&rt, &mut world),
         Err(fail) => Err(fail),
@@ -213,7 +297,7 @@ fn are_told(outcomes: &[Outcome]) -> bool {
     match outcomes {
         [asked, answered, issued, came] => {
             asked.read == Some(33)
-                && answered.serve.is_some()
+                && answered.serve.as_ref().is_some_and(is_one)
                 && issued.purge == Some(1)
                 && came.sent.as_slice() == [2u64].as_slice()
         }
@@ -223,16 +307,18 @@ fn are_told(outcomes: &[Outcome]) -> bool {
 
 #[test]
 fn lists_are_played(rt: HostRuntime) -> Result<(), Fail> {
-    let (mut world, outcomes) = World::run(rt.alloc(), &roster_of(&rt)?, events_of(&rt)?)?;
+    let (mut world, outcomes) = World::run(rt.alloc(), &roster_of(&rt, ONE)?, events_of(&rt)?)?;
     assert!(rt; are_told(outcomes.as_slice()));
     let acknowledged = WorldEvent::Datagram { number: 2 };
-    assert!(rt; matches!(world.apply(acknowledged), Ok(told) if told.status.is_some()));
+    assert!(rt;
+        matches!(world.apply(acknowledged), Ok(told) if told.status == Some((1, Status::Done)))
+    );
     Ok(())
 }
 
 #[test]
 fn the_first_fault_is_answered(rt: HostRuntime) -> Result<(), Fail> {
-    let refused = World::run(rt.alloc(), &roster_of(&rt)?, wrong_events(&rt)?);
+    let refused = World::run(rt.alloc(), &roster_of(&rt, ONE)?, wrong_events(&rt)?);
     assert!(rt; matches!(refused, Err(WorldFault::NotPending)));
     Ok(())
 }

@@ -1,0 +1,106 @@
+//! What the tests have in common: a roster, and the messages of its master.
+use htcp_wire::{Content, Htcp, Specifier};
+use node_rules::{Event, Message, Received, Reply, can_be_answered};
+use roster::{Address, Roster};
+use std::alloc::Global;
+use std::test::Fail;
+use url_key::Key;
+use wire_octets::Octets;
+
+/// Members 1 and 2, the master, and the origin of `http://o/`.
+const TWO: &str = "default_lifetime = 60
+copies = 1000
+bytes = 1048576
+query_wait = 2000
+[master]
+address = \"127.0.0.1\"
+htcp = 4800
+[[node]]
+id = 1
+name = \"n1\"
+address = \"127.0.0.1\"
+http = 8101
+icp = 3101
+htcp = 4101
+[[node]]
+id = 2
+name = \"n2\"
+address = \"127.0.0.1\"
+http = 8102
+icp = 3102
+htcp = 4102
+[[origin]]
+host = \"o\"
+port = 80
+address = \"127.0.0.1\"
+connect = 8080
+";
+
+pub(crate) fn roster_of(alloc: Global) -> Result<Roster, Fail> {
+    match Roster::read(alloc, TWO) {
+        Ok(roster) => Ok(roster),
+        Err(error) => Err(error.fault.name().into()),
+    }
+}
+
+pub(crate) fn key_of(alloc: Global, url: &str) -> Result<Key, Fail> {
+    Ok(Key::read(alloc, url.as_bytes())?)
+}
+
+/// The master's CLR of a URL under this number (RFC 2756, "CLR").
+pub(crate) fn purge(alloc: Global, url: &str, number: u32) -> Result<Event<()>, Fail> {
+    let line = format!(in alloc; "X-Purge-Number: {number}\r\n")?;
+    let spec = Specifier {
+        method: Octets::from_slice(alloc, b"GET")?,
+        uri: Octets::from_slice(alloc, url.as_bytes())?,
+        version: Octets::from_slice(alloc, b"HTTP/1.1")?,
+        request_headers: Octets::from_slice(alloc, line.as_bytes())?,
+    };
+    let message = Message::Htcp(Htcp {
+        minor: 0,
+        trans: number,
+        content: Content::ClrAsk {
+            desired: true,
+            reason: 0,
+            spec,
+        },
+    });
+    if !can_be_answered(&message) {
+        return Err("no answer has a text".into());
+    }
+    Ok(Event::Datagram {
+        from: Address {
+            ip: 0x7f00_0001,
+            port: 4800,
+        },
+        message: Received::new(message),
+        now: 0,
+    })
+}
+
+/// What a node answers to a CLR: the code of its answer, or that of an overall refusal, whose opcode is that of CLR.
+#[derive(Clone, Copy, Debug, PartialEq, Eq)]
+pub(crate) enum Cleared {
+    Code(u8),
+    Refused(u8),
+    Otherwise,
+}
+
+/// The one datagram of a reply, if it has nothing else.
+pub(crate) fn cleared_by(reply: &Reply<()>) -> Cleared {
+    let sent = reply.send.as_slice();
+    if reply.serve.is_some() || reply.begin.is_some() || sent.len() != 1 {
+        return Cleared::Otherwise;
+    }
+    match sent.first() {
+        Some(only) => match only.message.message() {
+            Message::Htcp(message) => match message.content {
+                Content::ClrAnswer { code } => Cleared::Code(code),
+                Content::Overall { opcode: 4, code } => Cleared::Refused(code),
+                _ => Cleared::Otherwise,
+            },
+            Message::Icp(_) => Cleared::Otherwise,
+        },
+        None => Cleared::Otherwise,
+    }
+}
