@@ -161,7 +161,7 @@ fn says_something(outcome: &Outcome) -> bool {
 }
 
 /// What is wanted of the verdict where the entry at a place is changed, and none where that changes nothing: the last entry has no next one, and the first none before it.
-pub(crate) fn wanted(entries: &[NodeEntry], at: usize, change: Change) -> Option<Wanted> {
+pub(crate) fn verdict_wanted(entries: &[NodeEntry], at: usize, change: Change) -> Option<Wanted> {
     let entry = entries.get(at)?;
     let next = entries.get(usize::saturating_add(at, 1));
     match change {

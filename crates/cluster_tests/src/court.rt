@@ -1,5 +1,5 @@
 //! Who judges changed runs.
-use crate::changes::{CHANGES, Change, Wanted, changed, may_call_be_missing, wanted};
+use crate::changes::{CHANGES, Change, Wanted, changed, may_call_be_missing, verdict_wanted};
 use node_book::Record;
 use node_rules::NodeState;
 use purge_rules::MasterFault;
@@ -82,7 +82,7 @@ impl Court<'_> {
             return Ok(());
         };
         let entries = changing.entries.as_slice();
-        let Some(wanted) = wanted(entries, at, change) else {
+        let Some(wanted) = verdict_wanted(entries, at, change) else {
             return Ok(());
         };
         let copies = changed(self.alloc, entries, at, change)?;
