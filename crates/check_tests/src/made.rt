@@ -1,5 +1,5 @@
 //! What is kept of a run, made by hand.
-use fetch_messages::{Answer, Ask, Body, Fields};
+use fetch_messages::Ask;
 use floor_rules::Floors;
 use htcp_wire::{Content, Htcp};
 use icp_wire::{Icp, IcpOp};
@@ -8,7 +8,8 @@ use node_rules::{
     Event, Message, NodeState, Outgoing, Received, Reply, Sent, Serve, Served, StepFault,
     can_be_answered, fits,
 };
-use purge_rules::clear;
+use purge_master::MasterEntry;
+use purge_rules::{MasterAnswer, MasterCall, clear};
 use roster::{Address, Listed, Roster};
 use std::test::Fail;
 use url_key::Key;
@@ -21,12 +22,6 @@ const HOST: u32 = 2130706433;
 pub(crate) const MASTER: Address = Address {
     ip: HOST,
     port: 4800,
-};
-
-/// Where node 1 answers ICP.
-pub(crate) const FIRST: Address = Address {
-    ip: HOST,
-    port: 3101,
 };
 
 /// Where node 2 answers ICP.
@@ -97,62 +92,15 @@ pub(crate) fn status(rt: &HostRuntime, status: u16) -> Reply<()> {
     }
 }
 
-/// What a client asks, or a member.
-fn ask(rt: &HostRuntime, only_if_cached: bool, member: Option<u8>) -> Result<Ask, Fail> {
-    Ok(Ask {
-        key: key(rt)?,
-        only_if_cached,
-        no_cache: false,
-        member,
-    })
-}
-
-/// A client asks for a copy; only for one that the node has, if that is said.
-pub(crate) fn client(rt: &HostRuntime, only_if_cached: bool) -> Result<Event<()>, Fail> {
+/// A client asks for a copy that the node has, if it has one.
+fn client(rt: &HostRuntime) -> Result<Event<()>, Fail> {
     Ok(Event::Client {
-        ask: ask(rt, only_if_cached, None)?,
-        now: 0,
-    })
-}
-
-/// An answer of the status 200.
-fn answer(rt: &HostRuntime) -> Result<Answer, Fail> {
-    let Ok(fields) = Fields::new(rt.alloc(), Vec::new(rt.alloc())) else {
-        return Err("the fields".into());
-    };
-    let body = Body::from_slice(rt.alloc(), b"page")?;
-    match Answer::new(200, fields, None, None, body) {
-        Some(answer) => Ok(answer),
-        None => Err("the answer".into()),
-    }
-}
-
-/// The origin answers the read of this serial.
-pub(crate) fn given(rt: &HostRuntime, serial: u32) -> Result<Event<()>, Fail> {
-    Ok(Event::OriginAnswer {
-        serial,
-        key: key(rt)?,
-        answer: answer(rt)?,
-        now: 0,
-    })
-}
-
-/// An ICP message about the URL comes (RFC 2186).
-pub(crate) fn icp(
-    rt: &HostRuntime,
-    from: Address,
-    op: IcpOp,
-    number: u32,
-) -> Result<Event<()>, Fail> {
-    let message = Message::Icp(Icp {
-        op,
-        number,
-        url: Octets::from_slice(rt.alloc(), b"http://o/a")?,
-        object: Octets::new(rt.alloc()),
-    });
-    Ok(Event::Datagram {
-        from,
-        message: received(message)?,
+        ask: Ask {
+            key: key(rt)?,
+            only_if_cached: true,
+            no_cache: false,
+            member: None,
+        },
         now: 0,
     })
 }
@@ -185,50 +133,23 @@ fn entry(place: u64, event: Event<()>, outcome: Result<Reply<()>, StepFault>) ->
 
 /// A client asks a node that has no copy, and this status is served; 504 is the node's own.
 pub(crate) fn asked(rt: &HostRuntime, place: u64, code: u16) -> Result<NodeEntry, Fail> {
-    Ok(entry(place, client(rt, true)?, Ok(status(rt, code))))
+    Ok(entry(place, client(rt)?, Ok(status(rt, code))))
 }
 
-/// A client asks, and there is no memory for the step.
-pub(crate) fn unasked(rt: &HostRuntime, place: u64) -> Result<NodeEntry, Fail> {
-    Ok(entry(place, client(rt, true)?, Err(StepFault::NoMemory)))
-}
-
-/// A fetch fails that there was not.
-pub(crate) fn unfetched(place: u64) -> NodeEntry {
-    let event = Event::FetchFailed { serial: 34, now: 0 };
-    entry(place, event, Err(StepFault::UnknownSerial))
-}
-
-/// Node 2 asks, which it did not begin, and is told that there is no copy.
-pub(crate) fn peer_asked(rt: &HostRuntime, place: u64) -> Result<NodeEntry, Fail> {
-    let event = Event::PeerAsk {
-        asker: 2,
-        ask: ask(rt, true, Some(2))?,
+/// Node 2 says by ICP that it holds a copy, which nobody asked for.
+pub(crate) fn told(rt: &HostRuntime, place: u64) -> Result<NodeEntry, Fail> {
+    let hit = Message::Icp(Icp {
+        op: IcpOp::Hit,
+        number: 32,
+        url: Octets::from_slice(rt.alloc(), b"http://o/a")?,
+        object: Octets::from_slice(rt.alloc(), b"")?,
+    });
+    let event = Event::Datagram {
+        from: SECOND,
+        message: received(hit)?,
         now: 0,
     };
-    let mut reply = status(rt, 504);
-    if let Some(serve) = &mut reply.serve {
-        serve.asker = Some(2);
-    }
-    Ok(entry(place, event, Ok(reply)))
-}
-
-/// Node 2 answers a fetch, which nobody asked for.
-pub(crate) fn peer_gave(rt: &HostRuntime, place: u64) -> Result<NodeEntry, Fail> {
-    let event = Event::PeerAnswer {
-        serial: 33,
-        peer: 2,
-        key: key(rt)?,
-        answer: answer(rt)?,
-        tag: (),
-        now: 0,
-    };
-    Ok(entry(place, event, Err(StepFault::UnknownSerial)))
-}
-
-/// Node 2 says by ICP that it holds a copy, which nobody asked for, and the reply is this. A node's own is nothing.
-pub(crate) fn told(rt: &HostRuntime, place: u64, reply: Reply<()>) -> Result<NodeEntry, Fail> {
-    Ok(entry(place, icp(rt, SECOND, IcpOp::Hit, 32)?, Ok(reply)))
+    Ok(entry(place, event, Ok(quiet(rt))))
 }
 
 /// The CLR of purge 1 comes from the master.
@@ -240,9 +161,9 @@ fn cleared(rt: &HostRuntime) -> Result<Event<()>, Fail> {
     })
 }
 
-/// The CLR of purge 1 comes from the master, and the step has this fault.
-pub(crate) fn failed(rt: &HostRuntime, place: u64, fault: StepFault) -> Result<NodeEntry, Fail> {
-    Ok(entry(place, cleared(rt)?, Err(fault)))
+/// The CLR of purge 1 comes from the master, and the store of floors fails.
+pub(crate) fn failed(rt: &HostRuntime, place: u64) -> Result<NodeEntry, Fail> {
+    Ok(entry(place, cleared(rt)?, Err(StepFault::StoreFault)))
 }
 
 /// The CLR of purge 1 comes from the master, and is answered: no copy was held.
@@ -265,22 +186,25 @@ pub(crate) fn purged(rt: &HostRuntime, place: u64) -> Result<NodeEntry, Fail> {
     Ok(entry(place, cleared(rt)?, Ok(reply)))
 }
 
-/// A record of a node.
+/// A record of node 1.
 pub(crate) fn record(
-    node: u8,
     opening: NodeState<()>,
     entries: Vec<NodeEntry>,
     closing: NodeState<()>,
 ) -> Record {
     Record {
-        node,
+        node: 1,
         opening,
         entries: Listed::new(entries),
         closing,
     }
 }
 
-/// A record of a node that opens new and closes so.
-pub(crate) fn still(rt: &HostRuntime, node: u8, entries: Vec<NodeEntry>) -> Result<Record, Fail> {
-    Ok(record(node, opened(rt, 0)?, entries, opened(rt, 0)?))
+/// Purge 1 of the URL is issued.
+pub(crate) fn issued(rt: &HostRuntime, place: u64) -> Result<MasterEntry, Fail> {
+    Ok(MasterEntry {
+        place,
+        call: MasterCall::Issue(key(rt)?),
+        answer: Ok(MasterAnswer::Issue(1)),
+    })
 }
