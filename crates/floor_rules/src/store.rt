@@ -1,5 +1,5 @@
 //! What a store of floors promises.
-ghost use Rattle.std.specs.Prelude.{◌≡◌, ◌≢◌, ◌≤◌, ℕ, List, Bool, None, IsTrue, IfOk, OnOk, Err};
+ghost use Rattle.std.specs.Prelude.{◌≡◌, ◌≢◌, ◌≤◌, ℕ, List, Bool, false, None, IsTrue, IfOk, OnOk, Err};
 ghost use Rattle.std.specs.FinMap.{get, len};
 ghost use Rattle.floor_rules.specs.Floors.{FloorMap, HasRoom, raised};
 ghost use Rattle.floor_rules.specs.Store.{IsBeforeOrAfter, HaveRisen};
@@ -37,7 +37,9 @@ pub trait FloorStore {
         ensures same { OnOk result (self.new ≡ self.old) }
         ensures usable { OnOk result (IsTrue (is_usable self.new)) }
         ensures kept { content self.new ≡ content self.old }
-        ensures fault { result ≡ Err FloorFault.StoreFault → HaveRisen (failed self.old) (failed self.new) };
+        ensures fault { result ≡ Err FloorFault.StoreFault → HaveRisen (failed self.old) (failed self.new) }
+        ensures cause { result ≡ Err FloorFault.StoreFault → is_usable self.old ≡ false }
+        ensures named { (result ≢ Err FloorFault.FloorsFull) × (result ≢ Err FloorFault.BadTable) };
 
     /// Commits the greater of the key's number and this one, which is at least 1. Once it has answered Ok, no crash takes that back;
     /// a crash at any other moment leaves the floors from before or after the raise.

@@ -16,6 +16,7 @@ use std::alloc::{AllocError, Global};
 pub fn read_icp(alloc: Global, octets: &[u8]) -> Result<Received, IcpFault>
     ensures ok { IfOk result (IsIcp octets.now) }
     ensures err { IfErr result (λ fault. fault ≢ IcpFault.NoMemory → icp_faults.first_fault octets.now ≡ Some fault) }
+    ensures memory { result ≡ Err IcpFault.NoMemory → icp_faults.first_fault octets.now ≡ None }
 {
     match icp_wire::decode(alloc, octets) {
         Ok(message) => Ok(Received::new(Message::Icp(message))),
@@ -29,6 +30,7 @@ pub fn read_icp(alloc: Global, octets: &[u8]) -> Result<Received, IcpFault>
 pub fn read_htcp(alloc: Global, octets: &[u8]) -> Result<Received, HtcpFault>
     ensures ok { IfOk result (IsHtcp octets.now) }
     ensures err { IfErr result (λ fault. fault ≢ HtcpFault.NoMemory → htcp_faults.first_fault octets.now ≡ Some fault) }
+    ensures memory { result ≡ Err HtcpFault.NoMemory → htcp_faults.first_fault octets.now ≡ None }
 {
     match htcp_wire::decode(alloc, octets) {
         Ok(message) => Ok(Received::new(Message::Htcp(message))),

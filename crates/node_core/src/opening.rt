@@ -102,6 +102,8 @@ impl<T, S: FloorStore + Drop> Node<T, S> {
         ensures such { is_member_of roster id ≡ true → result ≢ Err OpenFault.NoSuchNode }
         ensures state { IfOk result (λ node. S.is_honest node.store → node.state ≡ opened (S.content store)) }
         ensures store { IfOk result (λ node. node.store ≡ store) }
+        ensures cause { result ≡ Err (OpenFault.Floors FloorFault.StoreFault) → S.is_usable store ≡ false }
+        ensures named { (result ≢ Err (OpenFault.Floors FloorFault.FloorsFull)) × (result ≢ Err (OpenFault.Floors FloorFault.BadTable)) }
     {
         Node::open_over(alloc, roster, id, store, None)
     }
@@ -120,6 +122,8 @@ impl<T, S: FloorStore + Drop> Node<T, S> {
         ensures such { is_member_of roster id ≡ true → result ≢ Err OpenFault.NoSuchNode }
         ensures state { IfOk result (λ node. S.is_honest node.store → node.state ≡ opened (S.content store)) }
         ensures store { IfOk result (λ node. node.store ≡ store) }
+        ensures cause { result ≡ Err (OpenFault.Floors FloorFault.StoreFault) → S.is_usable store ≡ false }
+        ensures named { (result ≢ Err (OpenFault.Floors FloorFault.FloorsFull)) × (result ≢ Err (OpenFault.Floors FloorFault.BadTable)) }
     {
         Node::open_over(alloc, roster, id, store, Some(keys))
     }
@@ -137,6 +141,8 @@ impl<T, S: FloorStore + Drop> Node<T, S> {
         ensures such { is_member_of roster id ≡ true → result ≢ Err OpenFault.NoSuchNode }
         ensures state { IfOk result (λ node. S.is_honest node.store → node.state ≡ opened (S.content store)) }
         ensures store { IfOk result (λ node. node.store ≡ store) }
+        ensures cause { result ≡ Err (OpenFault.Floors FloorFault.StoreFault) → S.is_usable store ≡ false }
+        ensures named { (result ≢ Err (OpenFault.Floors FloorFault.FloorsFull)) × (result ≢ Err (OpenFault.Floors FloorFault.BadTable)) }
     {
         if !has_member(&roster, id) {
             return Err(OpenFault::NoSuchNode);

@@ -1,5 +1,5 @@
 //! How a master begins and ends.
-ghost use Rattle.std.specs.Prelude.{◌≡◌, IfOk};
+ghost use Rattle.std.specs.Prelude.{◌≡◌, ◌≢◌, false, IfOk, Err};
 ghost use Rattle.purge_rules.specs.Members.{members_of};
 ghost use Rattle.purge_rules.specs.Calls.{opened};
 ghost use Rattle.purge_master.specs.View.{IsTied};
@@ -57,6 +57,8 @@ impl<S: PurgeStore + Drop> Master<S> {
         ensures members { IfOk result (λ master. master.members ≡ members_of roster.now) }
         ensures state { IfOk result (λ master. S.is_honest master.store → master.state ≡ opened (S.content store)) }
         ensures store { IfOk result (λ master. master.store ≡ store) }
+        ensures cause { result ≡ Err MasterOpenFault.StoreFault → S.is_usable store ≡ false }
+        ensures named { result ≢ Err MasterOpenFault.BadTable }
     {
         let purges = match store.load(alloc) {
             Ok(purges) => purges,

@@ -53,6 +53,7 @@ impl<S: Alter> SqliteFloors<S> {
         ensures crash { IfOk result (λ it. LeavesNoOther (state S.Store conn) (state S.Store it.conn)) }
         ensures bad { IfErr result (λ e. e.1 ≡ FloorFault.BadTable → HasCleanDisk (state S.Store e.0) → ¬ IsNodeFile (state S.Store conn)) }
         ensures blank { IfErr result (λ e. IsBlank (state S.Store conn).now → (state S.Store conn).in_transaction ≡ false → HasCleanDisk (state S.Store e.0) → e.1 ≢ FloorFault.BadTable) }
+        ensures full { IfErr result (λ e. e.1 ≢ FloorFault.FloorsFull) }
         ensures fails { IfErr result (λ e. LeavesNoOther (state S.Store conn) (state S.Store e.0)) }
     {
         match open_file(&mut conn, alloc) {

@@ -63,6 +63,7 @@ fn check_version<S: Alter>(conn: &mut Connection<S>) -> Result<(), FloorFault>
     ensures bad { result ≡ Err FloorFault.BadTable → HasCleanDisk (state S.Store conn.new) → ¬ HasVersionOne ((state S.Store conn.old).now.trees 0) }
     ensures same { OnOk result (HasCleanDisk (state S.Store conn.new) → IsUnchanged (state S.Store conn.old) (state S.Store conn.new)) }
     ensures survives { Survives (state S.Store conn.old) (state S.Store conn.new) (λ _. ⊥) }
+    ensures full { result ≢ Err FloorFault.FloorsFull }
 {
     match version_rows(conn) {
         Ok(rows) if is_version_one(&rows) => Ok(()),
@@ -78,6 +79,7 @@ fn read_floors<S: Alter>(conn: &mut Connection<S>, alloc: Global) -> Result<Floo
     ensures rows { OnOk result (HasCleanDisk (state S.Store conn.new) → AllByRecursion IsFloor ((state S.Store conn.old).now.trees 1)) }
     ensures bad { result ≡ Err FloorFault.BadTable → HasCleanDisk (state S.Store conn.new) → ¬ IsNodeFile (state S.Store conn.old) }
     ensures survives { Survives (state S.Store conn.old) (state S.Store conn.new) (λ _. ⊥) }
+    ensures full { result ≢ Err FloorFault.FloorsFull }
 {
     if !conn.is_autocommit() {
         return Err(FloorFault::BadTable);
@@ -164,6 +166,7 @@ fn make_where_blank<S: Alter>(conn: &mut Connection<S>) -> Result<(), FloorFault
     ensures done { OnOk result ((IsBlank (state S.Store conn.old).now × (HasCleanDisk (state S.Store conn.new) → IsMade (state S.Store conn.new))) ⊎ ((¬ IsBlank (state S.Store conn.old).now) × (conn.new ≡ conn.old))) }
     ensures named { result ≢ Err FloorFault.BadTable }
     ensures crash { LeavesNoOther (state S.Store conn.old) (state S.Store conn.new) }
+    ensures full { result ≢ Err FloorFault.FloorsFull }
 {
     if !is_blank(conn.schema()) {
         return Ok(());
@@ -183,6 +186,7 @@ fn read_file<S: Alter>(conn: &mut Connection<S>, alloc: Global) -> Result<Floors
     ensures rows { OnOk result (HasCleanDisk (state S.Store conn.new) → AllByRecursion IsFloor ((state S.Store conn.old).now.trees 1)) }
     ensures bad { result ≡ Err FloorFault.BadTable → HasCleanDisk (state S.Store conn.new) → ¬ IsNodeFile (state S.Store conn.old) }
     ensures survives { Survives (state S.Store conn.old) (state S.Store conn.new) (λ _. ⊥) }
+    ensures full { result ≢ Err FloorFault.FloorsFull }
 {
     if !is_node_schema(conn.schema()) {
         return Err(FloorFault::BadTable);
@@ -201,6 +205,7 @@ pub(crate) fn open_file<S: Alter>(
     ensures bad { result ≡ Err FloorFault.BadTable → HasCleanDisk (state S.Store conn.new) → ¬ IsNodeFile (state S.Store conn.old) }
     ensures blank { IsBlank (state S.Store conn.old).now → (state S.Store conn.old).in_transaction ≡ false → HasCleanDisk (state S.Store conn.new) → result ≢ Err FloorFault.BadTable }
     ensures crash { LeavesNoOther (state S.Store conn.old) (state S.Store conn.new) }
+    ensures full { result ≢ Err FloorFault.FloorsFull }
 {
     conn.set_step_limit(None);
     if !conn.is_autocommit() {

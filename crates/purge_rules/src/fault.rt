@@ -42,7 +42,7 @@ impl From<AllocError> for PurgeFault {
     }
 }
 
-/// Why a call on a master is refused. The first whose condition holds is answered, and memory comes last.
+/// Why a call on a master is refused. A full book answers `ShiftFull` before all else; of the others the first whose condition holds is answered, and memory comes last.
 #[derive(Clone, Copy, Debug, PartialEq, Eq, Error)]
 pub enum MasterFault {
     /// The store has failed in an earlier call. Nothing has changed; the master is to be opened again.

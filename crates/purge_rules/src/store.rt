@@ -1,5 +1,5 @@
 //! What a store of purges promises.
-ghost use Rattle.std.specs.Prelude.{◌≡◌, ◌≢◌, ◌<◌, ◌≤◌, ℕ, Bool, IsTrue, IfOk, OnOk, Err};
+ghost use Rattle.std.specs.Prelude.{◌≡◌, ◌≢◌, ◌<◌, ◌≤◌, ℕ, Bool, false, IsTrue, IfOk, OnOk, Err};
 ghost use Rattle.purge_rules.specs.Purges.{PurgeList, with_purge, with_mark, without_purge};
 ghost use Rattle.purge_rules.specs.Store.{IsEither, Misses, HaveRisen};
 
@@ -35,6 +35,7 @@ pub trait PurgeStore {
         ensures usable { OnOk result (IsTrue (is_usable self.new)) }
         ensures kept { content self.new ≡ content self.old }
         ensures fault { result ≡ Err PurgeFault.StoreFault → HaveRisen (failed self.old) (failed self.new) }
+        ensures cause { result ≡ Err PurgeFault.StoreFault → is_usable self.old ≡ false }
         ensures named { result ≢ Err PurgeFault.BadTable };
 
     /// Commits a purge of the key under this number, which is above the last one and becomes it.
