@@ -20,7 +20,7 @@ use Rattle.node_rules.specs.Known.{has_origin}
 use Rattle.node_rules.specs.Asks.{is_cached_only, is_busy, begin_round, ask_around, begin_ask, not_held, by_copy, ask_comes}
 use Rattle.node_rules.specs.Step.{open_step, step_if, step}
 use Rattle.node_rules.specs.Relation.{Steps}
-use Rattle.node_bytes.specs.Stepping.{ServesAtOnce, BeginsFor, AnswersAsker, AnswersAsk}
+use Rattle.node_bytes.specs.Stepping.{AnswersAsker, AnswersAsk}
 
 -- what an outcome answers to an ask
 abbrev Answers : {X : Type 0} → Option ℕ → Result (Reply X) StepFault → Type 0

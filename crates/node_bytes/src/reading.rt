@@ -2,7 +2,7 @@
 ghost use Rattle.std.specs.Prelude.{◌≡◌, ◌≢◌, Some, IfOk, IfErr};
 ghost use Rattle.icp_wire.specs.Faults as icp_faults;
 ghost use Rattle.htcp_wire.specs.Faults as htcp_faults;
-ghost use Rattle.node_bytes.specs.Bytes.{IsIcp, IsHtcp, IsEventOf};
+ghost use Rattle.node_bytes.specs.Bytes.{IsIcp, IsHtcp, HasFault, IsEventOf};
 
 use htcp_wire::HtcpFault;
 use icp_wire::IcpFault;
@@ -39,7 +39,7 @@ pub fn read_htcp(alloc: Global, octets: &[u8]) -> Result<Received, HtcpFault>
 }
 
 /// What a node meets as octets come from an address by a protocol, at a moment in seconds: the datagram that they spell, or none
-/// where the protocol's codec refuses them for another cause than memory.
+/// where the protocol's codec refuses them. Memory is lacking only where they spell a message.
 pub fn event_of<T>(
     alloc: Global,
     by: Udp,
@@ -47,7 +47,8 @@ pub fn event_of<T>(
     octets: &[u8],
     now: u64,
 ) -> Result<Option<Event<T>>, AllocError>
-    ensures { IfOk result (IsEventOf by from octets.now now) }
+    ensures event { IfOk result (IsEventOf by from octets.now now) }
+    ensures memory { IfErr result (λ _. HasFault by octets.now → ⊥) }
 {
     let message = match by {
         Udp::Icp => match read_icp(alloc, octets) {
