@@ -283,7 +283,7 @@ fn answer_command<'a>(alloc: Global) -> Command<'a> {
     Command::new(alloc, "answer")
         .about("Answers each line of standard input by a node, member 1 of a roster of two")
         .after_help(
-            "Lines:\n  store URL [STAMP]  place an empty copy: stored, Kept, Old (purged), or the URL's fault\n  icp HEX            an ICP datagram from node 2\n  htcp HEX           an HTCP datagram from node 2\n  master HEX         an HTCP datagram from the master\n  stranger HEX       an HTCP datagram from an unknown address\nA datagram is answered by the reply in hex, nothing, or the datagram's fault; any other line by: bad line",
+            "Lines:\n  store URL [STAMP]  place an empty copy: stored, Kept, Old (purged), TooLarge, or the URL's fault\n  icp HEX            an ICP datagram from node 2\n  htcp HEX           an HTCP datagram from node 2\n  master HEX         an HTCP datagram from the master\n  stranger HEX       an HTCP datagram from an unknown address\nA datagram is answered by the reply in hex, nothing, or the datagram's fault; what is no hex by: bad hex; any other line by: bad line",
         )
 }
 
@@ -339,7 +339,7 @@ fn cluster_command<'a>(alloc: Global) -> Result<Command<'a>, AllocError> {
             "Runs the roster's members and its master in this process, and answers each line of standard input",
         )
         .after_help(
-            "Lines:\n  purge URL    issue a purge: purge P, or the fault's name\n  status P     how far purge P is: pending C (members are missing), done P, or unknown\n  get N URL    ask member N by HTTP: the status and the body in hex (- where empty), or the fault's name\n  check        whether all that was done so far is a run in which purges are safe: yes, no PLACE CAUSE,\n               or forgotten, where there was more of it than --history keeps\n  quit         stop, as the end of the input does\nAny other line is answered by: bad line",
+            "Lines:\n  purge URL    issue a purge: purge P, or the fault's name\n  status P     how far purge P is: pending C (members are missing), done P, or unknown\n  get N URL    ask member N by HTTP: the status and the body in hex (- where empty), or the fault's name\n  check        whether all that was done so far is a run in which purges are safe: yes, no PLACE CAUSE,\n               forgotten, where there was more of it than --history keeps, or SeatMissing\n               or Mismatch, where the records of a member are not given\n  quit         stop, as the end of the input does\nAny other line is answered by: bad line",
         )
         .arg(file)?
         .arg(data)?

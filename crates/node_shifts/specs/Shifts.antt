@@ -134,7 +134,7 @@ pub record StepsInShifts {S : Type 0} (number : ℕ) (event : Event (Unit {0})) 
 abbrev pub IsStepAt : (S : Type 0) → ℕ → Event (Unit {0}) → Result (Reply (Unit {0})) StepFault → Type 0
 IsStepAt S number event outcome = (old : ShiftsView S) × (new : ShiftsView S) × StepsInShifts number event old outcome new
 
--- these are the records with that of the last shift, or without it
+-- these are the records with that of the last shift, as far as the history keeps them
 abbrev pub IsHandedOut : {S : Type 0} → ShiftsView S → List Record → Type 0
 IsHandedOut {S} shifts records = (shift : ShiftView S) × IsShiftOf shifts.row shifts.closed shift × (records ≡ kept_by shifts.history shifts.records shift.record_of)
 

@@ -41,7 +41,7 @@ pub enum ClusterFault {
     /// The master's socket is not opened.
     #[error("{0}")]
     MasterStart(MasterStartFault),
-    /// A socket of a node is not opened: one of its ports is in use, or its address is not this machine's.
+    /// A socket of a node is not opened: one of its ports is in use, its address is not this machine's, or the system gives no more sockets.
     #[error("node {id}: not each of its ports {http} (HTTP), {icp} (ICP) and {htcp} (HTCP) could be opened")]
     Ports {
         /// Its id.

@@ -46,7 +46,7 @@ impl<S: PurgeStore> Judge<'_, S> {
 
     /// Holds all members, gathers what they and the master did since the last time, and has them go on. The master goes on meanwhile: each of its calls rests on what was done before it.
     ///
-    /// Faults: those of [`Workers::records`](node_workers::Workers::records). What was gathered before such a fault stays, and the rest is gathered the next time.
+    /// Faults: those of [`Workers::records`](node_workers::Workers::records). What was gathered before a fault of a member's records stays, and the rest is gathered the next time; where memory lacks for what is gathered, all is dropped.
     pub(crate) fn gather<R: Wait>(&mut self, rt: &R) -> Result<(), StopFault> {
         for node in self.nodes {
             node.workers.hold(rt);

@@ -1,5 +1,7 @@
 //! What is kept of a run, and how much of it.
-ghost use Rattle.std.specs.Prelude.{◌≡◌, ◌++◌, OnOk};
+ghost use Rattle.std.specs.Prelude.{◌≡◌, ◌==◌, ◌++◌, OnOk};
+ghost use Rattle.std.specs.List.{list_any};
+ghost use Rattle.running_cluster.specs.Kept.{tells_nothing, with_record};
 
 use node_book::{MOST_ENTRIES, Record};
 use purge_master::MasterEntry;
@@ -45,9 +47,18 @@ fn weight(record: &Record) -> u64 {
     (record.entries.as_slice().len() as u64).saturating_add(rows / ROWS_OF_AN_ENTRY)
 }
 
+/// Whether one of the records is of this node.
+fn has_record_of(records: &[Record], id: u8) -> bool
+    ensures { result ≡ list_any (λ r. r.node == id) records.now }
+{
+    records.iter().any(|record| record.node == id)
+}
+
 /// Whether a shift tells nothing: nothing was done in it, and it is not the first of its member.
-fn is_idle(records: &[Record], next: &Record) -> bool {
-    next.entries.as_slice().is_empty() && records.iter().any(|record| record.node == next.node)
+fn is_idle(records: &[Record], next: &Record) -> bool
+    ensures { result ≡ tells_nothing records.now next.now }
+{
+    next.entries.as_slice().is_empty() && has_record_of(records, next.node)
 }
 
 impl Kept {
@@ -62,7 +73,10 @@ impl Kept {
     }
 
     /// Puts the next record of a member behind those that are kept, unless it tells nothing. Where there is no memory for it, nothing changes.
-    fn put_record(&mut self, next: Record) -> Result<(), AllocError> {
+    fn put_record(&mut self, next: Record) -> Result<(), AllocError>
+        ensures records { OnOk result (self.new.records.items ≡ with_record self.old.records.items next) }
+        ensures entries { self.new.entries ≡ self.old.entries }
+    {
         if is_idle(self.records.as_slice(), &next) {
             return Ok(());
         }
