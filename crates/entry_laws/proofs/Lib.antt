@@ -1,0 +1,5 @@
+mod Placing
+mod Reporting
+mod Serving
+mod Reading
+mod Siblings

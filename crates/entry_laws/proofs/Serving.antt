@@ -1,0 +1,86 @@
+-- What an entry of a member serves is served in the world.
+use Rattle.std.proofs.Common.{◌≡◌, ℕ, ◌+◌, false, List, [], ◌∷◌, Option, Some, None, Result, Ok, Err, refl, sym, ◌∙◌, ap, subst, inl, inr, arith}
+use Rattle.std.specs.Prelude.{option_map}
+use Rattle.std.proofs.lemmas.Option.{none-some, same_Some}
+use Rattle.object_store.specs.declared.copy.WebCopy.{WebCopy}
+use Rattle.roster_tables.specs.declared.plain.Tables.{Tables}
+use Rattle.node_rules.specs.declared.state.NodeState.{NodeState}
+use Rattle.node_rules.specs.declared.event.Event.{Event}
+use Rattle.node_rules.specs.declared.reply.Served.{Served}
+use Rattle.node_rules.specs.declared.reply.Served.TheVariants.{Copy, Status}
+use Rattle.node_rules.specs.declared.reply.Serve.{Serve}
+use Rattle.node_rules.specs.declared.reply.Reply.{Reply}
+use Rattle.node_rules.specs.declared.reply.StepFault.{StepFault}
+use Rattle.node_rules.specs.State.{Setting, Stepped}
+use Rattle.node_rules.specs.Relation.{Steps as NodeSteps}
+use Rattle.node_rules.specs.Effect.{copy_in, copy_in_serve, copy_served, Effect, Stays, Serves, Brings, Purges, Drops}
+use Rattle.node_rules.specs.Tags.{retag_copy, retag_served, retag_serve}
+use Rattle.node_rules.proofs.Cases.{true_not_false}
+use Rattle.node_rules.proofs.Effects.{step_does}
+use Rattle.world_rules.specs.declared.event.WorldEvent.TheVariants as world
+use Rattle.world_rules.specs.Hierarchy.{setting}
+use Rattle.world_rules.specs.Turn.{Replied, Nothing}
+use Rattle.world_rules.specs.Run.{Step, IsItem, IsServedAt}
+use Rattle.run_rules.specs.Notes.{Note, Opens, Steps, Closes, Calls}
+use Rattle.run_rules.specs.Recorded.{IsTaken, event_step, moment_of, node_in, unmarked, unmarked_outcome}
+use Rattle.entry_laws.specs.Entries.{Serves as ServesBy}
+use Rattle.entry_laws.proofs.Placing.{Placed}
+
+abbrev unmarked_copy : WebCopy ℕ → WebCopy (Unit {0})
+unmarked_copy c = retag_copy (λ _. tt) c
+
+-- a copy with its mark, of what is served without
+abbrev Marked : Option (WebCopy ℕ) → WebCopy (Unit {0}) → Type 0
+Marked o c = (copy : WebCopy ℕ) × (o ≡ Some copy) × (unmarked_copy copy ≡ c)
+
+marked_in : (served : Served ℕ) (c : WebCopy (Unit {0})) → copy_in (retag_served (λ _. tt) served) ≡ Some c → Marked (copy_in served) c
+marked_in (Copy copy age) c is = (copy, refl, same_Some (unmarked_copy copy) c is)
+marked_in (Status status) c is = absurd (none-some c is)
+
+marked_in_serve : (o : Option (Serve ℕ)) (c : WebCopy (Unit {0})) → copy_in_serve (option_map (retag_serve (λ _. tt)) o) ≡ Some c → Marked (copy_in_serve o) c
+marked_in_serve None c is = absurd (none-some c is)
+marked_in_serve (Some serve) c is = marked_in serve.served c is
+
+marked_served : (outcome : Result (Reply ℕ) StepFault) (c : WebCopy (Unit {0})) → copy_served (unmarked_outcome outcome) ≡ Some c → Marked (copy_served outcome) c
+marked_served (Ok reply) c is = marked_in_serve reply.serve c is
+marked_served (Err f) c is = absurd (none-some c is)
+
+-- a node that serves a copy stays open
+module _ {X : Type 0} (g : Setting) (s : NodeState X) (e : Event X) (mark : X) where
+  effect_open : (r : Stepped X) → Effect g s e mark r → (c : WebCopy X) → copy_served r.outcome ≡ Some c → r.state.closed ≡ false
+  effect_open r (Stays pending next outcome none keeps) c is = absurd (none-some c (sym none ∙ is))
+  effect_open r (Serves key d pending next outcome is_open h has keeps) c is = is_open
+  effect_open r (Brings d life pending next outcome is_open came h has keeps) c is = is_open
+  effect_open r (Purges key n pending next outcome purge none keeps) c is = absurd (none-some c (sym none ∙ is))
+  effect_open r (Drops key pending next outcome none keeps) c is = absurd (none-some c (sym none ∙ is))
+
+  serving_open : (outcome : Result (Reply X) StepFault) (next : NodeState X) → NodeSteps g s e mark outcome next → (c : WebCopy X) → copy_served outcome ≡ Some c → next.closed ≡ false
+  serving_open (Ok reply) next steps c is = effect_open record { state = next; outcome = Ok reply } (subst (Effect g s e mark) steps (step_does g s mark e)) c is
+  serving_open (Err f) next steps c is = absurd (none-some c is)
+
+second_is : (here : List Step) (one other : Step) → here ≡ one ∷ other ∷ [] → IsItem here 2 other
+second_is here one other is = subst (λ (s : List Step). IsItem s 2 other) (sym is) (omega arith, refl)
+
+-- in the world it is served, with its mark
+pub record IsServed (steps : List Step) (place : ℕ) (c : WebCopy (Unit {0})) : Type 0 where
+  pub copy : WebCopy ℕ
+  pub served : IsServedAt steps place copy
+  pub same : unmarked_copy copy ≡ c
+
+taken_serves : (t : Tables) (steps : List Step) (id : ℕ) (note : Note) (it : Placed t steps note) (e : Event (Unit {0})) (outcome : Result (Reply ℕ) StepFault) (c : WebCopy (Unit {0})) →
+    IsTaken t it.from id e outcome it.here it.to → copy_served (unmarked_outcome outcome) ≡ Some c → IsServed steps (it.offset + 2) c
+taken_serves t steps id note it e outcome c taken is =
+    let (copy, serves, same) = marked_served outcome c is in
+    let step : Step = event_step taken.happens (Replied id outcome) in
+    record { copy = copy; served = (step, it.at 2 step (second_is it.here (event_step (world.Clock (moment_of e)) Nothing) step taken.steps), serves); same = same }
+
+pub serves_in_world : (t : Tables) (steps : List Step) (note : Note) (it : Placed t steps note) (c : WebCopy (Unit {0})) → ServesBy note c → IsServed steps (it.offset + 2) c
+serves_in_world t steps (Steps id e is_closed kept) it c serves = elim it.stands [
+  | inl (outcome, taken, same) ↦ taken_serves t steps id (Steps id e is_closed kept) it e.event outcome c taken (ap (λ (o : Result (Reply (Unit {0})) StepFault). copy_served o) same ∙ serves)
+  | inr (inl (fault, refused, none, same, stays)) ↦ absurd (none-some c (sym (ap (λ (o : Result (Reply (Unit {0})) StepFault). copy_served o) refused) ∙ serves))
+  | inr (inr (closed, shut, ends, goes)) ↦
+      absurd (true_not_false (sym shut ∙ serving_open (setting t id) (unmarked (node_in it.from id)) e.event tt e.outcome closed ends c serves))
+]
+serves_in_world t steps (Opens id state) it c serves = absurd serves
+serves_in_world t steps (Closes id place state) it c serves = absurd serves
+serves_in_world t steps (Calls e is_closed) it c serves = absurd serves

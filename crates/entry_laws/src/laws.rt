@@ -1,0 +1,18 @@
+//! What the entries of a recorded run say of purges.
+ghost use Rattle.std.specs.Prelude.{List};
+ghost use Rattle.roster_tables.specs.declared.plain.Tables.{Tables};
+ghost use Rattle.roster.specs.Judged.{IsRoster};
+ghost use Rattle.node_book.specs.declared.record.Record.{Record};
+ghost use Rattle.purge_master.specs.declared.book.MasterEntry.{MasterEntry};
+ghost use Rattle.world_rules.specs.Run.{Step};
+ghost use Rattle.run_rules.specs.Recorded.{IsRecordedRun};
+ghost use Rattle.entry_laws.specs.Entries.{EntriesServeNothingOld, SiblingsBeginNothing};
+
+/// Once an entry of the master reports a purge done, whatever copy of its key a later entry of a member begins to serve is an origin's answer to a read that began after the purge was issued. And no
+/// entry of a sibling's request begins a round, a fetch or a read.
+pub fn entries_are_safe()
+    ensures served { (roster : Tables) (records : List Record) (entries : List MasterEntry) (steps : List Step) → IsRoster roster → (run : IsRecordedRun roster records entries steps) →
+        EntriesServeNothingOld roster run.notes steps }
+    ensures siblings { (roster : Tables) (records : List Record) (entries : List MasterEntry) (steps : List Step) → (run : IsRecordedRun roster records entries steps) →
+        SiblingsBeginNothing roster run.notes }
+{}
