@@ -1,14 +1,13 @@
 //! Fetches that hold up nobody but those who wait for them.
-use crate::network::{CACHED, QUERY, answer_to, siblings, socket_at, started, stopped, told};
+use crate::network::{CACHED, QUERY, answer_to, running, siblings, socket_at, stopped, told};
 use crate::origins::{clients_for, fill, give_page, is_page, pages_got};
-use node_workers::{Gate, NoGate, Workers};
+use node_workers::{Gate, NoGate};
 use std::alloc::Global;
 use std::net::{Net, TcpListener, TcpStream};
-use std::random::RandomSource;
 use std::sync::atomic::{AtomicBool, AtomicU64, Ordering};
 use std::sync::{Arc, Wait};
 use std::test::Fail;
-use std::thread::{self, Threads};
+use std::thread;
 use std::time::{Clock, Duration, Instant};
 
 /// For how many turns of a millisecond is waited at most.
@@ -54,26 +53,6 @@ impl Gate for Turnstile {
     }
 }
 
-/// A member of siblings that runs.
-fn running<
-    G: Gate + Drop + Send + Sync + 'static,
-    R: Threads
-        + Wait
-        + Clock
-        + RandomSource
-        + Net<Listener = TcpListener, Stream = TcpStream>
-        + Copy
-        + Drop
-        + Send
-        + Sync
-        + 'static,
->(rt: R, alloc: Global, port: u16, id: u8, gate: Arc<G, Global>) -> Result<Workers, Fail> {
-    match started(rt, alloc, siblings(alloc, port)?.as_str(), id, gate)? {
-        Ok(workers) => Ok(workers),
-        Err(fault) => Err(fault.name().into()),
-    }
-}
-
 /// Pages that are asked for while the turnstile is closed: more than there are workers and fetchers together.
 const HELD: [&str; 5] = ["b", "c", "d", "e", "f"];
 
@@ -107,7 +86,8 @@ fn asked_while_held<R: Net<Listener = TcpListener, Stream = TcpStream> + Clock>(
 #[test]
 fn hits_wait_for_no_fetch(rt: HostRuntime) -> Result<(), Fail> {
     let gate = Arc::new(rt.alloc(), Turnstile::new())?;
-    let workers = running(rt, rt.alloc(), 21530, 1, Arc::try_clone(&gate)?)?;
+    let text = siblings(rt.alloc(), 21530)?;
+    let workers = running(rt, rt.alloc(), text.as_str(), 1, Arc::try_clone(&gate)?)?;
     let (answered, pages) = asked_while_held(&rt, rt.alloc(), &gate)?;
     let _steps = stopped(&rt, workers)?;
     assert!(rt; answered == [true, true], "a hit, and the page");
@@ -140,8 +120,9 @@ fn asked_crosswise<R: Net<Listener = TcpListener, Stream = TcpStream> + Clock>(
 #[test]
 fn siblings_do_not_hold_each_other_up(rt: HostRuntime) -> Result<(), Fail> {
     let gate = Arc::new(rt.alloc(), NoGate)?;
-    let one = running(rt, rt.alloc(), 21330, 1, Arc::try_clone(&gate)?)?;
-    let other = running(rt, rt.alloc(), 21330, 2, gate)?;
+    let text = siblings(rt.alloc(), 21330)?;
+    let one = running(rt, rt.alloc(), text.as_str(), 1, Arc::try_clone(&gate)?)?;
+    let other = running(rt, rt.alloc(), text.as_str(), 2, gate)?;
     let (pages, time) = asked_crosswise(&rt, rt.alloc())?;
     one.begin_stop(&rt);
     other.begin_stop(&rt);

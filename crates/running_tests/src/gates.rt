@@ -1,13 +1,12 @@
 //! Workers that do not hold one another up.
-use crate::network::{CACHED, PLAIN, answer_of, answer_to, asking, started, stopped};
-use node_workers::{Gate, NoGate, Workers};
+use crate::network::{CACHED, PLAIN, answer_of, answer_to, asking, running, stopped};
+use node_workers::{Gate, NoGate};
 use std::alloc::Global;
-use std::net::{Net, TcpListener, TcpStream};
-use std::random::RandomSource;
+use std::net::{Net, TcpStream};
 use std::sync::atomic::{AtomicBool, Ordering};
 use std::sync::{Arc, Wait};
 use std::test::Fail;
-use std::thread::{self, Threads};
+use std::thread;
 use std::time::{Clock, Duration, Instant};
 
 /// One member, with an origin that nobody serves.
@@ -64,25 +63,6 @@ fn closed_gate(alloc: Global) -> Result<Arc<Held, Global>, Fail> {
     )?)
 }
 
-fn running<
-    G: Gate + Drop + Send + Sync + 'static,
-    R: Threads
-        + Wait
-        + Clock
-        + RandomSource
-        + Net<Listener = TcpListener, Stream = TcpStream>
-        + Copy
-        + Drop
-        + Send
-        + Sync
-        + 'static,
->(rt: R, alloc: Global, gate: Arc<G, Global>) -> Result<Workers, Fail> {
-    match started(rt, alloc, ONE, 1, gate)? {
-        Ok(workers) => Ok(workers),
-        Err(fault) => Err(fault.name().into()),
-    }
-}
-
 /// Whether an answer is of this status.
 fn is_of(answer: &[u8], status: &[u8]) -> bool {
     answer.get(9..12).is_some_and(|found| found == status)
@@ -107,7 +87,7 @@ fn one_waits_for_another<R: Net<Stream = TcpStream>>(
 #[test]
 fn a_read_holds_up_nobody_else(rt: HostRuntime) -> Result<(), Fail> {
     let gate = closed_gate(rt.alloc())?;
-    let workers = running(rt, rt.alloc(), Arc::try_clone(&gate)?)?;
+    let workers = running(rt, rt.alloc(), ONE, 1, Arc::try_clone(&gate)?)?;
     let answered = one_waits_for_another(&rt, rt.alloc(), &gate)?;
     let _steps = stopped(&rt, workers)?;
     assert!(rt; answered == [true, true]);
@@ -154,7 +134,7 @@ fn time_beside_silent<R: Net<Stream = TcpStream> + Clock>(
 #[test]
 fn silent_clients_hold_up_nobody(rt: HostRuntime) -> Result<(), Fail> {
     let gate = Arc::new(rt.alloc(), NoGate)?;
-    let workers = running(rt, rt.alloc(), gate)?;
+    let workers = running(rt, rt.alloc(), ONE, 1, gate)?;
     let time = time_beside_silent(&rt, rt.alloc(), 20)?;
     let _steps = stopped(&rt, workers)?;
     assert!(rt; time < 4000);

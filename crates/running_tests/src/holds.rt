@@ -1,14 +1,13 @@
 //! A node that is held.
-use crate::network::{QUERY, received, siblings, socket_at, started, steps_in, stopped, told};
+use crate::network::{QUERY, received, running, siblings, socket_at, steps_in, stopped, told};
 use mio::net::UdpSocket;
 use node_workers::{NoGate, Workers};
 use std::alloc::Global;
 use std::io::ErrorKind;
-use std::net::{Net, TcpListener, TcpStream};
-use std::random::RandomSource;
+use std::net::Net;
 use std::sync::{Arc, Wait};
 use std::test::Fail;
-use std::thread::{self, Threads};
+use std::thread;
 use std::time::{Clock, Duration};
 
 /// For how many milliseconds a node that is held is given time to answer.
@@ -23,26 +22,6 @@ struct Seen {
     is_silent: bool,
     /// Whether the same is answered when it goes on.
     is_answered: bool,
-}
-
-/// A member that runs.
-fn running<
-    R: Threads
-        + Wait
-        + Clock
-        + RandomSource
-        + Net<Listener = TcpListener, Stream = TcpStream>
-        + Copy
-        + Drop
-        + Send
-        + Sync
-        + 'static,
->(rt: R, alloc: Global) -> Result<Workers, Fail> {
-    let gate = Arc::new(alloc, NoGate)?;
-    match started(rt, alloc, siblings(alloc, 21360)?.as_str(), 1, gate)? {
-        Ok(workers) => Ok(workers),
-        Err(fault) => Err(fault.name().into()),
-    }
 }
 
 /// How many steps the records have that are handed out.
@@ -87,7 +66,9 @@ fn held_and_resumed<R: Net + Wait + Clock>(
 
 #[test]
 fn no_step_is_taken_while_held(rt: HostRuntime) -> Result<(), Fail> {
-    let workers = running(rt, rt.alloc())?;
+    let text = siblings(rt.alloc(), 21360)?;
+    let gate = Arc::new(rt.alloc(), NoGate)?;
+    let workers = running(rt, rt.alloc(), text.as_str(), 1, gate)?;
     let seen = held_and_resumed(&rt, rt.alloc(), &workers)?;
     workers.hold(&rt);
     let last = stopped(&rt, workers)?;

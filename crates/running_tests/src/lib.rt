@@ -14,4 +14,6 @@ mod nodes;
 #[cfg(test)]
 mod origins;
 #[cfg(test)]
+mod peers;
+#[cfg(test)]
 mod starts;

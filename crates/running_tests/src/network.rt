@@ -105,6 +105,26 @@ pub(crate) fn started<
     Ok(Workers::start(rt, alloc, &roster, id, 2, ground, gate))
 }
 
+/// A node of a roster with two workers, which runs.
+pub(crate) fn running<
+    G: Gate + Drop + Send + Sync + 'static,
+    R: Threads
+        + Wait
+        + Clock
+        + RandomSource
+        + Net<Listener = TcpListener, Stream = TcpStream>
+        + Copy
+        + Drop
+        + Send
+        + Sync
+        + 'static,
+>(rt: R, alloc: Global, text: &str, id: u8, gate: Arc<G, Global>) -> Result<Workers, Fail> {
+    match started(rt, alloc, text, id, gate)? {
+        Ok(workers) => Ok(workers),
+        Err(fault) => Err(fault.name().into()),
+    }
+}
+
 /// How many steps the records have.
 pub(crate) fn steps_in(records: &[Record]) -> usize {
     records

@@ -1,13 +1,11 @@
 //! A node that runs, and its clients.
-use crate::network::{CACHED, PLAIN, QUERY, answer_to, started, stopped, told};
-use node_workers::{Gate, NoGate, Workers};
+use crate::network::{CACHED, PLAIN, QUERY, answer_to, running, stopped, told};
+use node_workers::{Gate, NoGate};
 use std::alloc::Global;
-use std::net::{Net, TcpListener, TcpStream};
-use std::random::RandomSource;
+use std::net::{Net, TcpStream};
 use std::sync::atomic::{AtomicU64, Ordering};
 use std::sync::{Arc, Wait};
 use std::test::Fail;
-use std::thread::Threads;
 use std::time::Clock;
 
 /// One member, with an origin that nobody serves.
@@ -37,8 +35,15 @@ connect = 21508
 
 /// Counts the reads that were about to begin.
 #[derive(Drop)]
-struct Counted {
+pub(crate) struct Counted {
     reads: AtomicU64,
+}
+
+impl Counted {
+    /// How many there were.
+    pub(crate) fn reads(&self) -> u64 {
+        self.reads.load(Ordering::SeqCst)
+    }
 }
 
 impl Gate for Counted {
@@ -47,7 +52,8 @@ impl Gate for Counted {
     }
 }
 
-fn counting_gate(alloc: Global) -> Result<Arc<Counted, Global>, Fail> {
+/// A gate that has counted none.
+pub(crate) fn counting_gate(alloc: Global) -> Result<Arc<Counted, Global>, Fail> {
     Ok(Arc::new(
         alloc,
         Counted {
@@ -90,36 +96,17 @@ fn datagrams_come<R: Net<Stream = TcpStream> + Clock>(
     Ok([denied.as_slice() == DENIED, purged.as_slice() == NOT_HELD])
 }
 
-fn running<
-    G: Gate + Drop + Send + Sync + 'static,
-    R: Threads
-        + Wait
-        + Clock
-        + RandomSource
-        + Net<Listener = TcpListener, Stream = TcpStream>
-        + Copy
-        + Drop
-        + Send
-        + Sync
-        + 'static,
->(rt: R, alloc: Global, gate: Arc<G, Global>) -> Result<Workers, Fail> {
-    match started(rt, alloc, ONE, 1, gate)? {
-        Ok(workers) => Ok(workers),
-        Err(fault) => Err(fault.name().into()),
-    }
-}
-
 #[test]
 fn clients_are_answered(rt: HostRuntime) -> Result<(), Fail> {
     let gate = counting_gate(rt.alloc())?;
-    let workers = running(rt, rt.alloc(), Arc::try_clone(&gate)?)?;
+    let workers = running(rt, rt.alloc(), ONE, 1, Arc::try_clone(&gate)?)?;
     let answered = clients_ask(&rt, rt.alloc())?;
     let steps = stopped(&rt, workers)?;
     assert!(rt;
         answered == [true, true],
         "504 where it is not cached, 502 where nobody serves the origin"
     );
-    assert_eq!(rt; gate.reads.load(Ordering::SeqCst), 1);
+    assert_eq!(rt; gate.reads(), 1);
     assert_eq!(rt; steps, 3);
     Ok(())
 }
@@ -127,7 +114,7 @@ fn clients_are_answered(rt: HostRuntime) -> Result<(), Fail> {
 #[test]
 fn datagrams_are_answered(rt: HostRuntime) -> Result<(), Fail> {
     let gate = Arc::new(rt.alloc(), NoGate)?;
-    let workers = running(rt, rt.alloc(), gate)?;
+    let workers = running(rt, rt.alloc(), ONE, 1, gate)?;
     let answered = datagrams_come(&rt, rt.alloc())?;
     let steps = stopped(&rt, workers)?;
     assert!(rt;

@@ -11,8 +11,8 @@ const PAGE: &[u8] = b"HTTP/1.1 200 OK\r\nContent-Length: 4\r\n\r\npage";
 /// How many reads of an ask are made at most.
 const MOST_READS: u32 = 1000;
 
-/// Reads an ask to the end of its head.
-fn read_ask(alloc: Global, stream: &mut TcpStream) -> Result<(), Fail> {
+/// An ask, read to the end of its head.
+fn read_ask(alloc: Global, stream: &mut TcpStream) -> Result<Vec<u8>, Fail> {
     let mut ask = Vec::new(alloc);
     let mut buffer = [0; 1024];
     for _ in 0..MOST_READS {
@@ -22,15 +22,15 @@ fn read_ask(alloc: Global, stream: &mut TcpStream) -> Result<(), Fail> {
             break;
         }
     }
-    Ok(())
+    Ok(ask)
 }
 
-/// Waits for the next who asks the origin, and gives the page.
-pub(crate) fn give_page(alloc: Global, listener: &TcpListener) -> Result<(), Fail> {
+/// Waits for the next who asks, and gives the page: the ask.
+pub(crate) fn give_page(alloc: Global, listener: &TcpListener) -> Result<Vec<u8>, Fail> {
     let (mut stream, _) = listener.accept()?;
-    read_ask(alloc, &mut stream)?;
+    let ask = read_ask(alloc, &mut stream)?;
     stream.write_all(PAGE)?;
-    Ok(())
+    Ok(ask)
 }
 
 /// An ask for a page of the origin.
