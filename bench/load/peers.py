@@ -115,9 +115,10 @@ PEER = '[[node.peer]]\nid = {id}\nrole = "sibling"\nby = "icp"\n'
 
 class Cluster:
     """Two members and their master, in one process that takes lines. Each member has the other and all foreign caches as its siblings by ICP: one at LOADER, of which
-    only the ICP port is used, and those that are handed in, each as its address and its ports for HTTP, ICP and HTCP. `data` prepares the folder of their files."""
+    only the ICP port is used, and those that are handed in, each as its address and its ports for HTTP, ICP and HTCP. `data` prepares the folder of their files, and `options` are further
+    words of the command."""
 
-    def __init__(self, work, origin, foreign=(), data=lambda folder: None):
+    def __init__(self, work, origin, foreign=(), data=lambda folder: None, options=()):
         master, self.own, spare, unused = ports(4)
         self.http, self.icp, htcp = ports(2), ports(2), ports(2)
         others = [(LOADER, spare, self.own, unused), *foreign]
@@ -132,7 +133,7 @@ class Cluster:
             file.write(ROSTER.format(master=master, nodes=nodes, foreign=caches, origin=origin))
         os.mkdir(f"{work}/data")
         data(f"{work}/data")
-        words = [PROGRAM, "cluster", f"{work}/cluster.toml", "--data", f"{work}/data"]
+        words = [PROGRAM, "cluster", f"{work}/cluster.toml", "--data", f"{work}/data", *options]
         self.run = begin(words, stdin=subprocess.PIPE, stdout=subprocess.PIPE, bufsize=0)
         wait_for(NODES[1], self.http[1])
 
