@@ -1,5 +1,5 @@
 //! What is kept of a run, made by hand.
-use fetch_messages::Ask;
+use fetch_messages::{Answer, Ask, Body, Fields};
 use floor_rules::Floors;
 use htcp_wire::{Content, Htcp};
 use icp_wire::{Icp, IcpOp};
@@ -8,8 +8,7 @@ use node_rules::{
     Event, Message, NodeState, Outgoing, Received, Reply, Sent, Serve, Served, StepFault,
     can_be_answered, fits,
 };
-use purge_master::MasterEntry;
-use purge_rules::{MasterAnswer, MasterCall, clear};
+use purge_rules::clear;
 use roster::{Address, Listed, Roster};
 use std::test::Fail;
 use url_key::Key;
@@ -25,7 +24,7 @@ pub(crate) const MASTER: Address = Address {
 };
 
 /// Where node 2 answers ICP.
-pub(crate) const SECOND: Address = Address {
+const SECOND: Address = Address {
     ip: HOST,
     port: 3102,
 };
@@ -44,7 +43,7 @@ pub(crate) fn key(rt: &HostRuntime) -> Result<Key, Fail> {
 }
 
 /// Floors in which the URL has this number, or none where it is 0.
-pub(crate) fn floors(rt: &HostRuntime, number: u32) -> Result<Floors, Fail> {
+fn floors(rt: &HostRuntime, number: u32) -> Result<Floors, Fail> {
     let mut floors = Floors::new(rt.alloc());
     if number >= 1 {
         floors.raise(rt.alloc(), &key(rt)?, number)?;
@@ -92,15 +91,47 @@ pub(crate) fn status(rt: &HostRuntime, status: u16) -> Reply<()> {
     }
 }
 
-/// A client asks for a copy that the node has, if it has one.
+/// What a client asks, or a member: for a copy that the node has, if it has one.
+fn ask(rt: &HostRuntime, member: Option<u8>) -> Result<Ask, Fail> {
+    Ok(Ask {
+        key: key(rt)?,
+        only_if_cached: true,
+        no_cache: false,
+        member,
+    })
+}
+
+/// A client asks.
 fn client(rt: &HostRuntime) -> Result<Event<()>, Fail> {
     Ok(Event::Client {
-        ask: Ask {
-            key: key(rt)?,
-            only_if_cached: true,
-            no_cache: false,
-            member: None,
-        },
+        ask: ask(rt, None)?,
+        now: 0,
+    })
+}
+
+/// An answer of the status 200.
+fn answer(rt: &HostRuntime) -> Result<Answer, Fail> {
+    let Ok(fields) = Fields::new(rt.alloc(), Vec::new(rt.alloc())) else {
+        return Err("the fields".into());
+    };
+    let body = Body::from_slice(rt.alloc(), b"page")?;
+    match Answer::new(200, fields, None, None, body) {
+        Some(answer) => Ok(answer),
+        None => Err("the answer".into()),
+    }
+}
+
+/// Node 2 says by ICP that it holds a copy (RFC 2186).
+fn hit(rt: &HostRuntime) -> Result<Event<()>, Fail> {
+    let message = Message::Icp(Icp {
+        op: IcpOp::Hit,
+        number: 32,
+        url: Octets::from_slice(rt.alloc(), b"http://o/a")?,
+        object: Octets::new(rt.alloc()),
+    });
+    Ok(Event::Datagram {
+        from: SECOND,
+        message: received(message)?,
         now: 0,
     })
 }
@@ -136,20 +167,47 @@ pub(crate) fn asked(rt: &HostRuntime, place: u64, code: u16) -> Result<NodeEntry
     Ok(entry(place, client(rt)?, Ok(status(rt, code))))
 }
 
-/// Node 2 says by ICP that it holds a copy, which nobody asked for.
-pub(crate) fn told(rt: &HostRuntime, place: u64) -> Result<NodeEntry, Fail> {
-    let hit = Message::Icp(Icp {
-        op: IcpOp::Hit,
-        number: 32,
-        url: Octets::from_slice(rt.alloc(), b"http://o/a")?,
-        object: Octets::from_slice(rt.alloc(), b"")?,
-    });
-    let event = Event::Datagram {
-        from: SECOND,
-        message: received(hit)?,
+/// A client asks, and there is no memory for the step.
+pub(crate) fn unasked(rt: &HostRuntime, place: u64) -> Result<NodeEntry, Fail> {
+    Ok(entry(place, client(rt)?, Err(StepFault::NoMemory)))
+}
+
+/// A fetch fails that there was not.
+pub(crate) fn unfetched(place: u64) -> NodeEntry {
+    let event = Event::FetchFailed { serial: 34, now: 0 };
+    entry(place, event, Err(StepFault::UnknownSerial))
+}
+
+/// Node 2 asks, which it did not begin, and is told that there is no copy.
+pub(crate) fn peer_asked(rt: &HostRuntime, place: u64) -> Result<NodeEntry, Fail> {
+    let event = Event::PeerAsk {
+        asker: 2,
+        ask: ask(rt, Some(2))?,
         now: 0,
     };
-    Ok(entry(place, event, Ok(quiet(rt))))
+    let mut reply = status(rt, 504);
+    if let Some(serve) = &mut reply.serve {
+        serve.asker = Some(2);
+    }
+    Ok(entry(place, event, Ok(reply)))
+}
+
+/// Node 2 answers a fetch, which nobody asked for.
+pub(crate) fn peer_gave(rt: &HostRuntime, place: u64) -> Result<NodeEntry, Fail> {
+    let event = Event::PeerAnswer {
+        serial: 33,
+        peer: 2,
+        key: key(rt)?,
+        answer: answer(rt)?,
+        tag: (),
+        now: 0,
+    };
+    Ok(entry(place, event, Err(StepFault::UnknownSerial)))
+}
+
+/// Node 2 says by ICP that it holds a copy, which nobody asked for, and the reply is this. A node's own is nothing.
+pub(crate) fn told(rt: &HostRuntime, place: u64, reply: Reply<()>) -> Result<NodeEntry, Fail> {
+    Ok(entry(place, hit(rt)?, Ok(reply)))
 }
 
 /// The CLR of purge 1 comes from the master.
@@ -161,9 +219,9 @@ fn cleared(rt: &HostRuntime) -> Result<Event<()>, Fail> {
     })
 }
 
-/// The CLR of purge 1 comes from the master, and the store of floors fails.
-pub(crate) fn failed(rt: &HostRuntime, place: u64) -> Result<NodeEntry, Fail> {
-    Ok(entry(place, cleared(rt)?, Err(StepFault::StoreFault)))
+/// The CLR of purge 1 comes from the master, and the step has this fault.
+pub(crate) fn failed(rt: &HostRuntime, place: u64, fault: StepFault) -> Result<NodeEntry, Fail> {
+    Ok(entry(place, cleared(rt)?, Err(fault)))
 }
 
 /// The CLR of purge 1 comes from the master, and is answered: no copy was held.
@@ -186,25 +244,22 @@ pub(crate) fn purged(rt: &HostRuntime, place: u64) -> Result<NodeEntry, Fail> {
     Ok(entry(place, cleared(rt)?, Ok(reply)))
 }
 
-/// A record of node 1.
+/// A record of a node.
 pub(crate) fn record(
+    node: u8,
     opening: NodeState<()>,
     entries: Vec<NodeEntry>,
     closing: NodeState<()>,
 ) -> Record {
     Record {
-        node: 1,
+        node,
         opening,
         entries: Listed::new(entries),
         closing,
     }
 }
 
-/// Purge 1 of the URL is issued.
-pub(crate) fn issued(rt: &HostRuntime, place: u64) -> Result<MasterEntry, Fail> {
-    Ok(MasterEntry {
-        place,
-        call: MasterCall::Issue(key(rt)?),
-        answer: Ok(MasterAnswer::Issue(1)),
-    })
+/// A record of a node that opens new and closes so.
+pub(crate) fn still(rt: &HostRuntime, node: u8, entries: Vec<NodeEntry>) -> Result<Record, Fail> {
+    Ok(record(node, opened(rt, 0)?, entries, opened(rt, 0)?))
 }
