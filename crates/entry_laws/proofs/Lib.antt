@@ -3,3 +3,4 @@ mod Reporting
 mod Serving
 mod Reading
 mod Siblings
+mod Rows
