@@ -29,7 +29,7 @@ pub enum FetchFault {
     /// The ask bears credentials (RFC 9110, section 11).
     #[error("the ask bears credentials")]
     Credentials,
-    /// The length of the body is not told in one valid way (RFC 9112, section 6).
+    /// The length of the body is not told in one valid way (RFC 9112, section 6), or a chunk's line or the trailer is none (section 7.1).
     #[error("the body's framing is not valid")]
     BadBody,
     /// The body has more than 65,536 octets.

@@ -1,6 +1,6 @@
 //! Fields' values that are lists (RFC 9110, section 5.6.1).
 //!
-//! `members` goes over the members of a value, which commas outside quoted strings part (`members` of
+//! `members_of` goes over the members of a value, which commas outside quoted strings part (`members` of
 //! `specs/Members`), and `trim` takes the blanks off a text (`trim` of `specs/Blanks`). Neither takes memory.
 //! `members_are_exact` is the law that values are cut as the grammar of lists and quoted strings has it (`HasMembers`
 //! of `specs/Cut`).
