@@ -4,6 +4,9 @@
 //! octets along that it would take much memory, the shift is closed
 //! (`node_seats::close`), its record is kept or dropped, and the next one is opened before the call. So whoever calls needs to know nothing of shifts, and a shift ends while fetches
 //! are under way and clients wait. Threads share it under a lock that each holds for one call ([`AtSeat`], a [`Stepper`](node_bytes::Stepper)).
+//!
+//! What passes: `turn`, `take_records` and `into_records` may answer `SeatMissing` or `Mismatch` at once. No contract sees the book under its lock between two calls, so none can say that what a
+//! seat lists is what the book has; tests close shifts behind calls of all seats.
 #![tactic(auto)]
 
 mod at_seat;
