@@ -23,11 +23,12 @@ use Rattle.purge_rules.specs.declared.calls.MasterAnswer.TheVariants as answer
 use Rattle.purge_rules.specs.declared.fault.MasterFault.{MasterFault}
 use Rattle.purge_rules.specs.Members.{members_of, is_among, are_among, with_id}
 use Rattle.purge_rules.specs.Purges.{PurgeList, is_numbered, pending_at, with_mark, without_purge}
-use Rattle.purge_rules.specs.Calls.{MasterState, Called, Acknowledged, unchanged, counted, acknowledged, is_acknowledging, status_by, status_of, called, closed_call, open_call}
+use Rattle.purge_rules.specs.Calls.{MasterState, Called, Acknowledged, unchanged, counted, acknowledged, status_by, status_of, called, closed_call, open_call}
+use Rattle.htcp_wire.specs.Clearing.{is_acknowledging}
 use Rattle.purge_rules.specs.Calls.{Calls as MasterCalls}
 use Rattle.world_rules.specs.declared.event.WorldEvent.{WorldEvent}
 use Rattle.world_rules.specs.declared.event.WorldEvent.TheVariants as world
-use Rattle.world_rules.specs.Hierarchy.{udp_of}
+use Rattle.node_rules.specs.Messages.{protocol_of as udp_of}
 use Rattle.world_rules.specs.World.{World, Datagram, item}
 use Rattle.world_rules.specs.Turn.{Seen, Told, Nothing, Turn, Ends, with_master, told, acknowledged_by, master_hears_htcp, master_hears, delivered_to, delivered}
 use Rattle.world_rules.specs.Run.{Step, Run, Takes, Happens, IsItem, purges, IsIssuedAt, IsReportedAt}

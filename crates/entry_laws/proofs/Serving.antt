@@ -11,14 +11,13 @@ use Rattle.node_rules.specs.declared.reply.Served.TheVariants.{Copy, Status}
 use Rattle.node_rules.specs.declared.reply.Serve.{Serve}
 use Rattle.node_rules.specs.declared.reply.Reply.{Reply}
 use Rattle.node_rules.specs.declared.reply.StepFault.{StepFault}
-use Rattle.node_rules.specs.State.{Setting, Stepped}
+use Rattle.node_rules.specs.State.{Setting, Stepped, setting}
 use Rattle.node_rules.specs.Relation.{Steps as NodeSteps}
 use Rattle.node_rules.specs.Effect.{copy_in, copy_in_serve, copy_served, Effect, Stays, Serves, Brings, Purges, Drops}
 use Rattle.node_rules.specs.Tags.{retag_copy, retag_served, retag_serve}
 use Rattle.node_rules.proofs.Cases.{true_not_false}
 use Rattle.node_rules.proofs.Effects.{step_does}
 use Rattle.world_rules.specs.declared.event.WorldEvent.TheVariants as world
-use Rattle.world_rules.specs.Hierarchy.{setting}
 use Rattle.world_rules.specs.Turn.{Replied, Nothing}
 use Rattle.world_rules.specs.Run.{Step, IsItem, IsServedAt}
 use Rattle.run_rules.specs.Notes.{Note, Opens, Steps, Closes, Calls}

@@ -7,11 +7,10 @@ use Rattle.node_rules.specs.declared.event.Event.{Event}
 use Rattle.node_rules.specs.declared.event.Event.TheVariants as event
 use Rattle.node_rules.specs.declared.reply.Reply.{Reply}
 use Rattle.node_rules.specs.declared.reply.StepFault.{StepFault}
-use Rattle.node_rules.specs.State.{Setting}
+use Rattle.node_rules.specs.State.{Setting, setting}
 use Rattle.node_rules.specs.Questions.{is_from_sibling, begun}
 use Rattle.node_rules.proofs.Lawful.{steps_are_lawful}
 use Rattle.world_rules.specs.declared.event.WorldEvent.TheVariants as world
-use Rattle.world_rules.specs.Hierarchy.{setting}
 use Rattle.world_rules.specs.World.{World, node_at}
 use Rattle.world_rules.specs.Turn.{Seen, Replied, Nothing, Turn, NodeSteps, turn, with_clock}
 use Rattle.world_rules.specs.Run.{Step, Run, Takes}

@@ -9,7 +9,7 @@ use Rattle.purge_rules.specs.declared.calls.Status.TheVariants.{Done}
 use Rattle.purge_rules.specs.declared.calls.MasterCall.TheVariants as call
 use Rattle.purge_rules.specs.declared.calls.MasterAnswer.TheVariants as answer
 use Rattle.roster_tables.specs.declared.plain.Tables.{Tables}
-use Rattle.world_rules.specs.Hierarchy.{setting}
+use Rattle.node_rules.specs.State.{setting}
 use Rattle.world_rules.specs.Run.{Step, IsItem, IsIssuedAt, IsServedAt}
 use Rattle.world_rules.specs.Provenance.{IsFromOrigin}
 use Rattle.run_rules.specs.Notes.{Note, Steps, Calls}

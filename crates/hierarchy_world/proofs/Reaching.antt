@@ -20,14 +20,15 @@ use Rattle.node_rules.proofs.Cases.{true_not_false}
 use Rattle.node_rules.specs.declared.event.Event.TheVariants as event
 use Rattle.world_rules.specs.declared.outcome.WorldFault.{WorldFault}
 use Rattle.world_rules.specs.declared.outcome.WorldFault.TheVariants as fault
-use Rattle.world_rules.specs.Hierarchy.{is_own, udp_of}
+use Rattle.world_rules.specs.Hierarchy.{is_own}
+use Rattle.node_rules.specs.Messages.{protocol_of as udp_of, clear_answer, clear_answer_in}
 use Rattle.world_rules.specs.World.{World, Datagram, PeerAsk, PeerAnswer}
 use Rattle.world_rules.specs.Turn.{Nothing, Turn, NodeSteps, Ends, Refused, at_member, master_hears_htcp, master_hears, delivered_to, delivered, ask_delivered, answer_delivered, strange_comes, origin_by, origin_to, foreign_by, foreign_to, fetching_at}
 use Rattle.hierarchy_world.specs.declared.parts.Parts.{Parts}
 use Rattle.hierarchy_world.specs.declared.telling.Seen.{Seen as SeenHere}
 use Rattle.hierarchy_world.specs.declared.telling.Seen.TheVariants as here
 use Rattle.hierarchy_world.specs.Parts.{MemberNode, IsSound, IsPlace, IsTaken, world_of}
-use Rattle.hierarchy_world.specs.Posted.{clear_answer_in, clear_answer, heard_by}
+use Rattle.hierarchy_world.specs.Posted.{heard_by}
 use Rattle.hierarchy_world.proofs.Seating.{was_state}
 
 -- it comes to a member

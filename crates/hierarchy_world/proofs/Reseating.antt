@@ -2,7 +2,7 @@
 use Rattle.std.proofs.Common.{◌≡◌, ℕ, not, List, filter, set, slice_get, nat_eq, Some, sym, ◌∙◌, ap}
 use Rattle.node_rules.specs.declared.state.NodeState.{NodeState}
 use Rattle.node_core.specs.View.{IsSameNode}
-use Rattle.node_core.specs.Closing.{closing}
+use Rattle.node_rules.specs.State.{closed_node}
 use Rattle.world_rules.specs.World.{node_at}
 use Rattle.world_rules.specs.Turn.{with_seat}
 use Rattle.hierarchy_world.specs.declared.parts.Parts.{Parts}
@@ -43,5 +43,5 @@ module _ (old new : Parts) (before n : MemberNode) (id place : ℕ) (sound : IsS
     seat_by next is = seat_is_now ∙ ap (with_seat (world_of old) id) (is ∙ ap next (sym seat_was))
 
 -- a node that closes keeps what is stored
-pub closing_stored : (before n : MemberNode) → IsStored before → IsSameNode before n → n.state ≡ closing before.state → IsStored n
+pub closing_stored : (before n : MemberNode) → IsStored before → IsSameNode before n → n.state ≡ closed_node before.state → IsStored n
 closing_stored before n stored same is = same.store ∙ stored ∙ ap (λ s. s.floors) (sym is)

@@ -6,7 +6,7 @@ use Rattle.node_rules.specs.declared.event.Event.{Event}
 use Rattle.node_rules.specs.declared.reply.Reply.{Reply}
 use Rattle.node_rules.specs.declared.reply.StepFault.{StepFault}
 use Rattle.node_rules.specs.declared.reply.StepFault.TheVariants as fault
-use Rattle.node_rules.specs.State.{Setting, Stepped, refuses}
+use Rattle.node_rules.specs.State.{Setting, Stepped, refuses, setting}
 use Rattle.node_rules.specs.Relation.{Steps}
 use Rattle.node_rules.specs.Effect.{Effect, Stays, Serves, Brings, Purges, Drops}
 use Rattle.node_rules.specs.Step.{step, step_if}
@@ -16,7 +16,6 @@ use Rattle.node_core.specs.Closing.{KeepsStore, FailsWithCause}
 use Rattle.node_core.specs.View.{IsSameMember, IsTied, setting_of}
 use Rattle.key_texts.specs.KeyOf.{GivesKeys, key_of}
 use Rattle.key_texts.proofs.Outcomes.{gives_keys}
-use Rattle.world_rules.specs.Hierarchy.{setting}
 use Rattle.hierarchy_world.specs.declared.seats.Stepped.{Stepped as SteppedHere}
 use Rattle.hierarchy_world.specs.Parts.{MemberNode, IsStored, IsStep}
 

@@ -6,7 +6,7 @@ use Rattle.roster.specs.Lookups.{member_of}
 use Rattle.node_rules.specs.declared.event.Event.{Event}
 use Rattle.node_rules.specs.declared.reply.Serve.{Serve}
 use Rattle.node_rules.specs.Relation.{Steps}
-use Rattle.world_rules.specs.Hierarchy.{setting}
+use Rattle.node_rules.specs.State.{setting}
 use Rattle.world_rules.specs.World.{Datagram, PeerAsk, PeerAnswer, Waiting, Answered, node_at, datagrams_from, asks_in, answers_in, waits_now, asked_by, asked_now, answer_to, reply_in, after_node}
 use Rattle.world_rules.specs.Turn.{NodeSteps}
 use Rattle.world_rules.proofs.Items.{append_nil}

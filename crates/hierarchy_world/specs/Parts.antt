@@ -14,7 +14,7 @@ use Rattle.world_rules.specs.declared.event.WorldEvent.{WorldEvent}
 use Rattle.world_rules.specs.declared.outcome.Outcome.{Outcome}
 use Rattle.world_rules.specs.declared.outcome.WorldFault.{WorldFault}
 use Rattle.world_rules.specs.declared.outcome.WorldFault.TheVariants as fault
-use Rattle.world_rules.specs.Hierarchy.{setting}
+use Rattle.node_rules.specs.State.{setting}
 use Rattle.world_rules.specs.World.{Seat, Datagram, PeerAsk, PeerAnswer, Waiting, World, node_at, with_node}
 use Rattle.world_rules.specs.Turn.{Seen, Replied, Issued, NotIssued, Told, Nothing, Turn, Refused, turn}
 use Rattle.world_rules.specs.Run.{Takes, IsOfKey}

@@ -1,13 +1,9 @@
 -- What may be served, and what an answer to a CLR says.
 use Rattle.std.specs.Prelude.{◌≡◌, ℕ, ◌≤◌, ◌==◌, true, List, [], ◌∷◌, Option, Some, None, Result, if◌then◌else◌}
-use Rattle.htcp_wire.specs.declared.message.Content.{Content}
-use Rattle.htcp_wire.specs.declared.message.Content.TheVariants as content
 use Rattle.roster_tables.specs.declared.plain.Address.{Address}
 use Rattle.roster_tables.specs.declared.plain.Udp.TheVariants as udp
 use Rattle.roster_tables.specs.declared.plain.Tables.{Tables}
 use Rattle.roster.specs.Lookups.{member_at}
-use Rattle.node_rules.specs.declared.message.Message.{Message}
-use Rattle.node_rules.specs.declared.message.Message.TheVariants as message
 use Rattle.node_rules.specs.declared.reply.Served.{Served}
 use Rattle.node_rules.specs.declared.reply.Served.TheVariants.{Copy, Status}
 use Rattle.node_rules.specs.declared.reply.Serve.{Serve}
@@ -26,15 +22,6 @@ IsWritten (Status status) = is_gateway_fault status ≡ true
 abbrev pub IsWrittenIn : Option (Serve ℕ) → Type 0
 IsWrittenIn None = Unit {0}
 IsWrittenIn (Some serve) = IsWritten serve.served
-
-abbrev pub clear_answer_in : ℕ → Content → Option (ℕ × ℕ)
-clear_answer_in trans (content.ClrAnswer code) = Some (trans, code)
-clear_answer_in trans _ = None
-
--- the TRANS-ID and the code of a CLR's answer, if the message is one
-abbrev pub clear_answer : Message → Option (ℕ × ℕ)
-clear_answer (message.Icp m) = None
-clear_answer (message.Htcp m) = clear_answer_in m.trans m.content
 
 -- the master hears such an answer, or nothing
 abbrev pub heard_by : Tables → World → Address → Option (ℕ × ℕ) → Turn

@@ -3,7 +3,8 @@ ghost use Rattle.std.specs.Prelude.{◌≡◌, ◌==◌, find, option_map, is_so
 ghost use Rattle.roster.specs.Lookups.{is_member, member_of as member_by_id, is_master as is_master_at, member_at, same_address as are_same};
 ghost use Rattle.roster_tables.specs.Ranges.{is_foreign_id};
 ghost use Rattle.world_rules.specs.World.{item as item_of};
-ghost use Rattle.world_rules.specs.Hierarchy.{udp_of as protocol_of, is_own as is_own_address};
+ghost use Rattle.world_rules.specs.Hierarchy.{is_own as is_own_address};
+ghost use Rattle.node_rules.specs.Messages.{protocol_of};
 
 use crate::network::{Datagram, PeerAnswer, PeerAsk, Waiting};
 use floor_rules::MemoryFloors;

@@ -5,7 +5,7 @@ ghost use Rattle.fetch_messages.specs.Field.{field_text};
 ghost use Rattle.roster.specs.Lookups.{member_of as member_by_id, address_by as address_for};
 ghost use Rattle.node_rules.specs.Texts.{IsSendable};
 ghost use Rattle.node_rules.specs.Arrivals.{is_gateway_fault};
-ghost use Rattle.world_rules.specs.Hierarchy.{udp_of as udp_of_text};
+ghost use Rattle.node_rules.specs.Messages.{protocol_of as udp_of_text};
 ghost use Rattle.world_rules.specs.World as world;
 ghost use Rattle.world_rules.specs.Turn.{NodeSteps};
 ghost use Rattle.hierarchy_world.specs.Parts.{IsSound, IsPlace, IsTaken, Adds};

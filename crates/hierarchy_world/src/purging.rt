@@ -10,7 +10,8 @@ ghost use Rattle.purge_rules.specs.Clear.{clear as clear_of, message_of};
 ghost use Rattle.purge_rules.specs.Calls.{issue_fault};
 ghost use Rattle.world_rules.specs.Turn as turns;
 ghost use Rattle.hierarchy_world.specs.Parts.{IsSound, IsTaken, Adds, world_of};
-ghost use Rattle.hierarchy_world.specs.Posted.{clear_answer as clear_answer_of, heard_by};
+ghost use Rattle.hierarchy_world.specs.Posted.{heard_by};
+ghost use Rattle.node_rules.specs.Messages.{clear_answer as clear_answer_of};
 
 use crate::network::Datagram;
 use crate::parts::{Parts, member_of};

@@ -1,10 +1,10 @@
 //! The members' nodes.
 ghost use Rattle.std.specs.Prelude.{◌≡◌, ◌<◌, ◌==◌, not, true, false, length, map, filter, IfOk, IfErr, IfSome, MatchOption, OnOk};
 ghost use Rattle.roster.specs.Lookups.{is_member};
-ghost use Rattle.node_rules.specs.State.{opened};
+ghost use Rattle.node_rules.specs.State.{opened, closed_node};
 ghost use Rattle.world_rules.specs.declared.outcome.WorldFault.TheVariants.{NoMemory};
 ghost use Rattle.world_rules.specs.World.{World, node_at};
-ghost use Rattle.world_rules.specs.Turn.{with_seat, closed_node};
+ghost use Rattle.world_rules.specs.Turn.{with_seat};
 ghost use Rattle.hierarchy_world.specs.Parts.{IsSound, IsStored, IsStep, HasStepped, IsPlace, place_of as place_of_id, world_of, IsSeatChanged};
 
 use crate::parts::Parts;

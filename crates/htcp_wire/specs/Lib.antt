@@ -1,3 +1,4 @@
+pub mod Clearing
 pub mod Names
 pub mod Grammar
 pub mod Reading

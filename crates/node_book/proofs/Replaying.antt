@@ -6,14 +6,14 @@ use Rattle.roster_tables.specs.declared.plain.Tables.{Tables}
 use Rattle.node_rules.specs.declared.event.Event.{Event}
 use Rattle.node_rules.specs.declared.reply.Reply.{Reply}
 use Rattle.node_rules.specs.declared.state.NodeState.{NodeState}
-use Rattle.node_rules.specs.State.{Setting}
+use Rattle.node_rules.specs.State.{Setting, setting}
 use Rattle.floor_rules.specs.Floors.{FloorMap}
 use Rattle.node_bytes.specs.Nodes.{TakesStep}
 use Rattle.node_rules.specs.Relation.{Steps}
 use Rattle.node_core.specs.View.{NodeText, IsSameMember, setting_of}
 use Rattle.node_book.specs.declared.book.NodeEntry.{NodeEntry}
 use Rattle.node_book.specs.declared.book.BookFault.{BookFault}
-use Rattle.node_book.specs.Book.{BookView, IsApplied, IsBook, IsToldOf, Replays, setting}
+use Rattle.node_book.specs.Book.{BookView, IsApplied, IsBook, IsToldOf, Replays}
 
 -- one step more is replayed
 replays_more : (g : Setting) (old : NodeState (Unit {0})) (es : List NodeEntry) (middle : NodeState (Unit {0})) (e : NodeEntry) (new : NodeState (Unit {0})) →

@@ -7,7 +7,7 @@ use Rattle.node_rules.specs.declared.event.Event.{Event}
 use Rattle.node_rules.specs.declared.reply.Reply.{Reply}
 use Rattle.node_rules.specs.declared.reply.StepFault.{StepFault}
 use Rattle.node_rules.specs.declared.state.NodeState.{NodeState}
-use Rattle.node_rules.specs.State.{Setting}
+use Rattle.node_rules.specs.State.{Setting, setting}
 use Rattle.node_rules.specs.Relation.{Steps}
 use Rattle.node_core.specs.View.{NodeText, IsSameMember, setting_of}
 use Rattle.node_core.specs.Closing.{KeepsStore, FailsWithCause}
@@ -20,10 +20,6 @@ pub record BookView (S : Type 0) : Type 0 where
   pub node : NodeText (Unit {0}) S
   pub opening : NodeState (Unit {0})
   pub entries : List NodeEntry
-
--- a member's own setting: its roster, and the key that each text has
-abbrev pub setting : Tables → ℕ → Setting
-setting roster id = record { roster = roster; id = id; key_of = key_of }
 
 -- From the first state the entries are steps of the node, one after another, each with its own outcome, and they leave the second.
 abbrev pub Replays : Setting → NodeState (Unit {0}) → List NodeEntry → NodeState (Unit {0}) → Type 0

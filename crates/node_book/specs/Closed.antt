@@ -1,7 +1,8 @@
 -- What is kept of a book that was closed.
 use Rattle.std.specs.Prelude.{◌≡◌}
 use Rattle.node_book.specs.declared.record.Record.{Record}
-use Rattle.node_book.specs.Book.{BookView, Replays, setting}
+use Rattle.node_book.specs.Book.{BookView, Replays}
+use Rattle.node_rules.specs.State.{setting}
 
 -- the node's id, its state as the book was opened, the entries, and its state now
 pub record IsRecorded {S : Type 0} (book : BookView S) (r : Record) : Type 0 where

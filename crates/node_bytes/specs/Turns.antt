@@ -2,22 +2,16 @@
 use Rattle.std.specs.Prelude.{◌≡◌, ◌⊎◌, ℕ, List, [], map, Option, Some, None, Result, Ok, Err}
 use Rattle.roster_tables.specs.declared.plain.Address.{Address}
 use Rattle.roster_tables.specs.declared.plain.Udp.{Udp}
-use Rattle.roster_tables.specs.declared.plain.Udp.TheVariants as udp
-use Rattle.node_rules.specs.declared.message.Message.{Message}
 use Rattle.node_rules.specs.declared.message.Message.TheVariants as message
 use Rattle.node_rules.specs.declared.message.Outgoing.{Outgoing}
 use Rattle.node_rules.specs.declared.event.Event.{Event}
 use Rattle.node_rules.specs.declared.reply.Reply.{Reply}
 use Rattle.node_rules.specs.declared.reply.StepFault.{StepFault}
 use Rattle.node_rules.specs.declared.reply.StepFault.TheVariants.{NoMemory}
+use Rattle.node_rules.specs.Messages.{protocol_of}
 use Rattle.node_bytes.specs.declared.turns.Packet.{Packet}
 use Rattle.node_bytes.specs.declared.turns.Turn.{Turn}
 use Rattle.node_bytes.specs.Bytes.{text_of, IsEventOf}
-
--- the protocol of a message
-abbrev pub protocol_of : Message → Udp
-protocol_of (message.Icp m) = udp.Icp
-protocol_of (message.Htcp m) = udp.Htcp
 
 -- a message's protocol and written text, and where it goes
 abbrev pub packet_of : Outgoing → Packet

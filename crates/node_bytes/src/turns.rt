@@ -1,6 +1,7 @@
 //! What is done after a step, in octets.
 ghost use Rattle.std.specs.Prelude.{◌≡◌, IfOk, map};
-ghost use Rattle.node_bytes.specs.Turns.{packet_of, protocol_of as protocol_in, turn_of, idle, MeetsOctets};
+ghost use Rattle.node_bytes.specs.Turns.{packet_of, turn_of, idle, MeetsOctets};
+ghost use Rattle.node_rules.specs.Messages.{protocol_of as protocol_in};
 
 use crate::{Stepper, event_of, octets_of};
 use node_rules::{Begin, Message, Outgoing, Reply, Serve, StepFault};

@@ -12,7 +12,6 @@ use Rattle.roster_tables.specs.declared.plain.Peer.{Peer}
 use Rattle.roster.specs.Lookups.{peers_of}
 use Rattle.peer_chooser.specs.Round.{RoundText, started}
 use Rattle.node_rules.specs.declared.message.Outgoing.{Outgoing}
-use Rattle.node_messages.specs.Answers.{question_to}
 use Rattle.node_rules.specs.declared.state.Fetch.TheVariants.{AtOrigin}
 use Rattle.node_rules.specs.declared.state.Pending.{Pending}
 use Rattle.node_rules.specs.declared.state.NodeState.{NodeState}
@@ -22,7 +21,7 @@ use Rattle.node_rules.specs.declared.reply.Begin.TheVariants as begin
 use Rattle.node_rules.specs.declared.reply.Reply.{Reply}
 use Rattle.node_rules.specs.Known.{has_origin}
 use Rattle.node_rules.specs.State.{Setting, Stepped, replies, refuses, served_age, with_copies, beginning, serving, with_pending, adding, is_of_block}
-use Rattle.node_rules.specs.Asks.{takes_block, new_ask, begin_round, begin_ask, ask_around, is_cached_only, is_busy, not_held, copy_for, by_copy, ask_comes}
+use Rattle.node_rules.specs.Asks.{takes_block, new_ask, begin_round, begin_ask, ask_around, is_cached_only, is_busy, not_held, copy_for, by_copy, ask_comes, question_to}
 use Rattle.node_rules.specs.Fetching.{read_origin, begin_read, give_up, fetching, origin_ask}
 
 eqb_same : {a b : ℕ} → a ≡ b → (a == b) ≡ true

@@ -1,5 +1,5 @@
 -- A node whose store of floors fails, and what a purge leaves there.
-use Rattle.std.specs.Prelude.{◌≡◌, ◌⊎◌, ℕ, true, List, [], Option, Result, Ok, Err}
+use Rattle.std.specs.Prelude.{◌≡◌, ◌⊎◌, ℕ, List, Option, Result, Ok, Err}
 use Rattle.htcp_wire.specs.declared.message.Specifier.{Specifier}
 use Rattle.htcp_wire.specs.declared.numbers.HeaderKind.TheVariants.{PurgeNumber}
 use Rattle.htcp_wire.specs.Numbers.{number_in_text}
@@ -7,17 +7,12 @@ use Rattle.floor_rules.specs.Floors.{FloorMap}
 use Rattle.floor_rules.specs.declared.fault.FloorFault.{FloorFault}
 use Rattle.floor_rules.specs.declared.fault.FloorFault.TheVariants as floor_fault
 use Rattle.roster_tables.specs.declared.plain.Address.{Address}
-use Rattle.node_rules.specs.declared.state.NodeState.{NodeState}
 use Rattle.node_rules.specs.declared.reply.Reply.{Reply}
 use Rattle.node_rules.specs.declared.reply.StepFault.{StepFault}
 use Rattle.node_rules.specs.declared.reply.StepFault.TheVariants as fault
 use Rattle.node_rules.specs.State.{Setting}
 use Rattle.node_rules.specs.Relation.{purge_by_line}
 use Rattle.node_core.specs.View.{NodeText}
-
--- closed, with no ask pending
-abbrev pub closing : {X : Type 0} → NodeState X → NodeState X
-closing s = record { floors = s.floors; copies = s.copies; pending = []; next = s.next; closed = true }
 
 -- what a step answers where the store of floors answered so
 abbrev pub step_fault_of : FloorFault → StepFault

@@ -1,7 +1,6 @@
 ghost use Rattle.std.specs.Prelude.{◌≡◌, ◌==◌, find, option_map};
-ghost use Rattle.node_rules.specs.State.{fetch_serial};
+ghost use Rattle.node_rules.specs.State.{fetch_serial, closed_node};
 ghost use Rattle.node_core.specs.View.{IsSameNode, IsTied};
-ghost use Rattle.node_core.specs.Closing.{closing};
 
 use floor_rules::{FloorStore, Floors};
 use node_rules::Pending;
@@ -90,7 +89,7 @@ impl<T: Drop, S: FloorStore> Node<T, S> {
     /// Closes it, as a store of floors that fails would: it has no ask pending then, and every further step is answered with `Closed`. It takes no memory.
     pub fn close(&mut self)
         ensures same { IsSameNode self.old self.new }
-        ensures state { self.new.state ≡ closing self.old.state }
+        ensures state { self.new.state ≡ closed_node self.old.state }
     {
         self.closed = true;
         self.pending = Waiting::new(self.alloc);

@@ -3,7 +3,7 @@ ghost use Rattle.std.specs.Prelude.{◌≡◌, ◌++◌, IfOk, OnOk, option_to_l
 ghost use Rattle.std.specs.List.{filter_map};
 ghost use Rattle.roster_tables.specs.declared.plain.Udp.TheVariants as udp;
 ghost use Rattle.node_rules.specs.Messages as messages;
-ghost use Rattle.node_messages.specs.Answers.{question_to};
+ghost use Rattle.node_rules.specs.Asks.{question_to};
 
 use crate::known::{address_by, cache_of};
 use htcp_wire::{Content, Htcp, Specifier};

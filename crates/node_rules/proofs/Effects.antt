@@ -45,7 +45,7 @@ use Rattle.node_rules.specs.Effect.{copy_served, sent, IsOwnFault, ServesBareSta
 use Rattle.node_rules.specs.State.{Setting, Stepped, replies, refuses, quiet, fetch_serial, is_idle, is_of_block, age_of, is_good, if_good, good_copy}
 use Rattle.reuse_rules.specs.Freshness.{is_fresh}
 use Rattle.node_rules.specs.Fetching.{ask_peer, begin_read, read_origin, go_to, go_on}
-use Rattle.node_rules.specs.Asks.{new_ask, query_to, is_cached_only, is_busy, begin_round, ask_around, begin_ask, not_held, by_copy, copy_for, ask_comes}
+use Rattle.node_rules.specs.Asks.{new_ask, question_to, is_cached_only, is_busy, begin_round, ask_around, begin_ask, not_held, by_copy, copy_for, ask_comes}
 use Rattle.node_rules.specs.Arrivals.{new_copy, is_fetch, with_round, use_answer, try_on, is_gateway_fault, peer_gave, origin_gave, from_peer, peer_answer_to, peer_answer, foreign_answer, from_origin, origin_answer_to, origin_answer, fails, failure_of, fetch_failed, round_moves, expires, expiry_of, round_expired}
 use Rattle.node_rules.specs.Datagrams.{is_full, sends_back, tst_answer, copy_meant, purged, purge_of, if_desired, icp_query, htcp_tst, hears, told_by, told_to, icp_told, htcp_told, clr_done, purge, numbered_clr, dropped, plain_clr, clr_by_line, htcp_clr, icp_comes, tst_refused, htcp_comes, datagram}
 use Rattle.node_rules.specs.Step.{open_step, step_if, step}
@@ -171,9 +171,9 @@ module _ {X : Type 0} (g : Setting) (s : NodeState X) (e : Event X) (mark : X) w
   query_to_obeys serial key p None o is = absurd (none-some o is)
   query_to_obeys serial key p (Some c) o is = subst (IsObedient g e s.floors) (same_Some _ o is) (query_obeys g e s.floors serial key p.by (address_by p.by c))
 
-  queries_obey : (serial : ℕ) (key : List ℕ) (asked : List Peer) → AllByRecursion (IsObedient g e s.floors) (filter_map (query_to g serial key) asked)
+  queries_obey : (serial : ℕ) (key : List ℕ) (asked : List Peer) → AllByRecursion (IsObedient g e s.floors) (filter_map (question_to g.roster serial key) asked)
   queries_obey serial key [] = tt
-  queries_obey serial key (p ∷ asked) = query_first (query_to g serial key p) _ (query_to_obeys serial key p (cache_of g.roster p.id)) (queries_obey serial key asked)
+  queries_obey serial key (p ∷ asked) = query_first (question_to g.roster serial key p) _ (query_to_obeys serial key p (cache_of g.roster p.id)) (queries_obey serial key asked)
 
   -- a new ask, which is not fetching, comes behind the others
   one_more : (block : ℕ) (asker : Option ℕ) (ask : Ask) (round : Option RoundText) → AllByRecursion MayStay (s.pending ++ new_ask block asker ask round ∷ [])

@@ -56,7 +56,7 @@ use Rattle.node_rules.specs.declared.reply.Served.TheVariants.{Copy, Status}
 use Rattle.node_rules.specs.declared.reply.StepFault.TheVariants.{Busy}
 use Rattle.node_rules.specs.Messages.{icp, htcp, overall}
 use Rattle.node_rules.specs.Fetching.{fetching, origin_ask, peer_ask, own_id}
-use Rattle.node_rules.specs.Asks.{new_ask, query_to, takes_block}
+use Rattle.node_rules.specs.Asks.{new_ask, question_to, takes_block}
 use Rattle.node_rules.specs.Datagrams.{sends_back, icp_answer, hit_or_miss, tst_answer, copy_at, copy_meant, purged, clr_code}
 use Rattle.node_rules.specs.Effect.{state_of}
 use Rattle.node_rules.specs.State.{replies, refuses, with_copies, with_pending, adding, changing, ending, serving, beginning, quiet}
@@ -118,7 +118,7 @@ module _ {X Y : Type 0} (f : X → Y) (g : Setting) where
       ap (λ ps. read_origin g (with_pending (retag_state f s) ps) (retag_pending f p) None now (f mark)) (adding-retag f s.pending p)
       ∙ read_origin-retag (adding s p) p None now mark
   ask_around-retag s asker ask block now mark round (peer ∷ peers) =
-      ap (λ ps. replies (with_pending (retag_state f s) ps) record { serve = None; send = filter_map (query_to g (32 * block) ask.key) round.asked; begin = Some (begin.Round (32 * block)) })
+      ap (λ ps. replies (with_pending (retag_state f s) ps) record { serve = None; send = filter_map (question_to g.roster (32 * block) ask.key) round.asked; begin = Some (begin.Round (32 * block)) })
       (adding-retag f s.pending (new_ask block asker ask (Some round)))
 
   busy-retag : (s : NodeState X) → is_busy (retag_state f s) ≡ is_busy s

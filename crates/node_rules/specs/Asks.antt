@@ -38,14 +38,15 @@ takes_block s = record { floors = s.floors; copies = s.copies; pending = s.pendi
 abbrev pub new_ask : {X : Type 0} → ℕ → Option ℕ → Ask → Option RoundText → Pending X
 new_ask block asker ask round = record { block = block; asker = asker; ask = ask; round = round; tried = []; fetches = 0; reads = 0; fetch = Nowhere }
 
-abbrev pub query_to : Setting → ℕ → List ℕ → Peer → Option Outgoing
-query_to g serial key p = option_map (λ c. to (address_by p.by c) (query p.by serial key)) (cache_of g.roster p.id)
+-- the question to one peer, if the roster has it
+abbrev pub question_to : Tables → ℕ → List ℕ → Peer → Option Outgoing
+question_to roster serial key p = option_map (λ c. to (address_by p.by c) (query p.by serial key)) (cache_of roster p.id)
 
 -- the peers are asked in the roster's order
 unfoldable pub begin_round : {X : Type 0} → Setting → NodeState X → Option ℕ → Ask → ℕ → RoundText → Stepped X
 begin_round g s asker ask block round =
     replies (adding s (new_ask block asker ask (Some round)))
-    record { serve = None; send = filter_map (query_to g (32 * block) ask.key) round.asked; begin = Some (begin.Round (32 * block)) }
+    record { serve = None; send = filter_map (question_to g.roster (32 * block) ask.key) round.asked; begin = Some (begin.Round (32 * block)) }
 
 -- without anybody to ask the origin is read
 unfoldable pub ask_around : {X : Type 0} → Setting → NodeState X → Option ℕ → Ask → ℕ → ℕ → X → RoundText → List Peer → Stepped X

@@ -1,6 +1,7 @@
 -- What a step does to floors and copies: one of five things. And what it keeps to in each of them.
-use Rattle.std.specs.Prelude.{◌≡◌, ℕ, ◌≤◌, Bool, true, false, ◌==◌, ◌||◌, List, [], Option, Some, None, Result, Ok, Err, ◌⊎◌, unwrap_or, if◌then◌else◌}
+use Rattle.std.specs.Prelude.{◌≡◌, ℕ, ◌≤◌, Bool, true, false, List, [], Option, Some, None, Result, Ok, Err, ◌⊎◌, unwrap_or, if◌then◌else◌}
 use Rattle.std.specs.List.{AllByRecursion, Contains}
+use Rattle.htcp_wire.specs.Clearing.{is_acknowledging}
 use Rattle.roster_tables.specs.declared.plain.Address.{Address}
 use Rattle.htcp_wire.specs.declared.message.Content.{Content}
 use Rattle.htcp_wire.specs.declared.message.Content.TheVariants as content
@@ -73,10 +74,6 @@ IsOwnFault (Err fault.StoreFault) = ⊥
 IsOwnFault (Err fault.NoMemory) = ⊥
 
 -- Acknowledgements
-
--- the codes of a CLR answer that acknowledge: the copy is gone, or there was none (RFC 2756, section 6.5)
-abbrev pub is_acknowledging : ℕ → Bool
-is_acknowledging code = (code == 0) || (code == 2)
 
 abbrev pub acknowledged_in : ℕ → Content → Option ℕ
 acknowledged_in trans (content.ClrAnswer code) = if is_acknowledging code then Some trans else None

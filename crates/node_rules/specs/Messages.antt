@@ -1,5 +1,5 @@
 -- The messages that a node sends.
-use Rattle.std.specs.Prelude.{ℕ, true, List, [], ◌∷◌, ◌++◌, codes, decimal}
+use Rattle.std.specs.Prelude.{ℕ, true, List, [], ◌∷◌, ◌++◌, codes, decimal, Option, Some, None}
 use Rattle.icp_wire.specs.declared.message.IcpOp.{IcpOp}
 use Rattle.icp_wire.specs.declared.message.IcpOp.TheVariants as op
 use Rattle.htcp_wire.specs.declared.message.Content.{Content}
@@ -18,6 +18,11 @@ icp op number url = message.Icp (icp_message op number url)
 
 abbrev pub htcp : ℕ → Content → Message
 htcp trans content = message.Htcp record { minor = 0; trans = trans; content = content }
+
+-- the protocol of a message
+abbrev pub protocol_of : Message → Udp
+protocol_of (message.Icp m) = udp.Icp
+protocol_of (message.Htcp m) = udp.Htcp
 
 abbrev pub to : Address → Message → Outgoing
 to address message = record { to = address; message = message }
@@ -38,3 +43,12 @@ stamp_line stamp = codes "X-Purge-Stamp: " ++ decimal stamp ++ 13 ∷ 10 ∷ []
 -- HTCP's overall responses (RFC 2756, "RESPONSE" where MO is 1): 2 for an opcode that is not implemented, 5 for one that is not allowed here
 abbrev pub overall : ℕ → ℕ → ℕ → Message
 overall trans opcode code = htcp trans (content.Overall opcode code)
+
+abbrev pub clear_answer_in : ℕ → Content → Option (ℕ × ℕ)
+clear_answer_in trans (content.ClrAnswer code) = Some (trans, code)
+clear_answer_in trans _ = None
+
+-- the TRANS-ID and the code of a CLR's answer, if the message is one
+abbrev pub clear_answer : Message → Option (ℕ × ℕ)
+clear_answer (message.Icp m) = None
+clear_answer (message.Htcp m) = clear_answer_in m.trans m.content

@@ -1,5 +1,6 @@
 -- A node's setting, what a step leads to, and the words for both.
 use Rattle.std.specs.Prelude.{ℕ, ◌+◌, ◌*◌, min, Bool, true, false, not, ◌&&◌, ◌==◌, nat_le, List, [], ◌∷◌, ◌++◌, map, filter, unwrap_or, Option, Some, None, Result, Ok, Err, if◌then◌else◌}
+use Rattle.key_texts.specs.KeyOf.{key_of}
 use Rattle.object_store.specs.declared.copy.WebCopy.{WebCopy}
 use Rattle.object_store.specs.Listed.{copy_of}
 use Rattle.floor_rules.specs.Floors.{FloorMap, floor}
@@ -21,6 +22,10 @@ pub record Setting : Type 0 where
   pub id : ℕ
   pub key_of : List ℕ → Option (List ℕ)
 
+-- a member's own setting: the roster that all share, and the key that each text has
+abbrev pub setting : Tables → ℕ → Setting
+setting roster id = record { roster = roster; id = id; key_of = key_of }
+
 -- where a step leads, and what it answers
 pub record Stepped (X : Type 0) : Type 0 where
   pub state : NodeState X
@@ -31,6 +36,10 @@ replies s reply = record { state = s; outcome = Ok reply }
 
 abbrev pub refuses : {X : Type 0} → NodeState X → StepFault → Stepped X
 refuses s fault = record { state = s; outcome = Err fault }
+
+-- closed, with no ask pending; its floors are stored
+abbrev pub closed_node : {X : Type 0} → NodeState X → NodeState X
+closed_node s = record { floors = s.floors; copies = s.copies; pending = []; next = s.next; closed = true }
 
 -- nothing is served, sent or begun
 abbrev pub quiet : {X : Type 0} → Reply X

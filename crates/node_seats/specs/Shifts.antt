@@ -4,7 +4,8 @@ use Rattle.std.specs.List.{All, sum_by}
 use Rattle.node_core.specs.View.{NodeText}
 use Rattle.node_book.specs.declared.book.NodeEntry.{NodeEntry}
 use Rattle.node_book.specs.declared.record.Record.{Record}
-use Rattle.node_book.specs.Book.{Replays, setting}
+use Rattle.node_book.specs.Book.{Replays}
+use Rattle.node_rules.specs.State.{setting}
 use Rattle.node_seats.specs.Seats.{SeatView, DeskView, Agrees}
 use Rattle.node_seats.specs.declared.shift.CloseFault.{CloseFault}
 use Rattle.node_seats.specs.declared.shift.CloseFault.TheVariants.{SeatMissing, Mismatch, NoMemory}

@@ -5,7 +5,8 @@ use Rattle.purge_rules.specs.declared.calls.MasterAnswer.{MasterAnswer}
 use Rattle.purge_rules.specs.declared.fault.MasterFault.{MasterFault}
 use Rattle.purge_rules.specs.declared.fault.MasterFault.TheVariants as fault
 use Rattle.purge_rules.specs.Purges.{PurgeList}
-use Rattle.purge_rules.specs.Store.{IsEither, HaveRisen}
+use Rattle.purge_rules.specs.Store.{IsEither}
+use Rattle.floor_rules.specs.Store.{HaveRisen}
 use Rattle.purge_rules.specs.Calls.{Calls, called}
 use Rattle.purge_master.specs.View.{MasterView, writes}
 

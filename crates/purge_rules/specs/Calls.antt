@@ -1,6 +1,7 @@
 -- What a master answers to its calls, and what they leave.
 use Rattle.std.specs.Prelude.{◌≡◌, ℕ, ◌+◌, Bool, true, false, not, ◌&&◌, ◌||◌, ◌==◌, nat_le, nat_lt, List, ◌⊎◌, map, filter, length, is_none, Option, Some, None, Result, Ok, Err, if◌then◌else◌}
 use Rattle.std.specs.List.{flat_map}
+use Rattle.htcp_wire.specs.Clearing.{is_acknowledging}
 use Rattle.purge_rules.specs.declared.purges.Purge.{Purge}
 use Rattle.purge_rules.specs.declared.calls.Status.{Status}
 use Rattle.purge_rules.specs.declared.calls.Status.TheVariants as status
@@ -25,10 +26,6 @@ missing members p = filter (λ id. not (is_among id p.marked)) members
 -- why no number is given: all are spent, or 1,024 purges are pending
 abbrev pub issue_fault : PurgeList → Option MasterFault
 issue_fault purges = if nat_le 4294967295 purges.last then Some fault.NumbersSpent else (if nat_le 1024 (length purges.pending) then Some fault.TooManyPending else None)
-
--- CLR's responses 0 (it was held and is gone) and 2 (it was not held) acknowledge; 1 (it stays) does not (RFC 2756, "CLR")
-abbrev pub is_acknowledging : ℕ → Bool
-is_acknowledging code = (code == 0) || (code == 2)
 
 -- the purges after an acknowledgement, and the number of the one that it has made done
 pub record Acknowledged : Type 0 where

@@ -1,5 +1,5 @@
 -- What a store of purges may hold.
-use Rattle.std.specs.Prelude.{◌≡◌, ◌⊎◌, ℕ, ◌<◌, ◌-◌, ◌^◌, false, Option, Some, None}
+use Rattle.std.specs.Prelude.{◌≡◌, ◌⊎◌, ℕ, false, Option, Some, None}
 use Rattle.purge_rules.specs.declared.purges.Purge.{Purge}
 use Rattle.purge_rules.specs.Members.{is_among}
 use Rattle.purge_rules.specs.Purges.{PurgeList, pending_at}
@@ -15,7 +15,3 @@ IsUnmarkedBy id (Some p) = is_among id p.marked ≡ false
 -- the purge of this number is pending, and the member has not acknowledged it
 abbrev pub Misses : PurgeList → ℕ → ℕ → Type 0
 Misses purges number id = IsUnmarkedBy id (pending_at purges number)
-
--- The store has failed since. At the greatest number the count stays, and is taken as risen.
-abbrev pub HaveRisen : ℕ → ℕ → Type 0
-HaveRisen before now = (before < now) ⊎ (now ≡ 2 ^ 64 - 1)

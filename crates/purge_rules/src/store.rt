@@ -1,7 +1,8 @@
 //! What a store of purges promises.
 ghost use Rattle.std.specs.Prelude.{◌≡◌, ◌≢◌, ◌<◌, ◌≤◌, ℕ, Bool, false, IsTrue, IfOk, OnOk, Err};
 ghost use Rattle.purge_rules.specs.Purges.{PurgeList, with_purge, with_mark, without_purge};
-ghost use Rattle.purge_rules.specs.Store.{IsEither, Misses, HaveRisen};
+ghost use Rattle.purge_rules.specs.Store.{IsEither, Misses};
+ghost use Rattle.floor_rules.specs.Store.{HaveRisen};
 
 use crate::{PurgeFault, Purges};
 use std::alloc::Global;

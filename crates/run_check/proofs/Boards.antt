@@ -4,7 +4,7 @@ use Rattle.floor_rules.specs.Floors.{FloorMap}
 use Rattle.roster_tables.specs.declared.plain.Tables.{Tables}
 use Rattle.node_rules.specs.declared.state.NodeState.{NodeState}
 use Rattle.node_book.specs.declared.book.NodeEntry.{NodeEntry}
-use Rattle.world_rules.specs.Hierarchy.{setting}
+use Rattle.node_rules.specs.State.{setting}
 use Rattle.run_rules.specs.declared.verdict.Cause.{Cause}
 use Rattle.run_rules.specs.Notes.{Opens, Steps}
 use Rattle.run_rules.specs.Sent.{Network}

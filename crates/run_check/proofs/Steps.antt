@@ -10,7 +10,7 @@ use Rattle.node_rules.specs.declared.event.Event.{Event}
 use Rattle.node_rules.specs.declared.reply.Reply.{Reply}
 use Rattle.node_rules.specs.declared.reply.StepFault.{StepFault}
 use Rattle.node_rules.specs.declared.reply.StepFault.TheVariants as fault
-use Rattle.node_rules.specs.State.{Setting, Stepped}
+use Rattle.node_rules.specs.State.{Setting, Stepped, setting}
 use Rattle.node_rules.specs.Relation.{Steps}
 use Rattle.node_rules.specs.Effect.{Effect, Stays, Serves, Brings, Purges, Drops}
 use Rattle.node_rules.specs.Step.{step}
@@ -18,7 +18,6 @@ use Rattle.node_rules.proofs.Effects.{step_does}
 use Rattle.node_book.specs.declared.book.NodeEntry.{NodeEntry}
 use Rattle.node_core.specs.Closing.{FailsWithCause}
 use Rattle.node_core.specs.View.{NodeText, IsSameMember, IsTied, setting_of}
-use Rattle.world_rules.specs.Hierarchy.{setting}
 use Rattle.run_rules.specs.declared.verdict.Cause.TheVariants as cause
 use Rattle.run_rules.specs.Board.{Open}
 use Rattle.run_rules.specs.Judging.{StepsBy}

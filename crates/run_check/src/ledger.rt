@@ -3,7 +3,8 @@ ghost use Rattle.std.specs.Prelude.{◌≡◌, ◌↔◌, ◌≤◌, true, false
 ghost use Rattle.purge_rules.specs.declared.calls.MasterCall.TheVariants as calls;
 ghost use Rattle.purge_rules.specs.Members.{members_of};
 ghost use Rattle.purge_rules.specs.Purges.{no_purges, pending_at};
-ghost use Rattle.purge_rules.specs.Calls.{called, opened, is_written as is_written_by, is_news as is_news_of, is_acknowledging as acknowledges, is_due as is_due_call, issue_fault as issue_fault_of, counted};
+ghost use Rattle.purge_rules.specs.Calls.{called, opened, is_written as is_written_by, is_news as is_news_of, is_due as is_due_call, issue_fault as issue_fault_of, counted};
+ghost use Rattle.htcp_wire.specs.Clearing.{is_acknowledging as acknowledges};
 ghost use Rattle.run_check.specs.Held.{master_of, IsAnswered, IsWanting, IsFailing, IsTaken};
 
 use purge_master::MasterEntry;

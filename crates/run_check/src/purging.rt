@@ -4,7 +4,7 @@ ghost use Rattle.roster.specs.Lookups.{is_master as is_master_at};
 ghost use Rattle.node_rules.specs.Relation.{purge_in as purge_of_event, purge_in_message};
 ghost use Rattle.node_core.specs.View.{HasKeyOf};
 ghost use Rattle.node_core.specs.Closing.{purge_meant};
-ghost use Rattle.world_rules.specs.Hierarchy.{setting};
+ghost use Rattle.node_rules.specs.State.{setting};
 ghost use Rattle.key_texts.specs.KeyOf.{key_of as key_of_octets};
 ghost use Rattle.run_rules.specs.Judging.{stored_by};
 

@@ -2,7 +2,7 @@
 ghost use Rattle.std.specs.Prelude.{◌≡◌, ◌↔◌, ◌≤◌, IsTrue, IfOk, Err};
 ghost use Rattle.node_rules.specs.declared.reply.StepFault.TheVariants as fault;
 ghost use Rattle.node_rules.specs.Relation.{purge_in as purge_of_event};
-ghost use Rattle.world_rules.specs.Hierarchy.{setting};
+ghost use Rattle.node_rules.specs.State.{setting};
 ghost use Rattle.run_rules.specs.Board.{Shut};
 ghost use Rattle.run_rules.specs.Judging.{StepsSo, StepsBy, OpenStepsBy, wanting, failing, shut_by, stored_by};
 ghost use Rattle.run_check.specs.Held.{standing_of, stepped_of, IsSound, IsSeated, AreSound};

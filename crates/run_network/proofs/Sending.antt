@@ -9,9 +9,9 @@ use Rattle.roster_tables.specs.declared.plain.Udp.TheVariants as udp
 use Rattle.roster.specs.Lookups.{member_at, is_master}
 use Rattle.node_rules.specs.declared.message.Message.{Message}
 use Rattle.node_rules.proofs.Cases.{true_not_false}
-use Rattle.world_rules.specs.Hierarchy.{udp_of}
+use Rattle.node_rules.specs.Messages.{protocol_of as udp_of, clear_answer}
 use Rattle.world_rules.specs.World.{Datagram}
-use Rattle.run_rules.specs.Sent.{ComesTo, IsAnswerOf, clear_answer}
+use Rattle.run_rules.specs.Sent.{ComesTo, IsAnswerOf}
 use Rattle.run_rules.proofs.Lists.{same_some, contains_none}
 use Rattle.run_network.specs.declared.letters.Letter.{Letter}
 use Rattle.run_network.specs.declared.letters.Acknowledgement.{Acknowledgement}

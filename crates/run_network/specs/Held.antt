@@ -6,7 +6,7 @@ use Rattle.roster_tables.specs.declared.plain.Cache.{Cache}
 use Rattle.roster_tables.specs.declared.plain.Tables.{Tables}
 use Rattle.roster.specs.Lookups.{address_by}
 use Rattle.node_rules.specs.declared.message.Outgoing.{Outgoing}
-use Rattle.world_rules.specs.Hierarchy.{udp_of}
+use Rattle.node_rules.specs.Messages.{protocol_of}
 use Rattle.world_rules.specs.World.{Datagram}
 use Rattle.run_rules.specs.Sent.{Network, SentAsk, SentAnswer, Waits, text_of, is_waiting, ComesTo, IsAnswerOf}
 use Rattle.run_network.specs.declared.letters.Letter.{Letter}
@@ -44,7 +44,7 @@ pub record HoldsLetters (roster : Tables) (letters : Letters) (sent : List Datag
 
 -- the datagram of a cache that a message to be sent makes
 abbrev pub datagram_from : Cache → Outgoing → Datagram
-datagram_from c o = record { sender = address_by (udp_of o.message) c; receiver = o.to; message = o.message }
+datagram_from c o = record { sender = address_by (protocol_of o.message) c; receiver = o.to; message = o.message }
 
 -- Asks
 

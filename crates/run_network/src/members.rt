@@ -2,8 +2,8 @@
 ghost use Rattle.std.specs.Prelude.{◌≡◌, ◌==◌, find, option_map};
 ghost use Rattle.roster.specs.Lookups.{member_of as member_by_id, is_master as is_master_at, same_address as are_same, address_by as address_for};
 ghost use Rattle.roster_tables.specs.Ranges.{is_foreign_id};
-ghost use Rattle.world_rules.specs.Hierarchy.{udp_of as protocol_of, is_own as is_own_address};
-ghost use Rattle.run_rules.specs.Sent.{clear_answer as clear_answer_of};
+ghost use Rattle.world_rules.specs.Hierarchy.{is_own as is_own_address};
+ghost use Rattle.node_rules.specs.Messages.{protocol_of, clear_answer as clear_answer_of};
 
 use htcp_wire::Content;
 use node_rules::Message;

@@ -27,12 +27,12 @@ use Rattle.world_rules.specs.declared.event.WorldEvent.TheVariants as world
 use Rattle.std.specs.Prelude.{Contains}
 use Rattle.world_rules.specs.World.{World, Datagram, Seat, node_at}
 use Rattle.world_rules.proofs.Items.{append_nil}
-use Rattle.world_rules.specs.Hierarchy.{udp_of}
+use Rattle.node_rules.specs.Messages.{protocol_of as udp_of, clear_answer, clear_answer_in}
 use Rattle.world_rules.specs.Turn.{Seen, Issued, Told, Nothing, Turn, Ends, turn, with_master, with_sent, clears_of, clears_due, issue_by, master_hears, master_hears_htcp, acknowledged_by, delivered, delivered_to}
 use Rattle.world_rules.specs.Run.{Step, Takes}
 use Rattle.world_rules.specs.Run.{IsOfKey as IsEventOfKey}
 use Rattle.run_rules.specs.Notes.{Calls}
-use Rattle.run_rules.specs.Sent.{Network, clears_by, with_clears, clear_answer, clear_answer_in, IsCallSent}
+use Rattle.run_rules.specs.Sent.{Network, clears_by, with_clears, IsCallSent}
 use Rattle.run_rules.specs.Board.{Board, standing_at}
 use Rattle.run_rules.specs.declared.verdict.Cause.TheVariants.{NotSent, OtherReply}
 use Rattle.run_rules.specs.Judging.{Fine, IsOfKey, CallsBy, left_wanting, after_call, JudgesCall}

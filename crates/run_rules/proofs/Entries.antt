@@ -11,7 +11,7 @@ use Rattle.node_rules.specs.declared.event.Event.TheVariants as event
 use Rattle.node_rules.specs.declared.reply.Reply.{Reply}
 use Rattle.node_rules.specs.declared.reply.StepFault.{StepFault}
 use Rattle.node_rules.specs.declared.reply.StepFault.TheVariants as fault
-use Rattle.node_rules.specs.State.{Setting, Stepped}
+use Rattle.node_rules.specs.State.{Setting, Stepped, setting, closed_node}
 use Rattle.node_rules.specs.Datagrams.{is_full}
 use Rattle.node_rules.specs.Step.{step}
 use Rattle.node_rules.specs.Relation.{ClosesOn, Closes, purge_in}
@@ -22,10 +22,9 @@ use Rattle.node_rules.proofs.Lawful.{step_steps}
 use Rattle.node_rules.proofs.Cases.{true_not_false}
 use Rattle.node_book.specs.declared.book.NodeEntry.{NodeEntry}
 use Rattle.world_rules.specs.declared.event.WorldEvent.TheVariants as world
-use Rattle.world_rules.specs.Hierarchy.{setting}
 use Rattle.world_rules.specs.World.{World, after_node, is_waiting_as}
 use Rattle.world_rules.specs.declared.outcome.WorldFault.TheVariants.{NoSuchPacket}
-use Rattle.world_rules.specs.Turn.{Replied, Nothing, Turn, Ends, Refused as TurnRefused, turn, with_clock, with_seat, closed_node}
+use Rattle.world_rules.specs.Turn.{Replied, Nothing, Turn, Ends, Refused as TurnRefused, turn, with_clock, with_seat}
 use Rattle.world_rules.specs.Run.{Step, Run, Takes}
 use Rattle.run_rules.specs.Sent.{Network, reply_of, with_reply, without_waiting, IsSent}
 use Rattle.run_rules.specs.Board.{Standing, New, Open, Shut, Astray, Board, standing_at, with_node, with_network}

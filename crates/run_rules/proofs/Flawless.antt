@@ -20,7 +20,7 @@ use Rattle.run_rules.specs.Recorded.{Progress, beginning, AllStand}
 use Rattle.node_rules.specs.declared.state.NodeState.{NodeState}
 use Rattle.node_book.specs.declared.book.NodeEntry.{NodeEntry}
 use Rattle.floor_rules.specs.Floors.{FloorMap}
-use Rattle.world_rules.specs.Hierarchy.{setting}
+use Rattle.node_rules.specs.State.{setting}
 use Rattle.world_rules.proofs.SourceRuns.{run_after}
 use Rattle.run_rules.proofs.Asking.{ok_same}
 use Rattle.run_rules.proofs.Lists.{contains_none}

@@ -22,7 +22,8 @@ use Rattle.node_rules.proofs.Cases.{true_not_false}
 use Rattle.world_rules.specs.declared.event.WorldEvent.{WorldEvent}
 use Rattle.world_rules.specs.declared.event.WorldEvent.TheVariants as world
 use Rattle.world_rules.specs.declared.outcome.WorldFault.TheVariants.{NoSuchPacket, NotPending}
-use Rattle.world_rules.specs.Hierarchy.{is_own, udp_of}
+use Rattle.world_rules.specs.Hierarchy.{is_own}
+use Rattle.node_rules.specs.Messages.{protocol_of as udp_of}
 use Rattle.world_rules.specs.World.{World, Datagram, item, node_at}
 use Rattle.world_rules.specs.Turn.{Turn, NodeSteps, Refused, turn, at_member, with_clock, delivered, delivered_to, master_hears, ask_delivered, answer_delivered, origin_to, origin_by, foreign_to, foreign_by, fetching_at}
 use Rattle.world_rules.specs.Run.{IsOfKey}

@@ -14,7 +14,7 @@ use Rattle.node_rules.specs.declared.event.Event.TheVariants as event
 use Rattle.node_rules.specs.declared.reply.Reply.{Reply}
 use Rattle.node_rules.specs.declared.reply.StepFault.{StepFault}
 use Rattle.node_rules.specs.declared.reply.StepFault.TheVariants as fault
-use Rattle.node_rules.specs.State.{Setting, opened, fetch_serial}
+use Rattle.node_rules.specs.State.{Setting, opened, fetch_serial, setting}
 use Rattle.node_rules.specs.Relation.{purge_in}
 use Rattle.node_rules.specs.Datagrams.{is_full}
 use Rattle.node_rules.specs.Step.{step}
@@ -27,7 +27,6 @@ use Rattle.purge_rules.specs.declared.fault.MasterFault.TheVariants as master_fa
 use Rattle.purge_rules.specs.Members.{members_of}
 use Rattle.purge_rules.specs.Calls.{MasterState, called, is_written, is_due, closing}
 use Rattle.purge_master.specs.declared.book.MasterEntry.{MasterEntry}
-use Rattle.world_rules.specs.Hierarchy.{setting}
 use Rattle.run_rules.specs.declared.verdict.Cause.{Cause}
 use Rattle.run_rules.specs.declared.verdict.Cause.TheVariants.{NotSent, OtherReply, OtherState}
 use Rattle.run_rules.specs.Notes.{Note, Opens, Steps, Closes, Calls}

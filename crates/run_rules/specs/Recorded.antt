@@ -8,7 +8,7 @@ use Rattle.node_rules.specs.declared.event.Event.{Event}
 use Rattle.node_rules.specs.declared.event.Event.TheVariants as event
 use Rattle.node_rules.specs.declared.reply.Reply.{Reply}
 use Rattle.node_rules.specs.declared.reply.StepFault.{StepFault}
-use Rattle.node_rules.specs.State.{opened}
+use Rattle.node_rules.specs.State.{opened, setting}
 use Rattle.node_rules.specs.Relation.{Steps as NodeSteps}
 use Rattle.node_rules.specs.Tags.{retag_state, retag_event, retag_outcome}
 use Rattle.node_book.specs.declared.book.NodeEntry.{NodeEntry}
@@ -20,13 +20,12 @@ use Rattle.purge_rules.specs.declared.calls.MasterAnswer.{MasterAnswer}
 use Rattle.purge_rules.specs.declared.calls.MasterAnswer.TheVariants as answer
 use Rattle.purge_rules.specs.declared.fault.MasterFault.{MasterFault}
 use Rattle.purge_rules.specs.Members.{members_of}
-use Rattle.purge_rules.specs.Calls.{MasterState, Calls as MasterCalls, acknowledged}
+use Rattle.purge_rules.specs.Calls.{MasterState, Calls as MasterCalls}
 use Rattle.purge_rules.specs.Calls as master
 use Rattle.purge_rules.specs.Purges.{no_purges}
 use Rattle.purge_master.specs.declared.book.MasterEntry.{MasterEntry}
 use Rattle.world_rules.specs.declared.event.WorldEvent.{WorldEvent}
 use Rattle.world_rules.specs.declared.event.WorldEvent.TheVariants as world
-use Rattle.world_rules.specs.Hierarchy.{setting}
 use Rattle.world_rules.specs.World.{World, new_world, node_at}
 use Rattle.world_rules.specs.Turn.{Seen, Replied, Issued, Told, Nothing, NodeSteps as TurnSteps, turn, with_clock}
 use Rattle.world_rules.specs.Run.{Step, Run}

@@ -2,8 +2,6 @@
 use Rattle.std.specs.Prelude.{◌≡◌, ℕ, ◌/◌, Bool, true, false, ◌==◌, ◌&&◌, not, List, [], ◌∷◌, ◌++◌, filter, find, Contains, Option, Some, None, option_map, Result, Ok, Err, if◌then◌else◌}
 use Rattle.fetch_messages.specs.declared.ask.Ask.{Ask}
 use Rattle.fetch_messages.specs.Answer.{AnswerText}
-use Rattle.htcp_wire.specs.declared.message.Content.{Content}
-use Rattle.htcp_wire.specs.declared.message.Content.TheVariants as content
 use Rattle.roster_tables.specs.Ranges.{is_foreign_id}
 use Rattle.roster_tables.specs.declared.plain.Address.{Address}
 use Rattle.roster_tables.specs.declared.plain.Udp.TheVariants as udp
@@ -26,7 +24,8 @@ use Rattle.purge_rules.specs.declared.calls.MasterCall.TheVariants as call
 use Rattle.purge_rules.specs.declared.calls.MasterAnswer.{MasterAnswer}
 use Rattle.purge_rules.specs.declared.calls.MasterAnswer.TheVariants as answer
 use Rattle.purge_rules.specs.declared.fault.MasterFault.{MasterFault}
-use Rattle.world_rules.specs.Hierarchy.{is_own, udp_of}
+use Rattle.world_rules.specs.Hierarchy.{is_own}
+use Rattle.node_rules.specs.Messages.{protocol_of, clear_answer}
 use Rattle.world_rules.specs.World.{Datagram, datagrams_from, answer_of}
 use Rattle.world_rules.specs.Turn.{clears_of}
 
@@ -134,7 +133,7 @@ with_clears roster n c a = record { datagrams = n.datagrams ++ clears_by roster 
 
 -- the datagram comes to this member
 abbrev pub ComesTo : Tables → ℕ → Datagram → Type 0
-ComesTo roster id d = (is_master roster d.receiver ≡ false) × (member_at roster d.receiver (udp_of d.message) ≡ Some id)
+ComesTo roster id d = (is_master roster d.receiver ≡ false) × (member_at roster d.receiver (protocol_of d.message) ≡ Some id)
 
 -- a datagram with this sender and this message was sent to the member
 abbrev pub IsDatagramSent : Tables → Network → ℕ → Address → Message → Type 0
@@ -146,15 +145,6 @@ IsSent roster n id (event.Datagram from m now) = is_own roster from ≡ true →
 IsSent roster n id (event.PeerAsk asker ask now) = Contains n.asks (record { sender = asker; receiver = id; ask = ask })
 IsSent roster n id (event.PeerAnswer serial peer key answer tag now) = Contains n.answers (record { sender = peer; receiver = id; key = key; answer = answer })
 IsSent roster n id _ = Unit {0}
-
-abbrev pub clear_answer_in : ℕ → Content → Option (ℕ × ℕ)
-clear_answer_in trans (content.ClrAnswer code) = Some (trans, code)
-clear_answer_in trans _ = None
-
--- the TRANS-ID and the code of a CLR's answer, if the message is one
-abbrev pub clear_answer : Message → Option (ℕ × ℕ)
-clear_answer (message.Icp m) = None
-clear_answer (message.Htcp m) = clear_answer_in m.trans m.content
 
 -- the datagram is a member's answer to a CLR of the master
 pub record IsAnswerOf (roster : Tables) (id trans code : ℕ) (d : Datagram) : Type 0 where

@@ -4,7 +4,7 @@ use Rattle.std.specs.List.{AllByRecursion}
 use Rattle.node_rules.proofs.Lawful.{step_steps}
 use Rattle.node_rules.specs.Step.{step}
 use Rattle.roster_tables.specs.declared.plain.Tables.{Tables}
-use Rattle.world_rules.specs.Hierarchy.{setting}
+use Rattle.node_rules.specs.State.{setting}
 use Rattle.world_rules.specs.World.{World, node_at, after_node}
 use Rattle.world_rules.specs.declared.event.WorldEvent.{WorldEvent}
 use Rattle.world_rules.specs.Turn.{Seen, Replied, Turn, NodeSteps, Ends, Refused, turn}

@@ -16,7 +16,8 @@ use Rattle.purge_rules.specs.declared.calls.Status.{Status}
 use Rattle.purge_rules.specs.declared.calls.Status.TheVariants as status
 use Rattle.purge_rules.specs.Members.{is_among, with_id, are_among, members_of}
 use Rattle.purge_rules.specs.Purges.{PurgeList, is_numbered, pending_at, marked_by, with_mark, without_purge}
-use Rattle.purge_rules.specs.Calls.{is_acknowledging, Acknowledged, unchanged, counted, acknowledged, due, status_by, status_of}
+use Rattle.purge_rules.specs.Calls.{Acknowledged, unchanged, counted, acknowledged, due, status_by, status_of}
+use Rattle.htcp_wire.specs.Clearing.{is_acknowledging}
 use Rattle.purge_rules.specs.Clear.{clear, message_of}
 use Rattle.roster_tables.specs.declared.plain.Tables.{Tables}
 use Rattle.world_rules.specs.World.{Seat, World, node_at}

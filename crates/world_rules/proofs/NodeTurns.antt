@@ -31,13 +31,14 @@ use Rattle.htcp_wire.specs.declared.fault.HtcpFault.{HtcpFault}
 use Rattle.node_rules.specs.Datagrams.{purge_of}
 use Rattle.node_rules.specs.Relation.{purge_in, purge_by_line, purge_in_content, purge_in_message}
 use Rattle.node_rules.specs.Effect as effect
-use Rattle.node_rules.specs.Effect.{copy_in, copy_in_serve, IsBareStatus, copy_served, IsBareInServe, ServesBareStatus, sent, acknowledged, ComesFrom, Acknowledges, IsObedient, IsUnderWay, BeginsHere, IsReadFrom, IsReadOf, IsFromPeer, IsAnswerTo, IsAnswerOf}
+use Rattle.node_rules.specs.Effect.{copy_in, copy_in_serve, IsBareStatus, IsBareInServe, sent, acknowledged, ComesFrom, Acknowledges, IsObedient, IsReadFrom, IsReadOf, IsFromPeer, IsAnswerOf}
 use Rattle.node_rules.specs.Lawful.{number_of_purge, HasOrGets, Lawful}
 use Rattle.node_rules.proofs.Cases.{same_Some, true_not_false}
 use Rattle.node_rules.proofs.Pendings.{all_mapped, all_joined, contained}
 use Rattle.roster_tables.specs.declared.plain.Tables.{Tables}
 use Rattle.roster.specs.Judged.{IsRoster}
-use Rattle.world_rules.specs.Hierarchy.{setting, udp_of}
+use Rattle.node_rules.specs.Messages.{protocol_of as udp_of}
+use Rattle.node_rules.specs.State.{setting}
 use Rattle.world_rules.specs.World.{Seat, Datagram, PeerAsk, PeerAnswer, Waiting, World, node_at, with_node, datagrams_from, Answered, answer_of, mark_of, answer_to, asked_by, answers_in, reply_in, after_node}
 use Rattle.world_rules.specs.Turn.{with_seat}
 use Rattle.world_rules.specs.Run.{Step, IsItem, purges, issued}

@@ -21,7 +21,7 @@ use Rattle.node_rules.proofs.Pendings.{all_mapped, all_joined}
 use Rattle.purge_rules.specs.Clear.{number_line, clear}
 use Rattle.roster_tables.specs.declared.plain.Tables.{Tables}
 use Rattle.key_texts.specs.KeyOf.{key_of}
-use Rattle.world_rules.specs.Hierarchy.{setting}
+use Rattle.node_rules.specs.State.{setting}
 use Rattle.world_rules.proofs.Members.{all_tested}
 use Rattle.world_rules.proofs.Seats.{same_id, other_id, or_left}
 

@@ -11,7 +11,7 @@ use Rattle.node_rules.specs.Questions.{BeginsNothing}
 use Rattle.node_rules.proofs.Lawful.{steps_are_lawful}
 use Rattle.roster_tables.specs.declared.plain.Tables.{Tables}
 use Rattle.roster.specs.Judged.{IsRoster}
-use Rattle.world_rules.specs.Hierarchy.{setting}
+use Rattle.node_rules.specs.State.{setting}
 use Rattle.purge_rules.specs.declared.fault.MasterFault.{MasterFault}
 use Rattle.purge_rules.specs.Calls.{issue_fault}
 use Rattle.roster.specs.Lookups.{is_member}

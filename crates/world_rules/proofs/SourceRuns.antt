@@ -9,13 +9,12 @@ use Rattle.node_rules.specs.declared.reply.Served.TheVariants.{Copy}
 use Rattle.node_rules.specs.declared.reply.Serve.{Serve}
 use Rattle.node_rules.specs.declared.reply.Reply.{Reply}
 use Rattle.node_rules.specs.declared.event.Event.{Event}
-use Rattle.node_rules.specs.State.{served_age}
+use Rattle.node_rules.specs.State.{served_age, setting}
 use Rattle.node_rules.specs.Effect.{copy_in, copy_in_serve, copy_served}
 use Rattle.node_rules.proofs.Cases.{branches}
 use Rattle.node_rules.proofs.Lawful.{steps_are_lawful}
 use Rattle.roster_tables.specs.declared.plain.Tables.{Tables}
 use Rattle.world_rules.specs.declared.event.WorldEvent.{WorldEvent}
-use Rattle.world_rules.specs.Hierarchy.{setting}
 use Rattle.world_rules.specs.World.{World, new_node, new_world, node_at}
 use Rattle.world_rules.specs.Turn.{Seen, Replied, Turn, NodeSteps, Ends, Refused, turn}
 use Rattle.world_rules.specs.Run.{Step, Run, Takes, Happens, ServesCopy}

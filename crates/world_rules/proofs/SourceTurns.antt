@@ -17,7 +17,7 @@ use Rattle.node_rules.specs.declared.state.Pending.{Pending}
 use Rattle.node_rules.specs.declared.state.NodeState.{NodeState}
 use Rattle.node_rules.specs.declared.event.Event.{Event}
 use Rattle.node_rules.specs.declared.event.Event.TheVariants as event
-use Rattle.node_rules.specs.State.{opened}
+use Rattle.node_rules.specs.State.{opened, closed_node}
 use Rattle.node_rules.proofs.Cases.{branches, true_not_false}
 use Rattle.purge_rules.specs.declared.fault.MasterFault.{MasterFault}
 use Rattle.purge_rules.specs.Purges.{PurgeList}
@@ -26,9 +26,10 @@ use Rattle.roster_tables.specs.declared.plain.Tables.{Tables}
 use Rattle.world_rules.specs.declared.event.WorldEvent.{WorldEvent}
 use Rattle.world_rules.specs.declared.event.WorldEvent.TheVariants as world
 use Rattle.world_rules.specs.declared.outcome.WorldFault.TheVariants.{NoSuchPacket, NotPending}
-use Rattle.world_rules.specs.Hierarchy.{is_own, udp_of}
+use Rattle.world_rules.specs.Hierarchy.{is_own}
+use Rattle.node_rules.specs.Messages.{protocol_of as udp_of}
 use Rattle.world_rules.specs.World.{Datagram, PeerAsk, PeerAnswer, Waiting, World, item, node_at}
-use Rattle.world_rules.specs.Turn.{Seen, Nothing, Turn, NodeSteps, Ends, Refused, at_member, with_clock, with_master, with_sent, with_seat, closed_node, issue_by, acknowledged_by, master_hears_htcp, master_hears, delivered_to, delivered, ask_delivered, answer_delivered, origin_by, origin_to, foreign_by, foreign_to, fetching_at, turn}
+use Rattle.world_rules.specs.Turn.{Seen, Nothing, Turn, NodeSteps, Ends, Refused, at_member, with_clock, with_master, with_sent, with_seat, issue_by, acknowledged_by, master_hears_htcp, master_hears, delivered_to, delivered, ask_delivered, answer_delivered, origin_by, origin_to, foreign_by, foreign_to, fetching_at, turn}
 use Rattle.world_rules.specs.Run.{Step, ServesCopy}
 use Rattle.world_rules.specs.Asked.{moment}
 use Rattle.world_rules.specs.Sources.{AnswerHasSource, NodeHasSources, NodeHasAsks, HasSources}

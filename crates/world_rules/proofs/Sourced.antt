@@ -20,7 +20,7 @@ use Rattle.node_rules.specs.declared.reply.Reply.{Reply}
 use Rattle.node_rules.specs.declared.reply.StepFault.{StepFault}
 use Rattle.node_rules.specs.Arrivals.{is_gateway_fault}
 use Rattle.node_rules.specs.Fetching.{origin_ask}
-use Rattle.node_rules.specs.State.{fetch_serial}
+use Rattle.node_rules.specs.State.{fetch_serial, setting}
 use Rattle.node_rules.specs.Relation.{Steps}
 use Rattle.node_rules.specs.Effect.{copy_in, copy_in_serve, IsBareStatus, IsBareInServe, IsReadFrom, IsReadOf, IsAnswerOf, IsFromPeer}
 use Rattle.node_rules.specs.Lawful.{HasOrGets, Lawful}
@@ -29,7 +29,6 @@ use Rattle.node_rules.proofs.Pendings.{all_mapped, all_joined, contained}
 use Rattle.node_rules.proofs.Lawful.{steps_are_lawful}
 use Rattle.roster_tables.specs.declared.plain.Tables.{Tables}
 use Rattle.world_rules.specs.declared.event.WorldEvent.{WorldEvent}
-use Rattle.world_rules.specs.Hierarchy.{setting}
 use Rattle.world_rules.specs.World.{Seat, PeerAnswer, World, new_world, node_at, with_node, Answered, answer_of, mark_of, answer_to, asked_before, asked_by, answers_in, reply_in, after_node}
 use Rattle.world_rules.specs.Turn.{Replied, NodeSteps, turn}
 use Rattle.world_rules.specs.Run.{Step, Run}

@@ -22,21 +22,23 @@ use Rattle.node_rules.specs.declared.reply.Reply.{Reply}
 use Rattle.node_rules.specs.declared.reply.StepFault.{StepFault}
 use Rattle.roster_tables.specs.Ranges.{is_foreign_id}
 use Rattle.roster.specs.Lookups.{is_master, is_member, member_at, same_address, address_by}
-use Rattle.node_rules.specs.State.{opened}
+use Rattle.node_rules.specs.State.{opened, setting, closed_node}
 use Rattle.node_rules.specs.Effect.{acknowledged as acknowledged_by_message}
 use Rattle.purge_rules.specs.declared.fault.MasterFault.{MasterFault}
 use Rattle.purge_rules.specs.Members.{members_of}
-use Rattle.purge_rules.specs.Calls.{is_acknowledging, issue_fault, acknowledged, status_of}
+use Rattle.purge_rules.specs.Calls.{issue_fault, acknowledged, status_of}
+use Rattle.htcp_wire.specs.Clearing.{is_acknowledging}
 use Rattle.node_rules.proofs.Cases.{branches, same_Some, true_not_false}
 use Rattle.node_rules.proofs.Lawful.{steps_are_lawful}
 use Rattle.roster_tables.specs.declared.plain.Tables.{Tables}
 use Rattle.roster.specs.Judged.{IsRoster}
-use Rattle.world_rules.specs.Hierarchy.{setting, is_own, udp_of}
+use Rattle.world_rules.specs.Hierarchy.{is_own}
+use Rattle.node_rules.specs.Messages.{protocol_of as udp_of}
 use Rattle.world_rules.specs.World.{Datagram, PeerAsk, PeerAnswer, World, item, node_at, after_node}
 use Rattle.world_rules.specs.declared.event.WorldEvent.{WorldEvent}
 use Rattle.world_rules.specs.declared.event.WorldEvent.TheVariants as world
 use Rattle.world_rules.specs.declared.outcome.WorldFault.TheVariants.{NoSuchPacket}
-use Rattle.world_rules.specs.Turn.{Seen, Replied, NotIssued, Told, Nothing, Turn, NodeSteps, Ends, Refused, at_member, with_clock, with_master, with_seat, closed_node, issue_by, told, acknowledged_by, master_hears_htcp, master_hears, delivered_to, delivered, ask_delivered, answer_delivered, origin_by, origin_to, foreign_by, foreign_to, fetching_at, turn}
+use Rattle.world_rules.specs.Turn.{Seen, Replied, NotIssued, Told, Nothing, Turn, NodeSteps, Ends, Refused, at_member, with_clock, with_master, with_seat, issue_by, told, acknowledged_by, master_hears_htcp, master_hears, delivered_to, delivered, ask_delivered, answer_delivered, origin_by, origin_to, foreign_by, foreign_to, fetching_at, turn}
 use Rattle.world_rules.specs.Run.{Step, Takes, IsOfKey, Happens, purged_by, TellsDone, ServesCopy}
 use Rattle.world_rules.specs.Lineage.{HasRaised, IsClear, IsMastersRightly, IsObeyed, IsSentAnswer, NodeHasLineage, AllHaveRaised, HasLineage}
 use Rattle.world_rules.proofs.Seats.{same_id, all_item}

@@ -5,7 +5,7 @@ use Rattle.node_rules.specs.declared.reply.Begin.{Begin}
 use Rattle.node_rules.specs.declared.reply.Begin.TheVariants as begin
 use Rattle.node_rules.specs.declared.reply.Reply.{Reply}
 use Rattle.node_rules.specs.declared.reply.StepFault.{StepFault}
-use Rattle.node_rules.specs.State.{Stepped, quiet}
+use Rattle.node_rules.specs.State.{Stepped, quiet, setting}
 use Rattle.node_rules.specs.Step.{step}
 use Rattle.purge_rules.specs.declared.calls.Status.{Status}
 use Rattle.roster_tables.specs.declared.plain.Tables.{Tables}
@@ -14,7 +14,6 @@ use Rattle.world_rules.specs.declared.outcome.Outcome.{Outcome}
 use Rattle.world_rules.specs.declared.outcome.ActorFault.{ActorFault}
 use Rattle.world_rules.specs.declared.outcome.ActorFault.TheVariants as actor
 use Rattle.world_rules.specs.declared.outcome.WorldFault.{WorldFault}
-use Rattle.world_rules.specs.Hierarchy.{setting}
 use Rattle.world_rules.specs.World.{World, node_at, reply_in, after_node}
 use Rattle.world_rules.specs.Turn.{Seen, Replied, Issued, NotIssued, Told, Turn, NodeSteps, Ends, Refused, turn}
 use Rattle.world_rules.specs.Run.{Happens}

@@ -7,7 +7,7 @@ use Rattle.node_rules.specs.declared.reply.StepFault.{StepFault}
 use Rattle.node_rules.specs.Questions.{is_from_sibling, BeginsNothing}
 use Rattle.roster_tables.specs.declared.plain.Tables.{Tables}
 use Rattle.world_rules.specs.declared.event.WorldEvent.{WorldEvent}
-use Rattle.world_rules.specs.Hierarchy.{setting}
+use Rattle.node_rules.specs.State.{setting}
 use Rattle.world_rules.specs.World.{World, new_world, node_at}
 use Rattle.world_rules.specs.Turn.{Replied, NodeSteps, turn}
 use Rattle.world_rules.specs.Run.{Step, Run, Happens, IsIssuedAt, IsReportedAt, IsServedAt}

@@ -1,5 +1,5 @@
 -- What happens next: which actor takes a turn by an event, and what the world is after it.
-use Rattle.std.specs.Prelude.{ℕ, ◌+◌, Bool, true, ◌==◌, not, List, [], ◌∷◌, ◌++◌, filter, find, Option, Some, None, Result, unwrap_or, if◌then◌else◌}
+use Rattle.std.specs.Prelude.{ℕ, ◌+◌, Bool, ◌==◌, not, List, [], ◌∷◌, ◌++◌, filter, find, Option, Some, None, Result, unwrap_or, if◌then◌else◌}
 use Rattle.std.specs.List.{flat_map}
 use Rattle.htcp_wire.specs.declared.message.Content.{Content}
 use Rattle.htcp_wire.specs.declared.message.Content.TheVariants as content
@@ -21,7 +21,7 @@ use Rattle.node_rules.specs.declared.event.Event.{Event}
 use Rattle.node_rules.specs.declared.event.Event.TheVariants as event
 use Rattle.node_rules.specs.declared.reply.Reply.{Reply}
 use Rattle.node_rules.specs.declared.reply.StepFault.{StepFault}
-use Rattle.node_rules.specs.State.{opened, fetch_serial}
+use Rattle.node_rules.specs.State.{opened, closed_node, fetch_serial}
 use Rattle.purge_rules.specs.declared.calls.Status.{Status}
 use Rattle.purge_rules.specs.declared.fault.MasterFault.{MasterFault}
 use Rattle.purge_rules.specs.Members.{members_of}
@@ -32,7 +32,8 @@ use Rattle.world_rules.specs.declared.event.WorldEvent.{WorldEvent}
 use Rattle.world_rules.specs.declared.event.WorldEvent.TheVariants as world
 use Rattle.world_rules.specs.declared.outcome.WorldFault.{WorldFault}
 use Rattle.world_rules.specs.declared.outcome.WorldFault.TheVariants.{NoSuchPacket, NotPending}
-use Rattle.world_rules.specs.Hierarchy.{is_own, udp_of}
+use Rattle.world_rules.specs.Hierarchy.{is_own}
+use Rattle.node_rules.specs.Messages.{protocol_of}
 use Rattle.world_rules.specs.World.{Datagram, PeerAsk, PeerAnswer, World, item, node_at, with_node}
 
 -- what is seen of an event
@@ -76,10 +77,6 @@ with_sent w sent = record { seats = w.seats; master = w.master; clock = w.clock;
 -- the member's node becomes another, and what waited there for an answer waits no more
 abbrev pub with_seat : World → ℕ → NodeState ℕ → World
 with_seat w id node = record { seats = with_node w.seats id node; master = w.master; clock = w.clock; datagrams = w.datagrams; asks = w.asks; answers = w.answers; waiting = filter (λ x. not (x.node == id)) w.waiting }
-
--- closed, with no ask pending; its floors are stored
-abbrev pub closed_node : NodeState ℕ → NodeState ℕ
-closed_node s = record { floors = s.floors; copies = s.copies; pending = []; next = s.next; closed = true }
 
 -- The master
 
@@ -134,7 +131,7 @@ abbrev pub delivered : Tables → World → Option Datagram → Turn
 delivered roster w None = Refused NoSuchPacket
 delivered roster w (Some d) =
     if is_master roster d.receiver then master_hears roster w d.sender d.message
-    else delivered_to w d.sender d.message (member_at roster d.receiver (udp_of d.message))
+    else delivered_to w d.sender d.message (member_at roster d.receiver (protocol_of d.message))
 
 -- an ask comes to the member that it was sent to
 abbrev pub ask_delivered : Tables → World → Option PeerAsk → Turn
@@ -150,7 +147,7 @@ answer_delivered roster w serial (Some a) =
 -- nobody has the address of a member or of the master but these
 abbrev pub strange_comes : Tables → World → Address → Address → Message → Turn
 strange_comes roster w to sender m =
-    if is_own roster sender then Refused NoSuchPacket else delivered_to w sender m (member_at roster to (udp_of m))
+    if is_own roster sender then Refused NoSuchPacket else delivered_to w sender m (member_at roster to (protocol_of m))
 
 -- Answers from outside
 

@@ -23,7 +23,7 @@ use Rattle.node_rules.specs.declared.reply.Reply.{Reply}
 use Rattle.node_rules.specs.declared.reply.StepFault.{StepFault}
 use Rattle.node_rules.specs.State.{opened, quiet}
 use Rattle.purge_rules.specs.Purges.{PurgeList, no_purges}
-use Rattle.world_rules.specs.Hierarchy.{udp_of}
+use Rattle.node_rules.specs.Messages.{protocol_of}
 
 -- a member's node; its marks are places
 pub record Seat : Type 0 where
@@ -97,7 +97,7 @@ with_node (seat ∷ seats) id node = if seat.id == id then record { id = id; nod
 -- the datagrams of a member, from its address for their protocol
 abbrev pub datagrams_from : Option Member → List Outgoing → List Datagram
 datagrams_from None sent = []
-datagrams_from (Some m) sent = map (λ o. record { sender = address_by (udp_of o.message) m.cache; receiver = o.to; message = o.message }) sent
+datagrams_from (Some m) sent = map (λ o. record { sender = address_by (protocol_of o.message) m.cache; receiver = o.to; message = o.message }) sent
 
 -- the ask that it sends to a member; foreign caches are no part of the world
 abbrev pub asks_in : ℕ → Option Begin → List PeerAsk

@@ -1,6 +1,6 @@
 use Rattle.std.proofs.Common.{◌≡◌, map, take}
 use Rattle.roster.specs.Lookups.{address_by}
-use Rattle.world_rules.specs.Hierarchy.{udp_of}
+use Rattle.node_rules.specs.Messages.{protocol_of as udp_of}
 use Rattle.hierarchy_world.proofs.posting.datagrams_from.Given as goal
 
 abbrev pub invariant-loop-outgoing : goal.invariant-loop-outgoing

@@ -1,5 +1,5 @@
 use Rattle.std.proofs.Common.{◌<◌, length, sym, ◌∙◌, arith}
-use Rattle.node_messages.specs.Answers.{question_to}
+use Rattle.node_rules.specs.Asks.{question_to}
 use Rattle.node_messages.proofs.OneMore.{one_more}
 use Rattle.node_messages.proofs.questions.queries.Goals as goal
 

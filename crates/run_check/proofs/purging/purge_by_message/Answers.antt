@@ -9,7 +9,7 @@ use Rattle.node_rules.specs.declared.message.Message.{Message}
 use Rattle.node_rules.specs.declared.message.Message.TheVariants as message
 use Rattle.node_rules.specs.Relation.{purge_in_message, purge_in_content}
 use Rattle.node_core.specs.Closing.{purge_meant}
-use Rattle.world_rules.specs.Hierarchy.{setting}
+use Rattle.node_rules.specs.State.{setting}
 use Rattle.run_check.proofs.purging.purge_by_message.Goals as goal
 
 brought : (roster : Tables) (from : Address) (m : Message) (h : Htcp) (desired : Bool) (reason : ℕ) (spec : Specifier) → m ≡ message.Htcp h → h.content ≡ content.ClrAsk desired reason spec →

@@ -1,6 +1,6 @@
 use Rattle.std.proofs.Common.{Err, refl, sym, ◌∙◌, subst, inr}
 use Rattle.std.proofs.lemmas.Bool.{false≢true}
-use Rattle.world_rules.specs.Hierarchy.{setting}
+use Rattle.node_rules.specs.State.{setting}
 use Rattle.run_rules.specs.declared.verdict.Cause.TheVariants.{OtherReply}
 use Rattle.run_rules.specs.Judging.{OpenStepsBy}
 use Rattle.run_check.proofs.stepping.open_steps.Goals as goal

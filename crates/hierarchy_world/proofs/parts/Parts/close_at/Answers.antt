@@ -1,6 +1,6 @@
 use Rattle.std.proofs.Common.{◌≡◌, not, nat_eq, filter, set, slice_get, Some, refl}
 use Rattle.std.proofs.lemmas.Option.{slice_get_read}
-use Rattle.node_core.specs.Closing.{closing}
+use Rattle.node_rules.specs.State.{closed_node}
 use Rattle.hierarchy_world.specs.declared.parts.Parts.{Parts}
 use Rattle.hierarchy_world.specs.Parts.{MemberNode, IsStored, IsSeatChanged}
 use Rattle.hierarchy_world.proofs.Seating.{was_seated}
@@ -21,5 +21,5 @@ returns c =
       sound = seat_sound old new before n c.args.id c.args.place c.requires.sound c.requires.place at changed c.close.ensures.same.id c.close.ensures.same.roster stored;
       roster = changed.roster;
       place = changed.place;
-      world = seat_by old new before n c.args.id c.args.place c.requires.sound c.requires.place at changed c.close.ensures.same.id c.close.ensures.same.roster stored (λ s. closing s) c.close.ensures.state;
+      world = seat_by old new before n c.args.id c.args.place c.requires.sound c.requires.place at changed c.close.ensures.same.id c.close.ensures.same.roster stored (λ s. closed_node s) c.close.ensures.state;
     }

@@ -1,5 +1,5 @@
 use Rattle.std.proofs.Common.{◌≡◌, sym, ◌∙◌, ap, subst}
-use Rattle.world_rules.specs.Hierarchy.{setting}
+use Rattle.node_rules.specs.State.{setting}
 use Rattle.run_rules.specs.Board.{with_standing}
 use Rattle.run_rules.specs.Judging.{StepsSo}
 use Rattle.run_check.specs.declared.board.Board.{Board}

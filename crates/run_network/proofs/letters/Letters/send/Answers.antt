@@ -1,6 +1,6 @@
 use Rattle.std.proofs.Common.{sym, ap, ◌∙◌}
 use Rattle.roster.specs.Lookups.{member_at}
-use Rattle.world_rules.specs.Hierarchy.{udp_of}
+use Rattle.node_rules.specs.Messages.{protocol_of as udp_of}
 use Rattle.world_rules.specs.World.{Datagram}
 use Rattle.run_network.proofs.Sending.{to_member_on}
 use Rattle.run_network.proofs.letters.Letters.send.Goals as goal
