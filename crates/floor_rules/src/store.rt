@@ -11,7 +11,7 @@ use url_key::Key;
 
 /// A store that keeps the floors of a node, also over a restart.
 ///
-/// After `StoreFault` or `NoMemory` from a raise the store is of no use: each later call answers `StoreFault`, until it is opened again.
+/// After `StoreFault` or `NoMemory` from a raise a store over a file is of no use: each later call answers `StoreFault`, until it is opened again.
 pub trait FloorStore {
     // What the last commit left.
     ghost content: { Self → FloorMap };
@@ -42,7 +42,7 @@ pub trait FloorStore {
         ensures named { (result ≢ Err FloorFault.FloorsFull) × (result ≢ Err FloorFault.BadTable) };
 
     /// Commits the greater of the key's number and this one, which is at least 1. Once it has answered Ok, no crash takes that back;
-    /// a crash at any other moment leaves the floors from before or after the raise.
+    /// a crash at any other moment leaves the floors from before or after the raise, and from before it where there was no room.
     ///
     /// `FloorsFull` comes where 65,536 keys have numbers and this one has none, and changes nothing; `StoreFault` where the store failed, in this
     /// call or earlier; `NoMemory` where a growth was refused.

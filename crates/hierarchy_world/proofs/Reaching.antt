@@ -8,7 +8,7 @@ use Rattle.roster_tables.specs.Ranges.{is_foreign_id}
 use Rattle.roster_tables.specs.declared.plain.Address.{Address}
 use Rattle.roster_tables.specs.declared.plain.Udp.{Udp}
 use Rattle.roster_tables.specs.declared.plain.Tables.{Tables}
-use Rattle.roster.specs.Lookups.{is_member, is_master, member_at}
+use Rattle.roster.specs.Lookups.{is_member, is_master, member_at, is_own}
 use Rattle.node_rules.specs.declared.message.Message.{Message}
 use Rattle.node_rules.specs.declared.message.Message.TheVariants as message
 use Rattle.node_rules.specs.declared.state.Fetch.{Fetch}
@@ -20,7 +20,6 @@ use Rattle.node_rules.proofs.Cases.{true_not_false}
 use Rattle.node_rules.specs.declared.event.Event.TheVariants as event
 use Rattle.world_rules.specs.declared.outcome.WorldFault.{WorldFault}
 use Rattle.world_rules.specs.declared.outcome.WorldFault.TheVariants as fault
-use Rattle.world_rules.specs.Hierarchy.{is_own}
 use Rattle.node_rules.specs.Messages.{protocol_of as udp_of, clear_answer, clear_answer_in}
 use Rattle.world_rules.specs.World.{World, Datagram, PeerAsk, PeerAnswer}
 use Rattle.world_rules.specs.Turn.{Nothing, Turn, NodeSteps, Ends, Refused, at_member, master_hears_htcp, master_hears, delivered_to, delivered, ask_delivered, answer_delivered, strange_comes, origin_by, origin_to, foreign_by, foreign_to, fetching_at}

@@ -9,7 +9,7 @@ use Rattle.roster_tables.specs.Ranges.{is_foreign_id}
 use Rattle.roster_tables.specs.declared.plain.Address.{Address}
 use Rattle.roster_tables.specs.declared.plain.Udp.TheVariants as udp
 use Rattle.roster_tables.specs.declared.plain.Tables.{Tables}
-use Rattle.roster.specs.Lookups.{is_member, is_master, member_at}
+use Rattle.roster.specs.Lookups.{is_member, is_master, member_at, is_own}
 use Rattle.node_rules.specs.declared.message.Message.{Message}
 use Rattle.node_rules.specs.declared.message.Message.TheVariants as message
 use Rattle.node_rules.specs.declared.state.Fetch.{Fetch}
@@ -20,7 +20,6 @@ use Rattle.world_rules.specs.declared.event.WorldEvent.{WorldEvent}
 use Rattle.world_rules.specs.declared.event.WorldEvent.TheVariants as world
 use Rattle.world_rules.specs.declared.outcome.WorldFault.{WorldFault}
 use Rattle.world_rules.specs.declared.outcome.WorldFault.TheVariants as fault
-use Rattle.world_rules.specs.Hierarchy.{is_own}
 use Rattle.node_rules.specs.Messages.{protocol_of as udp_of}
 use Rattle.world_rules.specs.World.{World, Datagram, PeerAsk, PeerAnswer, item}
 use Rattle.world_rules.specs.Turn.{Turn, NodeSteps, Ends, Refused, at_member, acknowledged_by, master_hears_htcp, master_hears, delivered_to, delivered, ask_delivered, answer_delivered, origin_by, origin_to, foreign_by, foreign_to, fetching_at, issue_by, turn}

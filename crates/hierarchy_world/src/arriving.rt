@@ -8,13 +8,12 @@ ghost use Rattle.world_rules.specs.Turn as turns;
 ghost use Rattle.hierarchy_world.specs.Parts.{IsSound, IsTaken, world_of};
 
 use crate::network::Asked;
-use crate::parts::{Parts, is_foreign, is_master, is_own, item, udp_of};
+use crate::parts::{Parts, item};
 use crate::posting::copy_of_message;
-use crate::purging::clear_answer;
 use crate::telling::Seen;
 use fetch_messages::{Answer, Ask};
 use node_rules::{Event, Fetch, Received};
-use roster::Address;
+use roster::{Address, is_foreign};
 use world_rules::WorldFault;
 
 impl Parts {
@@ -54,11 +53,11 @@ impl Parts {
         };
         let sender = datagram.sender;
         let message = datagram.message.message();
-        if is_master(&self.roster, datagram.receiver) {
-            let answer = clear_answer(message);
+        if self.roster.is_master(datagram.receiver) {
+            let answer = message.clear_answer();
             return self.master_hears(sender, answer);
         }
-        let Some(id) = self.roster.member_at(datagram.receiver, udp_of(message)) else {
+        let Some(id) = self.roster.member_at(datagram.receiver, message.protocol()) else {
             return Err(WorldFault::NoSuchPacket);
         };
         let message = Received::new(copy_of_message(self.alloc, message)?);
@@ -76,10 +75,10 @@ impl Parts {
         requires { IsSound self.old }
         ensures { IsTaken self.old (turns.strange_comes self.old.roster (world_of self.old) to from message) result self.new }
     {
-        if is_own(&self.roster, from) {
+        if self.roster.is_own(from) {
             return Err(WorldFault::NoSuchPacket);
         }
-        match self.roster.member_at(to, udp_of(message.message())) {
+        match self.roster.member_at(to, message.message().protocol()) {
             Some(id) => self.hear(id, from, message),
             None => Err(WorldFault::NoSuchPacket),
         }

@@ -1,9 +1,8 @@
 //! A node's step, and what its reply sends.
-ghost use Rattle.std.specs.Prelude.{◌≡◌, ◌≤◌, ◌<◌, length, ◌==◌, ◌&&◌, ℕ, true, [], ◌∷◌, map, find, option_map, Option, Some, None, IfOk, OnOk};
+ghost use Rattle.std.specs.Prelude.{◌≡◌, ◌≤◌, ◌<◌, length, ◌==◌, ◌&&◌, true, [], map, find, Option, Some, None, IfOk, OnOk};
 ghost use Rattle.std.specs.List.{cons_option};
 ghost use Rattle.fetch_messages.specs.Field.{field_text};
 ghost use Rattle.roster.specs.Lookups.{member_of as member_by_id, address_by as address_for};
-ghost use Rattle.node_rules.specs.Texts.{IsSendable};
 ghost use Rattle.node_rules.specs.Arrivals.{is_gateway_fault};
 ghost use Rattle.node_rules.specs.Messages.{protocol_of as udp_of_text};
 ghost use Rattle.world_rules.specs.World as world;
@@ -12,13 +11,13 @@ ghost use Rattle.hierarchy_world.specs.Parts.{IsSound, IsPlace, IsTaken, Adds};
 ghost use Rattle.hierarchy_world.specs.Posted.{IsWritten, IsWrittenIn, IsWrittenBy, answered as answered_by, answers_by, waits_by, serial_of};
 
 use crate::network::{Asked, Datagram, PeerAnswer, PeerAsk, Waiting};
-use crate::parts::{Parts, is_foreign, member_of, udp_of};
+use crate::parts::Parts;
 use crate::seats::Stepped;
 use crate::telling::Seen;
 use fetch_messages::{Answer, Body, Field, Fields};
 use node_rules::{Begin, Event, Message, Outgoing, Reply, Sent, Serve, Served, StepFault};
 use object_store::WebCopy;
-use roster::{Address, Cache, Udp};
+use roster::{Cache, address_by, is_foreign};
 use std::alloc::{AllocError, Global};
 use url_key::Key;
 use world_rules::WorldFault;
@@ -33,23 +32,13 @@ pub(crate) fn copy_of_message(alloc: Global, message: &Message) -> Result<Messag
     })
 }
 
-/// Where a cache answers a protocol.
-fn address_by(by: Udp, cache: &Cache) -> Address
-    ensures { result ≡ address_for by cache.now }
-{
-    match by {
-        Udp::Icp => cache.icp,
-        Udp::Htcp => cache.htcp,
-    }
-}
-
 /// The datagram of a member that a message to be sent makes.
 fn datagram_from(alloc: Global, cache: &Cache, sent: &Outgoing) -> Result<Datagram, AllocError>
     ensures { IfOk result (λ made. made ≡ record { sender = address_for (udp_of_text sent.now.message) cache.now; receiver = sent.now.to; message = sent.now.message }) }
 {
     let message = sent.message.message();
     Ok(Datagram {
-        sender: address_by(udp_of(message), cache),
+        sender: address_by(message.protocol(), cache),
         receiver: sent.to,
         message: Sent::new(copy_of_message(alloc, message)?),
     })
@@ -227,7 +216,7 @@ impl Parts {
     fn send(&mut self, id: u8, sent: &[Outgoing]) -> Result<(), AllocError>
         ensures { OnOk result (Adds self.old self.new (world.datagrams_from (member_by_id self.old.roster id) sent.now) [] [] []) }
     {
-        if let Some(member) = member_of(&self.roster, id) {
+        if let Some(member) = self.roster.member(id) {
             let mut made = datagrams_from(self.alloc, &member.cache, sent)?;
             self.datagrams.append(&mut made)?;
         }

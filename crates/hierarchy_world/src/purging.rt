@@ -1,5 +1,5 @@
 //! The master's turns.
-ghost use Rattle.std.specs.Prelude.{◌≡◌, ◌+◌, [], ◌∷◌, Option, Some, None, option_map, Result, Ok, IfOk, OnOk};
+ghost use Rattle.std.specs.Prelude.{◌≡◌, [], Option, Some, None, option_map, Result, Ok, IfOk, OnOk};
 ghost use Rattle.std.specs.List.{cons_option, flat_map};
 ghost use Rattle.url_key.specs.Key.{IsKey};
 ghost use Rattle.htcp_wire.specs.Written.{Fits};
@@ -11,12 +11,11 @@ ghost use Rattle.purge_rules.specs.Calls.{issue_fault};
 ghost use Rattle.world_rules.specs.Turn as turns;
 ghost use Rattle.hierarchy_world.specs.Parts.{IsSound, IsTaken, Adds, world_of};
 ghost use Rattle.hierarchy_world.specs.Posted.{heard_by};
-ghost use Rattle.node_rules.specs.Messages.{clear_answer as clear_answer_of};
 
 use crate::network::Datagram;
-use crate::parts::{Parts, member_of};
+use crate::parts::Parts;
 use crate::telling::Seen;
-use htcp_wire::{Content, Htcp};
+use htcp_wire::Htcp;
 use node_rules::{Message, Sent};
 use purge_master::Master;
 use purge_rules::{MasterFault, MemoryPurges, clear};
@@ -38,24 +37,11 @@ fn clear_to(master: Address, receiver: Address, message: Htcp) -> Datagram
     }
 }
 
-/// The TRANS-ID and the code of a CLR's answer, if the message is one.
-pub(crate) fn clear_answer(message: &Message) -> Option<(u32, u8)>
-    ensures { result ≡ clear_answer_of message.now }
-{
-    match message {
-        Message::Htcp(message) => match &message.content {
-            Content::ClrAnswer { code } => Some((message.trans, *code)),
-            _ => None,
-        },
-        Message::Icp(_) => None,
-    }
-}
-
 /// Where the member of this id answers HTCP.
 fn htcp_of(roster: &Roster, id: u8) -> Option<Address>
     ensures { result ≡ option_map (λ m. m.cache.htcp) (member_by_id roster.now id) }
 {
-    match member_of(roster, id) {
+    match roster.member(id) {
         Some(member) => Some(member.cache.htcp),
         None => None,
     }

@@ -24,7 +24,7 @@ pub(crate) fn socket_address(address: Address) -> SocketAddr {
 fn htcp_of(roster: &Roster, id: u8) -> Option<Address>
     ensures { result ≡ htcp_of_member roster.now id }
 {
-    match roster.members().iter().find(|member| member.cache.id == id) {
+    match roster.member(id) {
         Some(member) => Some(member.cache.htcp),
         None => None,
     }

@@ -1,10 +1,9 @@
 //! What is done after a step, in octets.
 ghost use Rattle.std.specs.Prelude.{◌≡◌, IfOk, map};
 ghost use Rattle.node_bytes.specs.Turns.{packet_of, turn_of, idle, MeetsOctets};
-ghost use Rattle.node_rules.specs.Messages.{protocol_of as protocol_in};
 
 use crate::{Stepper, event_of, octets_of};
-use node_rules::{Begin, Message, Outgoing, Reply, Serve, StepFault};
+use node_rules::{Begin, Outgoing, Reply, Serve, StepFault};
 use roster::{Address, Listed, Udp};
 use std::alloc::{AllocError, Global};
 use wire_octets::Octets;
@@ -56,22 +55,12 @@ impl Turn {
     }
 }
 
-/// The protocol of a message.
-fn protocol_of(message: &Message) -> Udp
-    ensures { result ≡ protocol_in message.now }
-{
-    match message {
-        Message::Icp(_) => Udp::Icp,
-        Message::Htcp(_) => Udp::Htcp,
-    }
-}
-
 /// The protocol of a message and its written text, and where it goes.
 fn packet_of(alloc: Global, sent: &Outgoing) -> Result<Packet, AllocError>
     ensures { IfOk result (λ packet. packet ≡ packet_of sent.now) }
 {
     Ok(Packet {
-        by: protocol_of(sent.message.message()),
+        by: sent.message.message().protocol(),
         to: sent.to,
         octets: Octets::from_vec(octets_of(alloc, sent)?),
     })

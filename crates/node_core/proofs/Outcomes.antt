@@ -70,7 +70,7 @@ closed_steps g s e mark is_closed = ap (step_if g s e mark) is_closed
 -- what a crash at a raise leaves, where the floors in memory were raised too
 pub found_either : (stored before after found : FloorMap) (key : List ℕ) (n : ℕ) → stored ≡ before → after ≡ raised before key n → IsBeforeOrAfter stored key n found → (found ≡ before) ⊎ (found ≡ after)
 found_either stored before after found key n e raise (inl same) = inl (same ∙ e)
-found_either stored before after found key n e raise (inr new) = inr (new ∙ ap (λ f. raised f key n) e ∙ sym raise)
+found_either stored before after found key n e raise (inr (room, new)) = inr (new ∙ ap (λ f. raised f key n) e ∙ sym raise)
 
 -- the node that is left, by another name of it
 pub keeps_by : {X S : Type 0} (honest : S → Type 0) (may_find : S → FloorMap → Type 0) (before now after : NodeText X S) (out : Result (Reply X) StepFault) → now ≡ after →

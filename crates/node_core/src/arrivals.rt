@@ -14,13 +14,12 @@ use crate::copies::served_age;
 use crate::replies::{quiet, serves};
 use fetch_messages::Answer;
 use floor_rules::FloorStore;
-use node_messages::is_foreign;
 use node_rules::{Fetch, Pending, Reply, Served, StepFault};
 use node_waiting::Progress;
 use object_store::WebCopy;
 use peer_chooser::Round;
 use reuse_rules::lifetime;
-use roster::Listed;
+use roster::{Listed, is_foreign};
 use std::alloc::{AllocError, Global};
 use url_key::Key;
 

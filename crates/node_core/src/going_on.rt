@@ -1,6 +1,5 @@
 //! How a pending ask goes on: to a peer, to the origin, or to its end.
 ghost use Rattle.std.specs.Prelude.{◌≡◌, ◌<◌, ◌≤◌, ◌+◌, ◌*◌, ℕ, List, Option, length, true, IfOk, IfSome, Some, None, slice_get};
-ghost use Rattle.roster_tables.specs.Ranges.{is_foreign_id};
 ghost use Rattle.node_rules.specs.State as state;
 ghost use Rattle.node_rules.specs.Fetching as fetching;
 ghost use Rattle.node_rules.specs.declared.state.Fetch.TheVariants.{AtPeer, AtOrigin};
@@ -13,11 +12,11 @@ use crate::Node;
 use crate::replies::{begins, quiet, serves};
 use fetch_messages::Ask;
 use floor_rules::FloorStore;
-use node_messages::{has_origin, is_foreign};
+use node_messages::has_origin;
 use node_rules::{Begin, Fetch, Reply, Served, StepFault};
 use node_waiting::Progress;
 use peer_chooser::{Round, Source};
-use roster::Listed;
+use roster::{Listed, is_foreign};
 use std::alloc::{AllocError, Global};
 
 /// The most reads of the origin for one ask.

@@ -1,5 +1,5 @@
 //! How a node begins and ends.
-ghost use Rattle.std.specs.Prelude.{◌≡◌, ◌≢◌, ◌≤◌, ◌==◌, [], true, false, find, option_map, IfOk, Ok, Err};
+ghost use Rattle.std.specs.Prelude.{◌≡◌, ◌≢◌, ◌≤◌, [], true, false, IfOk, Ok, Err};
 ghost use Rattle.roster.specs.Lookups.{is_member as is_member_of};
 ghost use Rattle.node_rules.specs.State.{opened};
 ghost use Rattle.node_core.specs.Names.{open_fault_name};
@@ -8,7 +8,7 @@ use crate::Node;
 use floor_rules::{FloorFault, FloorStore};
 use node_waiting::Waiting;
 use object_store::Store;
-use roster::{Limits, Member, Roster};
+use roster::{Limits, Roster};
 use std::alloc::{AllocError, Global};
 use std::hash::RandomState;
 use thiserror::Error;
@@ -48,23 +48,6 @@ impl OpenFault {
             OpenFault::Floors(fault) => fault.name(),
             OpenFault::NoMemory => "NoMemory",
         }
-    }
-}
-
-/// The member of this id.
-fn member_of(members: &[Member], id: u8) -> Option<&Member>
-    ensures { option_map (λ m. m.now) result ≡ find (λ m. m.cache.id == id) members.now }
-{
-    members.iter().find(|member| member.cache.id == id)
-}
-
-/// Whether a member has this id.
-fn has_member(roster: &Roster, id: u8) -> bool
-    ensures { result ≡ is_member_of roster.now id }
-{
-    match member_of(roster.members(), id) {
-        Some(_) => true,
-        None => false,
     }
 }
 
@@ -144,7 +127,7 @@ impl<T, S: FloorStore + Drop> Node<T, S> {
         ensures cause { result ≡ Err (OpenFault.Floors FloorFault.StoreFault) → S.is_usable store ≡ false }
         ensures named { (result ≢ Err (OpenFault.Floors FloorFault.FloorsFull)) × (result ≢ Err (OpenFault.Floors FloorFault.BadTable)) }
     {
-        if !has_member(&roster, id) {
+        if !roster.is_member(id) {
             return Err(OpenFault::NoSuchNode);
         }
         let floors = match store.load(alloc) {

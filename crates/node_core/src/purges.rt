@@ -2,7 +2,6 @@
 ghost use Rattle.std.specs.Prelude.{◌≡◌, ◌≤◌, ℕ, List, Option, Some, None, option_map, IfOk, false, Err};
 ghost use Rattle.node_rules.specs.State as state;
 ghost use Rattle.node_rules.specs.Datagrams as datagrams;
-ghost use Rattle.roster.specs.Lookups.{is_master as is_master_at};
 ghost use Rattle.object_store.specs.Listed.{copy_of};
 ghost use Rattle.object_store.specs.Held.{is_older_than};
 ghost use Rattle.node_rules.specs.declared.state.NodeState.{NodeState};
@@ -20,7 +19,7 @@ use htcp_wire::{HeaderKind, Specifier, number_in};
 use node_messages::{clr_answer, is_known, overall_answer};
 use node_rules::{Reply, StepFault};
 use node_waiting::Waiting;
-use roster::{Address, Roster, Udp};
+use roster::{Address, Udp};
 use std::alloc::{AllocError, Global};
 use url_key::Key;
 
@@ -29,14 +28,6 @@ const CLR: u8 = 4;
 
 /// HTCP's overall response for what is not allowed here.
 const NOT_ALLOWED: u8 = 5;
-
-/// Whether an address is the master's.
-fn is_master(roster: &Roster, from: Address) -> bool
-    ensures { result ≡ is_master_at roster.now from }
-{
-    let master = roster.master();
-    from.ip == master.ip && from.port == master.port
-}
 
 /// The answer to a CLR that is not allowed.
 fn refused<T: Drop>(
@@ -105,7 +96,7 @@ impl<T: Copy + Drop, S: FloorStore> Node<T, S> {
         ensures leads { (key_of : List ℕ → Option (List ℕ)) →
             Leads (datagrams.plain_clr (setting_of self.old key_of) self.old.state from trans desired (option_map (λ k. k.now) key.entry)) self.old.state result self.new.state }
     {
-        if !is_known(&self.roster, self.id, Udp::Htcp, from) && !is_master(&self.roster, from) {
+        if !is_known(&self.roster, self.id, Udp::Htcp, from) && !self.roster.is_master(from) {
             return Ok(refused(self.alloc, from, trans, desired)?);
         }
         let held = match key {
@@ -138,7 +129,7 @@ impl<T: Copy + Drop, S: FloorStore> Node<T, S> {
             MayClose (datagrams.numbered_clr self.old.state from trans desired purge) self.old.state purge result self.new.state }
     {
         match key {
-            Some(key) if is_master(&self.roster, from) && number == trans && number >= 1 => {
+            Some(key) if self.roster.is_master(from) && number == trans && number >= 1 => {
                 self.purge(from, trans, desired, key, number)
             }
             _ => Ok(refused(self.alloc, from, trans, desired)?),

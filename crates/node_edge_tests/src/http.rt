@@ -3,7 +3,7 @@ use crate::held::{TWO, Tested, node_of, roster_of};
 use fetch_messages::{Answer, Body, FetchFault, Field, Fields};
 use http_header::{HeaderName, HeaderValue};
 use node_bytes::{Stepper, Turn};
-use node_http::{Asked, ServeFault, finish, has_member, name_of, serve_ask};
+use node_http::{Asked, ServeFault, finish, name_of, serve_ask};
 use node_rules::{Begin, Event, StepFault};
 use std::io::{self, Error, ErrorKind, Read, Write};
 use std::test::Fail;
@@ -112,7 +112,7 @@ fn ask_by<R: Read, W: Write>(
     now: u64,
 ) -> Result<String, Fail> {
     let roster = roster_of(rt, TWO)?;
-    if !has_member(&roster, 1) {
+    if !roster.is_member(1) {
         return Err("no such node".into());
     }
     let outcome = serve_ask(rt.alloc(), &roster, 1, node, reader, writer, now);
@@ -433,10 +433,10 @@ fn failing_streams_are_told(rt: HostRuntime) -> Result<(), Fail> {
 #[test]
 fn names_and_faults(rt: HostRuntime) -> Result<(), Fail> {
     let roster = roster_of(&rt, TWO)?;
-    let is_known = has_member(&roster, 2);
+    let is_known = roster.is_member(2);
     assert!(rt; is_known);
     assert!(rt; name_of(&roster, 2) == b"n2".as_slice());
-    let is_other_known = has_member(&roster, 3);
+    let is_other_known = roster.is_member(3);
     assert!(rt; !is_other_known);
     assert_eq!(&rt; ServeFault::Fetch(FetchFault::NoMemory).name(), "NoMemory");
     assert_eq!(&rt;

@@ -15,5 +15,5 @@ mod serving;
 
 pub use asking::{Asked, serve_ask};
 pub use fault::ServeFault;
-pub use roster_names::{has_member, name_of};
+pub use roster_names::name_of;
 pub use serving::finish;

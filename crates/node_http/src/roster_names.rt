@@ -1,17 +1,10 @@
 //! Members of a roster, by their ids.
-ghost use Rattle.std.specs.Prelude.{◌≡◌, ◌==◌, true, find, option_map, IsTrue};
+ghost use Rattle.std.specs.Prelude.{◌≡◌, true, IsTrue};
 ghost use Rattle.roster.specs.Lookups.{is_member as is_member_of};
 ghost use Rattle.peer_writing.specs.Name.{is_name as names_cache};
-ghost use Rattle.node_http.specs.Asking.{name_of as name_in, is_other_member as is_another, asker_of as asker_in};
+ghost use Rattle.node_http.specs.Asking.{name_of as name_in, asker_of as asker_in};
 
-use roster::{Member, Roster};
-
-/// The member of this id.
-fn member_of(members: &[Member], id: u8) -> Option<&Member>
-    ensures { option_map (λ m. m.now) result ≡ find (λ m. m.cache.id == id) members.now }
-{
-    members.iter().find(|member| member.cache.id == id)
-}
+use roster::Roster;
 
 /// The name of the member of this id, which its answers bear in `via`.
 pub fn name_of(roster: &Roster, id: u8) -> &[u8]
@@ -19,19 +12,9 @@ pub fn name_of(roster: &Roster, id: u8) -> &[u8]
     ensures value { result.now ≡ name_in roster.now id }
     ensures valid { IsTrue (names_cache result.now) }
 {
-    match member_of(roster.members(), id) {
+    match roster.member(id) {
         Some(member) => member.cache.name.as_slice(),
         None => unreachable!(),
-    }
-}
-
-/// Whether a member has this id.
-pub fn has_member(roster: &Roster, id: u8) -> bool
-    ensures { result ≡ is_member_of roster.now id }
-{
-    match member_of(roster.members(), id) {
-        Some(_) => true,
-        None => false,
     }
 }
 
@@ -40,7 +23,7 @@ pub(crate) fn asker_of(roster: &Roster, id: u8, member: Option<u8>) -> Option<u8
     ensures { result ≡ asker_in roster.now id member }
 {
     match member {
-        Some(member) if has_member(roster, member) && member != id => Some(member),
+        Some(member) if roster.is_member(member) && member != id => Some(member),
         _ => None,
     }
 }

@@ -1,21 +1,11 @@
 //! Caches by their ids, senders by their addresses, origins by their keys.
-ghost use Rattle.std.specs.Prelude.{◌≡◌, ◌==◌, ◌&&◌, not, true, find, option_map};
-ghost use Rattle.std.specs.List.{list_any};
-ghost use Rattle.roster_tables.specs.Ranges.{is_foreign_id};
-ghost use Rattle.roster.specs.Lookups.{is_member, same_address, address_by as address_for};
+ghost use Rattle.std.specs.Prelude.{◌≡◌, ◌==◌, ◌&&◌, true, find, option_map};
+ghost use Rattle.roster.specs.Lookups.{is_member, same_address};
 ghost use Rattle.node_rules.specs.Known as known;
-ghost use Rattle.node_rules.specs.Datagrams.{peer_at as peer_of_round};
 
 use peer_chooser::Round;
-use roster::{Address, Cache, Member, Peer, Roster, Udp};
+use roster::{Address, Cache, Peer, Roster, Udp, address_by, is_foreign};
 use url_key::Key;
-
-/// Whether an id is a foreign cache's.
-pub fn is_foreign(id: u8) -> bool
-    ensures { result ≡ is_foreign_id id }
-{
-    (101..=108).contains(&id)
-}
 
 /// The cache of an id, a member or a foreign one.
 pub(crate) fn cache_of(roster: &Roster, id: u8) -> Option<&Cache>
@@ -24,7 +14,10 @@ pub(crate) fn cache_of(roster: &Roster, id: u8) -> Option<&Cache>
     if is_foreign(id) {
         foreign_in(roster.foreign(), id)
     } else {
-        member_in(roster.members(), id)
+        match roster.member(id) {
+            Some(member) => Some(&member.cache),
+            None => None,
+        }
     }
 }
 
@@ -33,26 +26,6 @@ fn foreign_in(caches: &[Cache], id: u8) -> Option<&Cache>
     ensures { option_map (λ c. c.now) result ≡ find (λ c. c.id == id) caches.now }
 {
     caches.iter().find(|cache| cache.id == id)
-}
-
-/// The cache of the member of this id.
-fn member_in(members: &[Member], id: u8) -> Option<&Cache>
-    ensures { option_map (λ c. c.now) result ≡ option_map (λ m. m.cache) (find (λ m. m.cache.id == id) members.now) }
-{
-    match members.iter().find(|member| member.cache.id == id) {
-        Some(member) => Some(&member.cache),
-        None => None,
-    }
-}
-
-/// Where a cache answers a protocol.
-pub(crate) fn address_by(by: Udp, cache: &Cache) -> Address
-    ensures { result ≡ address_for by cache.now }
-{
-    match by {
-        Udp::Icp => cache.icp,
-        Udp::Htcp => cache.htcp,
-    }
 }
 
 /// Whether two addresses are one.

@@ -6,6 +6,6 @@ mod known;
 mod questions;
 mod replies;
 
-pub use known::{has_origin, is_foreign, is_known, peer_at};
+pub use known::{has_origin, is_known, peer_at};
 pub use questions::queries;
 pub use replies::{clr_answer, icp_answer, nop_answer, overall_answer, tst_answer};

@@ -5,11 +5,11 @@ ghost use Rattle.roster_tables.specs.declared.plain.Udp.TheVariants as udp;
 ghost use Rattle.node_rules.specs.Messages as messages;
 ghost use Rattle.node_rules.specs.Asks.{question_to};
 
-use crate::known::{address_by, cache_of};
+use crate::known::cache_of;
 use htcp_wire::{Content, Htcp, Specifier};
 use icp_wire::{Icp, IcpOp};
 use node_rules::{Message, Outgoing, Sent};
-use roster::{Listed, Peer, Roster, Udp};
+use roster::{Listed, Peer, Roster, Udp, address_by};
 use std::alloc::{AllocError, Global};
 use url_key::Key;
 use wire_octets::Octets;

@@ -1,11 +1,12 @@
 ghost use Rattle.std.specs.Prelude.{◌≡◌, ◌↔◌, IsTrue};
 ghost use Rattle.icp_wire.specs.declared.message.IcpOp.TheVariants as op;
 ghost use Rattle.icp_wire.specs.Written.{Fits};
+ghost use Rattle.node_rules.specs.Messages.{protocol_of, clear_answer as clear_answer_in_message};
 ghost use Rattle.node_rules.specs.Texts.{IsAnswerable, HasOpcode, IsSendable, icp_message};
 
 use htcp_wire::{Content, Htcp};
 use icp_wire::{Icp, LONGEST_MESSAGE};
-use roster::Address;
+use roster::{Address, Udp};
 use std::marker::Model;
 
 /// The octets of an ICP answer without its URL: a header, and the zero octet behind the URL (RFC 2186).
@@ -18,6 +19,31 @@ pub enum Message {
     Icp(Icp),
     /// A message of HTCP/0.0 (RFC 2756).
     Htcp(Htcp),
+}
+
+impl Message {
+    /// The protocol by which it is sent.
+    pub fn protocol(&self) -> Udp
+        ensures { result ≡ protocol_of self.now }
+    {
+        match self {
+            Message::Icp(_) => Udp::Icp,
+            Message::Htcp(_) => Udp::Htcp,
+        }
+    }
+
+    /// The TRANS-ID and the code of a CLR's answer, if it is one (RFC 2756, section 6.5).
+    pub fn clear_answer(&self) -> Option<(u32, u8)>
+        ensures { result ≡ clear_answer_in_message self.now }
+    {
+        match self {
+            Message::Htcp(message) => match &message.content {
+                Content::ClrAnswer { code } => Some((message.trans, *code)),
+                _ => None,
+            },
+            Message::Icp(_) => None,
+        }
+    }
 }
 
 /// A message that came, and that can be answered: an answer that repeats its number and URL, or its opcode, has a text. Each

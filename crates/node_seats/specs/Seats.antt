@@ -1,5 +1,5 @@
 -- What a seat carries, and what a call by it changes.
-use Rattle.std.specs.Prelude.{◌≡◌, ◌⊎◌, ℕ, zero, suc, ◌+◌, ◌-◌, ◌==◌, List, [], ◌∷◌, ◌++◌, length, if◌then◌else◌, Result, Ok, Err, Option, Some, None}
+use Rattle.std.specs.Prelude.{◌≡◌, ◌≤◌, ◌⊎◌, ℕ, zero, suc, ◌+◌, ◌-◌, ◌^◌, ◌==◌, List, [], ◌∷◌, ◌++◌, length, if◌then◌else◌, Result, Ok, Err, Option, Some, None}
 use Rattle.node_rules.specs.declared.event.Event.{Event}
 use Rattle.node_rules.specs.declared.reply.Reply.{Reply}
 use Rattle.node_rules.specs.declared.reply.StepFault.{StepFault}
@@ -90,6 +90,10 @@ pub record DeskView (S : Type 0) : Type 0 where
 -- the count of calls
 abbrev pub count_of : {S : Type 0} → DeskView S → ℕ
 count_of desk = desk.before + length desk.book.entries
+
+-- the book has 4,096 entries, or the count is at its greatest
+abbrev pub IsSpent : {S : Type 0} → DeskView S → Type 0
+IsSpent desk = (4096 ≤ length desk.book.entries) ⊎ (2 ^ 64 - 1 ≤ count_of desk)
 
 -- the caller is given the book's answer, or told that its reply was lost
 abbrev pub IsGiven : Result (Reply (Unit {0})) BookFault → Result (Reply (Unit {0})) BookFault → Type 0

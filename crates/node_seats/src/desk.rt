@@ -1,19 +1,19 @@
 //! The locked book of a node.
-ghost use Rattle.std.specs.Prelude.{◌≡◌, ◌+◌, ◌<◌, ◌⊎◌, false, vec_len, vec_capacity, Some, None, Ok, Err, IfOk, IfErr};
+ghost use Rattle.std.specs.Prelude.{◌≡◌, ◌+◌, ◌≤◌, ◌<◌, ◌⊎◌, ◌↔◌, length, vec_len, vec_capacity, Some, None, Ok, Err, IfOk, IsTrue};
 ghost use Rattle.floor_rules.specs.Store.{HaveRisen};
 ghost use Rattle.node_book.specs.declared.book.BookFault.TheVariants as faults;
 ghost use Rattle.node_book.specs.Book.{IsApplied};
 ghost use Rattle.node_bytes.specs.Stepping.{AnswersAsk};
-ghost use Rattle.node_seats.specs.Seats.{Called, IsGiven, Posted, counted, listed, told_of};
+ghost use Rattle.node_seats.specs.Seats.{Called, IsGiven, IsSpent, Posted, counted, listed, told_of};
 ghost use Rattle.node_seats.specs.declared.seat.Told.{Told};
 
 use crate::places::Places;
 use crate::seat::{Calls, Made, Seat, Told};
 use floor_rules::FloorStore;
-use node_book::{BookFault, NodeBook};
+use node_book::{BookFault, MOST_ENTRIES, NodeBook};
 use node_copies::{copy_of_event, copy_of_reply};
 use node_rules::{Event, Reply};
-use std::alloc::Global;
+use std::alloc::{AllocError, Global};
 use std::marker::Model;
 use std::sync::ledger::{Book, Share};
 
@@ -45,8 +45,8 @@ impl<S: FloorStore, L: Calls> Model for Desk<S, L> {
 }
 
 impl<S: FloorStore, L: Calls> Desk<S, L> {
-    /// One call by a seat. At `ShiftFull` and `NoMemory` nothing changes; else the book has one entry more, of this event and the seat's number, with the outcome that is told,
-    /// or that of `ReplyLost` is unknown.
+    /// One call by a seat. `ShiftFull` comes exactly where the desk is spent, before all else. At `ShiftFull` and `NoMemory` nothing changes; else the book has one entry more, of this event and the
+    /// seat's number, with the outcome that is told, or that of `ReplyLost` is unknown.
     pub(crate) fn call(
         &mut self,
         seat: &mut Seat<L>,
@@ -54,12 +54,15 @@ impl<S: FloorStore, L: Calls> Desk<S, L> {
     ) -> Result<Reply<()>, BookFault>
         ensures seat { Called seat.old event result seat.new }
         ensures asks { IfOk result (AnswersAsk event) }
+        ensures full { (result ≡ Err faults.ShiftFull) ↔ IsSpent self.old }
         ensures refused { (result ≡ Err faults.ShiftFull) ⊎ (result ≡ Err faults.NoMemory) → self.new ≡ self.old }
         ensures posted { (told : Told) → told_of result ≡ Some told → Posted (S.is_honest self.new.book.node.store) (S.may_find self.new.book.node.store)
             (HaveRisen (S.failed self.old.book.node.store) (S.failed self.new.book.node.store)) self.old self.new seat.old.number event result }
     {
-        let is_spent = self.before >= u64::MAX - self.book.entries().len() as u64;
-        match room_for(self.alloc, is_spent, &mut seat.made, event) {
+        if self.is_spent() {
+            return Err(BookFault::ShiftFull);
+        }
+        match room_for(self.alloc, &mut seat.made, event) {
             Ok((event, listed)) => {
                 let place = self.places.draw();
                 let (answer, told) = post(self.alloc, &mut self.book, seat.number, place, event);
@@ -72,34 +75,32 @@ impl<S: FloorStore, L: Calls> Desk<S, L> {
                 );
                 answer
             }
-            Err(fault) => Err(fault),
+            Err(_) => Err(BookFault::NoMemory),
         }
+    }
+
+    /// Whether the book has 4,096 entries, or the count of calls is at its greatest.
+    fn is_spent(&self) -> bool
+        ensures { IsTrue result ↔ IsSpent self.now }
+    {
+        let entries = self.book.entries().len();
+        MOST_ENTRIES <= entries || self.before >= u64::MAX - entries as u64
     }
 }
 
 /// Makes room for one call more, and a copy of its event for the list.
 fn room_for(
     alloc: Global,
-    is_spent: bool,
     made: &mut Vec<Made>,
     event: Event<()>,
-) -> Result<(Event<()>, Event<()>), BookFault>
+) -> Result<(Event<()>, Event<()>), AllocError>
     ensures copy { IfOk result (λ events. (events.0 ≡ event) × (events.1 ≡ event)) }
     ensures room { IfOk result (λ _. vec_len made.new < vec_capacity made.new) }
-    ensures spent { IfOk result (λ _. is_spent ≡ false) }
-    ensures refused { IfErr result (λ fault. (fault ≡ faults.ShiftFull) ⊎ (fault ≡ faults.NoMemory)) }
     ensures same { made.new.items ≡ made.old.items }
 {
-    if is_spent {
-        return Err(BookFault::ShiftFull);
-    }
-    if made.reserve(1).is_err() {
-        return Err(BookFault::NoMemory);
-    }
-    match copy_of_event(alloc, &event) {
-        Ok(listed) => Ok((event, listed)),
-        Err(_) => Err(BookFault::NoMemory),
-    }
+    made.reserve(1)?;
+    let listed = copy_of_event(alloc, &event)?;
+    Ok((event, listed))
 }
 
 /// Applies an event for a seat: what the caller is given, and what the seat lists of it.
@@ -113,6 +114,7 @@ fn post<S: FloorStore>(
     ensures told { result.1 ≡ told_of result.0 }
     ensures asks { IfOk result.0 (AnswersAsk event) }
     ensures refused { result.1 ≡ None → book.new ≡ book.old }
+    ensures full { result.0 ≡ Err faults.ShiftFull → 4096 ≤ length book.old.entries }
     ensures posted { (told : Told) → result.1 ≡ Some told → (answer : _) × IsGiven answer result.0
         × IsApplied (S.is_honest book.new.node.store) (S.may_find book.new.node.store)
         (HaveRisen (S.failed book.old.node.store) (S.failed book.new.node.store)) book.old book.new seat place event answer }

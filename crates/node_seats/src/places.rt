@@ -18,8 +18,8 @@ impl Places {
         }
     }
 
-    /// The same counter for another caller.
-    pub fn try_clone(&self) -> Result<Places, AllocError> {
+    /// The same counter for another caller. `AllocError` comes where its owners cannot be counted any more.
+    pub fn copy(&self) -> Result<Places, AllocError> {
         Ok(Places {
             next: Arc::try_clone(&self.next)?,
         })

@@ -56,7 +56,7 @@ impl<S: FloorStore, L: Calls> SharedNode<S, L> {
 
     /// Makes one call by a seat, which comes back with the call in its list, or as it was where no step was taken.
     ///
-    /// Faults: `ShiftFull` where the book has 4,096 entries, or the count of calls is at its greatest, and `NoMemory` where there is no room for the call: nothing changes
+    /// Faults: `ShiftFull` where the book has 4,096 entries, or the count of calls is at its greatest, and then `NoMemory` where there is no room for the call: nothing changes
     /// then. `Step` with the step's fault. `ReplyLost` where the step stands, and there was no memory for a copy of its reply. An ask that is answered is served at once, and nothing else is
     /// done then; or it waits for what begins with it.
     pub fn call<R: Wait>(

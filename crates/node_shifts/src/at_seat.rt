@@ -1,4 +1,5 @@
 //! The steps of a node by one of its seats.
+ghost use Rattle.std.specs.Prelude.{◌≡◌};
 ghost use Rattle.node_shifts.specs.Shifts.{IsStepAt};
 
 use crate::shifts::Shifts;
@@ -18,7 +19,9 @@ pub struct AtSeat<'n, S: FloorStore, L: Calls, R: Wait> {
 
 impl<'n, S: FloorStore + Drop, L: Calls, R: Wait> AtSeat<'n, S, L, R> {
     /// The node, as the seat of this number takes its steps; the last seat, where there are not so many.
-    pub fn new(rt: &'n R, node: &'n Mutex<Shifts<S, L>>, number: u8) -> AtSeat<'n, S, L, R> {
+    pub fn new(rt: &'n R, node: &'n Mutex<Shifts<S, L>>, number: u8) -> AtSeat<'n, S, L, R>
+        ensures { result.number ≡ number }
+    {
         AtSeat { rt, node, number }
     }
 }

@@ -1,14 +1,13 @@
 //! What no clause says: that each call can be made, with ample memory, over a roster that was read.
-ghost use Rattle.std.specs.Prelude.{◌≡◌, ◌==◌, find, option_map};
 
 use icp_wire::{Icp, IcpOp, fits};
 use node_messages::{
-    clr_answer, has_origin, icp_answer, is_foreign, is_known, nop_answer, overall_answer, peer_at,
-    queries, tst_answer,
+    clr_answer, has_origin, icp_answer, is_known, nop_answer, overall_answer, peer_at, queries,
+    tst_answer,
 };
 use node_rules::{Message, Outgoing};
 use peer_chooser::Round;
-use roster::{Address, Listed, Member, Roster, Udp};
+use roster::{Address, Listed, Roster, Udp, is_foreign};
 use std::test::Fail;
 use url_key::Key;
 use wire_octets::Octets;
@@ -92,12 +91,6 @@ fn key_of(rt: &HostRuntime, text: &[u8]) -> Result<Key, Fail> {
     Ok(Key::read(rt.alloc(), text)?)
 }
 
-fn member_of(members: &[Member], id: u8) -> Option<&Member>
-    ensures { option_map (λ m. m.now) result ≡ find (λ m. m.cache.id == id) members.now }
-{
-    members.iter().find(|member| member.cache.id == id)
-}
-
 /// The octets of a message that is sent.
 fn octets_of(rt: &HostRuntime, sent: &Outgoing) -> Result<Vec<u8>, Fail> {
     match sent.message.message() {
@@ -107,7 +100,7 @@ fn octets_of(rt: &HostRuntime, sent: &Outgoing) -> Result<Vec<u8>, Fail> {
 }
 
 fn known_by_one(roster: &Roster, by: Udp, from: Address) -> bool {
-    match member_of(roster.members(), 1) {
+    match roster.member(1) {
         Some(_) => is_known(roster, 1, by, from),
         None => false,
     }
@@ -137,7 +130,7 @@ fn known_senders(rt: HostRuntime) -> Result<(), Fail> {
 }
 
 fn round_of_one(roster: &Roster) -> Option<Round> {
-    match member_of(roster.members(), 1) {
+    match roster.member(1) {
         Some(_) => Some(Round::start(roster, 1, 0)),
         None => None,
     }

@@ -11,7 +11,7 @@ use mio::net::TcpStream;
 use node_bytes::Packet;
 use node_fetch::Source;
 use node_rules::Serve;
-use roster::{Address, Cache, Member, Roster};
+use roster::{Address, Cache, Roster};
 use std::alloc::Global;
 use std::sync::Arc;
 use std::sync::atomic::{AtomicBool, Ordering};
@@ -53,13 +53,6 @@ pub(crate) fn milliseconds<C: Clock>(clock: &C) -> u64 {
     }
 }
 
-/// The member of this id.
-fn member_in(members: &[Member], id: u8) -> Option<&Member>
-    ensures { option_map (λ m. m.now) result ≡ find (λ m. m.cache.id == id) members.now }
-{
-    members.iter().find(|member| member.cache.id == id)
-}
-
 /// The cache of this id.
 fn cache_in(caches: &[Cache], id: u8) -> Option<&Cache>
     ensures { option_map (λ c. c.now) result ≡ find (λ c. c.id == id) caches.now }
@@ -71,7 +64,7 @@ fn cache_in(caches: &[Cache], id: u8) -> Option<&Cache>
 pub(crate) fn source_of(roster: &Roster, peer: u8) -> Option<(Source, Address)>
     ensures { result ≡ peer_source roster.now peer }
 {
-    match member_in(roster.members(), peer) {
+    match roster.member(peer) {
         Some(member) => Some((Source::Member(peer), member.cache.http)),
         None => match cache_in(roster.foreign(), peer) {
             Some(cache) => Some((Source::Foreign(peer), cache.http)),

@@ -16,10 +16,9 @@ use crate::tools::Tools;
 use floor_rules::FloorStore;
 use node_book::{NodeBook, Record};
 use node_core::{Node, OpenFault};
-use node_http::has_member;
 use node_seats::Places;
 use node_shifts::History;
-use roster::{Cache, Roster};
+use roster::Roster;
 use std::alloc::{AllocError, Global};
 use std::hash::RandomState;
 use std::net::{Net, TcpListener, TcpStream};
@@ -79,14 +78,6 @@ fn fresh_book<S: FloorStore + Drop>(
     }
 }
 
-/// The entry of the member of this id.
-fn cache_of(roster: &Roster, id: u8) -> Option<&Cache> {
-    match roster.members().iter().find(|member| member.cache.id == id) {
-        Some(member) => Some(&member.cache),
-        None => None,
-    }
-}
-
 /// Opens a node's sockets.
 fn sockets<R: Net + Clock>(
     rt: &R,
@@ -94,10 +85,10 @@ fn sockets<R: Net + Clock>(
     roster: &Roster,
     id: u8,
 ) -> Result<(NodeLoop, Senders), StartFault> {
-    let Some(cache) = cache_of(roster, id) else {
+    let Some(member) = roster.member(id) else {
         return Err(StartFault::Open(OpenFault::NoSuchNode));
     };
-    let (mut turner, senders) = NodeLoop::open(rt, alloc, cache)?;
+    let (mut turner, senders) = NodeLoop::open(rt, alloc, &member.cache)?;
     turner.set_wait(Duration::from_millis(WAIT));
     Ok((turner, senders))
 }
@@ -360,7 +351,7 @@ impl Workers {
         ensures member { OnOk result (is_member roster.now id ≡ true) }
         ensures no_such { is_member roster.now id ≡ false → IfErr result (λ fault. fault ≡ starting.Open opening.NoSuchNode) }
     {
-        if !has_member(roster, id) {
+        if !roster.is_member(id) {
             return Err(StartFault::Open(OpenFault::NoSuchNode));
         }
         let Ground {

@@ -2,20 +2,12 @@
 
 ghost use Rattle.std.specs.Prelude.{◌≡◌, ◌==◌, find, option_map};
 ghost use Rattle.std.specs.List.{list_all, list_any};
-ghost use Rattle.roster_tables.specs.Ranges.{is_foreign_id};
 ghost use Rattle.roster.specs.Lookups.{is_sibling as is_sibling_role, is_parent as is_parent_role};
 ghost use Rattle.peer_chooser.specs.Round.{RoundText, may_ask as may_be_asked, has_told as has_answered};
 ghost use Rattle.peer_chooser.specs.Choice as spec;
 
 use crate::{Said, Source, Told};
-use roster::{Peer, Role};
-
-/// Whether an id is a foreign cache's.
-fn is_foreign(id: u8) -> bool
-    ensures { result ≡ is_foreign_id id }
-{
-    (101..=108).contains(&id)
-}
+use roster::{Peer, Role, is_foreign};
 
 /// Whether a peer may be asked at this floor: a foreign cache only where nothing was purged.
 pub(crate) fn may_ask(floor: u32, peer: Peer) -> bool

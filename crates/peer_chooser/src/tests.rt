@@ -1,7 +1,5 @@
-ghost use Rattle.std.specs.Prelude.{◌≡◌, ◌==◌, find, option_map};
-
 use crate::{Round, Said, Source};
-use roster::{Member, Peer, Role, Roster, Udp};
+use roster::{Peer, Role, Roster, Udp};
 use std::test::Fail;
 
 const SIBLING: Role = Role::Sibling;
@@ -260,15 +258,9 @@ icp = 3201
 htcp = 4201
 ";
 
-fn member_of(members: &[Member], id: u8) -> Option<&Member>
-    ensures { option_map (λ m. m.now) result ≡ find (λ m. m.cache.id == id) members.now }
-{
-    members.iter().find(|member| member.cache.id == id)
-}
-
 fn asked_ids(roster: &Roster, member: u8, floor: u32) -> [u8; 3] {
     let mut ids = [0; 3];
-    if let Some(_) = member_of(roster.members(), member) {
+    if roster.is_member(member) {
         let round = Round::start(roster, member, floor);
         for (place, peer) in ids.iter_mut().zip(round.asked()) {
             *place = peer.id;

@@ -3,14 +3,15 @@ ghost use Rattle.htcp_wire.specs.Written.{Fits};
 ghost use Rattle.purge_rules.specs.declared.calls.MasterCall.TheVariants as calls;
 ghost use Rattle.purge_rules.specs.declared.calls.MasterAnswer.TheVariants as answers;
 ghost use Rattle.purge_rules.specs.Calls.{Calls, status_of};
-ghost use Rattle.htcp_wire.specs.Clearing.{is_acknowledging as acknowledges};
 ghost use Rattle.purge_rules.specs.Clear.{message_of};
 ghost use Rattle.purge_master.specs.View.{issue_outcome, acknowledge_outcome, due_outcome, fault_of as answer_to_fault};
 ghost use Rattle.purge_master.specs.Store.{IsCalled, witness};
 
 use crate::news::{News, news_of};
 use htcp_wire::Htcp;
-use purge_rules::{MasterFault, MemberSet, PurgeFault, PurgeStore, Purges, Status, clear};
+use purge_rules::{
+    MasterFault, MemberSet, PurgeFault, PurgeStore, Purges, Status, clear, is_acknowledging,
+};
 use roster_tables::Listed;
 use std::alloc::{AllocError, Global};
 use std::marker::Model;
@@ -54,13 +55,6 @@ fn fault_of(fault: PurgeFault) -> MasterFault
     }
 }
 
-/// Whether a response of this code acknowledges a purge (RFC 2756, "CLR"): 0, the entity was held and is gone, or 2, it was not held.
-fn is_acknowledging(code: u8) -> bool
-    ensures { result ≡ acknowledges code }
-{
-    code == 0 || code == 2
-}
-
 impl<S: PurgeStore> Master<S> {
     /// Gives a number to a purge of the key, and commits it. The members are told by `message`.
     ///
@@ -95,7 +89,7 @@ impl<S: PurgeStore> Master<S> {
 
     /// A member responds to a CLR, with this TRANS-ID and this code. It answers with the purge that is done by it, if one is: the last
     /// missing member has acknowledged it. A response of a stranger, of another code than 0 and 2, or for no pending purge changes
-    /// nothing, and neither does one that comes again.
+    /// nothing, and neither does one that comes again; where no member is missing any more, as in a file of a larger roster, any of them makes the purge done.
     ///
     /// Faults: `Closed`; `StoreFault`, which closes the master; `NoMemory`, which the store answers, and which closes the master.
     pub fn acknowledge(

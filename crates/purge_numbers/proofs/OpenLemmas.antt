@@ -1,5 +1,5 @@
 -- A file that was read is ready.
-use Rattle.std.proofs.Common.{◌≡◌, ◌≢◌, ◌<◌, length, pos, inl, inr, subst, arith, List, [], ◌∷◌, map, false, IsTrue, Ok, Err, Result, IfOk, OnOk, sym, ap, ◌∙◌}
+use Rattle.std.proofs.Common.{◌≤◌, ◌≡◌, ◌≢◌, ◌<◌, length, pos, inl, inr, subst, arith, List, [], ◌∷◌, map, false, IsTrue, Ok, Err, Result, IfOk, OnOk, sym, ap, ◌∙◌}
 use Rattle.std.specs.List.{AllByRecursion}
 use Rattle.std.specs.List.Sorted.{IsPermutation}
 use Rattle.std.specs.FinMap.{empty}
@@ -63,6 +63,10 @@ not_added old rows shown none file =
 pub too_many : (old : State) (rows : List Row) → IsPermutation (map shown_row (old.now.trees 1)) rows → 65536 < length rows → ¬ IsNodeFile old
 too_many old rows shown many file =
     omega (arith, many, file.few, length_permutation (map shown_row (old.now.trees 1)) rows shown, length-map (old.now.trees 1) shown_row)
+
+pub few_rows : (old : State) (rows : List Row) → IsPermutation (map shown_row (old.now.trees 1)) rows → length rows ≤ 65536 → length (old.now.trees 1) ≤ 65536
+few_rows old rows shown few =
+    omega (arith, few, length_permutation (map shown_row (old.now.trees 1)) rows shown, length-map (old.now.trees 1) shown_row)
 
 pub kept_crash : (old mid new : State) → LeavesNoOther old mid → Survives mid new (λ _. ⊥) → LeavesNoOther old new
 kept_crash old mid new first second clean left may = elim (second.crash clean may.0 may.1) [

@@ -48,11 +48,11 @@ pub record IsNodeFile (file : State) : Type 0 where
   pub once : IsFloorTable (file.now.trees 1)
   pub few : length (file.now.trees 1) ≤ 65536
 
--- a file with nothing in it has no floors, and a node's file in version 1, whose rows are all floors, has those that were committed
+-- a file with nothing in it has no floors, and a node's file in version 1, whose rows are at most 65,536 and all floors, has those that were committed
 abbrev pub OpensWith : State → FloorMap → Type 0
 OpensWith file floors =
     (IsBlank file.now × (floors ≡ empty))
-    ⊎ ((file.now.schema ≡ node_schema) × HasVersionOne (file.now.trees 0) × AllByRecursion IsFloor (file.now.trees 1) × (floors ≡ committed_floors file))
+    ⊎ ((file.now.schema ≡ node_schema) × HasVersionOne (file.now.trees 0) × AllByRecursion IsFloor (file.now.trees 1) × (length (file.now.trees 1) ≤ 65536) × (floors ≡ committed_floors file))
 
 -- a crash leaves what it may have left before, or no floors where the file had nothing in it
 abbrev pub LeavesNoOther : State → State → Type 0

@@ -1,5 +1,5 @@
 //! Opening a node's file.
-ghost use Rattle.std.specs.Prelude.{◌≡◌, ◌≢◌, ◌⊎◌, ◌∷◌, [], false, pos, map, IsPermutation, IsTrue, IfOk, OnOk, Err};
+ghost use Rattle.std.specs.Prelude.{◌≡◌, ◌≢◌, ◌≤◌, ◌⊎◌, ◌∷◌, [], false, pos, length, map, IsPermutation, IsTrue, IfOk, OnOk, Err};
 ghost use Rattle.std.specs.List.{AllByRecursion};
 ghost use Rattle.sqlite.specs.State.{HasCleanDisk, Survives, IsUnchanged};
 ghost use Rattle.sqlite.specs.Held.{state};
@@ -77,6 +77,7 @@ fn read_floors<S: Alter>(conn: &mut Connection<S>, alloc: Global) -> Result<Floo
     ensures kept { IfOk result (λ floors. HasCleanDisk (state S.Store conn.new) → AreIn (state S.Store conn.new) floors) }
     ensures same { OnOk result (HasCleanDisk (state S.Store conn.new) → committed_floors (state S.Store conn.new) ≡ committed_floors (state S.Store conn.old)) }
     ensures rows { OnOk result (HasCleanDisk (state S.Store conn.new) → AllByRecursion IsFloor ((state S.Store conn.old).now.trees 1)) }
+    ensures few { OnOk result (HasCleanDisk (state S.Store conn.new) → length ((state S.Store conn.old).now.trees 1) ≤ 65536) }
     ensures bad { result ≡ Err FloorFault.BadTable → HasCleanDisk (state S.Store conn.new) → ¬ IsNodeFile (state S.Store conn.old) }
     ensures survives { Survives (state S.Store conn.old) (state S.Store conn.new) (λ _. ⊥) }
     ensures full { result ≢ Err FloorFault.FloorsFull }
@@ -184,6 +185,7 @@ fn read_file<S: Alter>(conn: &mut Connection<S>, alloc: Global) -> Result<Floors
     ensures same { OnOk result (HasCleanDisk (state S.Store conn.new) → committed_floors (state S.Store conn.new) ≡ committed_floors (state S.Store conn.old)) }
     ensures schema { OnOk result ((state S.Store conn.old).now.schema ≡ node_schema) }
     ensures rows { OnOk result (HasCleanDisk (state S.Store conn.new) → AllByRecursion IsFloor ((state S.Store conn.old).now.trees 1)) }
+    ensures few { OnOk result (HasCleanDisk (state S.Store conn.new) → length ((state S.Store conn.old).now.trees 1) ≤ 65536) }
     ensures bad { result ≡ Err FloorFault.BadTable → HasCleanDisk (state S.Store conn.new) → ¬ IsNodeFile (state S.Store conn.old) }
     ensures survives { Survives (state S.Store conn.old) (state S.Store conn.new) (λ _. ⊥) }
     ensures full { result ≢ Err FloorFault.FloorsFull }

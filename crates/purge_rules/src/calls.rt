@@ -1,4 +1,5 @@
 ghost use Rattle.std.specs.Prelude.{◌≡◌, IfOk};
+ghost use Rattle.htcp_wire.specs.Clearing.{is_acknowledging as acknowledges};
 
 use roster_tables::Listed;
 use std::alloc::{AllocError, Global};
@@ -33,6 +34,13 @@ pub enum MasterCall {
     Due,
     /// The status of a purge is asked.
     Status(u32),
+}
+
+/// Whether a CLR's response of this code acknowledges a purge (RFC 2756, section 6.5): 0, the entity was held and is gone, or 2, it was not held.
+pub fn is_acknowledging(code: u8) -> bool
+    ensures { result ≡ acknowledges code }
+{
+    code == 0 || code == 2
 }
 
 /// What a master answers to a call.

@@ -14,7 +14,7 @@ mod purges;
 mod sending;
 mod store;
 
-pub use calls::{MasterAnswer, MasterCall, Status};
+pub use calls::{MasterAnswer, MasterCall, Status, is_acknowledging};
 pub use fault::{MasterFault, PurgeFault};
 pub use members::MemberSet;
 pub use memory::MemoryPurges;

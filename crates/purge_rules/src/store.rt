@@ -10,7 +10,7 @@ use url_key::Key;
 
 /// A store that keeps the purges of a master, also over a restart.
 ///
-/// After `StoreFault` or `NoMemory` from a call that writes the store is of no use: each later call answers `StoreFault`, until it is
+/// After `StoreFault` or `NoMemory` from a call that writes a store over a file is of no use: each later call answers `StoreFault`, until it is
 /// opened again. Once such a call has answered Ok, no crash takes that back; a crash at any other moment leaves the purges from before
 /// the call or from after it.
 pub trait PurgeStore {

@@ -1,5 +1,5 @@
 -- Who is who: look-ups in a roster.
-use Rattle.std.specs.Prelude.{◌≡◌, ℕ, Bool, true, false, ◌&&◌, ◌==◌, bytes_eq, List, [], option_map, is_some, Option, Some, None}
+use Rattle.std.specs.Prelude.{◌≡◌, ℕ, Bool, true, false, ◌&&◌, ◌||◌, ◌==◌, bytes_eq, List, [], option_map, is_some, Option, Some, None}
 use Rattle.std.specs.List.{list_any, find}
 use Rattle.roster_tables.specs.declared.plain.Address.{Address}
 use Rattle.roster_tables.specs.declared.plain.Udp.{Udp}
@@ -57,6 +57,10 @@ member_at t address by = option_map (λ m. m.cache.id) (find (λ m. same_address
 
 abbrev pub is_master : Tables → Address → Bool
 is_master t from = same_address from t.master
+
+-- a member's address, by either protocol, or the master's
+abbrev pub is_own : Tables → Address → Bool
+is_own t address = is_master t address || (is_some (member_at t address udp.Icp) || is_some (member_at t address udp.Htcp))
 
 -- whether this is the origin of a host and a port
 abbrev pub is_origin_of : List ℕ → ℕ → Origin → Bool

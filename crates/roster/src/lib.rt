@@ -13,7 +13,7 @@ mod loops;
 mod roster;
 
 pub use crate::fault::{RosterError, RosterFault};
-pub use crate::roster::Roster;
+pub use crate::roster::{Roster, address_by, is_foreign};
 pub use roster_tables::{
     Address, Cache, Limits, Listed, Member, Origin, Peer, Place, Role, TableKind, Udp,
 };

@@ -1,9 +1,9 @@
 ghost use Rattle.std.specs.Prelude.{◌≡◌, ◌==◌, ◌&&◌, true, IfOk, IfErr, Some, option_map};
-ghost use Rattle.roster_tables.specs.Ranges.{are_tables};
+ghost use Rattle.roster_tables.specs.Ranges.{is_foreign_id};
 ghost use Rattle.roster_tables.specs.Reading.{tables_in};
 ghost use Rattle.roster.specs.Faults.{IsFirstOf};
 ghost use Rattle.roster.specs.Judged.{IsRoster};
-ghost use Rattle.roster.specs.Lookups.{is_member, peers_of, peers_in as peers_of_entry, origin_at, member_at as member_by_address, names_sibling as calls_sibling};
+ghost use Rattle.roster.specs.Lookups.{is_member as is_member_of, member_of as member_by_id, is_master as is_master_at, is_own as is_own_address, peers_of, peers_in as peers_of_entry, origin_at, member_at as member_by_address, names_sibling as calls_sibling};
 ghost use Rattle.roster.specs.Lookups.{address_by as address_for, is_origin_of as is_origin_for, is_sibling as is_sibling_role};
 ghost use Rattle.std.specs.List.{find, list_any};
 
@@ -56,9 +56,23 @@ impl Roster {
         self.tables.members.as_slice()
     }
 
+    /// The member of this id, if there is one.
+    pub fn member(&self, id: u8) -> Option<&Member>
+        ensures { option_map (λ m. m.now) result ≡ member_by_id self.now id }
+    {
+        member_of(self.members(), id)
+    }
+
+    /// Whether a member has this id.
+    pub fn is_member(&self, id: u8) -> bool
+        ensures { result ≡ is_member_of self.now id }
+    {
+        self.member(id).is_some()
+    }
+
     /// The peers of the member of this id, at most 23, in the order in which it asks them.
     pub fn peers(&self, id: u8) -> &[Peer]
-        requires { is_member self.now id ≡ true }
+        requires { is_member_of self.now id ≡ true }
         ensures { result.now ≡ peers_of self.now id }
     {
         peers_in(self.members(), id)
@@ -90,6 +104,23 @@ impl Roster {
         ensures { result ≡ self.now.master }
     {
         self.tables.master
+    }
+
+    /// Whether this is the address of the purge master.
+    pub fn is_master(&self, address: Address) -> bool
+        ensures { result ≡ is_master_at self.now address }
+    {
+        let master = self.master();
+        address.ip == master.ip && address.port == master.port
+    }
+
+    /// Whether this is the address of a member, by either protocol, or of the purge master.
+    pub fn is_own(&self, address: Address) -> bool
+        ensures { result ≡ is_own_address self.now address }
+    {
+        self.is_master(address)
+            || self.member_at(address, Udp::Icp).is_some()
+            || self.member_at(address, Udp::Htcp).is_some()
     }
 
     /// The id of the member that is reached at this address by this protocol.
@@ -131,8 +162,15 @@ impl Roster {
     }
 }
 
+/// Whether an id is a foreign cache's: 101 to 108.
+pub fn is_foreign(id: u8) -> bool
+    ensures { result ≡ is_foreign_id id }
+{
+    (101..=108).contains(&id)
+}
+
 /// Where a cache answers a protocol.
-fn address_by(by: Udp, cache: &Cache) -> Address
+pub fn address_by(by: Udp, cache: &Cache) -> Address
     ensures { result ≡ address_for by cache.now }
 {
     match by {

@@ -4,11 +4,12 @@ ghost use Rattle.purge_rules.specs.declared.calls.MasterCall.TheVariants as call
 ghost use Rattle.purge_rules.specs.Members.{members_of};
 ghost use Rattle.purge_rules.specs.Purges.{no_purges, pending_at};
 ghost use Rattle.purge_rules.specs.Calls.{called, opened, is_written as is_written_by, is_news as is_news_of, is_due as is_due_call, issue_fault as issue_fault_of, counted};
-ghost use Rattle.htcp_wire.specs.Clearing.{is_acknowledging as acknowledges};
 ghost use Rattle.run_check.specs.Held.{master_of, IsAnswered, IsWanting, IsFailing, IsTaken};
 
 use purge_master::MasterEntry;
-use purge_rules::{MasterAnswer, MasterCall, MasterFault, MemberSet, Purge, Purges};
+use purge_rules::{
+    MasterAnswer, MasterCall, MasterFault, MemberSet, Purge, Purges, is_acknowledging,
+};
 use roster::Roster;
 use std::alloc::{AllocError, Global};
 use url_key::Key;
@@ -25,13 +26,6 @@ pub(crate) struct Ledger {
     members: MemberSet,
     purges: Purges,
     closed: bool,
-}
-
-/// Whether a response of this code acknowledges a purge.
-fn is_acknowledging(code: u8) -> bool
-    ensures { result ≡ acknowledges code }
-{
-    code == 0 || code == 2
 }
 
 /// Whether a call lists what is due.

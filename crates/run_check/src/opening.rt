@@ -1,5 +1,5 @@
 //! Records open and close.
-ghost use Rattle.std.specs.Prelude.{◌≡◌, ◌↔◌, true, IsTrue, IfOk, find, option_map, ◌==◌};
+ghost use Rattle.std.specs.Prelude.{◌≡◌, ◌↔◌, true, IsTrue, IfOk};
 ghost use Rattle.roster.specs.Lookups.{is_member as is_member_of};
 ghost use Rattle.run_rules.specs.Board.{Open, Shut};
 ghost use Rattle.run_rules.specs.Judging.{ClosesAs};
@@ -11,23 +11,9 @@ use crate::states::{is_opened, is_shut, same_state};
 use floor_rules::{FloorStore, MemoryFloors};
 use node_core::Node;
 use node_rules::NodeState;
-use roster::{Member, Roster};
+use roster::Roster;
 use std::alloc::{AllocError, Global};
 use std::hash::RandomState;
-
-/// The member of this id among these.
-fn member_in(members: &[Member], id: u8) -> Option<&Member>
-    ensures { option_map (λ m. m.now) result ≡ find (λ m. m.cache.id == id) members.now }
-{
-    members.iter().find(|member| member.cache.id == id)
-}
-
-/// Whether a member has this id.
-fn is_member(roster: &Roster, id: u8) -> bool
-    ensures { result ≡ is_member_of roster.now id }
-{
-    member_in(roster.members(), id).is_some()
-}
 
 /// A member's node starts again with these floors, if this is its state then; else it is astray.
 fn restarted(
@@ -125,7 +111,7 @@ pub(crate) fn opens(
     ensures standing { IsSound roster.now id standing → IfOk result (λ after. IsOpened roster.now id (standing_of standing) state.now (standing_of after)) }
     ensures sound { IsSound roster.now id standing → IfOk result (IsSound roster.now id) }
 {
-    if is_member(roster, id) {
+    if roster.is_member(id) {
         goes_on(alloc, keys, roster, id, standing, state)
     } else {
         Ok(Standing::Astray)

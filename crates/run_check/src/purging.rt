@@ -1,6 +1,5 @@
 //! The purge that an event brings, and the floors that are stored where it fails.
 ghost use Rattle.std.specs.Prelude.{◌≡◌, ◌≤◌, ℕ, IfOk, IfSome};
-ghost use Rattle.roster.specs.Lookups.{is_master as is_master_at};
 ghost use Rattle.node_rules.specs.Relation.{purge_in as purge_of_event, purge_in_message};
 ghost use Rattle.node_core.specs.View.{HasKeyOf};
 ghost use Rattle.node_core.specs.Closing.{purge_meant};
@@ -14,14 +13,6 @@ use node_rules::{Event, Message};
 use roster::{Address, Roster};
 use std::alloc::{AllocError, Global};
 use url_key::{Key, KeyFault};
-
-/// Whether an address is the master's.
-fn is_master(roster: &Roster, from: Address) -> bool
-    ensures { result ≡ is_master_at roster.now from }
-{
-    let master = roster.master();
-    from.ip == master.ip && from.port == master.port
-}
 
 /// Reads a text as a key, if it has one.
 fn read_key(alloc: Global, text: &[u8]) -> Result<Option<Key>, AllocError>
@@ -59,7 +50,7 @@ fn purge_by(
     let Some(key) = key_of(alloc, spec.uri.as_slice())? else {
         return Ok(None);
     };
-    if is_master(roster, from) && number == trans && number >= 1 {
+    if roster.is_master(from) && number == trans && number >= 1 {
         Ok(Some((key, number)))
     } else {
         Ok(None)

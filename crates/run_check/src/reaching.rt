@@ -5,8 +5,8 @@ ghost use Rattle.run_rules.specs.Judging.{Reaches, IsPending, is_read as is_orig
 use floor_rules::MemoryFloors;
 use node_core::Node;
 use node_equality::same_key;
-use node_messages::is_foreign;
 use node_rules::{Event, Fetch};
+use roster::is_foreign;
 use url_key::Key;
 
 /// Whether a fetch is a read of the origin.

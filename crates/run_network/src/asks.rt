@@ -5,11 +5,11 @@ ghost use Rattle.run_network.specs.Bags.{Has};
 ghost use Rattle.run_network.specs.Held.{ask_in, HasAsk, HoldsAsks};
 
 use crate::bags::Bags;
-use crate::members::is_foreign;
 use crate::prints::ask_print;
 use fetch_messages::Ask;
 use node_equality::same_ask;
 use node_rules::Begin;
+use roster::is_foreign;
 use std::alloc::{AllocError, Global};
 use std::hash::RandomState;
 

@@ -10,13 +10,12 @@ ghost use Rattle.run_network.specs.Bags.{Has};
 ghost use Rattle.run_network.specs.Held.{HasLetter, HasAcknowledged, HoldsLetters, datagram_from};
 
 use crate::bags::Bags;
-use crate::members::{address_by, clear_answer, is_master, member_of, udp_of};
 use crate::prints::letter_print;
 use node_copies::copy_of_sent;
 use node_equality::same_message;
 use node_rules::{Message, Outgoing, Sent};
 use purge_rules::clear;
-use roster::{Address, Cache, Roster, Udp};
+use roster::{Address, Cache, Roster, Udp, address_by};
 use std::alloc::{AllocError, Global};
 use std::hash::RandomState;
 use url_key::Key;
@@ -182,7 +181,7 @@ impl Letters {
         requires { is_master_at roster.now receiver ≡ true }
         ensures { OnOk result ((sent : List Datagram) → HoldsLetters roster.now self.old sent → HoldsLetters roster.now self.new (sent ++ record { sender = sender; receiver = receiver; message = message.now } ∷ [])) }
     {
-        match (clear_answer(message), roster.member_at(sender, Udp::Htcp)) {
+        match (message.clear_answer(), roster.member_at(sender, Udp::Htcp)) {
             (Some((trans, code)), Some(member)) => self.add_acknowledged(
                 alloc, member, trans, code,
             ),
@@ -202,10 +201,10 @@ impl Letters {
         ensures { OnOk result ((sent : List Datagram) → HoldsLetters roster.now self.old sent → HoldsLetters roster.now self.new (sent ++ record { sender = sender; receiver = receiver; message = message.now } ∷ [])) }
     {
         let text = message.message();
-        if is_master(roster, receiver) {
+        if roster.is_master(receiver) {
             return self.tell_master(alloc, roster, sender, receiver, text);
         }
-        match roster.member_at(receiver, udp_of(text)) {
+        match roster.member_at(receiver, text.protocol()) {
             Some(member) => self.add_letter(alloc, sender, member, message),
             None => Ok(()),
         }
@@ -223,7 +222,7 @@ impl Letters {
     {
         for one in outgoing {
             let text = one.message.message();
-            let sender = address_by(udp_of(text), cache);
+            let sender = address_by(text.protocol(), cache);
             self.send(alloc, roster, sender, one.to, &one.message)?;
         }
         Ok(())
@@ -239,7 +238,7 @@ impl Letters {
     ) -> Result<(), AllocError>
         ensures { OnOk result ((sent : List Datagram) → HoldsLetters roster.now self.old sent → HoldsLetters roster.now self.new (sent ++ datagrams_from (member_by_id roster.now node) outgoing.now)) }
     {
-        match member_of(roster, node) {
+        match roster.member(node) {
             Some(member) => self.send_all(alloc, roster, &member.cache, outgoing),
             None => Ok(()),
         }
@@ -256,7 +255,7 @@ impl Letters {
     ) -> Result<(), AllocError>
         ensures { OnOk result ((sent : List Datagram) → HoldsLetters roster.now self.old sent → HoldsLetters roster.now self.new (sent ++ clear_to roster.now (Some (clear_of number key.now)) (member_by_id roster.now member))) }
     {
-        match member_of(roster, member) {
+        match roster.member(member) {
             Some(member) => {
                 let clr = Sent::new(Message::Htcp(clear(alloc, number, key)?));
                 self.send(alloc, roster, roster.master(), member.cache.htcp, &clr)

@@ -9,7 +9,6 @@ mod answers;
 mod asks;
 mod bags;
 mod letters;
-mod members;
 mod network;
 mod prints;
 mod waits;

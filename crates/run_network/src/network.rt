@@ -7,7 +7,6 @@ ghost use Rattle.run_network.specs.Held.{Holds, HoldsWaits, with_answers, with_w
 use crate::answers::Answers;
 use crate::asks::Asks;
 use crate::letters::Letters;
-use crate::members::is_own;
 use crate::waits::Waits;
 use node_rules::{Begin, Event, Reply, Serve};
 use purge_rules::{MasterAnswer, MasterCall, MasterFault};
@@ -60,7 +59,7 @@ impl<'a> Network<'a> {
     {
         match event {
             Event::Datagram { from, message, .. } => {
-                !is_own(roster, *from) || self.letters.has_letter(*from, node, message.message())
+                !roster.is_own(*from) || self.letters.has_letter(*from, node, message.message())
             }
             Event::PeerAsk { asker, ask, .. } => self.asks.has_ask(*asker, node, ask),
             Event::PeerAnswer {

@@ -6,7 +6,7 @@ use Rattle.fetch_messages.specs.Answer.{AnswerText}
 use Rattle.roster_tables.specs.Ranges.{is_foreign_id}
 use Rattle.roster_tables.specs.declared.plain.Address.{Address}
 use Rattle.roster_tables.specs.declared.plain.Tables.{Tables}
-use Rattle.roster.specs.Lookups.{is_member, member_at, is_master}
+use Rattle.roster.specs.Lookups.{is_member, member_at, is_master, is_own}
 use Rattle.roster.specs.Judged.{IsRoster}
 use Rattle.node_rules.specs.declared.message.Message.{Message}
 use Rattle.node_rules.specs.declared.state.Fetch.{Fetch}
@@ -22,7 +22,6 @@ use Rattle.node_rules.proofs.Cases.{true_not_false}
 use Rattle.world_rules.specs.declared.event.WorldEvent.{WorldEvent}
 use Rattle.world_rules.specs.declared.event.WorldEvent.TheVariants as world
 use Rattle.world_rules.specs.declared.outcome.WorldFault.TheVariants.{NoSuchPacket, NotPending}
-use Rattle.world_rules.specs.Hierarchy.{is_own}
 use Rattle.node_rules.specs.Messages.{protocol_of as udp_of}
 use Rattle.world_rules.specs.World.{World, Datagram, item, node_at}
 use Rattle.world_rules.specs.Turn.{Turn, NodeSteps, Refused, turn, at_member, with_clock, delivered, delivered_to, master_hears, ask_delivered, answer_delivered, origin_to, origin_by, foreign_to, foreign_by, fetching_at}

@@ -6,7 +6,7 @@ use Rattle.roster_tables.specs.Ranges.{is_foreign_id}
 use Rattle.roster_tables.specs.declared.plain.Address.{Address}
 use Rattle.roster_tables.specs.declared.plain.Udp.TheVariants as udp
 use Rattle.roster_tables.specs.declared.plain.Tables.{Tables}
-use Rattle.roster.specs.Lookups.{member_of, member_at, is_master}
+use Rattle.roster.specs.Lookups.{member_of, member_at, is_master, is_own}
 use Rattle.node_rules.specs.declared.message.Message.{Message}
 use Rattle.node_rules.specs.declared.message.Message.TheVariants as message
 use Rattle.node_rules.specs.declared.event.Event.{Event}
@@ -24,7 +24,6 @@ use Rattle.purge_rules.specs.declared.calls.MasterCall.TheVariants as call
 use Rattle.purge_rules.specs.declared.calls.MasterAnswer.{MasterAnswer}
 use Rattle.purge_rules.specs.declared.calls.MasterAnswer.TheVariants as answer
 use Rattle.purge_rules.specs.declared.fault.MasterFault.{MasterFault}
-use Rattle.world_rules.specs.Hierarchy.{is_own}
 use Rattle.node_rules.specs.Messages.{protocol_of, clear_answer}
 use Rattle.world_rules.specs.World.{Datagram, datagrams_from, answer_of}
 use Rattle.world_rules.specs.Turn.{clears_of}

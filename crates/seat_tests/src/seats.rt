@@ -286,7 +286,7 @@ fn a_shift_has_4096_calls(rt: HostRuntime) -> Result<(), Fail> {
 #[test]
 fn places_are_counted(rt: HostRuntime) -> Result<(), Fail> {
     let places = Places::new(rt.alloc())?;
-    let others = places.try_clone()?;
+    let others = places.copy()?;
     assert!(rt; (places.draw(), others.draw(), places.draw()) == (1, 2, 3));
     Ok(())
 }

@@ -8,7 +8,7 @@ use Rattle.object_store.specs.declared.copy.WebCopy.{WebCopy}
 use Rattle.roster_tables.specs.Ranges.{is_foreign_id}
 use Rattle.roster_tables.specs.declared.plain.Address.{Address}
 use Rattle.roster_tables.specs.declared.plain.Udp.TheVariants as udp
-use Rattle.roster.specs.Lookups.{is_master, is_member, member_at}
+use Rattle.roster.specs.Lookups.{is_master, is_member, member_at, is_own}
 use Rattle.node_rules.specs.declared.message.Message.{Message}
 use Rattle.node_rules.specs.declared.message.Message.TheVariants as message
 use Rattle.node_rules.specs.declared.state.Fetch.{Fetch}
@@ -26,7 +26,6 @@ use Rattle.roster_tables.specs.declared.plain.Tables.{Tables}
 use Rattle.world_rules.specs.declared.event.WorldEvent.{WorldEvent}
 use Rattle.world_rules.specs.declared.event.WorldEvent.TheVariants as world
 use Rattle.world_rules.specs.declared.outcome.WorldFault.TheVariants.{NoSuchPacket, NotPending}
-use Rattle.world_rules.specs.Hierarchy.{is_own}
 use Rattle.node_rules.specs.Messages.{protocol_of as udp_of}
 use Rattle.world_rules.specs.World.{Datagram, PeerAsk, PeerAnswer, Waiting, World, item, node_at}
 use Rattle.world_rules.specs.Turn.{Seen, Nothing, Turn, NodeSteps, Ends, Refused, at_member, with_clock, with_master, with_sent, with_seat, issue_by, acknowledged_by, master_hears_htcp, master_hears, delivered_to, delivered, ask_delivered, answer_delivered, origin_by, origin_to, foreign_by, foreign_to, fetching_at, turn}

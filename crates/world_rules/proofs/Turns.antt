@@ -21,7 +21,7 @@ use Rattle.node_rules.specs.declared.event.Event.TheVariants as event
 use Rattle.node_rules.specs.declared.reply.Reply.{Reply}
 use Rattle.node_rules.specs.declared.reply.StepFault.{StepFault}
 use Rattle.roster_tables.specs.Ranges.{is_foreign_id}
-use Rattle.roster.specs.Lookups.{is_master, is_member, member_at, same_address, address_by}
+use Rattle.roster.specs.Lookups.{is_master, is_member, member_at, same_address, address_by, is_own}
 use Rattle.node_rules.specs.State.{opened, setting, closed_node}
 use Rattle.node_rules.specs.Effect.{acknowledged as acknowledged_by_message}
 use Rattle.purge_rules.specs.declared.fault.MasterFault.{MasterFault}
@@ -32,7 +32,6 @@ use Rattle.node_rules.proofs.Cases.{branches, same_Some, true_not_false}
 use Rattle.node_rules.proofs.Lawful.{steps_are_lawful}
 use Rattle.roster_tables.specs.declared.plain.Tables.{Tables}
 use Rattle.roster.specs.Judged.{IsRoster}
-use Rattle.world_rules.specs.Hierarchy.{is_own}
 use Rattle.node_rules.specs.Messages.{protocol_of as udp_of}
 use Rattle.world_rules.specs.World.{Datagram, PeerAsk, PeerAnswer, World, item, node_at, after_node}
 use Rattle.world_rules.specs.declared.event.WorldEvent.{WorldEvent}

@@ -1,6 +1,5 @@
 -- Reading order: each file stands on those above it.
 pub mod Names
-pub mod Hierarchy
 pub mod World
 pub mod Turn
 pub mod Run

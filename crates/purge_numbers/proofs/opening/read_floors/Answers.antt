@@ -1,6 +1,6 @@
-use Rattle.std.proofs.Common.{◌≡◌, arith, ◌∙◌, not, true, false, sym, refl}
+use Rattle.std.proofs.Common.{◌≡◌, ◌≤◌, arith, ◌∙◌, not, true, false, sym, refl, Result, Ok, Err, OnOk}
 use Rattle.sqlite.specs.Held.{state}
-use Rattle.purge_numbers.proofs.OpenLemmas.{not_added, too_many, read_kept, read_rows}
+use Rattle.purge_numbers.proofs.OpenLemmas.{not_added, too_many, few_rows, read_kept, read_rows}
 use Rattle.purge_numbers.proofs.opening.read_floors.Goals as goal
 
 off : (b : _) → true ≡ not b → b ≡ false
@@ -29,3 +29,11 @@ returns-in-Ok-clause-bad g c refused clean = not_added (state g.S.Store c.args.c
 pub returns-in-Ok-2-clause-bad : goal.returns-in-Ok-2-clause-bad
 returns-in-Ok-2-clause-bad g c refused clean =
     too_many (state g.S.Store c.args.conn.now) c.in-Ok.rows.items (c.in-Ok.ensures.rows clean) (omega (arith, c.if-len-le-MOST_ROWS.false, c.len.ensures))
+
+whenever : {A E : Type 0} (r : Result A E) (P : Type 0) → P → OnOk r P
+whenever (Ok a) P p = p
+whenever (Err e) P p = tt
+
+pub returns-in-Ok-clause-few : goal.returns-in-Ok-clause-few
+returns-in-Ok-clause-few g c =
+    whenever c.floors_of.result _ (λ clean. few_rows (state g.S.Store c.args.conn.now) c.in-Ok.rows.items (c.in-Ok.ensures.rows clean) (omega (arith, c.if-len-le-MOST_ROWS.true, c.len.ensures)))

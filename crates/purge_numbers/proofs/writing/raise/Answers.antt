@@ -18,5 +18,5 @@ returns-in-Err-clause-crash g c clean left may =
     let higher : floor before c.args.key.now < c.args.number = rw (← same) (omega (arith, c.if-number-floor.false, c.floor.ensures)) in
     elim (c.put.ensures.crash clean left may) [
       | inl same ↦ inl same
-      | inr put ↦ inr (rw c.text.ensures.value at put ∙ sym (raised_higher before c.args.key.now c.args.number higher))
+      | inr put ↦ inr (rw same at (c.has_room.ensures.yes c.if-not-has_room.false), rw c.text.ensures.value at put ∙ sym (raised_higher before c.args.key.now c.args.number higher))
     ]

@@ -4,7 +4,7 @@ use Rattle.roster_tables.specs.declared.plain.Address.{Address}
 use Rattle.roster_tables.specs.declared.plain.Tables.{Tables}
 use Rattle.node_rules.specs.declared.message.Message.{Message}
 use Rattle.node_rules.specs.declared.event.Event.TheVariants as event
-use Rattle.world_rules.specs.Hierarchy.{is_own}
+use Rattle.roster.specs.Lookups.{is_own}
 use Rattle.run_rules.specs.Sent.{Network, IsSent}
 use Rattle.run_network.specs.declared.letters.Letters.{Letters}
 use Rattle.run_network.specs.Held.{HasLetter, HoldsLetters}
