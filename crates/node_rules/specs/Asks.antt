@@ -6,6 +6,7 @@ use Rattle.object_store.specs.declared.copy.WebCopy.{WebCopy}
 use Rattle.object_store.specs.Listed.{to_front}
 use Rattle.floor_rules.specs.Floors.{floor}
 use Rattle.roster_tables.specs.declared.plain.Peer.{Peer}
+use Rattle.roster_tables.specs.declared.plain.Tables.{Tables}
 use Rattle.roster.specs.Lookups.{peers_of, names_sibling, address_by}
 use Rattle.peer_chooser.specs.Round.{RoundText, started}
 use Rattle.node_rules.specs.declared.message.Outgoing.{Outgoing}

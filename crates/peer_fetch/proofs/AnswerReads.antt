@@ -106,14 +106,23 @@ module _ (a : AnswerText) (via rest octets left input : List ℕ) (p : Parts a) 
       let room = pairs_few a via p in
       omega (arith, few, room, over)
 
-  spent : most_turns ≤ length octets → most_turns ≤ length input
-  spent many = let size = ap length taken ∙ length-append octets left in omega (arith, size, many)
+  -- octets that are longer than a head hold the whole of it
+  spent : HasNoResponse octets → most_turns ≤ length octets → ⊥
+  spent none many =
+      let short = head_short a via p name in
+      let begins = front_of_front (head_text a via) behind octets left (sym head_at ∙ taken) (omega (arith, short, many)) in
+      none (head_of a via) _ (subst (λ (t : List ℕ). ReadsResponse t (head_of a via) (drop (length (head_text a via)) octets)) (sym begins) (head_reads a via (drop (length (head_text a via)) octets) p name))
 
-  head_stops : (fault : FetchFault) → StopsAtHead (Some left) octets 0 fault → StopsInAnswerText input fault
+  text_length : length (answer_text a via) ≡ length (head_text a via) + length a.body
+  text_length =
+      let is = ap length (input_is a via []) in
+      omega (arith, is, length-append (answer_text a via) [], length-append (head_text a via) (a.body ++ []), length-append a.body [])
+
+  head_stops : (fault : FetchFault) → StopsAtHead (Some left) octets 0 fault → StopsInAnswerText (answer_text a via) fault
   unfolding window
   head_stops Io stops = inl refl
   head_stops NoMemory stops = inr (inl refl)
-  head_stops TooManyTurns stops = inr (inr (refl, spent stops.1))
+  head_stops TooManyTurns stops = absurd (spent stops.0 stops.1)
   head_stops EndOfInput stops = absurd (ended stops.1 stops.0)
   head_stops BadHead stops = absurd (never stops)
   head_stops HeadTooLong stops = absurd (long stops)
@@ -129,10 +138,10 @@ module _ (a : AnswerText) (via rest octets left input : List ℕ) (p : Parts a) 
   unfolding behind
   room = let size = ap length head_at ∙ length-append (head_text a via) behind in omega (arith, size, length-append a.body rest)
 
-  length_stops : (fault : FetchFault) → StopsBefore (length a.body) (Some left) octets (length (head_text a via)) fault → StopsInAnswerText input fault
+  length_stops : (fault : FetchFault) → StopsBefore (length a.body) (Some left) octets (length (head_text a via)) fault → StopsInAnswerText (answer_text a via) fault
   length_stops Io stops = inl refl
   length_stops NoMemory stops = inr (inl refl)
-  length_stops TooManyTurns stops = inr (inr (refl, spent stops.1))
+  length_stops TooManyTurns stops = inr (inr (refl, omega (arith, text_length, stops.0, stops.1)))
   length_stops EndOfInput stops =
       let size = ap length (taken ∙ ap (λ (t : List ℕ). octets ++ t) stops.1 ∙ append-nil octets) in
       absurd (omega (arith, size, stops.0, room))
@@ -144,11 +153,11 @@ module _ (a : AnswerText) (via rest octets left input : List ℕ) (p : Parts a) 
   length_stops Credentials stops = absurd stops
   length_stops BadBody stops = absurd stops
 
-  body_stops : (b : Bool) (fault : FetchFault) → StopsInBody (cond b None (Some (Length (length a.body)))) (Some left) octets (length (head_text a via)) fault → StopsInAnswerText input fault
+  body_stops : (b : Bool) (fault : FetchFault) → StopsInBody (cond b None (Some (Length (length a.body)))) (Some left) octets (length (head_text a via)) fault → StopsInAnswerText (answer_text a via) fault
   body_stops true fault stops = absurd stops
   body_stops false fault stops = length_stops fault stops
 
-  pub fault_stops : (fault : FetchFault) → StopsInAnswer (Some left) octets fault → StopsInAnswerText input fault
+  pub fault_stops : (fault : FetchFault) → StopsInAnswer (Some left) octets fault → StopsInAnswerText (answer_text a via) fault
   fault_stops fault (inl (start, passes, stops)) = head_stops fault (subst (λ (n : ℕ). StopsAtHead (Some left) octets n fault) (starts_at start passes) stops)
   fault_stops fault (inr (inl (start, end, says))) = let bad = says_same start end (Err fault) says in cc
   fault_stops fault (inr (inr (inl (start, end, t, says, stops)))) =
@@ -166,15 +175,15 @@ module _ (a : AnswerText) (via rest octets left input : List ℕ) (p : Parts a) 
       sym (answer_once octets left end (length (answer_text a via)) read a spelled ends written).1
 
 abbrev pub ReadsBack : AnswerText → List ℕ → Result AnswerText FetchFault → Type 0
-ReadsBack a input result = MatchResult result (λ read. read ≡ a) (StopsInAnswerText input)
+ReadsBack a text result = MatchResult result (λ read. read ≡ a) (StopsInAnswerText text)
 
 reads_by : (a : AnswerText) (via rest octets : List ℕ) (reader : Option (List ℕ)) (result : Result AnswerText FetchFault) → Parts a → is_name via ≡ true → Takes (Some (answer_text a via ++ rest)) reader [] octets
-    → MatchResult result (λ answer. (end : ℕ) × (s : SpellsAnswer octets end answer) × EndsWithInput s.told.framing reader) (StopsInAnswer reader octets) → ReadsBack a (answer_text a via ++ rest) result
+    → MatchResult result (λ answer. (end : ℕ) × (s : SpellsAnswer octets end answer) × EndsWithInput s.told.framing reader) (StopsInAnswer reader octets) → ReadsBack a (answer_text a via) result
 reads_by a via rest octets None result p name taken outcome = absurd taken.2
 reads_by a via rest octets (Some left) (Ok read) p name (piece, same, consumed) outcome =
     ok_says a via rest octets left (answer_text a via ++ rest) p name refl (consumed ∙ ap (λ (t : List ℕ). t ++ left) (sym same)) read outcome.0 outcome.1
 reads_by a via rest octets (Some left) (Err fault) p name (piece, same, consumed) outcome =
     fault_stops a via rest octets left (answer_text a via ++ rest) p name refl (consumed ∙ ap (λ (t : List ℕ). t ++ left) (sym same)) fault outcome
 
-pub answer_reads : (a : AnswerText) (via rest : List ℕ) (reader : Option (List ℕ)) (result : Result AnswerText FetchFault) → IsWritableAnswer a → is_name via ≡ true → ReadsAnswer (Some (answer_text a via ++ rest)) reader result → ReadsBack a (answer_text a via ++ rest) result
+pub answer_reads : (a : AnswerText) (via rest : List ℕ) (reader : Option (List ℕ)) (result : Result AnswerText FetchFault) → IsWritableAnswer a → is_name via ≡ true → ReadsAnswer (Some (answer_text a via ++ rest)) reader result → ReadsBack a (answer_text a via) result
 answer_reads a via rest reader result writable name reads = reads_by a via rest reads.octets reader result (parts a writable) name reads.taken reads.outcome

@@ -46,9 +46,9 @@ pub fn answers_have_no_proper_front()
 {}
 
 /// A law: an input that begins with the text of an answer is read as that answer, whatever follows, unless the reader
-/// fails, there is no memory, or the input has 70,000 octets or more and takes more calls than reading makes.
+/// fails, there is no memory, or the text has more than 70,000 octets and takes more calls than reading makes.
 pub fn written_answers_are_read_back()
     ensures { (answer : AnswerText) (via rest : List ℕ) (reader : Option (List ℕ)) (result : Result AnswerText FetchFault) → IsWritableAnswer answer → IsTrue (names_cache via) →
         let input = answer_text answer via ++ rest in
-        ReadsAnswer (Some input) reader result → MatchResult result (λ read. read ≡ answer) (StopsInAnswerText input) }
+        ReadsAnswer (Some input) reader result → MatchResult result (λ read. read ≡ answer) (StopsInAnswerText (answer_text answer via)) }
 {}
