@@ -1,7 +1,7 @@
 //! What comes to a member or to the master.
 ghost use Rattle.std.specs.Prelude.{◌≡◌, true, Some};
 ghost use Rattle.node_rules.specs.declared.event.Event.TheVariants as events;
-ghost use Rattle.node_rules.specs.State.{opened};
+ghost use Rattle.node_rules.specs.State.{opened, closed_node};
 ghost use Rattle.roster.specs.Lookups.{is_member};
 ghost use Rattle.world_rules.specs.World.{item as item_of, node_at};
 ghost use Rattle.world_rules.specs.Turn as turns;
@@ -219,7 +219,7 @@ impl Parts {
     /// A member's store of floors fails, and the member closes.
     pub(crate) fn fault(&mut self, id: u8) -> Result<Seen, WorldFault>
         requires { IsSound self.old }
-        ensures { IsTaken self.old (turns.at_member self.old.roster id (turns.Ends turns.Nothing (turns.with_seat (world_of self.old) id (turns.closed_node (node_at (world_of self.old).seats id))))) result self.new }
+        ensures { IsTaken self.old (turns.at_member self.old.roster id (turns.Ends turns.Nothing (turns.with_seat (world_of self.old) id (closed_node (node_at (world_of self.old).seats id))))) result self.new }
     {
         let Some(place) = self.place_of(id) else {
             return Err(WorldFault::NoSuchPacket);
