@@ -1,5 +1,5 @@
--- What is said of the run of a hierarchy.
-use Rattle.std.specs.Prelude.{List}
+-- What is gathered of the run of a hierarchy, and what is said of it.
+use Rattle.std.specs.Prelude.{◌≡◌, List, ◌++◌, Option, Some, None, MatchOption}
 use Rattle.roster_tables.specs.declared.plain.Tables.{Tables}
 use Rattle.node_book.specs.declared.record.Record.{Record}
 use Rattle.purge_master.specs.declared.book.MasterEntry.{MasterEntry}
@@ -7,7 +7,20 @@ use Rattle.run_rules.specs.Verdict.{IsVerdictOn}
 use Rattle.cluster_script.specs.declared.check.Checked.{Checked}
 use Rattle.cluster_script.specs.declared.check.Checked.TheVariants as checked
 
--- a verdict is one on some members' records and some entries of the master; which these are no contract can say, since they lie under locks
-abbrev pub IsChecked : Tables → Checked → Type 0
-IsChecked roster (checked.Judged verdict) = (records : List Record) × (entries : List MasterEntry) × IsVerdictOn roster records entries verdict
-IsChecked roster _ = Unit {0}
+-- the records of the members, and the entries of the master
+pub record Gathered : Type 0 where
+  pub records : List Record
+  pub entries : List MasterEntry
+
+-- what was gathered stands in front of what was done since; or some of it is lost, and nothing is gathered any more
+abbrev pub GoesOn : Option Gathered → Option Gathered → Type 0
+GoesOn old None = Unit {0}
+GoesOn None (Some new) = ⊥
+GoesOn (Some old) (Some new) = (records : List Record) × (entries : List MasterEntry) × (new.records ≡ old.records ++ records) × (new.entries ≡ old.entries ++ entries)
+
+-- a verdict is the one on all that was gathered, and it is forgotten where nothing is gathered any more; why a member's records are not given no contract can say, since they lie under a lock
+abbrev pub IsChecked : Tables → Option Gathered → Checked → Type 0
+IsChecked roster gathered (checked.Judged verdict) = MatchOption gathered ⊥ (λ g. IsVerdictOn roster g.records g.entries verdict)
+IsChecked roster gathered checked.Forgotten = gathered ≡ None
+IsChecked roster gathered checked.SeatMissing = Unit {0}
+IsChecked roster gathered checked.Mismatch = Unit {0}

@@ -15,7 +15,7 @@ use Rattle.script_lines.specs.declared.fault.RunFault.{RunFault}
 use Rattle.script_lines.specs.Script.{HasPlayedUntil}
 use Rattle.script_lines.specs.Words.{words_of}
 use Rattle.cluster_script.specs.declared.check.Checked.{Checked}
-use Rattle.cluster_script.specs.Checked.{IsChecked}
+use Rattle.cluster_script.specs.Checked.{Gathered, GoesOn, IsChecked}
 use Rattle.cluster_script.specs.Command.{quit, Command, PurgeLine, StatusLine, GetLine, CheckLine, BadLine, command_of}
 use Rattle.cluster_script.specs.Shown.{purge_shown, asked_shown, got_shown, checked_shown}
 
@@ -49,28 +49,32 @@ GetTells roster node url text =
     ((is_member roster node ≡ false) × (text ≡ codes "bad line"))
     ⊎ ((is_member roster node ≡ true) × IsSaid TellsAnswer url text)
 
--- a verdict on the run so far, or why there is none
-abbrev pub TellsCheck : Tables → List ℕ → Type 0
-TellsCheck roster text = (checked : Checked) × IsChecked roster checked × (text ≡ checked_shown checked)
+-- the verdict on what was gathered of the run so far, or why there is none
+abbrev pub TellsCheck : Tables → Option Gathered → List ℕ → Type 0
+TellsCheck roster gathered text = (checked : Checked) × IsChecked roster gathered checked × (text ≡ checked_shown checked)
 
-abbrev pub CommandTells : Tables → Command → List ℕ → Type 0
-CommandTells roster (PurgeLine url) text = IsSaid TellsPurge url text
-CommandTells roster (StatusLine number) text = TellsStatus number text
-CommandTells roster (GetLine node url) text = GetTells roster node url text
-CommandTells roster CheckLine text = TellsCheck roster text
-CommandTells roster BadLine text = text ≡ codes "bad line"
+abbrev pub CommandTells : Tables → Option Gathered → Command → List ℕ → Type 0
+CommandTells roster gathered (PurgeLine url) text = IsSaid TellsPurge url text
+CommandTells roster gathered (StatusLine number) text = TellsStatus number text
+CommandTells roster gathered (GetLine node url) text = GetTells roster node url text
+CommandTells roster gathered CheckLine text = TellsCheck roster gathered text
+CommandTells roster gathered BadLine text = text ≡ codes "bad line"
 
--- the text may answer the line
-abbrev pub LineTells : Tables → List ℕ → List ℕ → Type 0
-LineTells roster line text = CommandTells roster (command_of (words_of line)) text
+-- the text may answer the line, where this is gathered of the run
+abbrev pub LineTells : Tables → Option Gathered → List ℕ → List ℕ → Type 0
+LineTells roster gathered line text = CommandTells roster gathered (command_of (words_of line)) text
+
+-- what was gathered goes on, and the text may answer the line
+abbrev pub GatheredAnswers : Tables → Option Gathered → List ℕ → List ℕ → Option Gathered → Type 0
+GatheredAnswers roster old line text new = LineTells roster new line text × GoesOn old new
 
 -- the same of what answers line after line, by a roster that stays
-abbrev pub LineAnswers : Tables → List ℕ → List ℕ → Tables → Type 0
-LineAnswers old line text new = LineTells old line text × (new ≡ old)
+abbrev pub LineAnswers : Tables → Option Gathered → List ℕ → List ℕ → Tables → Option Gathered → Type 0
+LineAnswers roster before line text new after = GatheredAnswers roster before line text after × (new ≡ roster)
 
--- the lines before the first `quit` are answered one after another, each by a text that may answer it
-abbrev pub HasAnswered : Tables → Option (List ℕ) → Option (List ℕ) → Option (List ℕ) → Result (Unit {0}) RunFault → Type 0
-HasAnswered roster input old new r = HasPlayedUntil {S = Unit {0}} (λ _ line text _. LineTells roster line text) quit tt input old new r tt
+-- the lines before the first `quit` are answered one after another, each by a text that may answer it, while what is gathered of the run goes on from this to that
+abbrev pub HasAnswered : Tables → Option Gathered → Option (List ℕ) → Option (List ℕ) → Option (List ℕ) → Result (Unit {0}) RunFault → Option Gathered → Type 0
+HasAnswered roster before input old new r after = HasPlayedUntil (GatheredAnswers roster) quit before input old new r after
 
 -- where the member of an id serves HTTP
 abbrev pub http_of : Tables → ℕ → Option Address

@@ -1,6 +1,6 @@
 //! What judges the run of a hierarchy.
-ghost use Rattle.std.specs.Prelude.{IfOk};
-ghost use Rattle.cluster_script.specs.Checked.{IsChecked};
+ghost use Rattle.std.specs.Prelude.{IfOk, Option};
+ghost use Rattle.cluster_script.specs.Checked.{Gathered, GoesOn, IsChecked};
 
 use roster::Roster;
 use run_rules::Verdict;
@@ -22,12 +22,17 @@ pub enum Checked {
 
 /// Judges the run of a hierarchy.
 pub trait Checker {
-    /// What is said of the run so far of the members and the master of this roster. `AllocError` comes where there is no memory to judge it.
+    /// What was gathered of the run, if none of it is lost.
+    ghost gathered: { Self → Option Gathered };
+
+    /// What is said of the run so far of the members and the master of this roster: what they did since the last time is gathered, and all that was gathered is judged. `AllocError` comes where there
+    /// is no memory for that.
     fn check<R: Wait>(
         &mut self,
         rt: &R,
         alloc: Global,
         roster: &Roster,
     ) -> Result<Checked, AllocError>
-        ensures { IfOk result (IsChecked roster.now) };
+        ensures said { IfOk result (IsChecked roster.now (gathered self.new)) }
+        ensures goes_on { GoesOn (gathered self.old) (gathered self.new) };
 }

@@ -2,6 +2,7 @@
 ghost use Rattle.std.specs.Prelude.{◌≡◌, ◌++◌, ℕ, List, OnOk, IfErr};
 ghost use Rattle.cluster_script.specs.Command.{command_text};
 ghost use Rattle.cluster_script.specs.Played.{IsSaid, IsTold, TellsPurge, TellsStatus, TellsAnswer, TellsCheck, GetTells, CommandTells, LineAnswers, HasAnswered, http_of as http_of_member};
+ghost use Rattle.cluster_script.specs.Checked.{GoesOn};
 
 use crate::check::Checker;
 use crate::line::{Line, line_of};
@@ -35,7 +36,7 @@ struct Player<'a, S: PurgeStore, C, R> {
     roster: &'a Roster,
     master: &'a SharedMaster<S>,
     sender: &'a MasterSender,
-    checker: &'a mut C,
+    checker: C,
     waiter: Waiter,
 }
 
@@ -48,18 +49,19 @@ struct Player<'a, S: PurgeStore, C, R> {
 /// leading zeros.
 ///
 /// Faults: `Io` where the input or the output fails, `LineTooLong`, `TooManyTurns` after 70,000 reads, and `NoMemory`. A front of the answers is written then.
-pub fn answer_lines<S: PurgeStore, C: Checker, R: Wait + Clock + Net, I: Read, O: Write>(
+/// The checker comes back with what it has gathered.
+pub fn answer_lines<S: PurgeStore, C: Checker + Drop, R: Wait + Clock + Net, I: Read, O: Write>(
     rt: &R,
     alloc: Global,
     roster: &Roster,
     master: &SharedMaster<S>,
     sender: &MasterSender,
-    checker: &mut C,
+    checker: C,
     waiter: Waiter,
     input: &mut I,
     output: &mut O,
-) -> Result<(), RunFault>
-    ensures { HasAnswered roster.now (I.remaining input.old) (O.contents output.old) (O.contents output.new) result }
+) -> (C, Result<(), RunFault>)
+    ensures { HasAnswered roster.now (C.gathered checker) (I.remaining input.old) (O.contents output.old) (O.contents output.new) result.1 (C.gathered result.0) }
 {
     let mut player = Player {
         rt,
@@ -69,11 +71,12 @@ pub fn answer_lines<S: PurgeStore, C: Checker, R: Wait + Clock + Net, I: Read, O
         checker,
         waiter,
     };
-    play_until(alloc, &mut player, QUIT, input, output)
+    let answered = play_until(alloc, &mut player, QUIT, input, output);
+    (player.checker, answered)
 }
 
 impl<S: PurgeStore, C: Checker, R: Wait + Clock + Net> Script for Player<'_, S, C, R> {
-    ghost answers = { λ old line text new. LineAnswers old.roster.now line text new.roster.now };
+    ghost answers = { λ old line text new. LineAnswers old.roster.now (C.gathered old.checker) line text new.roster.now (C.gathered new.checker) };
 
     fn answer(&mut self, alloc: Global, line: &[u8], text: &mut Vec<u8>) -> Result<(), AllocError> {
         let words = words_of(alloc, line)?;
@@ -83,8 +86,10 @@ impl<S: PurgeStore, C: Checker, R: Wait + Clock + Net> Script for Player<'_, S, 
 
 impl<S: PurgeStore, C: Checker, R: Wait + Clock + Net> Player<'_, S, C, R> {
     /// Answers what a line asks for.
+    #[tactic(auto, using(crate::proofs::Gathering::goes_on))]
     fn tell(&mut self, alloc: Global, line: Line<'_>, text: &mut Vec<u8>) -> Result<(), AllocError>
-        ensures told { OnOk result ((answer : List ℕ) × CommandTells self.old.roster.now (command_text line.entry) answer × (text.new.items ≡ text.old.items ++ answer)) }
+        ensures told { OnOk result ((answer : List ℕ) × CommandTells self.old.roster.now (C.gathered self.new.checker) (command_text line.entry) answer × (text.new.items ≡ text.old.items ++ answer)) }
+        ensures goes_on { GoesOn (C.gathered self.old.checker) (C.gathered self.new.checker) }
         ensures roster { self.new.roster.now ≡ self.old.roster.now }
     {
         match line {
@@ -130,7 +135,8 @@ impl<S: PurgeStore, C: Checker, R: Wait + Clock + Net> Player<'_, S, C, R> {
 
     /// Answers `check`.
     fn check(&mut self, alloc: Global, text: &mut Vec<u8>) -> Result<(), AllocError>
-        ensures told { OnOk result ((answer : List ℕ) × TellsCheck self.old.roster.now answer × (text.new.items ≡ text.old.items ++ answer)) }
+        ensures told { OnOk result ((answer : List ℕ) × TellsCheck self.old.roster.now (C.gathered self.new.checker) answer × (text.new.items ≡ text.old.items ++ answer)) }
+        ensures goes_on { GoesOn (C.gathered self.old.checker) (C.gathered self.new.checker) }
         ensures roster { self.new.roster.now ≡ self.old.roster.now }
     {
         let checked = self.checker.check(self.rt, alloc, self.roster)?;
@@ -146,6 +152,7 @@ impl<S: PurgeStore, C: Checker, R: Wait + Clock + Net> Player<'_, S, C, R> {
         text: &mut Vec<u8>,
     ) -> Result<(), AllocError>
         ensures told { OnOk result ((answer : List ℕ) × GetTells self.old.roster.now node url.now answer × (text.new.items ≡ text.old.items ++ answer)) }
+        ensures checker { self.new.checker ≡ self.old.checker }
         ensures roster { self.new.roster.now ≡ self.old.roster.now }
     {
         match http_of(self.roster, node) {
@@ -163,6 +170,7 @@ impl<S: PurgeStore, C: Checker, R: Wait + Clock + Net> Player<'_, S, C, R> {
         text: &mut Vec<u8>,
     ) -> Result<(), AllocError>
         ensures told { OnOk result ((answer : List ℕ) × IsSaid TellsAnswer url.now answer × (text.new.items ≡ text.old.items ++ answer)) }
+        ensures checker { self.new.checker ≡ self.old.checker }
         ensures roster { self.new.roster.now ≡ self.old.roster.now }
     {
         match Key::read(alloc, url) {
@@ -177,7 +185,8 @@ impl<S: PurgeStore, C: Checker, R: Wait + Clock + Net> Player<'_, S, C, R> {
 
     /// Asks a member for a URL.
     fn got(&mut self, alloc: Global, at: Address, key: Key) -> Result<Answer, FetchFault>
-        ensures { self.new.roster.now ≡ self.old.roster.now }
+        ensures checker { self.new.checker ≡ self.old.checker }
+        ensures roster { self.new.roster.now ≡ self.old.roster.now }
     {
         let ask = Ask {
             key,
@@ -194,7 +203,7 @@ impl<S: PurgeStore, C: Checker, R: Wait + Clock + Net> Player<'_, S, C, R> {
 fn http_of(roster: &Roster, id: u8) -> Option<Address>
     ensures { result ≡ http_of_member roster.now id }
 {
-    match roster.members().iter().find(|member| member.cache.id == id) {
+    match roster.member(id) {
         Some(member) => Some(member.cache.http),
         None => None,
     }

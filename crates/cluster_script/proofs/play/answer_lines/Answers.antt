@@ -4,5 +4,5 @@ use Rattle.cluster_script.proofs.play.answer_lines.Goals as goal
 
 pub returns : goal.returns
 returns g c =
-    has_told _ (λ p. p.roster.now) c.args.roster.now _
-    (g.I.Read.remaining c.args.input.now) (g.O.Write.contents c.args.output.now) (g.O.Write.contents c.play_until.new.writer) c.play_until.result refl c.play_until.ensures
+    has_told c.play_until-answered.new.script (λ p. p.roster.now) (λ p. g.C.Checker.gathered p.checker) c.args.roster.now _
+    (g.I.Read.remaining c.args.input.now) (g.O.Write.contents c.args.output.now) (g.O.Write.contents c.play_until-answered.new.writer) c.play_until-answered.result refl c.play_until-answered.ensures
