@@ -15,14 +15,14 @@ const MOST_TURNS: u32 = 10_000;
 
 /// Counts the reads that are about to begin, and holds them up while it is closed.
 #[derive(Drop)]
-struct Turnstile {
-    is_open: AtomicBool,
+pub(crate) struct Turnstile {
+    pub(crate) is_open: AtomicBool,
     come: AtomicU64,
 }
 
 impl Turnstile {
     /// An open one.
-    fn new() -> Turnstile {
+    pub(crate) fn new() -> Turnstile {
         Turnstile {
             is_open: AtomicBool::new(true),
             come: AtomicU64::new(0),
@@ -30,7 +30,7 @@ impl Turnstile {
     }
 
     /// Waits until so many reads have come.
-    fn wait_for<C: Clock>(&self, clock: &C, reads: u64) -> Result<(), Fail> {
+    pub(crate) fn wait_for<C: Clock>(&self, clock: &C, reads: u64) -> Result<(), Fail> {
         for _ in 0..MOST_TURNS {
             if self.come.load(Ordering::SeqCst) >= reads {
                 return Ok(());

@@ -1,10 +1,15 @@
 //! A node that is held.
-use crate::network::{QUERY, received, running, siblings, socket_at, steps_in, stopped, told};
+use crate::fetchers::Turnstile;
+use crate::network::{
+    PLAIN, QUERY, answer_of, asking, received, running, siblings, socket_at, steps_in, stopped,
+    told,
+};
 use mio::net::UdpSocket;
-use node_workers::{NoGate, Workers};
+use node_workers::{NoGate, StopFault, Workers};
 use std::alloc::Global;
 use std::io::ErrorKind;
-use std::net::Net;
+use std::net::{Net, TcpStream};
+use std::sync::atomic::Ordering;
 use std::sync::{Arc, Wait};
 use std::test::Fail;
 use std::thread;
@@ -78,6 +83,86 @@ fn no_step_is_taken_while_held(rt: HostRuntime) -> Result<(), Fail> {
     );
     assert!(rt; seen.is_silent, "nothing is answered before it goes on");
     assert!(rt; seen.is_answered);
+    assert_eq!(rt; last, 1);
+    Ok(())
+}
+
+/// What is seen of a read of the origin that goes on while its node is held.
+#[derive(Drop)]
+struct SeenOfRead {
+    /// How many steps there were before the node was held, and how many while it was.
+    steps: [Option<usize>; 2],
+    /// What the client is answered when the node goes on.
+    answer: Vec<u8>,
+}
+
+/// A client's read of an origin that nobody serves is held up, and goes on while the node is held.
+fn read_while_held<R: Net<Stream = TcpStream> + Wait + Clock>(
+    rt: &R,
+    alloc: Global,
+    workers: &Workers,
+    gate: &Turnstile,
+) -> Result<SeenOfRead, Fail> {
+    gate.is_open.store(false, Ordering::SeqCst);
+    let client = asking(rt, 22410, PLAIN)?;
+    gate.wait_for(rt, 1)?;
+    workers.hold(rt);
+    let before = steps_out(rt, workers)?;
+    gate.is_open.store(true, Ordering::SeqCst);
+    thread::sleep(rt, Duration::from_millis(PAUSE));
+    let held = steps_out(rt, workers)?;
+    workers.resume(rt);
+    Ok(SeenOfRead {
+        steps: [before, held],
+        answer: answer_of(alloc, client)?,
+    })
+}
+
+#[test]
+fn a_read_ends_after_the_hold(rt: HostRuntime) -> Result<(), Fail> {
+    let text = siblings(rt.alloc(), 22400)?;
+    let gate = Arc::new(rt.alloc(), Turnstile::new())?;
+    let workers = running(rt, rt.alloc(), text.as_str(), 1, Arc::try_clone(&gate)?)?;
+    let seen = read_while_held(&rt, rt.alloc(), &workers, &gate)?;
+    let last = stopped(&rt, workers)?;
+    assert!(rt;
+        seen.steps == [Some(2), Some(0)],
+        "an ask and a round's end, and then nothing until it goes on"
+    );
+    assert!(rt; seen.answer.as_slice().starts_with(b"HTTP/1.1 502 "));
+    assert_eq!(rt; last, 1);
+    Ok(())
+}
+
+/// The records of a node are asked for without a hold, and once more when it was told to stop: how many steps the first ones have, and whether the others are refused.
+fn asked_for_records<R: Net + Wait + Clock>(
+    rt: &R,
+    alloc: Global,
+    workers: &Workers,
+) -> Result<(Option<usize>, bool), Fail> {
+    let _denied = told(rt, alloc, 22437, 22441, QUERY)?;
+    let steps = steps_out(rt, workers)?;
+    workers.resume(rt);
+    let _denied = told(rt, alloc, 22437, 22441, QUERY)?;
+    // (from here its thread goes to its end, and takes no other hold before)
+    workers.hold(rt);
+    workers.begin_stop(rt);
+    let is_refused = matches!(workers.records(rt), Err(StopFault::SeatMissing));
+    Ok((steps, is_refused))
+}
+
+#[test]
+fn records_are_refused_once_it_ends(rt: HostRuntime) -> Result<(), Fail> {
+    let text = siblings(rt.alloc(), 22430)?;
+    let gate = Arc::new(rt.alloc(), NoGate)?;
+    let workers = running(rt, rt.alloc(), text.as_str(), 1, gate)?;
+    let (steps, is_refused) = asked_for_records(&rt, rt.alloc(), &workers)?;
+    let last = stopped(&rt, workers)?;
+    assert!(rt;
+        steps == Some(1),
+        "a node is held where its records are asked for"
+    );
+    assert!(rt; is_refused);
     assert_eq!(rt; last, 1);
     Ok(())
 }

@@ -2,6 +2,8 @@
 #![tactic(auto)]
 
 #[cfg(test)]
+mod copies;
+#[cfg(test)]
 mod fetchers;
 #[cfg(test)]
 mod gates;
@@ -17,3 +19,5 @@ mod origins;
 mod peers;
 #[cfg(test)]
 mod starts;
+#[cfg(test)]
+mod stops;

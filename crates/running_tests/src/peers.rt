@@ -10,10 +10,10 @@ use std::random::RandomSource;
 use std::sync::{Arc, Wait};
 use std::test::Fail;
 use std::thread::Threads;
-use std::time::Clock;
+use std::time::{Clock, Instant};
 
 /// A port behind another.
-const fn port_at(port: u16, behind: u16) -> u16 {
+pub(crate) const fn port_at(port: u16, behind: u16) -> u16 {
     u16::saturating_add(port, behind)
 }
 
@@ -56,7 +56,7 @@ fn roster_of_two(alloc: Global, port: u16, role: &str, by: &str) -> Result<Strin
 }
 
 /// A roster of a member at the tenth port behind this one, which asks a foreign cache at the twentieth and waits so many milliseconds for it.
-fn with_foreign(alloc: Global, port: u16, wait: u16, by: &str) -> Result<String, Fail> {
+pub(crate) fn with_foreign(alloc: Global, port: u16, wait: u16, by: &str) -> Result<String, Fail> {
     let mut text = front(alloc, port, wait)?;
     text.push_str(cache(alloc, "node", 1, port_at(port, 10))?.as_str())?;
     text.push_str(peer(alloc, 101, "sibling", by)?.as_str())?;
@@ -232,15 +232,78 @@ fn a_foreign_cache_is_asked(rt: HostRuntime) -> Result<(), Fail> {
     Ok(())
 }
 
+/// A client asks a member whose peer says nothing: how many milliseconds go by until it has the page of the origin.
+fn time_of_read<R: Net<Listener = TcpListener, Stream = TcpStream> + Clock>(
+    rt: &R,
+    alloc: Global,
+    port: u16,
+) -> Result<u128, Fail> {
+    let begun = Instant::now(rt)?;
+    fill(rt, alloc, port_at(port, 10), port_at(port, 5), &["a"])?;
+    Ok(
+        Instant::now(rt)?
+            .saturating_duration_since(begun)
+            .as_millis(),
+    )
+}
+
 #[test]
 fn a_silent_peer_is_waited_for(rt: HostRuntime) -> Result<(), Fail> {
     for (by, port) in [("icp", 22300), ("htcp", 22330)] {
-        let text = with_foreign(rt.alloc(), port, 50, by)?;
+        let text = with_foreign(rt.alloc(), port, 500, by)?;
         let gate = counting_gate(rt.alloc())?;
         let workers = running(rt, rt.alloc(), text.as_str(), 1, Arc::try_clone(&gate)?)?;
-        fill(&rt, rt.alloc(), port_at(port, 10), port_at(port, 5), &["a"])?;
+        let time = time_of_read(&rt, rt.alloc(), port)?;
         let _steps = stopped(&rt, workers)?;
         assert_eq!(rt; gate.reads(), 1, "{by}");
+        // (rounds are timed in whole milliseconds, so up to one may be lacking)
+        assert!(rt; (499..4000).contains(&time), "{by}: {time}");
     }
+    Ok(())
+}
+
+/// A roster of a member at the tenth port behind this one, whose parents are two foreign caches at the twentieth and the thirtieth.
+fn with_parents(alloc: Global, port: u16) -> Result<String, Fail> {
+    let mut text = front(alloc, port, 5000)?;
+    text.push_str(cache(alloc, "node", 1, port_at(port, 10))?.as_str())?;
+    text.push_str(peer(alloc, 101, "parent", "icp")?.as_str())?;
+    text.push_str(peer(alloc, 102, "parent", "icp")?.as_str())?;
+    text.push_str(cache(alloc, "foreign", 101, port_at(port, 20))?.as_str())?;
+    text.push_str(cache(alloc, "foreign", 102, port_at(port, 30))?.as_str())?;
+    text.push_str(origin(alloc, port)?.as_str())?;
+    Ok(text)
+}
+
+/// That a member's question with block 1 is a miss, by ICP (RFC 2186, MISS).
+const ICP_MISS: &[u8] = b"\x03\x02\x00\x1f\0\0\0\x20\0\0\0\0\0\0\0\0\0\0\0\0http://o/a\0";
+
+/// A client asks the member; each parent hears of it and says that it has no page, and neither serves HTTP, so that both are tried before the origin: whether the client gets the origin's page.
+fn read_past_parents<R: Net<Listener = TcpListener, Stream = TcpStream> + Clock>(
+    rt: &R,
+    alloc: Global,
+    port: u16,
+) -> Result<bool, Fail> {
+    let first = UdpSocket::bind(rt, socket_at(port_at(port, 21)))?;
+    let second = UdpSocket::bind(rt, socket_at(port_at(port, 31)))?;
+    let listener = TcpListener::bind(rt, socket_at(port_at(port, 5)))?;
+    let client = asking(rt, port_at(port, 10), PLAIN)?;
+    let mut buffer = [0; 2048];
+    received(rt, &first, &mut buffer)?;
+    received(rt, &second, &mut buffer)?;
+    first.send_to(ICP_MISS, socket_at(port_at(port, 11)))?;
+    second.send_to(ICP_MISS, socket_at(port_at(port, 11)))?;
+    give_page(alloc, &listener)?;
+    Ok(is_page(answer_of(alloc, client)?.as_slice()))
+}
+
+#[test]
+fn parents_that_fail_are_passed_over(rt: HostRuntime) -> Result<(), Fail> {
+    let text = with_parents(rt.alloc(), 22360)?;
+    let gate = counting_gate(rt.alloc())?;
+    let workers = running(rt, rt.alloc(), text.as_str(), 1, Arc::try_clone(&gate)?)?;
+    let is_read = read_past_parents(&rt, rt.alloc(), 22360)?;
+    let _steps = stopped(&rt, workers)?;
+    assert!(rt; is_read);
+    assert_eq!(rt; gate.reads(), 1);
     Ok(())
 }
