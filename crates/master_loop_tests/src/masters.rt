@@ -1,5 +1,5 @@
 //! The members of a roster, on sockets of their own, and the master's loop.
-use crate::starts::{roster_at, shared};
+use crate::starts::{roster_at, roster_with, shared};
 use master_loop::{History, MasterLoop, MasterSender, MasterStartFault, SharedMaster};
 use mio::net::UdpSocket;
 use purge_master::MasterEntry;
@@ -19,12 +19,21 @@ use url_key::Key;
 const CLEAR: &str = "00400000003a4002000000010000000347455\
 4000a687474703a2f2f6f2f610008485454502f312e310013582d50757267652d4e756d6265723a20310d0a0002";
 
-/// The response to it with code 0: it was held, and is gone.
+/// The CLR of purge 2 of `http://o/b`.
+const SECOND_CLEAR: &str = "00400000003a4002000000020000000347455\
+4000a687474703a2f2f6f2f620008485454502f312e310013582d50757267652d4e756d6265723a20320d0a0002";
+
+/// The response to the first of them with code 0: it was held, and is gone.
 const GONE: &[u8] = b"\x00\x0e\x00\x00\x00\x08\x40\x01\x00\x00\x00\x01\x00\x02";
 
 /// The address of a port of this machine.
 fn socket_at(port: u16) -> SocketAddr {
     SocketAddr::from((Ipv4Addr::LOCALHOST, port))
+}
+
+/// The address of a port of 127.0.0.N.
+fn socket_of(host: u8, port: u16) -> SocketAddr {
+    SocketAddr::from((Ipv4Addr::new(127, 0, 0, host), port))
 }
 
 /// The sockets of two members and of a stranger.
@@ -75,9 +84,14 @@ fn opened<R: Net + Clock>(
     Ok((turner, sender))
 }
 
-fn held_at<R: Net + Clock>(rt: &R, alloc: Global, port: u16) -> Result<Held, Fail> {
-    let roster = roster_at(alloc, port)?;
-    let members = members_at(rt, port)?;
+/// A master, its loop and these members.
+fn held_with<R: Net + Clock>(
+    rt: &R,
+    alloc: Global,
+    port: u16,
+    roster: Roster,
+    members: Members,
+) -> Result<Held, Fail> {
     let master = shared(alloc, &roster, History::Dropped)?;
     let (turner, sender) = opened(rt, alloc, &roster)?;
     Ok(Held {
@@ -89,6 +103,25 @@ fn held_at<R: Net + Clock>(rt: &R, alloc: Global, port: u16) -> Result<Held, Fai
         members,
         port,
     })
+}
+
+fn held_at<R: Net + Clock>(rt: &R, alloc: Global, port: u16) -> Result<Held, Fail> {
+    let roster = roster_at(alloc, port)?;
+    let members = members_at(rt, port)?;
+    held_with(rt, alloc, port, roster, members)
+}
+
+/// The second member has id 16 and is at 127.0.0.2, and the stranger has the same port of 127.0.0.3.
+fn held_apart<R: Net + Clock>(rt: &R, alloc: Global, port: u16) -> Result<Held, Fail> {
+    let roster = roster_with(alloc, port, 16, 2)?;
+    let first = u16::saturating_add(port, 1);
+    let second = u16::saturating_add(port, 2);
+    let members = Members {
+        first: UdpSocket::bind(rt, socket_at(first))?,
+        second: UdpSocket::bind(rt, socket_of(2, second))?,
+        stranger: UdpSocket::bind(rt, socket_of(3, second))?,
+    };
+    held_with(rt, alloc, port, roster, members)
 }
 
 impl Held {
@@ -219,6 +252,44 @@ fn responses_of_members_count(rt: HostRuntime) -> Result<(), Fail> {
     Ok(())
 }
 
+/// What the second member is told as a purge is issued, how far the purge is after the responses of the first member and the stranger, and how far after its own.
+#[derive(Drop)]
+struct Seen {
+    told: String,
+    without: Status,
+    with: Status,
+}
+
+fn known<R: Net + Wait + Clock>(rt: &R, alloc: Global, port: u16) -> Result<Seen, Fail> {
+    let key = key(alloc)?;
+    let mut held = held_apart(rt, alloc, port)?;
+    let _number = held.issue(rt, key)?;
+    let told = received(alloc, &held.members.second)?;
+    held.answer(rt, Who::First)?;
+    held.answer(rt, Who::Stranger)?;
+    let without = status(rt, &held.master);
+    held.answer(rt, Who::Second)?;
+    let with = status(rt, &held.master);
+    Ok(Seen {
+        told,
+        without,
+        with,
+    })
+}
+
+#[test]
+fn a_member_is_told_and_known_by_its_address(rt: HostRuntime) -> Result<(), Fail> {
+    let Seen {
+        told,
+        without,
+        with,
+    } = known(&rt, rt.alloc(), 21480)?;
+    assert_eq!(rt; told.as_str(), CLEAR);
+    assert!(rt; without == Status::Pending(1));
+    assert!(rt; with == Status::Done);
+    Ok(())
+}
+
 /// What comes to the members within a second and a half after the first has answered.
 fn again<R: Net + Wait + Clock>(
     rt: &R,
@@ -239,6 +310,63 @@ fn what_is_due_is_sent_again(rt: HostRuntime) -> Result<(), Fail> {
     let (first, second) = again(&rt, rt.alloc(), 21440)?;
     assert!(rt; first.is_empty());
     assert_eq!(rt; second.as_str(), CLEAR);
+    Ok(())
+}
+
+/// How many datagrams have come, of a hundred at most.
+fn count_of(alloc: Global, socket: &UdpSocket) -> Result<u64, Fail> {
+    let mut count = 0u64;
+    for _ in 0..100 {
+        let next = received(alloc, socket)?;
+        if next.is_empty() {
+            break;
+        }
+        count = u64::saturating_add(count, 1);
+    }
+    Ok(count)
+}
+
+/// What comes again to a member that does not answer: the first two datagrams, how many more, and how many seconds the master has run.
+#[derive(Drop)]
+struct Resent {
+    first: String,
+    second: String,
+    more: u64,
+    seconds: u64,
+}
+
+/// What comes of two purges within two seconds and a half.
+fn silent<R: Net + Wait + Clock>(rt: &R, alloc: Global, port: u16) -> Result<Resent, Fail> {
+    let (one, other) = (key(alloc)?, Key::read(alloc, b"http://o/b")?);
+    let begun = Instant::now(rt)?;
+    let mut held = held_at(rt, alloc, port)?;
+    let _one = held.issue(rt, one)?;
+    let _other = held.issue(rt, other)?;
+    let _told = [held.come()?, held.come()?];
+    held.turn_for(rt, 2500)?;
+    let seconds = begun.elapsed(rt)?.as_secs();
+    let socket = &held.members.second;
+    Ok(Resent {
+        first: received(alloc, socket)?,
+        second: received(alloc, socket)?,
+        more: count_of(alloc, socket)?,
+        seconds,
+    })
+}
+
+/// Each purge is sent again under its own number, and once a second at most.
+#[test]
+fn each_purge_is_sent_again_once_a_second(rt: HostRuntime) -> Result<(), Fail> {
+    let Resent {
+        first,
+        second,
+        more,
+        seconds,
+    } = silent(&rt, rt.alloc(), 21490)?;
+    assert_eq!(rt; first.as_str(), CLEAR);
+    assert_eq!(rt; second.as_str(), SECOND_CLEAR);
+    let all = u64::saturating_add(more, 2);
+    assert!(rt; all <= u64::saturating_mul(seconds, 2));
     Ok(())
 }
 
