@@ -1,6 +1,7 @@
 //! A hierarchy that runs in one process.
-ghost use Rattle.std.specs.Prelude.{◌≡◌, ◌≤◌, ◌&&◌, nat_le};
+ghost use Rattle.std.specs.Prelude.{◌≡◌, ◌≤◌, ◌&&◌, nat_le, IfOk};
 ghost use Rattle.node_workers.specs.Names.{start_fault_name};
+ghost use Rattle.running_cluster.specs.Kept.{HasRun};
 ghost use Rattle.running_cluster.specs.Names.{cluster_fault_name};
 
 use crate::fault::ClusterFault;
@@ -58,7 +59,8 @@ struct Common<'a> {
 /// master did so far judged, and prints `yes`, `no PLACE CAUSE`, `forgotten`, or why the records of a member are not given; `quit` prints nothing. Any other line, also one that names no member, prints `bad line`.
 ///
 /// For `check` what the members and the master did is kept in memory: so many shifts of every member and of the master, of 4,096 steps or calls each, or fewer where the events of a shift have brought 4 MiB along. Where there
-/// would be more, all of it is dropped, and `check` prints `forgotten` from then on. With 0 nothing is kept. What is kept at the end is handed out, if that is all that was done until then.
+/// would be more, all of it is dropped, and `check` prints `forgotten` from then on. With 0 nothing is kept. What is kept at the end is handed out, if that is all that was done until then; each verdict that
+/// was printed is the one on a front of it, the records and entries that were gathered as that line came.
 ///
 /// Faults, the first that comes: those of the master's purges, of its socket and its thread, of the nodes' floors, sockets and threads by ascending id, and of the input.
 /// Whichever it is, every thread has ended and every socket and store is closed when this returns.
@@ -86,33 +88,23 @@ pub fn run_cluster<
     output: &mut O,
 ) -> Result<Option<Kept>, ClusterFault>
     requires { (2 ≤ workers) × (workers ≤ 8) }
+    ensures { IfOk result (HasRun roster.now history (I.remaining input.old) (O.contents output.old) (O.contents output.new)) }
 {
     let places = Places::new(alloc)?;
     let Stores { nodes, purges } = stores;
-    let master = MasterThread::start(rt, alloc, roster, purges, places.try_clone()?, history)?;
+    let master = MasterThread::start(rt, alloc, roster, purges, places.copy()?, history)?;
     let common = Common {
         roster,
         workers,
         history,
         places: &places,
     };
-    let mut memory = Memory::new(alloc, nodes.len(), history);
-    let ended = run_nodes(
-        rt,
-        alloc,
-        common,
-        nodes,
-        &master,
-        &mut memory,
-        input,
-        output,
-    );
+    let ended = run_nodes(rt, alloc, common, nodes, &master, input, output);
     master.stop(&rt);
-    ended?;
-    Ok(memory.into_kept())
+    ended
 }
 
-/// Starts the nodes beside the master, answers the lines, and stops the nodes.
+/// Starts the nodes beside the master, answers the lines, and stops the nodes. What is kept of the run is handed out.
 fn run_nodes<
     F: FloorStore + Drop + Send + 'static,
     P: PurgeStore,
@@ -134,17 +126,20 @@ fn run_nodes<
     common: Common<'_>,
     nodes: Vec<NodeFloors<F>>,
     master: &MasterThread<P>,
-    memory: &mut Memory,
     input: &mut I,
     output: &mut O,
-) -> Result<(), ClusterFault> {
+) -> Result<Option<Kept>, ClusterFault>
+    ensures { IfOk result (HasRun common.entry.roster.now common.entry.history (I.remaining input.old) (O.contents output.old) (O.contents output.new)) }
+{
     let mut running = Vec::with_capacity(alloc, nodes.len())?;
     let ended = match start_nodes(rt, alloc, &common, nodes, &mut running) {
-        Ok(()) => answer(&rt, alloc, &common, &running, master, memory, input, output),
+        Ok(()) => answer(&rt, alloc, &common, &running, master, input, output),
         Err(fault) => Err(fault),
     };
     let stopped = stop_nodes(&rt, running);
-    ended.and(stopped)
+    let kept = ended?;
+    stopped?;
+    Ok(kept)
 }
 
 /// Starts the nodes in the order of their stores. Those that run are in the row, also after a fault.
@@ -205,7 +200,7 @@ fn start_node<
     };
     let ground = Ground {
         floors,
-        places: common.places.try_clone()?,
+        places: common.places.copy()?,
         history: history_of(common.history),
         keys,
     };
@@ -222,8 +217,7 @@ fn start_node<
 fn start_fault(roster: &Roster, id: u8, fault: StartFault) -> ClusterFault
     ensures { cluster_fault_name result ≡ start_fault_name fault }
 {
-    let member = roster.members().iter().find(|member| member.cache.id == id);
-    match (fault, member) {
+    match (fault, roster.member(id)) {
         (StartFault::Loop(LoopFault::Io), Some(member)) => ClusterFault::Ports {
             id,
             http: member.cache.http.port,
@@ -253,37 +247,34 @@ fn stop_nodes<R: Threads + Wait>(rt: &R, running: Vec<Running>) -> Result<(), Cl
     stopped
 }
 
-/// Answers the lines of the input.
+/// Answers the lines of the input, and hands out what is kept of the run.
 fn answer<I: Read, O: Write, S: PurgeStore, R: Wait + Clock + RandomSource + Net>(
     rt: &R,
     alloc: Global,
     common: &Common<'_>,
     nodes: &[Running],
     running: &MasterThread<S>,
-    memory: &mut Memory,
     input: &mut I,
     output: &mut O,
-) -> Result<(), ClusterFault> {
+) -> Result<Option<Kept>, ClusterFault>
+    ensures { IfOk result (HasRun common.now.roster.now common.now.history (I.remaining input.old) (O.contents output.old) (O.contents output.new)) }
+{
     let (Ok(waiter), Ok(keys)) = (Waiter::new(rt, alloc), RandomState::new(rt)) else {
         return Err(ClusterFault::System);
     };
     let MasterThread { master, sender, .. } = running;
     let roster = common.roster;
-    let mut judge = Judge {
+    let judge = Judge {
         nodes,
         master,
-        memory,
+        memory: Memory::new(alloc, nodes.len(), common.history),
         keys,
     };
-    let answered = answer_lines(
-        rt, alloc, roster, master, sender, &mut judge, waiter, input, output,
+    let (judge, answered) = answer_lines(
+        rt, alloc, roster, master, sender, judge, waiter, input, output,
     );
-    // (what is not gathered now is not handed out)
-    if judge.memory.kept().is_some() && judge.gather(rt).is_err() {
-        judge.memory.forget();
-    }
     match answered {
-        Ok(()) => Ok(()),
+        Ok(()) => Ok(judge.into_kept(rt)),
         Err(fault) => Err(ClusterFault::Run(fault)),
     }
 }

@@ -1,7 +1,8 @@
 //! What is kept of a run, and how much of it.
-ghost use Rattle.std.specs.Prelude.{◌≡◌, ◌==◌, ◌++◌, OnOk};
+ghost use Rattle.std.specs.Prelude.{◌≡◌, ◌==◌, ◌++◌, None, OnOk, option_map};
 ghost use Rattle.std.specs.List.{list_any};
-ghost use Rattle.running_cluster.specs.Kept.{tells_nothing, with_record};
+ghost use Rattle.cluster_script.specs.Checked.{GoesOn};
+ghost use Rattle.running_cluster.specs.Kept.{gathered_at_first, gathered_in, tells_nothing, with_record};
 
 use node_book::{MOST_ENTRIES, Record};
 use purge_master::MasterEntry;
@@ -20,7 +21,7 @@ pub struct Kept {
 #[derive(Drop)]
 pub(crate) struct Memory {
     most: u64,
-    kept: Option<Kept>,
+    pub(crate) kept: Option<Kept>,
 }
 
 /// So many floors, copies and asks of a state are weighed as one entry.
@@ -94,7 +95,9 @@ impl Kept {
 
 impl Memory {
     /// Nothing was done so far. Of so many members so many shifts each are kept, and the master's calls in the same measure; nothing, where that is 0.
-    pub(crate) fn new(alloc: Global, members: usize, shifts: u32) -> Memory {
+    pub(crate) fn new(alloc: Global, members: usize, shifts: u32) -> Memory
+        ensures { gathered_in result.kept ≡ gathered_at_first shifts }
+    {
         let kept = Kept {
             records: Vec::new(alloc),
             entries: Vec::new(alloc),
@@ -106,22 +109,31 @@ impl Memory {
     }
 
     /// All that was done so far, if it is kept.
-    pub(crate) fn kept(&self) -> Option<&Kept> {
+    pub(crate) fn kept(&self) -> Option<&Kept>
+        ensures { option_map (λ kept. kept.now) result ≡ self.now.kept }
+    {
         self.kept.as_ref()
     }
 
     /// All that was done, if it is kept.
-    pub(crate) fn into_kept(self) -> Option<Kept> {
+    pub(crate) fn into_kept(self) -> Option<Kept>
+        ensures { result ≡ self.kept }
+    {
         self.kept
     }
 
     /// Drops all that was kept: some of the run is lost.
-    pub(crate) fn forget(&mut self) {
+    pub(crate) fn forget(&mut self)
+        ensures { self.new.kept ≡ None }
+    {
         self.kept = None;
     }
 
     /// Drops all where there is more of it than is kept.
-    pub(crate) fn limit(&mut self) {
+    #[tactic(auto, using(crate::proofs::Gathering::kept_as_it_was, crate::proofs::Gathering::dropped))]
+    pub(crate) fn limit(&mut self)
+        ensures { GoesOn (gathered_in self.old.kept) (gathered_in self.new.kept) }
+    {
         if let Some(kept) = &self.kept {
             if self.most < kept.weight() {
                 self.forget();
@@ -129,22 +141,37 @@ impl Memory {
         }
     }
 
-    /// Puts the next records of a member behind those that are kept. Where there is no memory for that, all is dropped.
-    pub(crate) fn put_records(&mut self, records: Vec<Record>) -> Result<(), AllocError> {
+    /// Puts the next record of a member behind those that are kept. Where there is no memory for that, all is dropped.
+    #[tactic(auto, using(crate::proofs::Gathering::kept_as_it_was, crate::proofs::Gathering::dropped, crate::proofs::Gathering::record_put))]
+    fn put_record(&mut self, next: Record) -> Result<(), AllocError>
+        ensures { GoesOn (gathered_in self.old.kept) (gathered_in self.new.kept) }
+    {
         let Some(kept) = &mut self.kept else {
             return Ok(());
         };
-        for record in records {
-            if kept.put_record(record).is_err() {
-                self.kept = None;
-                return Err(AllocError);
-            }
+        let put = kept.put_record(next);
+        if put.is_err() {
+            self.forget();
+        }
+        put
+    }
+
+    /// Puts the next records of a member behind those that are kept. Where there is no memory for that, all is dropped.
+    #[tactic(auto, using(crate::proofs::Gathering::kept_as_it_was, crate::proofs::Gathering::kept_twice))]
+    pub(crate) fn put_records(&mut self, records: Vec<Record>) -> Result<(), AllocError>
+        ensures { GoesOn (gathered_in self.old.kept) (gathered_in self.new.kept) }
+    {
+        for next in records {
+            self.put_record(next)?;
         }
         Ok(())
     }
 
     /// Puts the next calls of the master behind those that are kept. Where there is no memory for that, all is dropped.
-    pub(crate) fn put_entries(&mut self, entries: Vec<MasterEntry>) -> Result<(), AllocError> {
+    #[tactic(auto, using(crate::proofs::Gathering::kept_as_it_was, crate::proofs::Gathering::dropped, crate::proofs::Gathering::entries_put))]
+    pub(crate) fn put_entries(&mut self, entries: Vec<MasterEntry>) -> Result<(), AllocError>
+        ensures { GoesOn (gathered_in self.old.kept) (gathered_in self.new.kept) }
+    {
         let Some(kept) = &mut self.kept else {
             return Ok(());
         };

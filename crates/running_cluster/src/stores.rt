@@ -51,7 +51,7 @@ fn open_nodes(
 ) -> Result<Vec<NodeFloors<NodeStore>>, ClusterFault> {
     let mut nodes = Vec::with_capacity(alloc, roster.members().len())?;
     for id in 1..=LAST_MEMBER {
-        if is_member(roster, id) {
+        if roster.is_member(id) {
             open_node(rt, alloc, dir, id, &mut nodes)?;
         }
     }
@@ -81,10 +81,6 @@ fn put_node<F: Drop>(
         Ok(()) => Ok(()),
         Err(_) => Err(ClusterFault::NoMemory),
     }
-}
-
-fn is_member(roster: &Roster, id: u8) -> bool {
-    roster.members().iter().any(|member| member.cache.id == id)
 }
 
 fn node_store(
