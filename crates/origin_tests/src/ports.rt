@@ -1,5 +1,5 @@
 //! An origin at ports of this machine, and its clients.
-use fetch_messages::{Ask, FetchFault};
+use fetch_messages::{Answer, Ask, FetchFault};
 use mio::net::TcpStream;
 use node_fetch::exchange;
 use origin_server::{OriginFault, run_origin};
@@ -15,18 +15,18 @@ use timed_streams::{Timed, Waiter};
 use url_key::Key;
 
 /// The address of a port of this machine.
-fn address_at(port: u16) -> Address {
+pub(crate) fn address_at(port: u16) -> Address {
     Address {
         ip: 0x7f00_0001,
         port,
     }
 }
 
-fn socket_at(port: u16) -> SocketAddr {
+pub(crate) fn socket_at(port: u16) -> SocketAddr {
     SocketAddr::from((Ipv4Addr::LOCALHOST, port))
 }
 
-fn ask_for(alloc: Global, url: &[u8]) -> Result<Ask, Fail> {
+pub(crate) fn ask_for(alloc: Global, url: &[u8]) -> Result<Ask, Fail> {
     Ok(Ask {
         key: Key::read(alloc, url)?,
         only_if_cached: false,
@@ -36,7 +36,7 @@ fn ask_for(alloc: Global, url: &[u8]) -> Result<Ask, Fail> {
 }
 
 /// How often a client tries to connect at most, 20 milliseconds apart.
-const MOST_TRIES: u32 = 500;
+pub(crate) const MOST_TRIES: u32 = 500;
 
 /// The body of the answer to an ask, which is made again where the origin is not there yet.
 fn body_of(rt: &HostRuntime, waiter: &mut Waiter, port: u16, ask: &Ask) -> Result<Vec<u8>, Fail> {
@@ -51,15 +51,15 @@ fn body_of(rt: &HostRuntime, waiter: &mut Waiter, port: u16, ask: &Ask) -> Resul
     Err("no origin".into())
 }
 
-/// What a client reads that sends this, within five seconds.
-fn read_back(
+/// What a client reads that sends this, within twenty seconds.
+pub(crate) fn read_back(
     rt: &HostRuntime,
     waiter: &mut Waiter,
     port: u16,
     octets: &[u8],
 ) -> io::Result<(usize, [u8; 12])> {
     let mut stream = TcpStream::connect(rt, socket_at(port))?;
-    let mut timed = Timed::new(rt, waiter, &mut stream, Duration::from_secs(5))?;
+    let mut timed = Timed::new(rt, waiter, &mut stream, Duration::from_secs(20))?;
     timed.write_all(octets)?;
     timed.flush()?;
     let mut front = [0; 12];
@@ -118,8 +118,16 @@ const SENT: [(AskForm, &[u8], &[u8]); 2] = [
     ),
 ];
 
-/// The octets that a client sends up to an empty line. It is answered with status 204.
-fn heard(alloc: Global, listener: &TcpListener) -> io::Result<Vec<u8>> {
+/// Answers with a head and then with a body, each after a while.
+fn answer_slowly<C: Clock, W: Write>(clock: &C, writer: &mut W) -> io::Result<()> {
+    thread::sleep(clock, Duration::from_millis(100));
+    writer.write_all(b"HTTP/1.1 200 \r\ncontent-length: 2\r\n\r\n")?;
+    thread::sleep(clock, Duration::from_millis(100));
+    writer.write_all(b"ok")
+}
+
+/// The octets that a client sends up to an empty line. It is answered slowly.
+fn heard<C: Clock>(clock: &C, alloc: Global, listener: &TcpListener) -> io::Result<Vec<u8>> {
     let (mut stream, _) = listener.accept()?;
     let mut octets = Vec::new(alloc);
     let mut buffer = [0; 64];
@@ -130,57 +138,61 @@ fn heard(alloc: Global, listener: &TcpListener) -> io::Result<Vec<u8>> {
             break;
         }
     }
-    stream.write_all(b"HTTP/1.1 204 \r\n\r\n")?;
+    answer_slowly(clock, &mut stream)?;
     Ok(octets)
 }
 
-/// The status that an ask is answered with, under a name that a cache may have.
-fn status_of<R: Net + Clock>(
+/// What an ask is answered with, under a name that a cache may have.
+pub(crate) fn answer_of<R: Net + Clock>(
     rt: &R,
     alloc: Global,
     port: u16,
     ask: &Ask,
     form: AskForm,
     name: &[u8],
-) -> Option<u16> {
+) -> Result<Answer, FetchFault> {
     if !is_name(name) {
-        return None;
+        return Err(FetchFault::BadHead);
     }
-    let mut waiter = Waiter::new(rt, alloc).ok()?;
-    match exchange(rt, alloc, &mut waiter, address_at(port), ask, form, name) {
-        Ok(answer) => Some(answer.status()),
-        Err(_) => None,
+    match Waiter::new(rt, alloc) {
+        Ok(mut waiter) => exchange(rt, alloc, &mut waiter, address_at(port), ask, form, name),
+        Err(_) => Err(FetchFault::NoMemory),
     }
 }
 
-/// What a peer at this port hears, and the status that the one who asks is told.
+/// What a peer at this port hears, and the answer that the one who asks is told.
 fn exchanged<R: Threads + Net<Listener = TcpListener, Stream = std::net::TcpStream> + Clock + Sync>(
     rt: &R,
     alloc: Global,
     port: u16,
     form: AskForm,
     name: &[u8],
-) -> Result<(Option<Vec<u8>>, Option<u16>), Fail> {
+) -> Result<(Option<Vec<u8>>, Option<Answer>), Fail> {
     let ask = ask_for(alloc, b"http://o/a")?;
     let listener = TcpListener::bind(rt, socket_at(port))?;
     Ok(thread::join(
         rt,
-        move || heard(alloc, &listener).ok(),
-        || status_of(rt, alloc, port, &ask, form, name),
+        move || heard(rt, alloc, &listener).ok(),
+        || answer_of(rt, alloc, port, &ask, form, name).ok(),
     ))
 }
 
+/// An ask comes as it should, and the answer is whole though its body comes a while after its head.
 #[test]
 fn an_exchange_sends_the_ask(rt: HostRuntime) -> Result<(), Fail> {
     for ((form, name, text), port) in SENT.iter().zip(21330u16..) {
-        let (heard, status) = exchanged(&rt, rt.alloc(), port, *form, *name)?;
+        let (heard, told) = exchanged(&rt, rt.alloc(), port, *form, *name)?;
         assert!(rt;
             heard
                 .as_ref()
                 .is_some_and(|octets| octets.as_slice() == *text),
             "{port}"
         );
-        assert!(rt; status == Some(204), "{port}");
+        assert!(rt;
+            told.as_ref().is_some_and(|answer| answer.status() == 200
+                && answer.body() == b"ok".as_slice()),
+            "{port}"
+        );
     }
     Ok(())
 }
