@@ -11,7 +11,7 @@ use std::marker::Brand;
 use std::net::{Ipv4Addr, Net, Shutdown, SocketAddr};
 use std::sync::Wait;
 use std::test::Fail;
-use std::time::{Clock, Duration};
+use std::time::{Clock, Duration, Instant};
 use udp_loop::{LoopFault, Never, NodeLoop, Senders};
 
 /// What clients do, and the loop.
@@ -31,10 +31,17 @@ enum Act {
     Turns(u32),
 }
 
+/// Addresses of this machine.
+const FIRST: u32 = 0x7f00_0001;
+
+const SECOND: u32 = 0x7f00_0002;
+
+const THIRD: u32 = 0x7f00_0003;
+
 /// The addresses of a node, at ports from this one on.
-fn cache_at(alloc: Global, port: u16) -> Cache {
+fn cache_at(alloc: Global, ip: u32, port: u16) -> Cache {
     let at = |offset: u16| Address {
-        ip: 0x7f00_0001,
+        ip,
         port: u16::saturating_add(port, offset),
     };
     Cache {
@@ -114,13 +121,21 @@ impl Clients {
     }
 }
 
+/// A datagram in words, with its sender's address where that is not the first one.
+fn show_datagram(text: &mut String, udp: Udp, from: Address, length: usize) -> Result<(), Fail> {
+    let by = if udp == Udp::Icp { "icp" } else { "htcp" };
+    write!(text, "{by} {length}")?;
+    if from.ip != FIRST {
+        write!(text, " from {}", Ipv4Addr::from(from.ip))?;
+    }
+    write!(text, "; ")?;
+    Ok(())
+}
+
 /// A job in words.
 fn show(text: &mut String, job: &Job) -> Result<(), Fail> {
     match job {
-        Job::Datagram { udp, octets, .. } => {
-            let by = if *udp == Udp::Icp { "icp" } else { "htcp" };
-            write!(text, "{by} {}; ", octets.len())?;
-        }
+        Job::Datagram { udp, from, octets } => show_datagram(text, *udp, *from, octets.len())?,
         Job::Stream { number, octets, .. } => write!(text, "stream {number}: {}; ", octets.len())?,
         Job::Timer { serial } => write!(text, "timer {serial}; ")?,
     }
@@ -139,15 +154,16 @@ struct Held {
 fn opened<R: Net + Clock>(
     rt: &R,
     alloc: Global,
+    ip: u32,
     port: u16,
 ) -> Result<(NodeLoop, Senders), LoopFault> {
-    let cache = cache_at(alloc, port);
+    let cache = cache_at(alloc, ip, port);
     NodeLoop::open(rt, alloc, &cache)
 }
 
-fn held_at<R: Net + Clock>(rt: &R, alloc: Global, port: u16) -> Result<Held, Fail> {
+fn held_at<R: Net + Clock>(rt: &R, alloc: Global, ip: u32, port: u16) -> Result<Held, Fail> {
     let clients = Clients::of(rt, alloc, port)?;
-    let (mut turner, senders) = opened(rt, alloc, port)?;
+    let (mut turner, senders) = opened(rt, alloc, ip, port)?;
     turner.set_wait(Duration::from_millis(5));
     Ok(Held {
         turner,
@@ -234,7 +250,7 @@ fn run<R: Net + Wait + Clock>(
     port: u16,
     acts: &[Act],
 ) -> Result<String, Fail> {
-    let mut held = held_at(rt, alloc, port)?;
+    let mut held = held_at(rt, alloc, FIRST, port)?;
     run_at(rt, alloc, &mut held, acts)
 }
 
@@ -251,9 +267,10 @@ const WHOLE: &[u8] = b"GET / HTTP/1.1\r\nHost: o\r\n\r\n";
 /// A head that does not end.
 const LONG: [u8; 20_000] = [b'a'; 20_000];
 
-const COME: [Act; 12] = [
+const COME: [Act; 13] = [
     Act::Datagram(Udp::Icp, b"abc"),
     Act::Datagram(Udp::Htcp, b"defg"),
+    Act::Datagram(Udp::Htcp, &LONG),
     Act::Connect(1),
     Act::Turns(3),
     Act::Send(0, EMPTY),
@@ -269,7 +286,32 @@ const COME: [Act; 12] = [
 #[test]
 fn what_comes_is_put(rt: HostRuntime) -> Result<(), Fail> {
     let jobs = run(&rt, rt.alloc(), 21100, &COME)?;
-    assert_eq!(rt; jobs.as_str(), "icp 3; htcp 4; icp 2; stream 0: 31; ");
+    assert_eq!(rt;
+        jobs.as_str(),
+        "icp 3; htcp 4; htcp 20000; icp 2; stream 0: 31; "
+    );
+    Ok(())
+}
+
+/// Of one client the last octet of a head comes alone, by CRLF, and of another one by LF; of a third all of a head by LF.
+const CUT: [Act; 10] = [
+    Act::Connect(3),
+    Act::Turns(2),
+    Act::Send(0, b"GET / HTTP/1.1\r\nHost: o\r\n\r"),
+    Act::Send(1, b"GET / HTTP/1.1\n"),
+    Act::Send(2, b"GET / HTTP/1.1\n\n"),
+    Act::Turns(20),
+    Act::Send(0, b"\n"),
+    Act::Turns(20),
+    Act::Send(1, b"\n"),
+    Act::Turns(20),
+];
+
+/// Each head is a job as soon as its last octet is there.
+#[test]
+fn heads_come_at_their_ends(rt: HostRuntime) -> Result<(), Fail> {
+    let jobs = run(&rt, rt.alloc(), 21220, &CUT)?;
+    assert_eq!(rt; jobs.as_str(), "stream 2: 16; stream 0: 27; stream 1: 16; ");
     Ok(())
 }
 
@@ -315,18 +357,38 @@ fn ends_and_limits_are_seen(rt: HostRuntime) -> Result<(), Fail> {
     Ok(())
 }
 
-/// A client sends a part of a head and then nothing, for more than five seconds; another one sends nothing at all.
-const LATE: [Act; 4] = [
+/// A client sends a part of a head and then nothing; another one sends nothing at all.
+const EARLY: [Act; 4] = [
     Act::Connect(2),
     Act::Turns(2),
     Act::Send(0, b"GET"),
-    Act::Turns(1300),
+    Act::Turns(500),
 ];
+
+/// More than five seconds are over.
+const LATE: [Act; 1] = [Act::Turns(800)];
+
+/// The jobs in the queue early and late, whether none came before its time, and how many octets the second client reads then: none, as its stream is closed.
+fn unfinished<R: Net + Wait + Clock>(
+    rt: &R,
+    alloc: Global,
+    port: u16,
+) -> Result<(String, bool, usize), Fail> {
+    let mut held = held_at(rt, alloc, FIRST, port)?;
+    let begun = Instant::now(rt)?;
+    let mut jobs = run_at(rt, alloc, &mut held, &EARLY)?;
+    let is_patient = jobs.is_empty() || begun.elapsed(rt)?.as_secs() >= 5;
+    jobs.push_str(run_at(rt, alloc, &mut held, &LATE)?.as_str())?;
+    let mut buffer = [0; 16];
+    let read = held.clients.client(1)?.read(&mut buffer)?;
+    Ok((jobs, is_patient, read))
+}
 
 #[test]
 fn a_head_has_five_seconds(rt: HostRuntime) -> Result<(), Fail> {
-    let jobs = run(&rt, rt.alloc(), 21130, &LATE)?;
+    let (jobs, is_patient, read) = unfinished(&rt, rt.alloc(), 21130)?;
     assert_eq!(rt; jobs.as_str(), "stream 0: 3; ");
+    assert!(rt; is_patient && read == 0);
     Ok(())
 }
 
@@ -350,7 +412,7 @@ fn flooded<R: Net + Wait + Clock>(
     alloc: Global,
     port: u16,
 ) -> Result<(String, usize), Fail> {
-    let mut held = held_at(rt, alloc, port)?;
+    let mut held = held_at(rt, alloc, FIRST, port)?;
     let jobs = run_at(rt, alloc, &mut held, &FLOOD)?;
     let mut buffer = [0; 16];
     let read = held.clients.client(0)?.read(&mut buffer)?;
@@ -376,7 +438,7 @@ fn a_full_queue_takes_no_more(rt: HostRuntime) -> Result<(), Fail> {
 
 /// What the clients' socket gets when the node sends to it, and from which port.
 fn sent(rt: &HostRuntime, port: u16) -> Result<(usize, u16), Fail> {
-    let held = held_at(rt, rt.alloc(), port)?;
+    let held = held_at(rt, rt.alloc(), FIRST, port)?;
     answered(&held)
 }
 
@@ -399,8 +461,8 @@ fn senders_send_from_the_node(rt: HostRuntime) -> Result<(), Fail> {
 
 /// Why sockets at the same ports are not opened once more.
 fn refused_twice(rt: &HostRuntime, port: u16) -> Result<Option<LoopFault>, Fail> {
-    let _held = held_at(rt, rt.alloc(), port)?;
-    Ok(opened(rt, rt.alloc(), port).err())
+    let _held = held_at(rt, rt.alloc(), FIRST, port)?;
+    Ok(opened(rt, rt.alloc(), FIRST, port).err())
 }
 
 #[test]
@@ -408,5 +470,24 @@ fn ports_in_use_are_refused(rt: HostRuntime) -> Result<(), Fail> {
     let fault = refused_twice(&rt, 21160)?;
     assert!(rt; fault == Some(LoopFault::Io));
     assert_eq!(rt; LoopFault::NoMemory.name(), "NoMemory");
+    Ok(())
+}
+
+/// The jobs of a node to which one at the same ports of another address sends.
+fn told_apart<R: Net + Wait + Clock>(rt: &R, alloc: Global, port: u16) -> Result<String, Fail> {
+    let mut held = held_at(rt, alloc, SECOND, port)?;
+    let (_turner, senders) = opened(rt, alloc, THIRD, port)?;
+    let to = Address {
+        ip: SECOND,
+        port: u16::saturating_add(port, 1),
+    };
+    senders.send(Udp::Icp, to, b"abc")?;
+    run_at(rt, alloc, &mut held, &[Act::Turns(20)])
+}
+
+#[test]
+fn addresses_are_told_apart(rt: HostRuntime) -> Result<(), Fail> {
+    let jobs = told_apart(&rt, rt.alloc(), 21230)?;
+    assert_eq!(rt; jobs.as_str(), "icp 3 from 127.0.0.3; ");
     Ok(())
 }
