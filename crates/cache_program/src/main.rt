@@ -1,20 +1,28 @@
-//! The command `cache`: its command line, over the terminal's streams. What it runs stands in `answer_script`, `wire_script`, `world_script`, `running_cluster` and `origin_server`.
+//! The command `cache`: what its command line asks for (`command_line`), over the terminal's streams. What it runs stands in `answer_script`, `wire_script`, `world_script`, `running_cluster` and `origin_server`.
 //!
-//! The command line has no clauses but that of the number of workers: tests of the scripts go by their own calls.
+//! The program has no clauses: its parts go by theirs, and tests try their calls.
 #![tactic(auto)]
 
 mod commands;
+mod failure;
 
-use commands::{Failure, Grounds, Task, workers_of};
+use clap::Error;
+use command_line::Task;
+use commands::Grounds;
+use failure::Failure;
 use origin_server::run_origin;
 use running_cluster::run_cluster;
+use script_lines::RunFault;
 use std::io;
 use std::process::ExitCode;
 
 fn main(rt: HostRuntime) -> ExitCode {
-    let task = match commands::task_of(&rt) {
+    let Ok(words) = commands::words_of(&rt) else {
+        return failure::status_of(&rt, Err(Failure::Run(RunFault::NoMemory)));
+    };
+    let task = match command_line::task_of(rt.alloc(), words.as_slice()) {
         Ok(task) => task,
-        Err(status) => return status,
+        Err(error) => return refused(&rt, &error),
     };
     let done = match task {
         Task::Script(script) => commands::play(&rt, &script),
@@ -27,7 +35,6 @@ fn main(rt: HostRuntime) -> ExitCode {
             workers,
             history,
         } => {
-            let workers = workers_of(workers);
             match commands::grounds_of(&rt, rt.alloc(), file.as_str(), dir.as_str()) {
                 Ok(Grounds { roster, stores }) => {
                     let (mut input, mut output) = (rt.reader(), io::writer(&rt));
@@ -48,5 +55,11 @@ fn main(rt: HostRuntime) -> ExitCode {
             }
         }
     };
-    commands::status_of(&rt, done)
+    failure::status_of(&rt, done)
+}
+
+/// Prints what the command line is answered: its fault, or help.
+fn refused<R: Print + Eprint>(rt: &R, error: &Error) -> ExitCode {
+    let _ = error.print(rt);
+    ExitCode::from(command_line::status_of(error))
 }

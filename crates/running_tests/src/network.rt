@@ -1,5 +1,5 @@
 //! What a node's clients and peers do, over sockets.
-use floor_rules::MemoryFloors;
+use floor_rules::{FloorStore, MemoryFloors};
 use mio::net::UdpSocket;
 use node_book::Record;
 use node_seats::Places;
@@ -66,21 +66,48 @@ pub(crate) fn socket_at(port: u16) -> SocketAddr {
     SocketAddr::from((Ipv4Addr::LOCALHOST, port))
 }
 
-/// What a node starts on: floors in memory.
-fn ground<R: RandomSource>(
+/// What a node starts on: these floors.
+fn ground<S: FloorStore + Drop, R: RandomSource>(
     rt: &R,
     alloc: Global,
-    history: History,
-) -> Result<Ground<MemoryFloors>, Fail> {
+    floors: S,
+) -> Result<Ground<S>, Fail> {
     Ok(Ground {
-        floors: MemoryFloors::new(alloc),
+        floors,
         places: Places::new(alloc)?,
-        history,
+        history: History::UpTo(16),
         keys: RandomState::new(rt)?,
     })
 }
 
-/// A node of a roster with two workers.
+/// A node of a roster with two workers, over these floors.
+pub(crate) fn started_over<
+    S: FloorStore + Drop + Send + 'static,
+    G: Gate + Drop + Send + Sync + 'static,
+    R: Threads
+        + Wait
+        + Clock
+        + RandomSource
+        + Net<Listener = TcpListener, Stream = TcpStream>
+        + Copy
+        + Drop
+        + Send
+        + Sync
+        + 'static,
+>(
+    rt: R,
+    alloc: Global,
+    text: &str,
+    id: u8,
+    gate: Arc<G, Global>,
+    floors: S,
+) -> Result<Result<Workers, StartFault>, Fail> {
+    let roster = roster_of(alloc, text)?;
+    let ground = ground(&rt, alloc, floors)?;
+    Ok(Workers::start(rt, alloc, &roster, id, 2, ground, gate))
+}
+
+/// A node of a roster with two workers, over floors in memory.
 pub(crate) fn started<
     G: Gate + Drop + Send + Sync + 'static,
     R: Threads
@@ -100,9 +127,7 @@ pub(crate) fn started<
     id: u8,
     gate: Arc<G, Global>,
 ) -> Result<Result<Workers, StartFault>, Fail> {
-    let roster = roster_of(alloc, text)?;
-    let ground = ground(&rt, alloc, History::UpTo(16))?;
-    Ok(Workers::start(rt, alloc, &roster, id, 2, ground, gate))
+    started_over(rt, alloc, text, id, gate, MemoryFloors::new(alloc))
 }
 
 /// A node of a roster with two workers, which runs.

@@ -80,10 +80,11 @@ fn clients_ask<R: Net<Stream = TcpStream>>(rt: &R, alloc: Global) -> Result<[boo
 /// That the query is denied, as it is from an unknown address (RFC 2186).
 const DENIED: &[u8] = b"\x16\x02\x00\x1f\0\0\0\x07\0\0\0\0\0\0\0\0\0\0\0\0http://o/a\0";
 
-/// The CLR of purge 7 (RFC 2756), and that the entity was not held.
-const PURGE: &[u8] =
+/// The CLR of purge 7 (RFC 2756).
+pub(crate) const PURGE: &[u8] =
     b"\x00\x40\0\0\x00\x3a\x40\x02\0\0\0\x07\0\0\x00\x03GET\x00\x0ahttp://o/a\x00\x08HTTP/1.1\x00\x13X-Purge-Number: 7\r\n\x00\x02";
 
+/// That the entity was not held.
 const NOT_HELD: &[u8] = b"\x00\x0e\0\0\x00\x08\x42\x01\0\0\0\x07\x00\x02";
 
 /// A stranger asks by ICP, and the master purges: whether the node answers as it should.

@@ -10,7 +10,7 @@ use std::test::Fail;
 use std::time::Clock;
 
 /// Whether a client gets 503.
-fn is_refused(alloc: Global, client: TcpStream) -> Result<bool, Fail> {
+pub(crate) fn is_refused(alloc: Global, client: TcpStream) -> Result<bool, Fail> {
     let answer = answer_of(alloc, client)?;
     Ok(answer.as_slice().starts_with(b"HTTP/1.1 503 "))
 }

@@ -1,0 +1,67 @@
+//! How much of a run is kept for `check`.
+use crate::running::{Course, fresh_folder, loners, run, stores_in};
+use std::alloc::Global;
+use std::test::Fail;
+
+/// Puts a line so often behind these.
+fn put(script: &mut Vec<u8>, count: u32, line: &[u8]) -> Result<(), Fail> {
+    for _ in 0..count {
+        script.extend_from_slice(line)?;
+    }
+    Ok(())
+}
+
+/// Which answer to `check` is this line, if it is one of these: `yes` or `forgotten`.
+fn verdict(line: &[u8]) -> Option<u8> {
+    if line == b"yes".as_slice() {
+        Some(b'y')
+    } else if line == b"forgotten".as_slice() {
+        Some(b'f')
+    } else {
+        None
+    }
+}
+
+/// The answers to `check` among these lines, a letter each: `y` or `f`.
+fn verdicts(alloc: Global, answers: &[u8]) -> Result<Vec<u8>, Fail> {
+    let mut letters = Vec::new(alloc);
+    for line in answers.split(|octet| *octet == b'\n') {
+        if let Some(letter) = verdict(line) {
+            letters.push(letter)?;
+        }
+    }
+    Ok(letters)
+}
+
+/// So often: 4,000 calls of the master, and a check.
+fn calls(alloc: Global, times: u32) -> Result<Vec<u8>, Fail> {
+    let mut script = Vec::new(alloc);
+    for _ in 0..times {
+        put(&mut script, 4000, b"status 1\n")?;
+        put(&mut script, 1, b"check\n")?;
+    }
+    Ok(script)
+}
+
+#[test]
+fn as_many_calls_are_kept_as_the_history_says(rt: HostRuntime) -> Result<(), Fail> {
+    let alloc = rt.alloc();
+    let roster = loners(alloc, 23100, &[1])?;
+    let script = calls(alloc, 4)?;
+    // One member and its master: with a history of 1 it is 8,192 entries in all, with 2 twice as many.
+    for (history, expected) in [(1u32, "yyff"), (2, "yyyy")] {
+        fresh_folder(&rt, "history-23100")?;
+        let stores = stores_in(&rt, alloc, &roster, "history-23100")?;
+        let course = Course {
+            script: script.as_slice(),
+            pause: 0,
+            history,
+        };
+        let mut answers = Vec::new(alloc);
+        let kept = run(rt, alloc, &roster, stores, course, &mut answers);
+        let letters = verdicts(alloc, answers.as_slice())?;
+        assert!(rt; letters.as_slice() == expected.as_bytes(), "{history}");
+        assert!(rt; matches!(kept, Ok(Some(_))) == (history == 2), "{history}");
+    }
+    Ok(())
+}
