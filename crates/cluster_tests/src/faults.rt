@@ -26,17 +26,24 @@ fn a_port_in_use_is_refused(rt: HostRuntime) -> Result<(), Fail> {
     let alloc = rt.alloc();
     let roster = siblings(alloc, 21660)?;
     fresh_folder(&rt, "cluster-21660")?;
-    let _listener = TcpListener::bind(&rt, SocketAddr::from((Ipv4Addr::LOCALHOST, 21680)))?;
-    let stores = stores_in(&rt, alloc, &roster, "cluster-21660")?;
+    let trial = Trial::of(b"status 1\n", 0);
     let mut answers = Vec::new(alloc);
-    let trial = Trial::of(b"quit\n", 0);
-    let begun = answers_to(rt, alloc, &roster, stores, trial, &mut answers);
-    let (name, sentence) = refusal(alloc, begun)?;
-    assert_eq!(rt; name, "Io");
-    assert_eq!(rt;
-        sentence.as_str(),
-        "node 2: not each of its ports 21680 (HTTP), 21681 (ICP) and 21682 (HTCP) could be opened"
-    );
+    {
+        // (member 1 has started by the time that a port of member 2 is found in use)
+        let _listener = TcpListener::bind(&rt, SocketAddr::from((Ipv4Addr::LOCALHOST, 21680)))?;
+        let stores = stores_in(&rt, alloc, &roster, "cluster-21660")?;
+        let begun = answers_to(rt, alloc, &roster, stores, trial, &mut answers);
+        let (name, sentence) = refusal(alloc, begun)?;
+        assert_eq!(rt; name, "Io");
+        assert_eq!(rt;
+            sentence.as_str(),
+            "node 2: not each of its ports 21680 (HTTP), 21681 (ICP) and 21682 (HTCP) could be opened"
+        );
+    }
+    let stores = stores_in(&rt, alloc, &roster, "cluster-21660")?;
+    let again = answers_to(rt, alloc, &roster, stores, trial, &mut answers);
+    assert!(rt; again.is_ok(), "nothing of the first start is left open");
+    assert!(rt; answers.as_slice() == b"unknown\n".as_slice());
     Ok(())
 }
 

@@ -8,6 +8,8 @@ mod court;
 #[cfg(test)]
 mod faults;
 #[cfg(test)]
+mod keeping;
+#[cfg(test)]
 mod purges;
 #[cfg(test)]
 mod records;

@@ -1,5 +1,5 @@
 //! Purges among the asks of clients, copies that siblings share, and what is left after a restart.
-use crate::trial::{Trial, answers_to, fresh_folder, siblings, stores_in};
+use crate::trial::{Trial, answers_to, fresh_folder, loners, siblings, stores_in};
 use fetch_messages::{Answer, Ask};
 use node_fetch::exchange;
 use origin_server::run_origin;
@@ -8,8 +8,8 @@ use roster_tables::Address;
 use std::alloc::Global;
 use std::net::Net;
 use std::test::Fail;
-use std::thread;
 use std::time::{Clock, Duration};
+use std::{fs, thread};
 use timed_streams::Waiter;
 use url_key::Key;
 
@@ -246,6 +246,21 @@ fn purge_script(alloc: Global) -> Result<Vec<u8>, Fail> {
     put(&mut script, 1, b"purge http://o/a\n")?;
     put(&mut script, ASKINGS, b"status 1\n")?;
     Ok(script)
+}
+
+#[test]
+fn the_last_member_that_may_be_runs(rt: HostRuntime) -> Result<(), Fail> {
+    let alloc = rt.alloc();
+    let roster = loners(alloc, 23200, &[1, 16])?;
+    let script = purge_script(alloc)?;
+    fresh_folder(&rt, "cluster-23200")?;
+    let stores = stores_in(&rt, alloc, &roster, "cluster-23200")?;
+    let mut answers = Vec::new(alloc);
+    let trial = Trial::of(script.as_slice(), 5);
+    let kept = answers_to(rt, alloc, &roster, stores, trial, &mut answers);
+    assert!(rt; matches!(kept, Ok(Some(_))) && answers.ends_with(b"done 1\n"));
+    assert!(rt; fs::read(&rt, "cluster-23200/node-16.db").is_ok());
+    Ok(())
 }
 
 #[test]

@@ -65,6 +65,23 @@ pub(crate) fn siblings(alloc: Global, port: u16) -> Result<Roster, Fail> {
     roster_of(alloc, text.as_str())
 }
 
+/// Members of these ids without peers and without an origin, whose master is at this port; member N is at the ports from the 10 Nth after it on.
+pub(crate) fn loners(alloc: Global, port: u16, ids: &[u16]) -> Result<Roster, Fail> {
+    let mut text = format!(in alloc;
+        "default_lifetime = 60\ncopies = 1000\nbytes = 1048576\nquery_wait = 500\n\n[master]\naddress = \"127.0.0.1\"\nhtcp = {port}\n"
+    )?;
+    for id in ids {
+        let http = u16::saturating_add(port, u16::saturating_mul(10, *id));
+        let icp = u16::saturating_add(http, 1);
+        let htcp = u16::saturating_add(http, 2);
+        let node = format!(in alloc;
+            "\n[[node]]\nid = {id}\nname = \"n{id}\"\naddress = \"127.0.0.1\"\nhttp = {http}\nicp = {icp}\nhtcp = {htcp}\n"
+        )?;
+        text.push_str(node.as_str())?;
+    }
+    roster_of(alloc, text.as_str())
+}
+
 /// A folder with nothing in it.
 pub(crate) fn fresh_folder(files: &HostRuntime, dir: &str) -> Result<(), Fail> {
     let _gone = fs::remove_dir_all(files, dir);

@@ -1,15 +1,8 @@
 //! How much of a run is kept for `check`.
-use crate::running::{Course, fresh_folder, loners, run, stores_in};
+use crate::purges::put;
+use crate::trial::{Trial, answers_to, fresh_folder, loners, stores_in};
 use std::alloc::Global;
 use std::test::Fail;
-
-/// Puts a line so often behind these.
-fn put(script: &mut Vec<u8>, count: u32, line: &[u8]) -> Result<(), Fail> {
-    for _ in 0..count {
-        script.extend_from_slice(line)?;
-    }
-    Ok(())
-}
 
 /// Which answer to `check` is this line, if it is one of these: `yes` or `forgotten`.
 fn verdict(line: &[u8]) -> Option<u8> {
@@ -50,15 +43,14 @@ fn as_many_calls_are_kept_as_the_history_says(rt: HostRuntime) -> Result<(), Fai
     let script = calls(alloc, 4)?;
     // One member and its master: with a history of 1 it is 8,192 entries in all, with 2 twice as many.
     for (history, expected) in [(1u32, "yyff"), (2, "yyyy")] {
-        fresh_folder(&rt, "history-23100")?;
-        let stores = stores_in(&rt, alloc, &roster, "history-23100")?;
-        let course = Course {
-            script: script.as_slice(),
-            pause: 0,
+        fresh_folder(&rt, "cluster-23100")?;
+        let stores = stores_in(&rt, alloc, &roster, "cluster-23100")?;
+        let trial = Trial {
             history,
+            ..Trial::of(script.as_slice(), 0)
         };
         let mut answers = Vec::new(alloc);
-        let kept = run(rt, alloc, &roster, stores, course, &mut answers);
+        let kept = answers_to(rt, alloc, &roster, stores, trial, &mut answers);
         let letters = verdicts(alloc, answers.as_slice())?;
         assert!(rt; letters.as_slice() == expected.as_bytes(), "{history}");
         assert!(rt; matches!(kept, Ok(Some(_))) == (history == 2), "{history}");
