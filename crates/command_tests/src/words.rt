@@ -6,7 +6,7 @@ use std::test::Fail;
 use wire_script::Codec;
 
 /// Words that ask for a task, with one blank between two, and the task.
-const TASKS: [(&str, &str); 22] = [
+const TASKS: &[(&str, &str)] = &[
     ("cache answer", "answer"),
     ("cache wire icp", "wire icp"),
     ("cache wire htcp", "wire htcp"),
@@ -64,7 +64,7 @@ const TASKS: [(&str, &str); 22] = [
 ];
 
 /// Words that ask for no task, and the status with which the process ends.
-const REFUSED: [(&str, u8); 40] = [
+const REFUSED: &[(&str, u8)] = &[
     // Help that was asked for.
     ("cache --help", 0),
     ("cache -h", 0),
@@ -162,7 +162,7 @@ fn told(rt: &HostRuntime, line: &str) -> Result<String, Fail> {
 #[test]
 fn words_ask_for_tasks(rt: HostRuntime) -> Result<(), Fail> {
     for (line, task) in TASKS {
-        assert_eq!(rt; told(&rt, line)?.as_str(), task, "{line}");
+        assert_eq!(rt; told(&rt, line)?.as_str(), *task, "{line}");
     }
     Ok(())
 }
@@ -186,7 +186,7 @@ fn printed(rt: &HostRuntime, line: &str) -> Result<String, Fail> {
 }
 
 /// What the texts of help have to name, by command: each line of its script.
-const HELP: [(&str, &[&str]); 6] = [
+const HELP: &[(&str, &[&str])] = &[
     (
         "cache --help",
         &["answer", "wire", "world", "cluster", "origin"],
@@ -246,7 +246,7 @@ const HELP: [(&str, &[&str]); 6] = [
 fn help_names_what_a_command_takes(rt: HostRuntime) -> Result<(), Fail> {
     for (line, names) in HELP {
         let text = printed(&rt, line)?;
-        for name in names {
+        for name in *names {
             assert!(rt; text.as_str().contains(*name), "{line}: {name}");
         }
     }

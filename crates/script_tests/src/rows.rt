@@ -27,7 +27,7 @@ fn shown(rt: &HostRuntime, codec: Codec, input: &str) -> Result<String, Fail> {
 }
 
 /// The names that rows have for datagrams and their parts, in hex. What stands further down may stand in what is above it.
-const NAMES: [(&str, &str); 23] = [
+const NAMES: &[(&str, &str)] = &[
     ("<query>", "0102002300000007<z16><url>00"),
     ("<hit>", "0202001f00000007<z12><url>00"),
     ("<miss>", "0302001f00000007<z12><url>00"),
@@ -58,6 +58,7 @@ const NAMES: [(&str, &str); 23] = [
     ("<clr refused>", "000e000000084503000000070002"),
     ("<nop>", "000e000000080002000000070002"),
     ("<spec>", "0003474554000a<url>0008485454502f312e31"),
+    ("<shown spec>", "474554 <url> 485454502f312e31"),
     ("<number>", "582d50757267652d4e756d6265723a20"),
     ("<stamp>", "582d50757267652d5374616d703a20"),
     ("<url>", U),
@@ -75,7 +76,7 @@ fn spelled(rt: &HostRuntime, text: &str) -> Result<String, Fail> {
 }
 
 /// Lines of `cache answer`, each row from a new start, and what is answered.
-const ANSWERS: [(&str, &str); 58] = [
+const ANSWERS: &[(&str, &str)] = &[
     // ICP: a hit, also for another text of the URL; a miss; a URL that is no key; a message that is no query.
     ("store http://o/a\nicp <query>\n", "stored\n<hit>\n"),
     (
@@ -206,175 +207,166 @@ fn lines_are_answered(rt: HostRuntime) -> Result<(), Fail> {
     for (input, expected) in ANSWERS {
         let input = spelled(&rt, input)?;
         let expected = spelled(&rt, expected)?;
-        assert_eq!(rt;
-            answers(&rt, input.as_str())?.as_str(),
-            expected.as_str(),
-            "{input:?}"
-        );
+        let answered = answers(&rt, input.as_str())?;
+        assert_eq!(rt; answered.as_str(), expected.as_str(), "{input:?}");
     }
     Ok(())
+}
+
+/// Datagrams in hex that spell no message of ICP, or are no hex, and what `cache answer` and `cache wire icp` say of each.
+const FAULTS: &[(&str, &str)] = &[
+    ("00000000000000000000000000000000000000", "Short"),
+    ("0103002400000007<z16><url>00", "BadVersion"),
+    ("0102002400000007<z16><url>00", "BadLength"),
+    ("0a02001400000007<z12>", "BadOpcode"),
+    ("0102001800000007<z16>", "NoZero"),
+    ("0202001700000007<z12>610062", "Trailing"),
+    ("1702001900000007<z12>6100000278", "BadObject"),
+    ("0g", "bad hex"),
+    ("012", "bad hex"),
+];
+
+/// What `cache answer` and `cache wire icp` say of a datagram in hex.
+fn told(rt: &HostRuntime, hex: &str) -> Result<(String, String), Fail> {
+    let line = format!(in rt.alloc(); "icp {hex}\n")?;
+    let answered = answers(rt, line.as_str())?;
+    let line = format!(in rt.alloc(); "{hex}\n")?;
+    Ok((answered, shown(rt, Codec::Icp, line.as_str())?))
 }
 
 #[test]
 fn faults_of_datagrams(rt: HostRuntime) -> Result<(), Fail> {
-    let alloc = rt.alloc();
-    let short = "00".repeat(alloc, 19)?;
-    let long = "00".repeat(alloc, 16_385)?;
-    let table = [
-        (format!(in alloc; "{short}")?, "Short"),
-        (format!(in alloc; "{long}")?, "TooLong"),
-        (
-            format!(in alloc; "0103002400000007{Z16}{U}00")?,
-            "BadVersion",
-        ),
-        (
-            format!(in alloc; "0102002400000007{Z16}{U}00")?,
-            "BadLength",
-        ),
-        (format!(in alloc; "0a02001400000007{Z12}")?, "BadOpcode"),
-        (format!(in alloc; "0102001800000007{Z16}")?, "NoZero"),
-        (
-            format!(in alloc; "0202001700000007{Z12}610062")?,
-            "Trailing",
-        ),
-        (
-            format!(in alloc; "1702001900000007{Z12}6100000278")?,
-            "BadObject",
-        ),
-        (format!(in alloc; "0g")?, "bad hex"),
-        (format!(in alloc; "012")?, "bad hex"),
-    ];
-    for (hex, expected) in table.iter() {
-        let expected = format!(in alloc; "{expected}\n")?;
-        let input = format!(in alloc; "icp {hex}\n")?;
-        assert_eq!(rt;
-            answers(&rt, input.as_str())?.as_str(),
-            expected.as_str(),
-            "{hex}"
-        );
-        let input = format!(in alloc; "{hex}\n")?;
-        assert_eq!(rt;
-            shown(&rt, Codec::Icp, input.as_str())?.as_str(),
-            expected.as_str(),
-            "{hex}"
-        );
+    for (hex, fault) in FAULTS {
+        let hex = spelled(&rt, hex)?;
+        let (answered, shown) = told(&rt, hex.as_str())?;
+        assert_eq!(rt; answered.as_str().trim(), *fault, "{hex}");
+        assert_eq!(rt; shown.as_str(), answered.as_str(), "{hex}");
     }
     Ok(())
 }
+
+#[test]
+fn a_datagram_may_be_too_long(rt: HostRuntime) -> Result<(), Fail> {
+    let hex = "00".repeat(rt.alloc(), 16_385)?;
+    let (answered, shown) = told(&rt, hex.as_str())?;
+    assert_eq!(rt; answered.as_str(), "TooLong\n");
+    assert_eq!(rt; shown.as_str(), "TooLong\n");
+    Ok(())
+}
+
+/// Lines of `cache wire`, by their codec, and what is shown for them.
+const SHOWN: &[(Codec, &str, &str)] = &[
+    (
+        Codec::Icp,
+        "0102002300000007<z16><url>00\n",
+        "Query 7 <url>\n",
+    ),
+    (
+        Codec::Icp,
+        "1702001900000007<z12>6100000178\n",
+        "HitObj 7 61 78\n",
+    ),
+    (
+        Codec::Icp,
+        "17020018ffffffff<z12>61000000\n",
+        "HitObj 4294967295 61 -\n",
+    ),
+    (Codec::Icp, "0202001500000000<z12>00\n", "Hit 0 -\n"),
+    (
+        Codec::Icp,
+        "0302001600000001<z12>6100\n0402001600000001<z12>6100\n",
+        "Miss 1 61\nError 1 61\n",
+    ),
+    (
+        Codec::Icp,
+        "1502001600000001<z12>6100\n1602001600000001<z12>6100\n",
+        "MissNoFetch 1 61\nDenied 1 61\n",
+    ),
+    (Codec::Icp, "\n01 02\n", "bad line\nbad line\n"),
+    (
+        Codec::Htcp,
+        "002b0000002510020000000 7<spec>00000002\n",
+        "bad line\n",
+    ),
+    (
+        Codec::Htcp,
+        "002b00000025100200000007<spec>00000002\n",
+        "TstAsk 7 1 <shown spec> -\n",
+    ),
+    (
+        Codec::Htcp,
+        "00400000003a4002000000070000<spec>0013<number>370d0a0002\n",
+        "ClrAsk 7 1 0 <shown spec> <number>370d0a\n",
+    ),
+    (
+        Codec::Htcp,
+        "002600000020100100000007000000000012<stamp>330d0a0002\n",
+        "TstHit 7 - - <stamp>330d0a\n",
+    ),
+    (
+        Codec::Htcp,
+        "00100000000a11010000000700000002\n",
+        "TstMiss 7 -\n",
+    ),
+    (Codec::Htcp, "000e0000000842010000000 70002\n", "bad line\n"),
+    (Codec::Htcp, "000e00000008420100000007000\n", "bad hex\n"),
+    (Codec::Htcp, "000e0000000842010000000700 02\n", "bad line\n"),
+    (
+        Codec::Htcp,
+        "000e000000084201000000070002\n",
+        "ClrAnswer 7 2\n",
+    ),
+    (
+        Codec::Htcp,
+        "000e000000084503000000070002\n",
+        "Overall 7 4 5\n",
+    ),
+    (
+        Codec::Htcp,
+        "000e000000080002000000070002\n",
+        "NopAsk 7 1\n",
+    ),
+    (
+        Codec::Htcp,
+        "000e000000080000000000070002\n",
+        "NopAsk 7 0\n",
+    ),
+    (
+        Codec::Htcp,
+        "000e000000080001000000070002\n",
+        "NopAnswer 7\n",
+    ),
+    (Codec::Htcp, "000f0000000920020000000705\n", "Short\n"),
+    (
+        Codec::Htcp,
+        "000f000000092002000000070500 02\n",
+        "bad line\n",
+    ),
+    (
+        Codec::Htcp,
+        "000f00000009200200000007050002\n",
+        "Other 7 2 1\n",
+    ),
+    (
+        Codec::Htcp,
+        "000e000000084401000000070002\n",
+        "OtherAnswer 7 4 4\n",
+    ),
+    (Codec::Htcp, "000e0000000800020000000700\n", "Short\n"),
+    (Codec::Htcp, "000f000000080002000000070002\n", "BadLength\n"),
+    (Codec::Htcp, "000e010000080002000000070002\n", "BadMajor\n"),
+    (Codec::Htcp, "000e000000070002000000070002\n", "BadData\n"),
+    (Codec::Htcp, "000e000000081002000000070002\n", "BadString\n"),
+    (Codec::Htcp, "000e000000080002000000070001\n", "BadAuth\n"),
+];
 
 #[test]
 fn datagrams_are_shown(rt: HostRuntime) -> Result<(), Fail> {
-    let alloc = rt.alloc();
-    let table = [
-        (
-            format!(in alloc; "0102002300000007{Z16}{U}00\n")?,
-            format!(in alloc; "Query 7 {U}\n")?,
-        ),
-        (
-            format!(in alloc; "1702001900000007{Z12}6100000178\n")?,
-            format!(in alloc; "HitObj 7 61 78\n")?,
-        ),
-        (
-            format!(in alloc; "17020018ffffffff{Z12}61000000\n")?,
-            format!(in alloc; "HitObj 4294967295 61 -\n")?,
-        ),
-        (
-            format!(in alloc; "0202001500000000{Z12}00\n")?,
-            format!(in alloc; "Hit 0 -\n")?,
-        ),
-        (
-            format!(in alloc; "0302001600000001{Z12}6100\n0402001600000001{Z12}6100\n")?,
-            format!(in alloc; "Miss 1 61\nError 1 61\n")?,
-        ),
-        (
-            format!(in alloc; "1502001600000001{Z12}6100\n1602001600000001{Z12}6100\n")?,
-            format!(in alloc; "MissNoFetch 1 61\nDenied 1 61\n")?,
-        ),
-        (
-            format!(in alloc; "\n01 02\n")?,
-            format!(in alloc; "bad line\nbad line\n")?,
-        ),
-    ];
-    for (input, expected) in table.iter() {
-        assert_eq!(rt;
-            shown(&rt, Codec::Icp, input.as_str())?.as_str(),
-            expected.as_str(),
-            "{input}"
-        );
-    }
-    Ok(())
-}
-
-#[test]
-fn htcp_datagrams_are_shown(rt: HostRuntime) -> Result<(), Fail> {
-    let alloc = rt.alloc();
-    // METHOD, URI and VERSION of a SPECIFIER for `http://o/a`.
-    let spec = format!(in alloc; "0003474554000a{U}0008485454502f312e31")?;
-    let shown_spec = format!(in alloc; "474554 {U} 485454502f312e31")?;
-    let number = "582d50757267652d4e756d6265723a20370d0a";
-    let stamp = "582d50757267652d5374616d703a20330d0a";
-    let table = [
-        (
-            format!(in alloc; "002b0000002510020000000 7{spec}00000002")?,
-            format!(in alloc; "bad line")?,
-        ),
-        (
-            format!(in alloc; "002b00000025100200000007{spec}00000002")?,
-            format!(in alloc; "TstAsk 7 1 {shown_spec} -")?,
-        ),
-        (
-            format!(in alloc; "00400000003a4002000000070000{spec}0013{number}0002")?,
-            format!(in alloc; "ClrAsk 7 1 0 {shown_spec} {number}")?,
-        ),
-        (
-            format!(in alloc; "002600000020100100000007000000000012{stamp}0002")?,
-            format!(in alloc; "TstHit 7 - - {stamp}")?,
-        ),
-        (
-            format!(in alloc; "00100000000a11010000000700000002")?,
-            format!(in alloc; "TstMiss 7 -")?,
-        ),
-    ];
-    for (hex, expected) in table.iter() {
-        let input = format!(in alloc; "{hex}\n")?;
-        let expected = format!(in alloc; "{expected}\n")?;
-        assert_eq!(rt;
-            shown(&rt, Codec::Htcp, input.as_str())?.as_str(),
-            expected.as_str(),
-            "{hex}"
-        );
-    }
-    Ok(())
-}
-
-#[test]
-fn short_htcp_datagrams(rt: HostRuntime) -> Result<(), Fail> {
-    for (hex, expected) in [
-        ("000e0000000842010000000 70002", "bad line\n"),
-        ("000e00000008420100000007000", "bad hex\n"),
-        ("000e0000000842010000000700 02", "bad line\n"),
-        ("000e000000084201000000070002", "ClrAnswer 7 2\n"),
-        ("000e000000084503000000070002", "Overall 7 4 5\n"),
-        ("000e000000080002000000070002", "NopAsk 7 1\n"),
-        ("000e000000080000000000070002", "NopAsk 7 0\n"),
-        ("000e000000080001000000070002", "NopAnswer 7\n"),
-        ("000f0000000920020000000705", "Short\n"),
-        ("000f000000092002000000070500 02", "bad line\n"),
-        ("000f00000009200200000007050002", "Other 7 2 1\n"),
-        ("000e000000084401000000070002", "OtherAnswer 7 4 4\n"),
-        ("000e0000000800020000000700", "Short\n"),
-        ("000f000000080002000000070002", "BadLength\n"),
-        ("000e010000080002000000070002", "BadMajor\n"),
-        ("000e000000070002000000070002", "BadData\n"),
-        ("000e000000081002000000070002", "BadString\n"),
-        ("000e000000080002000000070001", "BadAuth\n"),
-    ] {
-        let input = format!(in rt.alloc(); "{hex}\n")?;
-        assert_eq!(rt;
-            shown(&rt, Codec::Htcp, input.as_str())?.as_str(),
-            expected,
-            "{hex}"
-        );
+    for (codec, input, expected) in SHOWN {
+        let input = spelled(&rt, input)?;
+        let expected = spelled(&rt, expected)?;
+        let shown = shown(&rt, *codec, input.as_str())?;
+        assert_eq!(rt; shown.as_str(), expected.as_str(), "{input:?}");
     }
     Ok(())
 }
