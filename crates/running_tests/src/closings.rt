@@ -69,7 +69,7 @@ struct Seen {
     is_silent: bool,
 }
 
-/// Two clients wait at a member whose peer says nothing, and the master purges another URL: the member's store fails.
+/// Two clients wait at a member whose peer says nothing, and the master purges the page that they wait for: the member's store fails.
 fn purged_in_vain<R: Net<Stream = TcpStream> + Wait + Clock>(
     rt: &R,
     alloc: Global,
