@@ -239,7 +239,8 @@ fn faults_of_datagrams(rt: HostRuntime) -> Result<(), Fail> {
     for (hex, fault) in FAULTS {
         let hex = spelled(&rt, hex)?;
         let (answered, shown) = told(&rt, hex.as_str())?;
-        assert_eq!(rt; answered.as_str().trim(), *fault, "{hex}");
+        let expected = format!(in rt.alloc(); "{fault}\n")?;
+        assert_eq!(rt; answered.as_str(), expected.as_str(), "{hex}");
         assert_eq!(rt; shown.as_str(), answered.as_str(), "{hex}");
     }
     Ok(())
