@@ -190,11 +190,19 @@ impl Member {
         }
     }
 
-    /// Takes a step at a place.
+    /// Takes a step at a place, in the next book where this one is full.
     fn step(&mut self, place: u64, event: Event<()>) -> io::Result<()> {
-        if self.is_full() {
-            self.turn()?;
+        match self.make_room() {
+            Ok(()) => self.take(place, event),
+            Err(error) => Err(error),
         }
+    }
+
+    fn make_room(&mut self) -> io::Result<()> {
+        if self.is_full() { self.turn() } else { Ok(()) }
+    }
+
+    fn take(&mut self, place: u64, event: Event<()>) -> io::Result<()> {
         let Some(book) = &mut self.book else {
             return Err(failed("no book"));
         };
@@ -243,32 +251,47 @@ impl Siblings {
         self.first.step(place, answer)
     }
 
-    /// All records, with those of the books that are open.
-    fn into_records(mut self) -> io::Result<Vec<Record>> {
+    /// So many misses, one after another.
+    fn run(&mut self, alloc: Global, misses: u32) -> io::Result<()> {
+        for page in 0..misses {
+            self.miss(alloc, page)?;
+        }
+        Ok(())
+    }
+
+    /// Closes both books, and gives up all records.
+    fn give_up(&mut self) -> io::Result<Vec<Record>> {
         self.first.turn()?;
         self.second.turn()?;
         let alloc = self.first.alloc;
-        let mut records = replace(&mut self.first.records, Vec::new(alloc));
-        let mut others = replace(&mut self.second.records, Vec::new(alloc));
-        match records.append(&mut others) {
-            Ok(()) => Ok(records),
-            Err(_) => Err(failed("the records")),
+        self.first.records.append(&mut self.second.records)?;
+        Ok(replace(&mut self.first.records, Vec::new(alloc)))
+    }
+
+    /// The records of so many misses.
+    fn records_of(&mut self, alloc: Global, misses: u32) -> io::Result<Vec<Record>> {
+        match self.run(alloc, misses) {
+            Ok(()) => self.give_up(),
+            Err(error) => Err(error),
         }
     }
 }
 
-/// The records of so many misses.
+/// The records of so many misses. What may fail while the books are there stands in what borrows them: they are let go in one place.
 fn made(rt: &HostRuntime, misses: u32) -> io::Result<Vec<Record>> {
     let (alloc, keys) = (rt.alloc(), RandomState::new(rt)?);
-    let mut siblings = Siblings {
-        first: opened(alloc, 1, keys)?,
-        second: opened(alloc, 2, keys)?,
-        next: 0,
-    };
-    for page in 0..misses {
-        siblings.miss(alloc, page)?;
+    let first = opened(alloc, 1, keys)?;
+    match opened(alloc, 2, keys) {
+        Ok(second) => {
+            let mut siblings = Siblings {
+                first,
+                second,
+                next: 0,
+            };
+            siblings.records_of(alloc, misses)
+        }
+        Err(error) => Err(error),
     }
-    siblings.into_records()
 }
 
 /// The most memory that the process has held so far, in units of 1,024 octets.
@@ -296,11 +319,22 @@ fn measure(rt: &HostRuntime, entries: u32) -> io::Result<()> {
     let before = peak(rt)?;
     let start = Instant::now(rt)?;
     let records = made(rt, entries / 4)?;
+    check(rt, records.as_slice(), &start, before, entries)
+}
+
+/// Checks records whose making began at this moment, and prints how long making and checking took.
+fn check(
+    rt: &HostRuntime,
+    records: &[Record],
+    start: &Instant,
+    before: u64,
+    entries: u32,
+) -> io::Result<()> {
     let micros = start.elapsed(rt)?.as_micros();
     println!(rt; "made {entries} {micros}")?;
     let held = peak(rt)?;
     let start = Instant::now(rt)?;
-    let verdict = verdict(rt, records.as_slice())?;
+    let verdict = verdict(rt, records)?;
     let micros = start.elapsed(rt)?.as_micros();
     if verdict != Verdict::Yes {
         return Err(failed("a flaw"));

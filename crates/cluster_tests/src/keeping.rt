@@ -57,3 +57,35 @@ fn as_many_calls_are_kept_as_the_history_says(rt: HostRuntime) -> Result<(), Fai
     }
     Ok(())
 }
+
+/// Purges of so many pages, and then so often: an ask of a client, and a check.
+fn purges_and_checks(alloc: Global, purges: u32, checks: u32) -> Result<Vec<u8>, Fail> {
+    let mut script = Vec::new(alloc);
+    for page in 0..purges {
+        let line = format!(in alloc; "purge http://o/{page}\n")?;
+        put(&mut script, 1, line.as_bytes())?;
+    }
+    put(&mut script, checks, b"get 1 http://o/x\ncheck\n")?;
+    Ok(script)
+}
+
+#[test]
+fn the_floors_that_a_record_holds_are_weighed_too(rt: HostRuntime) -> Result<(), Fail> {
+    let alloc = rt.alloc();
+    let roster = loners(alloc, 23130, &[1])?;
+    let script = purges_and_checks(alloc, 400, 40)?;
+    fresh_folder(&rt, "cluster-23130")?;
+    let stores = stores_in(&rt, alloc, &roster, "cluster-23130")?;
+    let trial = Trial {
+        history: 1,
+        ..Trial::of(script.as_slice(), 5)
+    };
+    let mut answers = Vec::new(alloc);
+    let kept = answers_to(rt, alloc, &roster, stores, trial, &mut answers);
+    let letters = verdicts(alloc, answers.as_slice())?;
+    // Each check ends a shift, whose record has the 400 floors as it begins and as it ends, which are weighed as 200 entries: of 8,192 entries, these and the purges, the 36th is one too many.
+    assert!(rt; letters.len() == 40 && matches!(kept, Ok(None)));
+    assert!(rt; letters.iter().take(30).all(|letter| *letter == b'y'));
+    assert!(rt; letters.last() == Some(&b'f'));
+    Ok(())
+}
