@@ -6,6 +6,8 @@ use Rattle.node_seats.specs.declared.shift.CloseFault.{CloseFault}
 use Rattle.node_seats.specs.declared.shift.CloseFault.TheVariants as close
 use Rattle.node_workers.specs.declared.fault.StartFault.{StartFault}
 use Rattle.node_workers.specs.declared.fault.StartFault.TheVariants as start
+use Rattle.node_workers.specs.declared.fault.Unready.{Unready}
+use Rattle.node_workers.specs.declared.fault.Unready.TheVariants as unready
 use Rattle.node_workers.specs.declared.fault.StopFault.{StopFault}
 use Rattle.node_workers.specs.declared.fault.StopFault.TheVariants as stop
 
@@ -15,6 +17,12 @@ start_fault_name (start.Open fault) = open_fault_name fault
 start_fault_name (start.Loop fault) = loop_fault_name fault
 start_fault_name start.NoThread = codes "NoThread"
 start_fault_name start.NoMemory = codes "NoMemory"
+
+-- why a node that is opened does not start
+abbrev pub start_fault_of : Unready → StartFault
+start_fault_of (unready.Loop fault) = start.Loop fault
+start_fault_of unready.NoThread = start.NoThread
+start_fault_of unready.NoMemory = start.NoMemory
 
 abbrev pub stop_fault_name : StopFault → List ℕ
 stop_fault_name stop.SeatMissing = codes "SeatMissing"

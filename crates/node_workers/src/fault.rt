@@ -24,6 +24,17 @@ pub enum StartFault {
     NoMemory,
 }
 
+/// Why a node that is opened does not begin.
+#[derive(Clone, Copy, Debug, PartialEq, Eq)]
+pub(crate) enum Unready {
+    /// Its sockets are not opened.
+    Loop(LoopFault),
+    /// No thread could be made.
+    NoThread,
+    /// A growth was refused.
+    NoMemory,
+}
+
 /// Why the records of a node are not given.
 #[derive(Clone, Copy, Debug, PartialEq, Eq, Error)]
 pub enum StopFault {
@@ -76,14 +87,40 @@ impl From<AllocError> for StartFault {
     }
 }
 
-impl From<LoopFault> for StartFault {
+impl From<Unready> for StartFault {
     ghost use Rattle.std.specs.Prelude.{◌≡◌};
-    ghost use Rattle.node_workers.specs.declared.fault.StartFault.TheVariants.{Loop};
+    ghost use Rattle.node_workers.specs.Names.{start_fault_of};
 
-    ghost from_gives = { λ fault start. start ≡ Loop fault };
+    ghost from_gives = { λ unready start. start ≡ start_fault_of unready };
 
-    fn from(fault: LoopFault) -> StartFault {
-        StartFault::Loop(fault)
+    fn from(unready: Unready) -> StartFault {
+        match unready {
+            Unready::Loop(fault) => StartFault::Loop(fault),
+            Unready::NoThread => StartFault::NoThread,
+            Unready::NoMemory => StartFault::NoMemory,
+        }
+    }
+}
+
+impl From<AllocError> for Unready {
+    ghost use Rattle.std.specs.Prelude.{◌≡◌};
+    ghost use Rattle.node_workers.specs.declared.fault.Unready.TheVariants.{NoMemory};
+
+    ghost from_gives = { λ _ unready. unready ≡ NoMemory };
+
+    fn from(_: AllocError) -> Unready {
+        Unready::NoMemory
+    }
+}
+
+impl From<LoopFault> for Unready {
+    ghost use Rattle.std.specs.Prelude.{◌≡◌};
+    ghost use Rattle.node_workers.specs.declared.fault.Unready.TheVariants.{Loop};
+
+    ghost from_gives = { λ fault unready. unready ≡ Loop fault };
+
+    fn from(fault: LoopFault) -> Unready {
+        Unready::Loop(fault)
     }
 }
 

@@ -1,11 +1,11 @@
 //! Where a node's thread tells how its start went.
-use crate::fault::StartFault;
+use crate::fault::Unready;
 use std::sync::{Condvar, Mutex, Wait};
 
 /// What a node's thread tells the one that started it.
 #[derive(Drop)]
 pub(crate) struct Report {
-    told: Mutex<Option<Result<(), StartFault>>>,
+    told: Mutex<Option<Result<(), Unready>>>,
     has_told: Condvar,
 }
 
@@ -18,7 +18,7 @@ impl Report {
     }
 
     /// Tells how the start went. What was told first stands.
-    pub(crate) fn tell<R: Wait>(&self, rt: &R, start: Result<(), StartFault>) {
+    pub(crate) fn tell<R: Wait>(&self, rt: &R, start: Result<(), Unready>) {
         let mut told = self.told.lock(rt);
         if told.is_none() {
             *told = Some(start);
@@ -27,13 +27,13 @@ impl Report {
     }
 
     /// Waits until it is told.
-    pub(crate) fn wait<R: Wait>(&self, rt: &R) -> Result<(), StartFault> {
+    pub(crate) fn wait<R: Wait>(&self, rt: &R) -> Result<(), Unready> {
         let told = self
             .has_told
             .wait_while(rt, self.told.lock(rt), |told| told.is_none());
         match *told {
             Some(start) => start,
-            None => Err(StartFault::NoThread),
+            None => Err(Unready::NoThread),
         }
     }
 }

@@ -1,7 +1,7 @@
 //! The threads of a node: its workers, its fetchers, and the loop at its sockets.
 ghost use Rattle.std.specs.Thread.{IsSend};
 
-use crate::fault::{StartFault, StopFault};
+use crate::fault::{StopFault, Unready};
 use crate::fetcher::Fetcher;
 use crate::gate::Gate;
 use crate::halt::{Halt, Taken};
@@ -265,7 +265,7 @@ pub(crate) fn run_threads<
                 station.report.tell(rt, Ok(()));
                 turn_until_stopped(shared, turner, pass);
             } else {
-                station.report.tell(rt, Err(StartFault::NoThread));
+                station.report.tell(rt, Err(Unready::NoThread));
             }
             station.bell.end(rt);
             station.errands.end(rt);

@@ -1,12 +1,13 @@
 //! The thread of a node, from outside.
-ghost use Rattle.std.specs.Prelude.{◌≡◌, ◌≤◌, ◌<◌, [], true, false, OnOk, IfErr};
+ghost use Rattle.std.specs.Prelude.{◌≡◌, ◌≢◌, ◌≤◌, ◌<◌, [], true, false, OnOk, IfErr};
 ghost use Rattle.roster.specs.Lookups.{is_member};
+ghost use Rattle.floor_rules.specs.declared.fault.FloorFault.TheVariants as storing;
 ghost use Rattle.node_core.specs.declared.opening.OpenFault.TheVariants as opening;
 ghost use Rattle.node_workers.specs.declared.fault.StartFault.TheVariants as starting;
 
 use crate::bell::Bell;
 use crate::errands::Errands;
-use crate::fault::{StartFault, StopFault};
+use crate::fault::{StartFault, StopFault, Unready};
 use crate::gate::Gate;
 use crate::halt::Halt;
 use crate::node::{Edge, Prepared, Start, run_node};
@@ -66,7 +67,11 @@ fn fresh_book<S: FloorStore + Drop>(
     id: u8,
     floors: S,
     keys: RandomState,
-) -> Result<Fresh<S>, StartFault> {
+) -> Result<Fresh<S>, StartFault>
+    ensures such { is_member roster.now id ≡ true → IfErr result (λ fault. fault ≢ starting.Open opening.NoSuchNode) }
+    ensures cause { IfErr result (λ fault. fault ≡ starting.Open (opening.Floors storing.StoreFault) → S.is_usable floors ≡ false) }
+    ensures named { IfErr result (λ fault. (fault ≢ starting.Open (opening.Floors storing.FloorsFull)) × (fault ≢ starting.Open (opening.Floors storing.BadTable))) }
+{
     let roster = roster.copy(alloc)?;
     let node = match Node::open_with_random_keys(alloc, roster, id, floors, keys) {
         Ok(node) => node,
@@ -84,9 +89,11 @@ fn sockets<R: Net + Clock>(
     alloc: Global,
     roster: &Roster,
     id: u8,
-) -> Result<(NodeLoop, Senders), StartFault> {
+) -> Result<(NodeLoop, Senders), Unready>
+    requires { is_member roster.now id ≡ true }
+{
     let Some(member) = roster.member(id) else {
-        return Err(StartFault::Open(OpenFault::NoSuchNode));
+        unreachable!();
     };
     let (mut turner, senders) = NodeLoop::open(rt, alloc, &member.cache)?;
     turner.set_wait(Duration::from_millis(WAIT));
@@ -94,20 +101,20 @@ fn sockets<R: Net + Clock>(
 }
 
 /// What one thread waits on.
-fn tools<N: Net>(net: &N, alloc: Global) -> Result<Tools, StartFault> {
+fn tools<N: Net>(net: &N, alloc: Global) -> Result<Tools, Unready> {
     match Tools::new(net, alloc) {
         Ok(tools) => Ok(tools),
-        Err(_) => Err(StartFault::Loop(LoopFault::Io)),
+        Err(_) => Err(Unready::Loop(LoopFault::Io)),
     }
 }
 
 /// What so many threads wait on.
-fn all_tools<N: Net>(net: &N, alloc: Global, count: u8) -> Result<Vec<Tools>, StartFault> {
+fn all_tools<N: Net>(net: &N, alloc: Global, count: u8) -> Result<Vec<Tools>, Unready> {
     let mut row = Vec::with_capacity(alloc, usize::from(count))?;
     for _number in 0..count {
         let one = tools(net, alloc)?;
         if row.push(one).is_err() {
-            return Err(StartFault::NoMemory);
+            return Err(Unready::NoMemory);
         }
     }
     Ok(row)
@@ -122,15 +129,15 @@ struct Signals {
 }
 
 impl Signals {
-    fn new(alloc: Global) -> Result<Signals, StartFault> {
+    fn new(alloc: Global) -> Result<Signals, Unready> {
         let Ok(is_stopped) = Arc::new(alloc, AtomicBool::new(false)) else {
-            return Err(StartFault::NoMemory);
+            return Err(Unready::NoMemory);
         };
         let Ok(report) = Arc::new(alloc, Report::new()) else {
-            return Err(StartFault::NoMemory);
+            return Err(Unready::NoMemory);
         };
         let Ok(halt) = Arc::new(alloc, Halt::new()) else {
-            return Err(StartFault::NoMemory);
+            return Err(Unready::NoMemory);
         };
         Ok(Signals {
             is_stopped,
@@ -157,7 +164,7 @@ fn station<G: Gate + Drop>(
     senders: Senders,
     gate: Arc<G, Global>,
     signals: Signals,
-) -> Result<Station<G>, StartFault>
+) -> Result<Station<G>, Unready>
     requires { is_member roster.now id ≡ true }
 {
     match roster.copy(alloc) {
@@ -175,7 +182,7 @@ fn station<G: Gate + Drop>(
             halt: signals.halt,
             gate,
         }),
-        Err(_) => Err(StartFault::NoMemory),
+        Err(_) => Err(Unready::NoMemory),
     }
 }
 
@@ -188,7 +195,7 @@ struct ToolsOfAll {
 }
 
 /// What so many workers, as many fetchers and the node's thread wait on.
-fn tools_for<N: Net>(net: &N, alloc: Global, count: u8) -> Result<ToolsOfAll, StartFault> {
+fn tools_for<N: Net>(net: &N, alloc: Global, count: u8) -> Result<ToolsOfAll, Unready> {
     let working = all_tools(net, alloc, count)?;
     let fetching = all_tools(net, alloc, count)?;
     match tools(net, alloc) {
@@ -210,7 +217,7 @@ fn edge_of<G: Gate + Drop, R: Net + Clock>(
     count: u8,
     gate: Arc<G, Global>,
     signals: Signals,
-) -> Result<Edge<G>, StartFault>
+) -> Result<Edge<G>, Unready>
     requires { is_member roster.now id ≡ true }
 {
     let (turner, senders) = sockets(rt, alloc, roster, id)?;
@@ -253,7 +260,7 @@ fn start_prepared<
     id: u8,
     prepared: Prepared<S>,
     gate: Arc<G, Global>,
-) -> Result<Workers, StartFault>
+) -> Result<Workers, Unready>
     requires { is_member roster.now id ≡ true }
 {
     let signals = Signals::new(alloc)?;
@@ -286,10 +293,10 @@ fn begin<
         + Send
         + Sync
         + 'static,
->(rt: R, start: Start<S, G>, signals: Signals) -> Result<Workers, StartFault> {
+>(rt: R, start: Start<S, G>, signals: Signals) -> Result<Workers, Unready> {
     let telling = signals.try_clone()?;
     let Ok(node) = thread::spawn(&rt, move || run_and_tell(&rt, start, &telling)) else {
-        return Err(StartFault::NoThread);
+        return Err(Unready::NoThread);
     };
     let Signals {
         is_stopped,
@@ -317,7 +324,7 @@ fn run_and_tell<
 >(rt: &R, start: Start<S, G>, signals: &Signals) -> Result<Vec<Record>, StopFault> {
     let ended = run_node(rt, start);
     // (nothing was told before only where there was no memory to begin with)
-    signals.report.tell(rt, Err(StartFault::NoMemory));
+    signals.report.tell(rt, Err(Unready::NoMemory));
     signals.halt.end(rt);
     ended
 }
@@ -350,6 +357,9 @@ impl Workers {
         requires { (2 ≤ count) × (count ≤ 8) }
         ensures member { OnOk result (is_member roster.now id ≡ true) }
         ensures no_such { is_member roster.now id ≡ false → IfErr result (λ fault. fault ≡ starting.Open opening.NoSuchNode) }
+        ensures such { is_member roster.now id ≡ true → IfErr result (λ fault. fault ≢ starting.Open opening.NoSuchNode) }
+        ensures cause { IfErr result (λ fault. fault ≡ starting.Open (opening.Floors storing.StoreFault) → S.is_usable ground.floors ≡ false) }
+        ensures named { IfErr result (λ fault. (fault ≢ starting.Open (opening.Floors storing.FloorsFull)) × (fault ≢ starting.Open (opening.Floors storing.BadTable))) }
     {
         if !roster.is_member(id) {
             return Err(StartFault::Open(OpenFault::NoSuchNode));
@@ -367,7 +377,7 @@ impl Workers {
             count,
             history,
         };
-        start_prepared(rt, alloc, roster, id, prepared, gate)
+        Ok(start_prepared(rt, alloc, roster, id, prepared, gate)?)
     }
 
     /// Holds the node, and waits until it is held: no step is taken, and nothing is taken from its sockets, until [`Workers::resume`]. Who waits for an answer goes on to wait. One thread at a time holds a node.
