@@ -8,6 +8,9 @@
 //! A contract sees no value under a lock, and none that a socket takes or gives. So what a call does to the book is said of the desk that the lock holds (`specs/Desk`), and what
 //! is sent under a number, and where a member is, are said where they are made. That a datagram that came is read and its call made, that what is made is sent, and that a second
 //! is a second, are tested. What the system does not take is lost, as a datagram may be on its way: it is due again in a second.
+//!
+//! What passes: `SharedMaster::call` and `MasterSender::issue` may answer `Closed` at once, `issue` any number, and `message` that no purge of the number is pending, since the master is under
+//! the lock. Tests issue purges, see their CLRs and have them acknowledged.
 #![tactic(auto)]
 
 mod desk;
