@@ -16,8 +16,6 @@
 //! What a step does is said of the node and of its seats; what a thread does with it over sockets no contract can say, and tests show it.
 #![tactic(auto)]
 
-mod bell;
-mod errands;
 mod fault;
 mod fetcher;
 mod gate;

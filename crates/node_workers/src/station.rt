@@ -3,12 +3,10 @@ ghost use Rattle.std.specs.Prelude.{◌≡◌, ◌==◌, true, find, option_map}
 ghost use Rattle.roster.specs.Lookups.{is_member};
 ghost use Rattle.node_workers.specs.Addresses.{peer_source};
 
-use crate::bell::Bell;
-use crate::errands::Errands;
 use crate::halt::Halt;
 use crate::report::Report;
 use mio::net::TcpStream;
-use node_bytes::Packet;
+use node_bytes::{Packet, Turn};
 use node_fetch::Source;
 use node_rules::Serve;
 use roster::{Address, Cache, Roster};
@@ -17,7 +15,7 @@ use std::sync::Arc;
 use std::sync::atomic::{AtomicBool, Ordering};
 use std::time::Clock;
 use udp_loop::Senders;
-use worker_tables::Tables;
+use worker_tables::{Bell, Errands, Tables};
 
 /// What the threads of a node share beside the node itself.
 #[derive(Drop)]
@@ -28,7 +26,7 @@ pub(crate) struct Station<G: Drop> {
     pub(crate) senders: Senders,
     pub(crate) tables: Tables<TcpStream, Serve<()>>,
     pub(crate) bell: Bell,
-    pub(crate) errands: Errands,
+    pub(crate) errands: Errands<Turn>,
     pub(crate) is_closed: AtomicBool,
     pub(crate) is_stopped: Arc<AtomicBool, Global>,
     pub(crate) report: Arc<Report, Global>,

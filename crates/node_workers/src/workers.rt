@@ -5,8 +5,6 @@ ghost use Rattle.floor_rules.specs.declared.fault.FloorFault.TheVariants as stor
 ghost use Rattle.node_core.specs.declared.opening.OpenFault.TheVariants as opening;
 ghost use Rattle.node_workers.specs.declared.fault.StartFault.TheVariants as starting;
 
-use crate::bell::Bell;
-use crate::errands::Errands;
 use crate::fault::{StartFault, StopFault, Unready};
 use crate::gate::Gate;
 use crate::halt::Halt;
@@ -28,7 +26,7 @@ use std::sync::{Arc, Wait};
 use std::thread::{self, JoinHandle, Threads};
 use std::time::{Clock, Duration};
 use udp_loop::{LoopFault, NodeLoop, Senders};
-use worker_tables::Tables;
+use worker_tables::{Bell, Errands, Tables};
 
 /// For how many milliseconds the loop waits at most before it looks for rounds whose time is over.
 const WAIT: u64 = 10;

@@ -1,5 +1,5 @@
 -- What waits at a node: clients, answers and rounds.
-use Rattle.std.specs.Prelude.{◌≡◌, ◌≤◌, ◌<◌, ℕ, max, List, [], ◌∷◌, ◌++◌, length, All, Option, Some, None, IsSome, Result, Ok, MatchResult}
+use Rattle.std.specs.Prelude.{◌≡◌, ◌≢◌, ◌≤◌, ◌<◌, ◌⊎◌, ℕ, Bool, true, false, max, List, [], ◌∷◌, ◌++◌, length, All, Option, Some, None, IsSome, Result, Ok, MatchResult}
 use Rattle.std.specs.Ordering.{nat_cmp}
 use Rattle.std.specs.Map.{lookup, remove_entry}
 use Rattle.std.specs.BTreeMap.{is_at, insert_entry}
@@ -7,6 +7,7 @@ use Rattle.worker_tables.specs.declared.fault.TableFault.{TableFault}
 use Rattle.worker_tables.specs.declared.fault.TableFault.TheVariants.{Taken, Full, NoMemory}
 use Rattle.worker_tables.specs.declared.fault.Refused.{Refused}
 use Rattle.worker_tables.specs.declared.rounds.WaitingRound.{WaitingRound}
+use Rattle.worker_tables.specs.declared.bell.Moves.{Moves}
 
 -- Clients and answers
 
@@ -97,3 +98,27 @@ IsDue now old new serial = (until : ℕ) × (old.rounds ≡ waiting until serial
 -- no round's time is over, and all stay
 abbrev pub NoneIsDue : ℕ → RoundsView → RoundsView → Type 0
 NoneIsDue now old new = (new ≡ old) × All (λ w. now < w.until) old.rounds
+
+-- Errands
+
+-- what is to be done, and whether it is over
+pub record RowView (T : Type 0) : Type 0 where
+  pub items : List T
+  pub over : Bool
+
+abbrev pub with_last : {T : Type 0} → RowView T → T → RowView T
+with_last row item = record { items = row.items ++ item ∷ []; over = row.over }
+
+abbrev pub ended : {T : Type 0} → RowView T → RowView T
+ended row = record { items = row.items; over = true }
+
+-- what has waited longest is taken out; or nothing, where nothing waits or it is over
+abbrev pub Takes : {T : Type 0} → RowView T → Option T → RowView T → Type 0
+Takes old None new = (new ≡ old) × ((old.over ≡ true) ⊎ (old.items ≡ []))
+Takes old (Some item) new = (old.over ≡ false) × (old.items ≡ item ∷ new.items) × (new.over ≡ false)
+
+-- Rings
+
+-- there was a ring since this count, or no job comes any more
+abbrev pub HasMovedPast : Moves → ℕ → Type 0
+HasMovedPast moves seen = (moves.count ≢ seen) ⊎ (moves.is_over ≡ true)

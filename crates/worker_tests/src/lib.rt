@@ -5,3 +5,5 @@
 mod shifts;
 #[cfg(test)]
 mod tables;
+#[cfg(test)]
+mod waits;
