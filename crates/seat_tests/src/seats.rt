@@ -16,7 +16,7 @@ use std::test::Fail;
 use std::thread::{self, Threads};
 use url_key::Key;
 
-/// One member.
+/// One member and an origin.
 const ONE: &str = "default_lifetime = 60
 copies = 1000
 bytes = 1048576
@@ -31,16 +31,26 @@ address = \"127.0.0.1\"
 http = 8101
 icp = 3101
 htcp = 4101
+[[origin]]
+host = \"o\"
+port = 80
+address = \"127.0.0.1\"
+connect = 8080
 ";
 
+/// The roster of the node.
+pub(crate) fn roster_of(alloc: Global) -> Result<Roster, Fail> {
+    match Roster::read(alloc, ONE) {
+        Ok(roster) => Ok(roster),
+        Err(error) => Err(error.fault.name().into()),
+    }
+}
+
 /// The book of a new node.
-fn book_of(alloc: Global) -> Result<NodeBook<MemoryFloors>, Fail>
+pub(crate) fn book_of(alloc: Global) -> Result<NodeBook<MemoryFloors>, Fail>
     ensures { IfOk result (λ book. book.entries ≡ []) }
 {
-    let roster = match Roster::read(alloc, ONE) {
-        Ok(roster) => roster,
-        Err(error) => return Err(error.fault.name().into()),
-    };
+    let roster = roster_of(alloc)?;
     book_over(alloc, roster)
 }
 
@@ -57,11 +67,11 @@ fn book_over(alloc: Global, roster: Roster) -> Result<NodeBook<MemoryFloors>, Fa
     }
 }
 
-/// A client asks for a copy, of which there is none.
-fn asked(alloc: Global) -> Result<Event<()>, Fail> {
+/// A client asks for a page of which there is no copy: for what is held alone, or else for one of the origin's.
+pub(crate) fn asked(alloc: Global, only_if_cached: bool) -> Result<Event<()>, Fail> {
     let ask = Ask {
         key: Key::read(alloc, b"http://o/a")?,
-        only_if_cached: true,
+        only_if_cached,
         no_cache: false,
         member: None,
     };
@@ -73,13 +83,13 @@ const FAILS: Event<()> = Event::FetchFailed { serial: 34, now: 9 };
 
 /// A node and its seats.
 #[derive(Drop)]
-struct Held<L: Calls> {
-    node: SharedNode<MemoryFloors, L>,
-    seats: Vec<Seat<L>>,
+pub(crate) struct Held<L: Calls> {
+    pub(crate) node: SharedNode<MemoryFloors, L>,
+    pub(crate) seats: Vec<Seat<L>>,
 }
 
 /// Shares the book by two seats.
-fn shared<L: Calls>(
+pub(crate) fn shared<L: Calls>(
     alloc: Global,
     book: NodeBook<MemoryFloors>,
     blank: Blank,
@@ -110,7 +120,7 @@ fn row_of<L: Calls>(alloc: Global, first: Seat<L>, second: Seat<L>) -> Option<Ve
 }
 
 /// Makes a call, and says whether it was answered.
-fn call_once<L: Calls, R: Wait>(
+pub(crate) fn call_once<L: Calls, R: Wait>(
     rt: &R,
     node: &SharedNode<MemoryFloors, L>,
     seat: Seat<L>,
@@ -121,7 +131,7 @@ fn call_once<L: Calls, R: Wait>(
 }
 
 /// Two threads make a call each: the node and the seats, and whether each was answered.
-fn called<L: Calls + Send + Sync, R: Threads + Wait + Sync>(
+pub(crate) fn called<L: Calls + Send + Sync, R: Threads + Wait + Sync>(
     rt: &R,
     alloc: Global,
     held: Held<L>,
@@ -140,7 +150,7 @@ fn called<L: Calls + Send + Sync, R: Threads + Wait + Sync>(
 }
 
 /// What a shift is closed to.
-fn closed<L: Calls>(held: Held<L>) -> Result<Shift<MemoryFloors, L>, CloseFault>
+pub(crate) fn closed<L: Calls>(held: Held<L>) -> Result<Shift<MemoryFloors, L>, CloseFault>
     requires parts { L.all ≡ L.parts }
 {
     let Held { node, seats } = held;
@@ -193,7 +203,7 @@ fn two_calls<L: Calls + Send + Sync, R: Threads + Wait + Sync>(
 fn two_seats_make_a_call_each(rt: HostRuntime) -> Result<(), Fail> {
     let alloc = rt.alloc();
     let places = Places::new(alloc)?;
-    let event = asked(alloc)?;
+    let event = asked(alloc, true)?;
     let book = book_of(alloc)?;
     let done = two_calls::<Brand, HostRuntime>(&rt, alloc, book, Blank::new(2), places, event);
     assert!(rt; done == Some((true, 2)));

@@ -1,0 +1,62 @@
+-- Each step with other tags comes of a step with the node's own.
+use Rattle.std.proofs.Common.{◌≡◌, ℕ, true, List, [], Option, Some, None, Result, Ok, Err, refl, sym, ◌∙◌, ap, subst, inl, inr}
+use Rattle.node_rules.specs.declared.state.NodeState.{NodeState}
+use Rattle.node_rules.specs.declared.event.Event.{Event}
+use Rattle.node_rules.specs.declared.event.Event.TheVariants as event
+use Rattle.node_rules.specs.declared.reply.Reply.{Reply}
+use Rattle.node_rules.specs.declared.reply.StepFault.{StepFault}
+use Rattle.node_rules.specs.declared.reply.StepFault.TheVariants as fault
+use Rattle.node_rules.specs.State.{Setting, Stepped}
+use Rattle.node_rules.specs.Step.{step}
+use Rattle.node_rules.specs.Relation.{Steps, Closes, ClosesOn, purge_in}
+use Rattle.node_rules.specs.Tags.{retag_state, retag_event}
+use Rattle.node_rules.proofs.Cases.{true_not_false}
+use Rattle.node_rules.proofs.Lawful.{step_steps}
+use Rattle.node_rules.proofs.TagSteps.{step-retag}
+use Rattle.tag_laws.specs.Tagged.{IsAlike, ComesOfStep}
+
+alike_same : {Y : Type 0} (a b : NodeState Y) → a ≡ b → IsAlike a b
+alike_same a b same = record { closed = ap (λ s. s.closed) same; floors = ap (λ s. s.floors) same; pending = ap (λ s. s.pending) same; whole = λ _. same }
+
+module _ {X Y : Type 0} (f : X → Y) (g : Setting) (s : NodeState X) (e : Event X) (mark : X) where
+  purge_in-retag : (e : Event X) → purge_in g (retag_event f e) ≡ purge_in g e
+  purge_in-retag (event.Datagram from message now) = refl
+  purge_in-retag _ = refl
+
+  -- what is closed with other tags, closed with the node's own
+  abbrev shut : NodeState Y → NodeState X
+  shut next = record { floors = next.floors; copies = s.copies; pending = []; next = s.next; closed = true }
+
+  shut_on : (o : Option (List ℕ × ℕ)) (next : NodeState Y) → ClosesOn (retag_state f s) o next → ClosesOn s o (shut next) × IsAlike (retag_state f (shut next)) next
+  shut_on None next h = absurd h
+  shut_on (Some x) next h = (
+    record { closed = refl; pending = refl; floors = h.floors },
+    record { closed = sym h.closed; floors = refl; pending = sym h.pending; whole = λ is_open. absurd (true_not_false (sym h.closed ∙ is_open)) },
+  )
+
+  closes : (next : NodeState Y) → Closes g (retag_state f s) (retag_event f e) next → Closes g s e (shut next) × IsAlike (retag_state f (shut next)) next
+  closes next h =
+      let done = shut_on (purge_in g e) next (subst (λ o. ClosesOn (retag_state f s) o next) (purge_in-retag e) h.1)
+      in ((h.0, done.0), done.1)
+
+  by_function : ComesOfStep f g s e mark (step g (retag_state f s) (retag_event f e) (f mark)).outcome (step g (retag_state f s) (retag_event f e) (f mark)).state
+  by_function = subst (λ (r : Stepped Y). ComesOfStep f g s e mark r.outcome r.state) (sym (step-retag f g s e mark))
+      record { own_outcome = (step g s e mark).outcome; own_next = (step g s e mark).state; steps = step_steps g s e mark; same_outcome = refl; alike = alike_same _ _ refl }
+
+  comes : {outcome : Result (Reply Y) StepFault} {next : NodeState Y} → step g (retag_state f s) (retag_event f e) (f mark) ≡ record { state = next; outcome = outcome } → ComesOfStep f g s e mark outcome next
+  comes is = subst (λ (r : Stepped Y). ComesOfStep f g s e mark r.outcome r.state) is by_function
+
+  pub comes_of_step : (outcome : Result (Reply Y) StepFault) (next : NodeState Y) → Steps g (retag_state f s) (retag_event f e) (f mark) outcome next → ComesOfStep f g s e mark outcome next
+  comes_of_step (Ok reply) next is = comes is
+  comes_of_step (Err fault.Closed) next is = comes is
+  comes_of_step (Err fault.UnknownSerial) next is = comes is
+  comes_of_step (Err fault.Busy) next is = comes is
+  comes_of_step (Err fault.StoreFault) next is =
+      let done = closes next is
+      in record { own_outcome = Err fault.StoreFault; own_next = shut next; steps = done.0; same_outcome = refl; alike = done.1 }
+  comes_of_step (Err fault.NoMemory) next is = elim is [
+    | inl h ↦ record { own_outcome = Err fault.NoMemory; own_next = s; steps = inl (h.0, refl); same_outcome = refl; alike = alike_same _ _ (sym h.1) }
+    | inr h ↦
+        let done = closes next h
+        in record { own_outcome = Err fault.NoMemory; own_next = shut next; steps = inr done.0; same_outcome = refl; alike = done.1 }
+  ]
