@@ -108,7 +108,7 @@ silent takes by from octets node next turn text fits (inl (Some e, (m, spells, i
     absurd (exclusive by octets m fits spells (unnamed by octets text fault_named))
 silent takes by from octets node next turn text fits (inl (Some e, (m, spells, is), (outcome, taken, told))) stepped none (inr (other, other_spells, nothing)) =
     inr (m, spells, subst (λ ev. StepAnswers node ev text next) is (stepped e outcome text taken (told_silent outcome turn text told none nothing)))
-silent takes by from octets node next turn text fits (inr (same, is)) stepped none silence = absurd cc
+silent takes by from octets node next turn text fits (inr ((same, is), spelled)) stepped none silence = absurd cc
 
 -- octets that are answered by datagrams
 pub sent : (takes : Answering → Event (Unit {0}) → Result (Reply (Unit {0})) StepFault → Answering → Type 0) (by : Udp) (from : Address) (octets : List ℕ) (node next : Answering) (turn : Turn) (text : List ℕ) →
@@ -117,7 +117,7 @@ sent takes by from octets node next turn text (inl (None, has, (same, is))) step
     let idle_turn : turn ≡ idle = cc in absurd (some (ap (λ (t : Turn). t.send) idle_turn))
 sent takes by from octets node next turn text (inl (Some e, (m, spells, is), (outcome, taken, told))) stepped some hex =
     inr (m, spells, subst (λ ev. StepAnswers node ev text next) is (stepped e outcome text taken (told_sent outcome turn text told some hex)))
-sent takes by from octets node next turn text (inr (same, is)) stepped some hex = absurd cc
+sent takes by from octets node next turn text (inr ((same, is), spelled)) stepped some hex = absurd cc
 
 -- octets that are refused for another cause than memory
 pub refused : (takes : Answering → Event (Unit {0}) → Result (Reply (Unit {0})) StepFault → Answering → Type 0) (by : Udp) (from : Address) (octets : List ℕ) (node next : Answering) (f : StepFault) →
@@ -125,7 +125,7 @@ pub refused : (takes : Answering → Event (Unit {0}) → Result (Reply (Unit {0
 refused takes by from octets node next f (inl (None, has, (same, is))) stepped lacks = absurd cc
 refused takes by from octets node next f (inl (Some e, (m, spells, is), (outcome, taken, told))) stepped lacks =
     inr (m, spells, subst (λ ev. StepAnswers node ev (step_fault_name f) next) is (stepped e outcome (step_fault_name f) taken (told_refused outcome f told lacks)))
-refused takes by from octets node next f (inr (same, is)) stepped lacks = absurd (lacks cc)
+refused takes by from octets node next f (inr ((same, is), spelled)) stepped lacks = absurd (lacks cc)
 
 -- which fault octets have, by what reading them answers
 

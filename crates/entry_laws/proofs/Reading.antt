@@ -29,13 +29,17 @@ serve_nothing_old t records entries steps proper run number key c issue report s
     let is_issued = issues_purge t steps issue begun number key issues in
     let (is_reported, some) = reports_done t proper steps report both.first number reports in
     let it = serves_in_world t steps serve both.second c serves in
+    let after : both.first.offset + 1 < both.second.offset + 2 = omega (arith, both.apart, some) in
     let its_key : it.copy.key ≡ key = ap (λ (x : WebCopy (Unit {0})). x.key) it.same ∙ same_key in
     let since : begun.offset + 1 < it.copy.tag =
-    nothing_old_is_served t proper steps run.end.world leads number key (begun.offset + 1) (both.first.offset + 1) (both.second.offset + 2) it.copy is_issued is_reported (omega (arith, both.apart, some)) it.served its_key in
+    nothing_old_is_served t proper steps run.end.world leads number key (begun.offset + 1) (both.first.offset + 1) (both.second.offset + 2) it.copy is_issued is_reported after it.served its_key in
     record {
       issued = begun.offset + 1;
       is_issued = is_issued;
+      reported = both.first.offset + 1;
+      is_reported = is_reported;
       served = both.second.offset + 2;
+      after = after;
       copy = it.copy;
       is_served = it.served;
       same = it.same;

@@ -10,7 +10,7 @@ use Rattle.purge_rules.specs.declared.calls.MasterCall.TheVariants as call
 use Rattle.purge_rules.specs.declared.calls.MasterAnswer.TheVariants as answer
 use Rattle.roster_tables.specs.declared.plain.Tables.{Tables}
 use Rattle.node_rules.specs.State.{setting}
-use Rattle.world_rules.specs.Run.{Step, IsItem, IsIssuedAt, IsServedAt}
+use Rattle.world_rules.specs.Run.{Step, IsItem, IsIssuedAt, IsReportedAt, IsServedAt}
 use Rattle.world_rules.specs.Provenance.{IsFromOrigin}
 use Rattle.run_rules.specs.Notes.{Note, Steps, Calls}
 
@@ -29,11 +29,14 @@ abbrev pub Serves : Note → WebCopy (Unit {0}) → Type 0
 Serves (Steps id e is_closed kept) c = copy_served e.outcome ≡ Some c
 Serves note c = ⊥
 
--- In the run that the entries stand for, the purge was issued at a place, and this copy is served at another: it is an origin's answer to a read that began after the purge was issued.
+-- In the run that the entries stand for, the purge was issued at one place and reported done at another, and this copy is served at a later one: it is an origin's answer to a read that began after the purge was issued.
 pub record IsReadSince (roster : Tables) (steps : List Step) (number : ℕ) (key : List ℕ) (c : WebCopy (Unit {0})) : Type 0 where
   pub issued : ℕ
   pub is_issued : IsIssuedAt steps issued number key
+  pub reported : ℕ
+  pub is_reported : IsReportedAt steps reported number
   pub served : ℕ
+  pub after : reported < served
   pub copy : WebCopy ℕ
   pub is_served : IsServedAt steps served copy
   pub same : retag_copy (λ _. tt) copy ≡ c

@@ -2,7 +2,6 @@
 use Rattle.std.specs.Prelude.{◌≡◌, ◌⊎◌, ℕ, List, [], map, Option, Some, None, Result, Ok, Err}
 use Rattle.roster_tables.specs.declared.plain.Address.{Address}
 use Rattle.roster_tables.specs.declared.plain.Udp.{Udp}
-use Rattle.node_rules.specs.declared.message.Message.TheVariants as message
 use Rattle.node_rules.specs.declared.message.Outgoing.{Outgoing}
 use Rattle.node_rules.specs.declared.event.Event.{Event}
 use Rattle.node_rules.specs.declared.reply.Reply.{Reply}
@@ -11,7 +10,7 @@ use Rattle.node_rules.specs.declared.reply.StepFault.TheVariants.{NoMemory}
 use Rattle.node_rules.specs.Messages.{protocol_of}
 use Rattle.node_bytes.specs.declared.turns.Packet.{Packet}
 use Rattle.node_bytes.specs.declared.turns.Turn.{Turn}
-use Rattle.node_bytes.specs.Bytes.{text_of, IsEventOf}
+use Rattle.node_bytes.specs.Bytes.{text_of, HasFault, IsEventOf}
 
 -- a message's protocol and written text, and where it goes
 abbrev pub packet_of : Outgoing → Packet
@@ -44,8 +43,8 @@ MeetsEvent takes (Some e) before after result = StepsOnce takes e before after r
 abbrev pub WantsMemoryBefore : {N : Type 0} → N → N → Result Turn StepFault → Type 0
 WantsMemoryBefore before after result = (after ≡ before) × (result ≡ Err NoMemory)
 
--- Octets came: one step with the event that they make, or none where they make none.
+-- Octets came: one step with the event that they make, or none where they make none. Memory is lacking only where they make one.
 abbrev pub MeetsOctets : {N : Type 0} → (N → Event (Unit {0}) → Result (Reply (Unit {0})) StepFault → N → Type 0) → Udp → Address → List ℕ → ℕ → N → N → Result Turn StepFault → Type 0
 MeetsOctets takes by from octets now before after result =
     ((e : Option (Event (Unit {0}))) × IsEventOf by from octets now e × MeetsEvent takes e before after result)
-    ⊎ WantsMemoryBefore before after result
+    ⊎ (WantsMemoryBefore before after result × (HasFault by octets → ⊥))

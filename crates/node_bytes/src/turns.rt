@@ -80,7 +80,7 @@ fn packets_of(alloc: Global, messages: &[Outgoing]) -> Result<Vec<Packet>, Alloc
 /// Takes the step with the event that octets make as they come from an address by a protocol, at a moment in seconds, and gives what is to
 /// be done then. Octets that are no message take no step, and leave nothing to be done.
 ///
-/// Faults are the step's. `NoMemory` may also come before the step, which is not taken then; or after it: then the step stands, and what it
+/// Faults are the step's. `NoMemory` may also come before the step, which is not taken then, where the octets are a message; or after it: then the step stands, and what it
 /// would have served, sent and begun is lost.
 pub fn on_datagram<N: Stepper>(
     alloc: Global,
