@@ -4,8 +4,6 @@ use node_book::NodeEntry;
 use node_copies::{copy_of_event, copy_of_reply};
 use node_equality::same_outcome;
 use node_rules::{Event, Message, Reply, Served, StepFault};
-use purge_master::MasterEntry;
-use purge_rules::{MasterAnswer, MasterCall};
 use roster::Listed;
 use run_rules::{Cause, Verdict};
 use std::alloc::{AllocError, Global};
@@ -73,7 +71,7 @@ impl Wanted {
     }
 
     /// What is wanted where the changed run may have been, or not.
-    fn where_it_may_be(may_be: bool) -> Wanted {
+    pub(crate) fn where_it_may_be(may_be: bool) -> Wanted {
         if may_be {
             Wanted::Anything
         } else {
@@ -209,16 +207,21 @@ struct Sources {
     outcome: usize,
 }
 
-/// Where what stands at a place comes from, after the change of the entry at another place.
-fn sources_of(place: usize, at: usize, change: Change) -> Sources {
+/// Which entry stands at a place where the one at another place and its next one are swapped.
+pub(crate) fn swapped_place(place: usize, at: usize) -> usize {
     let next = usize::saturating_add(at, 1);
-    let other = if place == at {
+    if place == at {
         next
     } else if place == next {
         at
     } else {
         place
-    };
+    }
+}
+
+/// Where what stands at a place comes from, after the change of the entry at another place.
+fn sources_of(place: usize, at: usize, change: Change) -> Sources {
+    let other = swapped_place(place, at);
     let (place, event, outcome) = match change {
         Change::Swapped => (other, other, other),
         Change::Exchanged => (place, other, other),
@@ -327,26 +330,4 @@ pub(crate) fn changed(
         }
     }
     Ok(copies)
-}
-
-/// Whether the master's entry at a place may be missing: it is no issue, and no acknowledgement that is the first of its member for its purge.
-pub(crate) fn may_call_be_missing(entries: &[MasterEntry], at: usize) -> bool {
-    let Some(entry) = entries.get(at) else {
-        return false;
-    };
-    match (&entry.call, &entry.answer) {
-        (MasterCall::Due | MasterCall::Status(_), _) => true,
-        (MasterCall::Acknowledge { member, trans, .. }, Ok(MasterAnswer::Acknowledge(None))) => {
-            let (member, trans) = (*member, *trans);
-            entries[..at]
-                .iter()
-                .any(|before| is_acknowledged(&before.call, member, trans))
-        }
-        _ => false,
-    }
-}
-
-/// Whether a call acknowledges the purge of this number for this member.
-fn is_acknowledged(call: &MasterCall, of: u8, number: u32) -> bool {
-    matches!(call, MasterCall::Acknowledge { member, trans, .. } if *member == of && *trans == number)
 }

@@ -1,8 +1,8 @@
 //! Who judges changed runs.
-use crate::changes::{CHANGES, Change, Wanted, changed, may_call_be_missing, verdict_wanted};
+use crate::calls::{CALL_CHANGES, CallChange, call_verdict_wanted, changed_calls};
+use crate::changes::{CHANGES, Change, Wanted, changed, verdict_wanted};
 use node_book::Record;
 use node_rules::NodeState;
-use purge_rules::MasterFault;
 use roster::{Listed, Roster};
 use run_check::check_run;
 use run_rules::{Cause, Verdict};
@@ -12,6 +12,17 @@ use std::hash::RandomState;
 use std::mem::replace;
 use url_key::Key;
 
+/// What is changed of a run.
+#[derive(Clone, Copy, Debug, PartialEq, Eq)]
+pub(crate) enum Tried {
+    /// An entry of a member's record.
+    Entry(Change),
+    /// An entry of the master.
+    Call(CallChange),
+    /// The state in which a record opens or closes.
+    State,
+}
+
 /// How many changes were tried, how many of them leave a run, and how many verdicts were not what was wanted.
 #[derive(Clone, Copy, Debug, PartialEq, Eq)]
 pub(crate) struct Tally {
@@ -19,11 +30,11 @@ pub(crate) struct Tally {
     pub(crate) runs: u32,
     pub(crate) wrong: u32,
     /// The first verdict that was not what was wanted, with what was.
-    pub(crate) first_wrong: Option<(Option<Change>, Wanted, Verdict)>,
+    pub(crate) first_wrong: Option<(Tried, Wanted, Verdict)>,
 }
 
 impl Tally {
-    fn add(&mut self, change: Option<Change>, wanted: Wanted, verdict: Verdict) {
+    fn add(&mut self, change: Tried, wanted: Wanted, verdict: Verdict) {
         self.tried = u32::saturating_add(self.tried, 1);
         if verdict == Verdict::Yes {
             self.runs = u32::saturating_add(self.runs, 1);
@@ -61,6 +72,8 @@ pub(crate) struct Court<'a> {
     pub(crate) roster: &'a Roster,
     /// A URL whose floor is altered.
     pub(crate) url: Key,
+    /// A URL that is purged in place of another.
+    pub(crate) other: Key,
 }
 
 impl Court<'_> {
@@ -91,7 +104,7 @@ impl Court<'_> {
         if let Some(changed) = kept.records.get_mut(record) {
             changed.entries = whole;
         }
-        tally.add(Some(change), wanted, verdict);
+        tally.add(Tried::Entry(change), wanted, verdict);
         Ok(())
     }
 
@@ -148,7 +161,7 @@ impl Court<'_> {
         if let Some(changed) = kept.records.get_mut(record) {
             state_of(changed, is_closing).next = next;
         }
-        tally.add(None, wanted, verdict);
+        tally.add(Tried::State, wanted, verdict);
         Ok(())
     }
 
@@ -171,7 +184,7 @@ impl Court<'_> {
         if let Some(changed) = kept.records.get_mut(record) {
             state_of(changed, is_closing).floors = floors;
         }
-        tally.add(None, wanted, verdict);
+        tally.add(Tried::State, wanted, verdict);
         Ok(())
     }
 
@@ -196,33 +209,37 @@ impl Court<'_> {
         if let Some(changed) = kept.records.get_mut(record) {
             state_of(changed, is_closing).copies = copies;
         }
-        tally.add(None, wanted, verdict);
+        tally.add(Tried::State, wanted, verdict);
         Ok(())
     }
 
-    /// Tries a run in which the master's entry at a place has another answer, and one without it.
-    fn try_call(&self, kept: &mut Kept, at: usize, tally: &mut Tally) -> Result<(), AllocError> {
-        let may_be_missing = may_call_be_missing(kept.entries.as_slice(), at);
-        let Some(entry) = kept.entries.get_mut(at) else {
+    /// Tries one change of an entry of the master.
+    fn try_call(
+        &self,
+        kept: &mut Kept,
+        at: usize,
+        change: CallChange,
+        tally: &mut Tally,
+    ) -> Result<(), AllocError> {
+        let Some(wanted) = call_verdict_wanted(kept, at, change) else {
             return Ok(());
         };
-        let place = entry.place;
-        let answer = replace(&mut entry.answer, Err(MasterFault::NumbersSpent));
+        let copies = changed_calls(self.alloc, kept, at, change, &self.other)?;
+        let whole = replace(&mut kept.entries, copies);
         let verdict = self.verdict(kept)?;
-        tally.add(None, Wanted::Flaw(place, Cause::OtherReply), verdict);
-        let mut entry = kept.entries.remove(at);
-        entry.answer = answer;
-        let verdict = self.verdict(kept)?;
-        let wanted = if may_be_missing {
-            Wanted::Anything
-        } else {
-            Wanted::AFlaw
-        };
-        tally.add(None, wanted, verdict);
-        match kept.entries.insert(at, entry) {
-            Ok(()) => Ok(()),
-            Err(_) => Err(AllocError),
+        kept.entries = whole;
+        tally.add(Tried::Call(change), wanted, verdict);
+        Ok(())
+    }
+
+    /// Tries each change of each entry of the master.
+    fn try_calls(&self, kept: &mut Kept, tally: &mut Tally) -> Result<(), AllocError> {
+        for at in 0..kept.entries.len() {
+            for change in CALL_CHANGES {
+                self.try_call(kept, at, change, tally)?;
+            }
         }
+        Ok(())
     }
 
     /// Tries all changes of a run.
@@ -236,9 +253,7 @@ impl Court<'_> {
         for record in 0..kept.records.len() {
             self.try_record(kept, record, &mut tally)?;
         }
-        for at in 0..kept.entries.len() {
-            self.try_call(kept, at, &mut tally)?;
-        }
+        self.try_calls(kept, &mut tally)?;
         Ok(tally)
     }
 }

@@ -82,6 +82,40 @@ fn a_file_of_another_kind_is_refused(rt: HostRuntime) -> Result<(), Fail> {
     Ok(())
 }
 
+/// The name and the sentence of the fault with which a folder is refused.
+fn refused(
+    files: &HostRuntime,
+    alloc: Global,
+    roster: &Roster,
+    folder: &str,
+) -> Result<(&'static str, String), Fail> {
+    let begun = open_stores(files, alloc, roster, folder);
+    refusal(alloc, begun)
+}
+
+#[test]
+fn files_of_another_roster_are_refused(rt: HostRuntime) -> Result<(), Fail> {
+    let alloc = rt.alloc();
+    let roster = siblings(alloc, 21700)?;
+    fresh_folder(&rt, "cluster-21700")?;
+    make_files(&rt, alloc, &roster, "cluster-21700")?;
+    fs::write(&rt, "cluster-21700/node-16.db", b"".as_slice())?;
+    let (name, sentence) = refused(&rt, alloc, &roster, "cluster-21700")?;
+    assert_eq!(rt; name, "OtherRoster", "a member more");
+    assert_eq!(rt;
+        sentence.as_str(),
+        "the files in cluster-21700 are those of other members than the roster's"
+    );
+    fs::remove_file(&rt, "cluster-21700/node-16.db")?;
+    make_files(&rt, alloc, &roster, "cluster-21700")?;
+    fs::rename(&rt, "cluster-21700/node-2.db", "cluster-21700/away.db")?;
+    let (name, _) = refused(&rt, alloc, &roster, "cluster-21700")?;
+    assert_eq!(rt; name, "OtherRoster", "a member fewer");
+    let is_made = fs::exists(&rt, "cluster-21700/node-2.db")?;
+    assert!(rt; !is_made, "no file is made then");
+    Ok(())
+}
+
 #[test]
 fn two_to_eight_workers_are_enough(rt: HostRuntime) {
     assert!(rt; is_worker_count(2) && is_worker_count(8));

@@ -27,7 +27,7 @@ fn script(alloc: Global) -> Result<Vec<u8>, Fail> {
         put(&mut script, 1, both.as_bytes())?;
     }
     put(&mut script, 1, b"purge http://o/3\n")?;
-    put(&mut script, 40, b"status 1\n")?;
+    put(&mut script, 16, b"status 1\n")?;
     put(&mut script, 2, b"get 1 http://o/3\nget 2 http://o/3\n")?;
     Ok(script)
 }
@@ -59,6 +59,17 @@ fn recorded<
     }
 }
 
+/// Who judges runs of this roster.
+fn court_of(alloc: Global, keys: RandomState, roster: &Roster) -> Result<Court<'_>, Fail> {
+    Ok(Court {
+        alloc,
+        keys,
+        roster,
+        url: Key::read(alloc, b"http://o/3")?,
+        other: Key::read(alloc, b"http://o/x")?,
+    })
+}
+
 /// The tally of all changes of what is kept of a run, which is a run itself.
 fn judged(
     alloc: Global,
@@ -66,12 +77,7 @@ fn judged(
     roster: &Roster,
     mut kept: Kept,
 ) -> Result<Tally, Fail> {
-    let court = Court {
-        alloc,
-        keys,
-        roster,
-        url: Key::read(alloc, b"http://o/3")?,
-    };
+    let court = court_of(alloc, keys, roster)?;
     if court.verdict(&kept)? != Verdict::Yes {
         return Err("an honest run is none".into());
     }

@@ -11,6 +11,7 @@ use Rattle.running_cluster.specs.declared.fault.ClusterFault.TheVariants as clus
 
 -- the name of the fault inside, where there is one, and `Io` of a file or a socket that is not opened
 abbrev pub cluster_fault_name : ClusterFault → List ℕ
+cluster_fault_name (cluster.OtherRoster dir) = codes "OtherRoster"
 cluster_fault_name (cluster.File path) = codes "Io"
 cluster_fault_name (cluster.Ports id http icp htcp) = codes "Io"
 cluster_fault_name (cluster.Floors path fault) = floor_fault_name fault

@@ -13,6 +13,12 @@ use thiserror::Error;
 /// Why a cluster does not start, or ends before its input. No thread of it runs then, and no socket of it is open.
 #[derive(Debug, Drop, Error)]
 pub enum ClusterFault {
+    /// The folder has a master's file, and the members that have a file there are not those of the roster.
+    #[error("the files in {dir} are those of other members than the roster's")]
+    OtherRoster {
+        /// The folder.
+        dir: String,
+    },
     /// The file of a node or of the master could not be opened.
     #[error("the file {path} could not be opened")]
     File {
@@ -90,6 +96,7 @@ impl ClusterFault {
     {
         match self {
             ClusterFault::File { .. } | ClusterFault::Ports { .. } | ClusterFault::System => "Io",
+            ClusterFault::OtherRoster { .. } => "OtherRoster",
             ClusterFault::Floors { fault, .. } => fault.name(),
             ClusterFault::Purges { fault, .. } => fault.name(),
             ClusterFault::MasterOpen(fault) => fault.name(),

@@ -5,7 +5,8 @@ use purge_numbers::SqliteFloors;
 use purge_records::SqlitePurges;
 use roster::Roster;
 use sqlite::{Connection, Error, ErrorCode, File, FileStore};
-use std::alloc::Global;
+use std::alloc::{AllocError, Global};
+use std::fs;
 
 /// The greatest id of a member.
 pub(crate) const LAST_MEMBER: u8 = 16;
@@ -26,18 +27,60 @@ pub struct Stores {
 
 /// Opens the files of a roster's members and of its master in a folder: `node-N.db` of each member, by ascending id, and `master.db`. A file that is not there is made; the folder is there.
 ///
-/// Faults: of the first file that is not opened, `File` or `NoMemory`, or that of its tables. No file is open then.
+/// Faults: `OtherRoster` before any file is opened, where the folder has a master's file and the members that have a file there are not those of the roster; of the first file that is not opened, `File` or
+/// `NoMemory`, or that of its tables. No file is open then.
 pub fn open_stores(
     files: &HostRuntime,
     alloc: Global,
     roster: &Roster,
     dir: &str,
 ) -> Result<Stores, ClusterFault> {
+    if !is_of_roster(files, alloc, roster, dir)? {
+        return Err(ClusterFault::OtherRoster {
+            dir: String::from_str(alloc, dir)?,
+        });
+    }
     let nodes = open_nodes(files, alloc, roster, dir)?;
     match open_master(files, alloc, dir) {
         Ok(purges) => Ok(Stores { nodes, purges }),
         Err(fault) => Err(fault),
     }
+}
+
+/// Whether the members that have a file in the folder are those of the roster, or the folder has no master's file: then no cluster has used it yet.
+fn is_of_roster(
+    files: &HostRuntime,
+    alloc: Global,
+    roster: &Roster,
+    dir: &str,
+) -> Result<bool, ClusterFault> {
+    if !is_there(files, master_path(alloc, dir)?)? {
+        return Ok(true);
+    }
+    for id in 1..=LAST_MEMBER {
+        if is_there(files, node_path(alloc, dir, id)?)? != roster.is_member(id) {
+            return Ok(false);
+        }
+    }
+    Ok(true)
+}
+
+/// Whether there is a file.
+fn is_there(files: &HostRuntime, path: String) -> Result<bool, ClusterFault> {
+    match fs::exists(files, path.as_str()) {
+        Ok(is_there) => Ok(is_there),
+        Err(_) => Err(ClusterFault::File { path }),
+    }
+}
+
+/// The master's file.
+fn master_path(alloc: Global, dir: &str) -> Result<String, AllocError> {
+    Ok(format!(in alloc; "{dir}/master.db")?)
+}
+
+/// A member's file.
+fn node_path(alloc: Global, dir: &str, id: u8) -> Result<String, AllocError> {
+    Ok(format!(in alloc; "{dir}/node-{id}.db")?)
 }
 
 /// Opens the files of the nodes by ascending id. A file that is not there is made.
@@ -89,7 +132,7 @@ fn node_store(
     dir: &str,
     id: u8,
 ) -> Result<NodeStore, ClusterFault> {
-    let path = format!(in alloc; "{dir}/node-{id}.db")?;
+    let path = node_path(alloc, dir, id)?;
     let connection = connected(rt, alloc, path.as_str())?;
     match SqliteFloors::open(alloc, connection) {
         Ok(floors) => Ok(NodeStore { floors }),
@@ -99,7 +142,7 @@ fn node_store(
 
 /// Opens the file of the master, with the faults of the nodes' files.
 fn open_master(rt: &HostRuntime, alloc: Global, dir: &str) -> Result<MasterStore, ClusterFault> {
-    let path = format!(in alloc; "{dir}/master.db")?;
+    let path = master_path(alloc, dir)?;
     let connection = connected(rt, alloc, path.as_str())?;
     match SqlitePurges::open(alloc, connection) {
         Ok(purges) => Ok(MasterStore { purges }),

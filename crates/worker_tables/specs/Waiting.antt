@@ -26,17 +26,17 @@ without row block = remove_entry (is_at (nat_cmp block)) row
 abbrev pub with_one : {T : Type 0} → List (ℕ × T) → ℕ → T → List (ℕ × T)
 with_one row block one = insert_entry nat_cmp row block one
 
--- one was put at a block where none was, and fewer than 1,024 were there
+-- one was put at a block where none was, and fewer than 1,056 were there
 pub record IsPut {T : Type 0} (row : List (ℕ × T)) (block : ℕ) (one : T) (new : List (ℕ × T)) : Type 0 where
   pub free : found_at row block ≡ None
-  pub few : length row < 1024
+  pub few : length row < 1056
   pub put : new ≡ with_one row block one
 
 -- why one is not put: the first that holds
 abbrev pub IsCause : {T : Type 0} → List (ℕ × T) → ℕ → TableFault → Type 0
 IsCause row block Taken = IsSome (found_at row block)
-IsCause row block Full = (found_at row block ≡ None) × (1024 ≤ length row)
-IsCause row block NoMemory = (found_at row block ≡ None) × (length row < 1024)
+IsCause row block Full = (found_at row block ≡ None) × (1056 ≤ length row)
+IsCause row block NoMemory = (found_at row block ≡ None) × (length row < 1056)
 
 -- it is handed back, and nothing changes
 pub record IsRefused {T : Type 0} (row : List (ℕ × T)) (block : ℕ) (one : T) (new : List (ℕ × T)) (refused : Refused T) : Type 0 where

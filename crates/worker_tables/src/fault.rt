@@ -9,7 +9,7 @@ pub enum TableFault {
     /// Another one is there at this block.
     #[error("another one waits at this block")]
     Taken,
-    /// 1,024 are there.
+    /// 1,056 are there.
     #[error("too many wait")]
     Full,
     /// A growth was refused.

@@ -7,12 +7,12 @@ use std::alloc::Global;
 use std::collections::BTreeMap;
 use std::marker::Model;
 
-/// The most clients that wait, and the most answers: no more asks are pending at a node.
-pub const MOST_WAITING: usize = 1024;
+/// The most clients that wait, and the most answers. 1,024 asks are pending at a node at most, and of each of its 17 threads one whose ask has just ended there may still be here.
+pub const MOST_WAITING: usize = 1056;
 
 /// Clients that wait for their answers, and answers that came before their clients, each by the block of serials of its ask.
 ///
-/// A contract sees both in the order of their blocks, at most 1,024 of each.
+/// A contract sees both in the order of their blocks, at most 1,056 of each.
 #[derive(Drop)]
 pub struct Waiters<C, A> {
     clients: BTreeMap<u32, C>,
@@ -27,7 +27,7 @@ impl<C, A> Model for Waiters<C, A> {
 
     ghost view = { λ w. record { clients = w.clients.entries; answers = w.answers.entries } };
 
-    ghost invariant = { λ w. (length w.clients.entries ≤ 1024) × (length w.answers.entries ≤ 1024) };
+    ghost invariant = { λ w. (length w.clients.entries ≤ 1056) × (length w.answers.entries ≤ 1056) };
 }
 
 impl<C: Drop, A: Drop> Waiters<C, A> {
@@ -50,7 +50,7 @@ impl<C: Drop, A: Drop> Waiters<C, A> {
     }
 
     /// Puts a client at the block of its ask; or gives it back with its answer, where that has come. It is handed back with the first of these faults, and nothing
-    /// changes then: `Taken` where a client waits at this block, `Full` where 1,024 wait, `NoMemory`.
+    /// changes then: `Taken` where a client waits at this block, `Full` where 1,056 wait, `NoMemory`.
     pub fn leave(&mut self, block: u32, client: C) -> Result<Option<(C, A)>, Refused<C>>
         ensures { Leaves block client self.old result self.new }
     {
@@ -64,7 +64,7 @@ impl<C: Drop, A: Drop> Waiters<C, A> {
     }
 
     /// Puts an answer at the block of its ask; or gives it back with the client that waits for it. It is handed back with the first of these faults, and nothing
-    /// changes then: `Taken` where an answer is at this block, `Full` where 1,024 are there, `NoMemory`.
+    /// changes then: `Taken` where an answer is at this block, `Full` where 1,056 are there, `NoMemory`.
     pub fn answer(&mut self, block: u32, answer: A) -> Result<Option<(C, A)>, Refused<A>>
         ensures { Answers block answer self.old result self.new }
     {
@@ -91,7 +91,7 @@ impl<C: Drop, A: Drop> Waiters<C, A> {
 /// Puts one at a block where none is.
 fn put<T: Drop>(row: &mut BTreeMap<u32, T>, block: u32, one: T) -> Result<(), Refused<T>>
     ensures put { MatchResult result (λ _. IsPut row.old.entries block one row.new.entries) (IsRefused row.old.entries block one row.new.entries) }
-    ensures most { length row.old.entries ≤ 1024 → length row.new.entries ≤ 1024 }
+    ensures most { length row.old.entries ≤ 1056 → length row.new.entries ≤ 1056 }
 {
     if row.contains_key(&block) {
         return Err(Refused {

@@ -42,7 +42,7 @@ fn why_answered(waiters: &mut Pairs, block: u32) -> Option<TableFault> {
 #[test]
 fn tables_have_limits(rt: HostRuntime) -> Result<(), Fail> {
     let mut waiters: Pairs = Waiters::new(rt.alloc());
-    for block in 0..1024 {
+    for block in 0..1056 {
         assert_eq!(rt; why_left(&mut waiters, block), None, "at {block}");
         assert_eq!(rt;
             why_answered(&mut waiters, 5000),
