@@ -1,8 +1,10 @@
-//! Tests of the checker of recorded runs: records and entries made by hand and by nodes, and the verdicts that they have.
+//! Tests of the checker of recorded runs: records and entries made by hand, and the verdicts that they have.
 #![tactic(auto)]
 
 #[cfg(test)]
 mod calls;
+#[cfg(test)]
+mod causes;
 #[cfg(test)]
 mod judged;
 #[cfg(test)]

@@ -392,6 +392,29 @@ fn a_head_has_five_seconds(rt: HostRuntime) -> Result<(), Fail> {
     Ok(())
 }
 
+/// A client sends an octet of its head now and then: it gains no time by that, so its stream is a job once five seconds are over in all.
+const DRIP: [Act; 10] = [
+    Act::Connect(1),
+    Act::Turns(2),
+    Act::Send(0, b"G"),
+    Act::Turns(300),
+    Act::Send(0, b"E"),
+    Act::Turns(300),
+    Act::Send(0, b"T"),
+    Act::Turns(300),
+    Act::Send(0, b" "),
+    Act::Turns(350),
+];
+
+#[test]
+fn octets_that_drip_gain_no_time(rt: HostRuntime) -> Result<(), Fail> {
+    let jobs = run(&rt, rt.alloc(), 21190, &DRIP)?;
+    // (on a busy machine the last octet may come behind the five seconds)
+    let jobs = jobs.as_str();
+    assert!(rt; jobs == "stream 0: 4; " || jobs == "stream 0: 3; ");
+    Ok(())
+}
+
 /// More datagrams come than the queue has places, and then a client whose request is whole.
 const FLOOD: [Act; 10] = [
     Act::Flood(100),

@@ -14,10 +14,10 @@ const CACHED: &[u8] =
     b"GET http://o/a HTTP/1.1\r\nHost: o\r\nCache-Control: only-if-cached\r\n\r\n";
 
 /// An ask for any answer.
-const ANY: &[u8] = b"GET http://o/a HTTP/1.1\r\nHost: o\r\n\r\n";
+pub(crate) const ANY: &[u8] = b"GET http://o/a HTTP/1.1\r\nHost: o\r\n\r\n";
 
 /// Asks that name a member: another one, the node itself, and none of the roster.
-const OF_MEMBER_2: &[u8] = b"GET /a HTTP/1.1\r\nHost: o\r\nX-Purge-Member: 2\r\n\r\n";
+pub(crate) const OF_MEMBER_2: &[u8] = b"GET /a HTTP/1.1\r\nHost: o\r\nX-Purge-Member: 2\r\n\r\n";
 
 const OF_MEMBER_1: &[u8] = b"GET /a HTTP/1.1\r\nHost: o\r\nX-Purge-Member: 1\r\n\r\n";
 
@@ -49,15 +49,15 @@ const HELD_LONGEST: &[u8] =
     b"HTTP/1.1 200 \r\ncache-control: max-age=60\r\nage: 59\r\ncontent-length: 3\r\nconnection: close\r\nvia: 1.1 n1\r\n\r\none";
 
 /// The answer of the copy after 30 seconds.
-const HELD: &[u8] =
+pub(crate) const HELD: &[u8] =
     b"HTTP/1.1 200 \r\ncache-control: max-age=60\r\nage: 30\r\ncontent-length: 3\r\nconnection: close\r\nvia: 1.1 n1\r\n\r\none";
 
 /// The same to a member.
-const HELD_FOR_A_MEMBER: &[u8] =
+pub(crate) const HELD_FOR_A_MEMBER: &[u8] =
     b"HTTP/1.1 200 \r\ncache-control: max-age=60\r\nage: 30\r\nx-purge-stamp: 0\r\ncontent-length: 3\r\nconnection: close\r\nvia: 1.1 n1\r\n\r\none";
 
 /// A step was refused.
-const UNAVAILABLE: &[u8] =
+pub(crate) const UNAVAILABLE: &[u8] =
     b"HTTP/1.1 503 \r\ncontent-length: 0\r\nconnection: close\r\nvia: 1.1 n1\r\n\r\n";
 
 /// A reader that fails.
@@ -80,9 +80,9 @@ fn origin_answer(rt: &HostRuntime) -> Result<Answer, Fail> {
 }
 
 /// Asks node 1 at a moment. What is written, and what became of the ask, in short.
-fn ask(
+fn ask<N: Stepper>(
     rt: &HostRuntime,
-    node: &mut Tested,
+    node: &mut N,
     text: &[u8],
     now: u64,
 ) -> Result<(Vec<u8>, String), Fail> {
@@ -104,9 +104,9 @@ fn said(rt: &HostRuntime, outcome: &Result<Asked, ServeFault>) -> Result<String,
 }
 
 /// What became of an ask, in short.
-fn ask_by<R: Read, W: Write>(
+pub(crate) fn ask_by<N: Stepper, R: Read, W: Write>(
     rt: &HostRuntime,
-    node: &mut Tested,
+    node: &mut N,
     reader: &mut R,
     writer: &mut W,
     now: u64,
@@ -157,9 +157,9 @@ fn is_answered(
 }
 
 /// What is asked is refused, with these words and this text.
-fn is_refused(
+pub(crate) fn is_refused<N: Stepper>(
     rt: &HostRuntime,
-    node: &mut Tested,
+    node: &mut N,
     text: &[u8],
     words: &str,
     expected: &[u8],
@@ -191,7 +191,7 @@ fn origin_answers(rt: &HostRuntime) -> Result<Event<()>, Fail> {
 }
 
 /// An ask for any answer waits at 100, its round ends, and the origin's answer comes: what is written then.
-fn fetch(rt: &HostRuntime, node: &mut Tested) -> Result<Vec<u8>, Fail> {
+pub(crate) fn fetch(rt: &HostRuntime, node: &mut Tested) -> Result<Vec<u8>, Fail> {
     if !is_waiting(rt, node, 100, "block 1 sends 1 round 32")? {
         return Err("it does not wait".into());
     }

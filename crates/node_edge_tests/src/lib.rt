@@ -6,6 +6,8 @@ mod books;
 #[cfg(test)]
 mod copies;
 #[cfg(test)]
+mod failing;
+#[cfg(test)]
 mod held;
 #[cfg(test)]
 mod http;

@@ -1,7 +1,7 @@
 //! What no clause says: that each call can be made, and the names that scripts print.
 use htcp_wire::{Content, Htcp};
 use icp_wire::{Icp, IcpOp};
-use node_rules::{Message, Outgoing, Received, Sent, StepFault, can_be_answered, fits};
+use node_rules::{Message, Outgoing, Received, Sent, StepFault, can_be_answered, fits, laws};
 use roster::Address;
 use std::alloc::AllocError;
 use std::test::Fail;
@@ -94,4 +94,15 @@ fn names_of_faults(rt: HostRuntime) -> Result<(), Fail> {
     }
     assert!(rt; StepFault::from(AllocError) == StepFault::NoMemory);
     Ok(())
+}
+
+#[test]
+fn laws_can_be_called() {
+    laws::the_function_is_a_step::<u64>();
+    laws::floors_never_fall::<u64>();
+    laws::copies_stay_above_their_floors::<u64>();
+    laws::the_store_keeps_its_limits::<u64>();
+    laws::siblings_begin_nothing::<u64>();
+    laws::steps_are_lawful::<u64>();
+    laws::nodes_never_look_at_tags::<u64, ()>();
 }
