@@ -90,26 +90,50 @@ fn hear_out(alloc: Global, listener: &TcpListener) -> io::Result<usize> {
     stream.read_to_end(&mut octets)
 }
 
-/// Why an ask fails where the peer at this port says nothing, and after how many seconds.
+/// The front of an answer that does not end.
+const DRIPPED: &[u8] = b"HTTP/1.1 200 OK\r\nAge";
+
+/// Sends a client the front of an answer, two octets a second, until the client is gone, for ten seconds at most.
+fn drip<C: Clock>(clock: &C, listener: &TcpListener) -> io::Result<()> {
+    let (mut stream, _) = listener.accept()?;
+    for octet in DRIPPED {
+        stream.write_all(&[*octet])?;
+        thread::sleep(clock, Duration::from_millis(500));
+    }
+    Ok(())
+}
+
+/// Why an ask fails where the peer at this port says nothing, or its octets drip, and after how many seconds.
 fn unanswered<
     R: Threads + Net<Listener = TcpListener, Stream = std::net::TcpStream> + Clock + Sync,
->(rt: &R, alloc: Global, port: u16) -> Result<(Option<FetchFault>, u64), Fail> {
+>(rt: &R, alloc: Global, port: u16, drips: bool) -> Result<(Option<FetchFault>, u64), Fail> {
     let ask = ask_for(alloc, b"http://o/a")?;
     let listener = TcpListener::bind(rt, socket_at(port))?;
     let begun = Instant::now(rt)?;
-    let (_, fault) = thread::join(
+    let (_, (fault, time)) = thread::join(
         rt,
-        move || hear_out(alloc, &listener).is_ok(),
-        || answer_of(rt, alloc, port, &ask, AskForm::Origin, b"n1").err(),
+        move || {
+            if drips {
+                drip(rt, &listener).is_ok()
+            } else {
+                hear_out(alloc, &listener).is_ok()
+            }
+        },
+        || {
+            let fault = answer_of(rt, alloc, port, &ask, AskForm::Origin, b"n1").err();
+            (fault, begun.elapsed(rt))
+        },
     );
-    Ok((fault, begun.elapsed(rt)?.as_secs()))
+    Ok((fault, time?.as_secs()))
 }
 
 #[test]
 fn an_exchange_has_five_seconds(rt: HostRuntime) -> Result<(), Fail> {
-    let (fault, seconds) = unanswered(&rt, rt.alloc(), 21250)?;
-    assert!(rt; fault == Some(FetchFault::Io));
-    assert!(rt; 4 <= seconds && seconds <= 8, "{seconds}");
+    for (drips, port) in [false, true].iter().zip(21250u16..) {
+        let (fault, seconds) = unanswered(&rt, rt.alloc(), port, *drips)?;
+        assert!(rt; fault == Some(FetchFault::Io), "{drips}");
+        assert!(rt; 4 <= seconds && seconds <= 8, "{drips}: {seconds}");
+    }
     Ok(())
 }
 

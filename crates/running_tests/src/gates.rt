@@ -1,7 +1,9 @@
 //! Workers that do not hold one another up.
-use crate::network::{CACHED, PLAIN, answer_of, answer_to, asking, running, stopped};
+use crate::network::{CACHED, PLAIN, QUERY, answer_of, answer_to, asking, running, stopped, told};
+use crate::nodes::DENIED;
 use node_workers::{Gate, NoGate};
 use std::alloc::Global;
+use std::io::Write;
 use std::net::{Net, TcpStream};
 use std::sync::atomic::{AtomicBool, Ordering};
 use std::sync::{Arc, Wait};
@@ -95,13 +97,16 @@ fn a_read_holds_up_nobody_else(rt: HostRuntime) -> Result<(), Fail> {
     Ok(())
 }
 
-/// Clients that send the front of an ask, and nothing more.
+/// How many clients send nothing at all.
+const SILENT: usize = 200;
+
+/// Clients that send nothing, and two that send the front of an ask.
 fn silent_clients<R: Net<Stream = TcpStream>>(
     rt: &R,
     alloc: Global,
 ) -> Result<Vec<TcpStream>, Fail> {
     let mut clients = Vec::with_capacity(alloc, 202)?;
-    for _ in 0..200 {
+    for _ in 0..SILENT {
         clients.push(asking(rt, 21520, b"")?)?;
     }
     for _ in 0..2 {
@@ -110,18 +115,28 @@ fn silent_clients<R: Net<Stream = TcpStream>>(
     Ok(clients)
 }
 
-/// So many clients are answered beside 202 that send nothing more: within how many milliseconds.
+/// The two clients send one octet more.
+fn drip(clients: &mut [TcpStream]) -> Result<(), Fail> {
+    for client in clients.iter_mut().skip(SILENT) {
+        client.write_all(b"x")?;
+    }
+    Ok(())
+}
+
+/// So many times a client and another cache are answered beside 200 clients that send nothing and two that send octet by octet: within how many milliseconds.
 fn time_beside_silent<R: Net<Stream = TcpStream> + Clock>(
     rt: &R,
     alloc: Global,
     count: u32,
 ) -> Result<u128, Fail> {
-    let _silent = silent_clients(rt, alloc)?;
+    let mut slow = silent_clients(rt, alloc)?;
     let begun = Instant::now(rt)?;
     for _ in 0..count {
+        drip(slow.as_mut_slice())?;
         let answer = answer_to(rt, alloc, 21520, CACHED)?;
-        if !is_of(answer.as_slice(), b"504") {
-            return Err("another status".into());
+        let told = told(rt, alloc, 21527, 21521, QUERY)?;
+        if !is_of(answer.as_slice(), b"504") || told.as_slice() != DENIED {
+            return Err("another answer".into());
         }
     }
     Ok(

@@ -78,7 +78,7 @@ fn clients_ask<R: Net<Stream = TcpStream>>(rt: &R, alloc: Global) -> Result<[boo
 }
 
 /// That the query is denied, as it is from an unknown address (RFC 2186).
-const DENIED: &[u8] = b"\x16\x02\x00\x1f\0\0\0\x07\0\0\0\0\0\0\0\0\0\0\0\0http://o/a\0";
+pub(crate) const DENIED: &[u8] = b"\x16\x02\x00\x1f\0\0\0\x07\0\0\0\0\0\0\0\0\0\0\0\0http://o/a\0";
 
 /// The CLR of purge 7 (RFC 2756).
 pub(crate) const PURGE: &[u8] =
