@@ -18,7 +18,7 @@ use htcp_wire::{Content, Htcp, Specifier};
 use http_header::{HeaderName, HeaderValue};
 use icp_wire::{Icp, IcpOp};
 use node_book::{BookFault, NodeBook};
-use node_bytes::{event_of, octets_of};
+use node_bytes::{octets_of, on_datagram};
 use node_core::Node;
 use node_rules::{Event, Message, Outgoing, Received, Sent, can_be_answered, fits};
 use roster::{Address, Roster, Udp};
@@ -297,15 +297,10 @@ fn take(node: &mut Tested, events: Vec<Event<()>>) -> io::Result<()> {
 }
 
 /// Answers a datagram of the sibling, from octets to octets.
-fn answer(alloc: Global, node: &mut Tested, octets: &[u8]) -> io::Result<Vec<u8>> {
-    let Some(event) = event_of(alloc, Udp::Icp, SIBLING, octets, 0)? else {
-        return Err(failed("no message"));
-    };
-    match node.step(event, ()) {
-        Ok(reply) => match reply.send.as_slice() {
-            [sent] => Ok(octets_of(alloc, sent)?),
-            _ => Err(failed("no answer")),
-        },
+fn answer(alloc: Global, node: &mut Tested, octets: &[u8]) -> io::Result<()> {
+    match on_datagram(alloc, node, Udp::Icp, SIBLING, octets, 0) {
+        Ok(turn) if turn.send.as_slice().len() == 1 => Ok(()),
+        Ok(_) => Err(failed("no answer")),
         Err(fault) => Err(failed(fault.name())),
     }
 }
