@@ -173,7 +173,7 @@ module _ (t : Tables) (proper : IsRoster t) (from : Progress) (reached : IsReach
 
   acknowledgement_reports : (to : Progress) (here : List Step) (id trans code number : ℕ) (next : MasterState) →
       MasterCalls (members_of t) from.master (call.Acknowledge id trans code) (Ok (answer.Acknowledge (Some number))) next → CallsIn t from (call.Acknowledge id trans code) (Ok (answer.Acknowledge (Some number))) here → Goes t from here next to → IsDoneBy here number
-  acknowledgement_reports to here id trans code number next calls (which, tells, these) goes =
+  acknowledgement_reports to here id trans code number next calls (which, d, tells, there, its, these) goes =
       let ends : Finishes from.master.purges next.purges trans number = call_ends (members_of t) from.master next id trans code number calls in
       let (middle, happens, same) : Run t from.place from.world (event_step (world.Datagram which) (Told trans tells) ∷ []) to.world = subst (λ (s : List Step). Run t from.place from.world s to.world) these goes.run in
       let left : middle.master ≡ next.purges = ap (λ (w : World). w.master) (sym same) ∙ goes.purges ∙ ap (λ (m : MasterState). m.purges) goes.master in

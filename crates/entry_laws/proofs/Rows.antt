@@ -16,7 +16,7 @@ use Rattle.purge_rules.specs.declared.fault.MasterFault.{MasterFault}
 use Rattle.purge_rules.specs.declared.fault.MasterFault.TheVariants as master_fault
 use Rattle.floor_rules.specs.Floors.{FloorMap}
 use Rattle.run_rules.specs.Notes.{Note, Steps, Calls}
-use Rattle.entry_laws.specs.Entries.{Issues, Reports, Serves, begun_by}
+use Rattle.entry_laws.specs.Entries.{Issues, Reports, Serves, begun_by, IsSentBack}
 
 called : MasterCall → Result MasterAnswer MasterFault → Note
 called c a = Calls record { place = 7; call = c; answer = a } false
@@ -78,3 +78,8 @@ fault_serves_none kept c is = cc
 nothing_begins : (kept : FloorMap) → begun_by (served_by kept (Ok (gives (Status 504)))) ≡ None
 unfolding served_by gives
 nothing_begins kept = refl
+
+-- nor is anything sent
+nothing_is_sent : (kept : FloorMap) → IsSentBack (served_by kept (Ok (gives (Status 504))))
+unfolding served_by gives
+nothing_is_sent kept = refl

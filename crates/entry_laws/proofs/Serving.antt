@@ -13,15 +13,17 @@ use Rattle.node_rules.specs.declared.reply.Reply.{Reply}
 use Rattle.node_rules.specs.declared.reply.StepFault.{StepFault}
 use Rattle.node_rules.specs.State.{Setting, Stepped, setting}
 use Rattle.node_rules.specs.Relation.{Steps as NodeSteps}
-use Rattle.node_rules.specs.Effect.{copy_in, copy_in_serve, copy_served, Effect, Stays, Serves, Brings, Purges, Drops}
+use Rattle.node_rules.specs.Effect.{copy_in, copy_in_serve, copy_served}
 use Rattle.node_rules.specs.Tags.{retag_copy, retag_served, retag_serve}
 use Rattle.node_rules.proofs.Cases.{true_not_false}
-use Rattle.node_rules.proofs.Effects.{step_does}
+use Rattle.node_rules.proofs.Stepping.{the_function_closes_no_node}
+use Rattle.node_rules.proofs.Lawful.{steps_are_lawful}
 use Rattle.world_rules.specs.declared.event.WorldEvent.TheVariants as world
 use Rattle.world_rules.specs.Turn.{Replied, Nothing}
 use Rattle.world_rules.specs.Run.{Step, IsItem, IsServedAt}
+use Rattle.world_rules.specs.Asked.{moment}
 use Rattle.run_rules.specs.Notes.{Note, Opens, Steps, Closes, Calls}
-use Rattle.run_rules.specs.Recorded.{IsTaken, event_step, moment_of, node_in, unmarked, unmarked_outcome}
+use Rattle.run_rules.specs.Recorded.{IsTaken, event_step, node_in, unmarked, unmarked_outcome}
 use Rattle.entry_laws.specs.Entries.{Serves as ServesBy}
 use Rattle.entry_laws.proofs.Placing.{Placed}
 
@@ -46,15 +48,9 @@ marked_served (Err f) c is = absurd (none-some c is)
 
 -- a node that serves a copy stays open
 module _ {X : Type 0} (g : Setting) (s : NodeState X) (e : Event X) (mark : X) where
-  effect_open : (r : Stepped X) → Effect g s e mark r → (c : WebCopy X) → copy_served r.outcome ≡ Some c → r.state.closed ≡ false
-  effect_open r (Stays pending next outcome none keeps) c is = absurd (none-some c (sym none ∙ is))
-  effect_open r (Serves key d pending next outcome is_open h has keeps) c is = is_open
-  effect_open r (Brings d life pending next outcome is_open came h has keeps) c is = is_open
-  effect_open r (Purges key n pending next outcome purge none keeps) c is = absurd (none-some c (sym none ∙ is))
-  effect_open r (Drops key pending next outcome none keeps) c is = absurd (none-some c (sym none ∙ is))
-
   serving_open : (outcome : Result (Reply X) StepFault) (next : NodeState X) → NodeSteps g s e mark outcome next → (c : WebCopy X) → copy_served outcome ≡ Some c → next.closed ≡ false
-  serving_open (Ok reply) next steps c is = effect_open record { state = next; outcome = Ok reply } (subst (Effect g s e mark) steps (step_does g s mark e)) c is
+  serving_open (Ok reply) next steps c is =
+      sym (ap (λ (r : Stepped X). r.state.closed) steps) ∙ the_function_closes_no_node g s e mark ∙ ((steps_are_lawful g s e mark (Ok reply) next steps).serves c is).0
   serving_open (Err f) next steps c is = absurd (none-some c is)
 
 second_is : (here : List Step) (one other : Step) → here ≡ one ∷ other ∷ [] → IsItem here 2 other
@@ -71,7 +67,7 @@ taken_serves : (t : Tables) (steps : List Step) (id : ℕ) (note : Note) (it : P
 taken_serves t steps id note it e outcome c taken is =
     let (copy, serves, same) = marked_served outcome c is in
     let step : Step = event_step taken.happens (Replied id outcome) in
-    record { copy = copy; served = (step, it.at 2 step (second_is it.here (event_step (world.Clock (moment_of e)) Nothing) step taken.steps), serves); same = same }
+    record { copy = copy; served = (step, it.at 2 step (second_is it.here (event_step (world.Clock (moment e)) Nothing) step taken.steps), serves); same = same }
 
 pub serves_in_world : (t : Tables) (steps : List Step) (note : Note) (it : Placed t steps note) (c : WebCopy (Unit {0})) → ServesBy note c → IsServed steps (it.offset + 2) c
 serves_in_world t steps (Steps id e is_closed kept) it c serves = elim it.stands [

@@ -2,7 +2,7 @@
 use Rattle.std.specs.Prelude.{◌≡◌, ◌⊎◌, ℕ, ◌<◌, true, List, Option, Some, None, Ok}
 use Rattle.object_store.specs.declared.copy.WebCopy.{WebCopy}
 use Rattle.node_rules.specs.declared.reply.Begin.{Begin}
-use Rattle.node_rules.specs.Effect.{copy_served}
+use Rattle.node_rules.specs.Effect.{copy_served, sent}
 use Rattle.node_rules.specs.Questions.{is_from_sibling, begun}
 use Rattle.node_rules.specs.Tags.{retag_copy}
 use Rattle.purge_rules.specs.declared.calls.Status.TheVariants.{Done}
@@ -12,6 +12,7 @@ use Rattle.roster_tables.specs.declared.plain.Tables.{Tables}
 use Rattle.node_rules.specs.State.{setting}
 use Rattle.world_rules.specs.Run.{Step, IsItem, IsIssuedAt, IsReportedAt, IsServedAt}
 use Rattle.world_rules.specs.Provenance.{IsFromOrigin}
+use Rattle.world_rules.specs.Safety.{SendsBack}
 use Rattle.run_rules.specs.Notes.{Note, Steps, Calls}
 
 -- the entry issues the purge of this number, of this key
@@ -29,7 +30,7 @@ abbrev pub Serves : Note → WebCopy (Unit {0}) → Type 0
 Serves (Steps id e is_closed kept) c = copy_served e.outcome ≡ Some c
 Serves note c = ⊥
 
--- In the run that the entries stand for, the purge was issued at one place and reported done at another, and this copy is served at a later one: it is an origin's answer to a read that began after the purge was issued.
+-- In the run that the entries stand for, the purge was issued at one place and reported done at another, and at some later place some member serves a copy that is this one but for its mark. That copy is an origin's answer to a read that began after the purge was issued.
 pub record IsReadSince (roster : Tables) (steps : List Step) (number : ℕ) (key : List ℕ) (c : WebCopy (Unit {0})) : Type 0 where
   pub issued : ℕ
   pub is_issued : IsIssuedAt steps issued number key
@@ -60,6 +61,11 @@ abbrev pub begun_by : Note → Option Begin
 begun_by (Steps id e is_closed kept) = begun e.outcome
 begun_by note = None
 
--- No entry of a sibling's request begins anything.
+-- what the entry sends goes back to where its event came from
+abbrev pub IsSentBack : Note → Type 0
+IsSentBack (Steps id e is_closed kept) = SendsBack e.event (sent e.outcome)
+IsSentBack note = Unit {0}
+
+-- No entry of a sibling's request begins anything, and none sends to anybody but who asked.
 abbrev pub SiblingsBeginNothing : Tables → List Note → Type 0
-SiblingsBeginNothing roster notes = (number : ℕ) (note : Note) → IsItem notes number note → IsOfSibling roster note → begun_by note ≡ None
+SiblingsBeginNothing roster notes = (number : ℕ) (note : Note) → IsItem notes number note → IsOfSibling roster note → (begun_by note ≡ None) × IsSentBack note

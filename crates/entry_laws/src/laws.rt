@@ -9,7 +9,7 @@ ghost use Rattle.run_rules.specs.Recorded.{IsRecordedRun};
 ghost use Rattle.entry_laws.specs.Entries.{EntriesServeNothingOld, SiblingsBeginNothing};
 
 /// Once an entry of the master reports a purge done, whatever copy of its key a later entry of a member begins to serve is an origin's answer to a read that began after the purge was issued. And no
-/// entry of a sibling's request begins a round, a fetch or a read.
+/// entry of a sibling's request begins a round, a fetch or a read, or sends to anybody but who asked.
 pub fn entries_are_safe()
     ensures served { (roster : Tables) (records : List Record) (entries : List MasterEntry) (steps : List Step) → IsRoster roster → (run : IsRecordedRun roster records entries steps) →
         EntriesServeNothingOld roster run.notes steps }

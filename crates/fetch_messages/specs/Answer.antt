@@ -15,9 +15,13 @@ pub record AnswerText : Type 0 where
 abbrev pub has_no_body : ℕ → Bool
 has_no_body status = (status == 204) || (status == 304)
 
--- a body of at most 65,536 octets, which is empty where the status has none
+-- a body has at most this many octets
+abbrev pub longest_body : ℕ
+longest_body = 65536
+
+-- a body that is not too long, and is empty where the status has none
 abbrev pub is_body_of : ℕ → List ℕ → Bool
-is_body_of status body = nat_le (length body) 65536 && (not (has_no_body status) || (length body == 0))
+is_body_of status body = nat_le (length body) longest_body && (not (has_no_body status) || (length body == 0))
 
 -- a final status, kept fields, an age of at most 2,147,483,648 seconds (RFC 9111, section 1.2.2), and a body that the status may have
 abbrev pub is_writable : AnswerText → Bool

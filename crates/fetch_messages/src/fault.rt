@@ -17,7 +17,8 @@ pub enum FetchFault {
     /// The head is not that of a message (RFC 9112, sections 2 to 5).
     #[error("the head is not that of a message")]
     BadHead,
-    /// The head has more octets or fields than are read, or more fields than an answer keeps.
+    /// The head, or the trailer of a body in chunks, has more octets or fields than are read, or the fields that an answer keeps are too many or
+    /// their lines too long.
     #[error("the head is longer than is read")]
     HeadTooLong,
     /// The target of an ask is no key (RFC 9112, section 3.2). It is never the want of memory.
@@ -29,7 +30,8 @@ pub enum FetchFault {
     /// The ask bears credentials (RFC 9110, section 11).
     #[error("the ask bears credentials")]
     Credentials,
-    /// The length of the body is not told in one valid way (RFC 9112, section 6), or a chunk's line or the trailer is none (section 7.1).
+    /// An ask has a body; or the length of an answer's body is not told in one valid way (RFC 9112, section 6), or a chunk or the trailer is none
+    /// (section 7.1).
     #[error("the body's framing is not valid")]
     BadBody,
     /// The body has more than 65,536 octets.

@@ -1,5 +1,5 @@
 -- Floors: a finite map from keys to purge numbers.
-use Rattle.std.specs.Prelude.{◌⊎◌, ◌<◌, ℕ, max, List, [], ◌∷◌, IsSome, unwrap_or}
+use Rattle.std.specs.Prelude.{◌≡◌, ◌⊎◌, ◌<◌, ◌≤◌, ℕ, max, List, [], ◌∷◌, IsSome, None, unwrap_or}
 use Rattle.std.specs.Ordering.{nat_cmp}
 use Rattle.std.specs.Cmp.Lexicographic.{slice_cmp}
 use Rattle.std.specs.FinMap.{FinMap, get, insert, len, values}
@@ -25,6 +25,14 @@ seen floors = greatest (values floors)
 abbrev pub raised : FloorMap → List ℕ → ℕ → FloorMap
 raised floors key number = insert floors key (max (floor floors key) number)
 
+-- the most rows that a store of floors takes
+abbrev pub most_rows : ℕ
+most_rows = 65536
+
 -- the key has a number, or one more row may come
 abbrev pub HasRoom : FloorMap → List ℕ → Type 0
-HasRoom floors key = IsSome (get floors key) ⊎ (len floors < 65536)
+HasRoom floors key = IsSome (get floors key) ⊎ (len floors < most_rows)
+
+-- no more rows may come, and the key has no number
+abbrev pub IsFull : FloorMap → List ℕ → Type 0
+IsFull floors key = (most_rows ≤ len floors) × (get floors key ≡ None)

@@ -1,13 +1,13 @@
-ghost use Rattle.std.specs.Prelude.{◌≡◌, ◌↔◌, ◌≤◌, false, is_some, None, IsTrue, IfOk, OnOk, OnErr};
+ghost use Rattle.std.specs.Prelude.{◌≡◌, ◌↔◌, ◌≤◌, false, is_some, IsTrue, IfOk, OnOk, OnErr};
 ghost use Rattle.std.specs.FinMap.{empty, get, insert, len};
-ghost use Rattle.floor_rules.specs.Floors.{HasRoom, floor, raised, seen};
+ghost use Rattle.floor_rules.specs.Floors.{HasRoom, IsFull, floor, raised, seen};
 
 use std::alloc::{AllocError, Global};
 use std::collections::BTreeMap;
 use std::marker::Model;
 use url_key::Key;
 
-/// The most rows that floors have.
+/// The most rows that a store of floors takes.
 pub const MOST_ROWS: usize = 65536;
 
 /// The purge number of each URL that was purged, by its key. A contract sees it as a finite map.
@@ -77,7 +77,7 @@ impl Floors {
     /// Whether the key may have a number: it has one, or there is room for one more.
     pub fn has_room(&self, key: &Key) -> bool
         ensures yes { IsTrue result → HasRoom self.now key.now }
-        ensures no { result ≡ false → (65536 ≤ len self.now) × (get self.now key.now ≡ None) }
+        ensures no { result ≡ false → IsFull self.now key.now }
     {
         self.rows() < MOST_ROWS || self.has(key)
     }
@@ -112,10 +112,11 @@ impl Floors {
         self.set(alloc, key, number)
     }
 
-    /// Gives the key this number, which is no less than its own. Where there is no memory for it, nothing changes. Whether there is room for one
-    /// more row is the caller's to ask (`has_room`).
+    /// Gives the key this number, which is at least 1 and no less than its own. Where there is no memory for it, nothing changes. Whether there is
+    /// room for one more row is the caller's to ask (`has_room`).
     pub fn set(&mut self, alloc: Global, key: &Key, number: u32) -> Result<(), AllocError>
-        requires { floor self.old key.now ≤ number }
+        requires number { 1 ≤ number }
+        requires order { floor self.old key.now ≤ number }
         ensures ok { OnOk result (self.new ≡ insert self.old key.now number) }
         ensures err { OnErr result (self.new ≡ self.old) }
     {

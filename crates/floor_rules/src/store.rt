@@ -1,7 +1,6 @@
 //! What a store of floors promises.
-ghost use Rattle.std.specs.Prelude.{◌≡◌, ◌≢◌, ◌≤◌, ℕ, List, Bool, false, None, IsTrue, IfOk, OnOk, Err};
-ghost use Rattle.std.specs.FinMap.{get, len};
-ghost use Rattle.floor_rules.specs.Floors.{FloorMap, HasRoom, raised};
+ghost use Rattle.std.specs.Prelude.{◌≡◌, ◌≢◌, ◌⊎◌, ◌≤◌, ℕ, ◌+◌, List, Bool, false, IsTrue, IfOk, OnOk, Err};
+ghost use Rattle.floor_rules.specs.Floors.{FloorMap, HasRoom, IsFull, raised};
 ghost use Rattle.floor_rules.specs.Store.{IsBeforeOrAfter, HaveRisen};
 
 use crate::fault::FloorFault;
@@ -31,12 +30,17 @@ pub trait FloorStore {
     // Between these two the store itself refused to raise the key to the number.
     ghost has_cause: { Self → Self → List ℕ → ℕ → Type 0 };
 
-    /// A copy of the floors. It is refused with `NoMemory`, which changes nothing, and with `StoreFault` where an earlier call failed.
+    /// A copy of the floors. It is refused with `NoMemory`, which changes nothing, and with `StoreFault` where an earlier call failed. Whatever it
+    /// answers, a crash leaves no more than it may have left before.
     fn load(&mut self, alloc: Global) -> Result<Floors, FloorFault>
         ensures floors { IfOk result (λ floors. is_honest self.new → floors ≡ content self.old) }
         ensures same { OnOk result (self.new ≡ self.old) }
+        ensures unchanged { result ≡ Err FloorFault.NoMemory → self.new ≡ self.old }
         ensures usable { OnOk result (IsTrue (is_usable self.new)) }
         ensures kept { content self.new ≡ content self.old }
+        ensures honest { is_honest self.new → is_honest self.old }
+        ensures left { (found : FloorMap) → may_find self.new found → may_find self.old found }
+        ensures once { failed self.new ≤ failed self.old + 1 }
         ensures fault { result ≡ Err FloorFault.StoreFault → HaveRisen (failed self.old) (failed self.new) }
         ensures cause { result ≡ Err FloorFault.StoreFault → is_usable self.old ≡ false }
         ensures named { (result ≢ Err FloorFault.FloorsFull) × (result ≢ Err FloorFault.BadTable) };
@@ -45,18 +49,24 @@ pub trait FloorStore {
     /// a crash at any other moment leaves the floors from before or after the raise, and from before it where there was no room.
     ///
     /// `FloorsFull` comes where 65,536 keys have numbers and this one has none, and changes nothing; `StoreFault` where the store failed, in this
-    /// call or earlier; `NoMemory` where a growth was refused.
+    /// call or earlier; `NoMemory` where a growth was refused. A store that failed earlier answers `StoreFault` alone, and a crash then leaves no more
+    /// than it may have left before.
     fn raise(&mut self, alloc: Global, key: &Key, number: u32) -> Result<(), FloorFault>
         requires { 1 ≤ number }
         ensures honest { is_honest self.new → is_honest self.old }
         ensures committed { OnOk result (is_honest self.new → content self.new ≡ raised (content self.old) key.now number) }
         ensures durable { OnOk result (is_honest self.new → (found : FloorMap) → may_find self.new found → found ≡ raised (content self.old) key.now number) }
         ensures crash { is_honest self.new → IsTrue (is_usable self.old) → (found : FloorMap) → may_find self.new found → IsBeforeOrAfter (content self.old) key.now number found }
+        ensures refused { is_usable self.old ≡ false → result ≡ Err FloorFault.StoreFault }
+        ensures left { is_usable self.old ≡ false → (found : FloorMap) → may_find self.new found → may_find self.old found }
         ensures usable { OnOk result (IsTrue (is_usable self.new)) }
-        ensures full { result ≡ Err FloorFault.FloorsFull → is_honest self.new → (65536 ≤ len (content self.old)) × (get (content self.old) key.now ≡ None) }
+        ensures spent { result ≡ Err FloorFault.StoreFault → is_usable self.new ≡ false }
+        ensures full { result ≡ Err FloorFault.FloorsFull → is_honest self.new → IsFull (content self.old) key.now }
         ensures room { OnOk result (is_honest self.new → HasRoom (content self.old) key.now) }
         ensures cause { result ≡ Err FloorFault.StoreFault → is_honest self.new → IsTrue (is_usable self.old) → has_cause self.old self.new key.now number }
         ensures unchanged { result ≡ Err FloorFault.FloorsFull → self.new ≡ self.old }
+        ensures counted { (result ≡ Err FloorFault.StoreFault) ⊎ (failed self.new ≡ failed self.old) }
+        ensures once { failed self.new ≤ failed self.old + 1 }
         ensures fault { result ≡ Err FloorFault.StoreFault → HaveRisen (failed self.old) (failed self.new) }
         ensures named { result ≢ Err FloorFault.BadTable };
 

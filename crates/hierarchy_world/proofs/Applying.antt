@@ -1,11 +1,11 @@
 -- What applying an event leaves, where the parts have taken its turn.
-use Rattle.std.proofs.Common.{◌≡◌, Bool, true, false, IsTrue, ◌↔◌, Result, Ok, Err, refl, ◌∙◌, ap}
+use Rattle.std.proofs.Common.{◌≡◌, Bool, true, false, IsTrue, ◌↔◌, Result, Ok, Err, IfOk, refl, ◌∙◌, ap}
 use Rattle.world_rules.specs.declared.event.WorldEvent.{WorldEvent}
 use Rattle.world_rules.specs.declared.outcome.Outcome.{Outcome}
 use Rattle.world_rules.specs.declared.outcome.WorldFault.{WorldFault}
 use Rattle.world_rules.specs.declared.outcome.WorldFault.TheVariants as fault
 use Rattle.hierarchy_world.specs.declared.parts.Parts.{Parts}
-use Rattle.hierarchy_world.specs.View.{IsApplied}
+use Rattle.hierarchy_world.specs.View.{TellsNoLack, IsApplied}
 use Rattle.hierarchy_world.specs.Parts.{IsMade, world_of, view_of}
 use Rattle.hierarchy_world.proofs.Refusing.{not_for_places}
 
@@ -19,8 +19,13 @@ same_view old new spoilt same usable = ap (λ (p : Parts). view_of p spoilt) sam
 
 pub made_applied : (old new : Parts) (event : WorldEvent) (answer : Result Outcome WorldFault) (spoilt : Bool) → (IsTrue spoilt ↔ (answer ≡ Err fault.NoMemory)) → IsMade old event answer new →
     IsApplied (view_of old false) event answer (view_of new spoilt)
-made_applied old new event (Ok outcome) spoilt is made = made.1
+made_applied old new event (Ok outcome) spoilt is made = made.2
 made_applied old new event (Err fault.NoSuchPacket) spoilt is made = (made.0, same_view old new spoilt made.1 (not_spoilt spoilt _ is (λ e. cc)))
 made_applied old new event (Err fault.NotPending) spoilt is made = (made.0, same_view old new spoilt made.1 (not_spoilt spoilt _ is (λ e. cc)))
 made_applied old new event (Err fault.NoMemory) spoilt is made = tt
 made_applied old new event (Err fault.PlacesSpent) spoilt is made = absurd (not_for_places old.roster (world_of old) event made.0)
+
+-- where the event was applied, neither want of memory nor a fault of a store is told
+pub made_tells : (old new : Parts) (event : WorldEvent) (answer : Result Outcome WorldFault) → IsMade old event answer new → IfOk answer TellsNoLack
+made_tells old new event (Ok outcome) made = made.1
+made_tells old new event (Err f) made = tt

@@ -1,13 +1,17 @@
 -- One event: what is seen of it, and what is told.
-use Rattle.std.proofs.Common.{◌≡◌, ℕ, ◌+◌, ap, Ok}
+use Rattle.std.proofs.Common.{◌≡◌, ◌≢◌, ℕ, ◌+◌, Some, Ok, Err, sym, ◌∙◌, ap}
 use Rattle.world_rules.specs.declared.event.WorldEvent.{WorldEvent}
 use Rattle.world_rules.specs.declared.outcome.Outcome.{Outcome}
 use Rattle.world_rules.specs.Turn.{turn}
 use Rattle.world_rules.specs.Run.{IsOfKey}
-use Rattle.world_rules.specs.Apply.{outcome_of}
+use Rattle.node_rules.specs.declared.reply.StepFault.TheVariants as step_fault
+use Rattle.world_rules.specs.declared.outcome.ActorFault.TheVariants as actor
+use Rattle.world_rules.specs.Apply.{outcome_of, fault_of}
 use Rattle.hierarchy_world.specs.declared.parts.Parts.{Parts}
 use Rattle.hierarchy_world.specs.declared.telling.Seen.{Seen as SeenHere}
-use Rattle.hierarchy_world.specs.Parts.{IsSound, HasTaken, IsMade, world_of, seen_of}
+use Rattle.hierarchy_world.specs.declared.telling.Seen.TheVariants as here
+use Rattle.hierarchy_world.specs.View.{TellsNoLack}
+use Rattle.hierarchy_world.specs.Parts.{IsSound, LackedNothing, HasTaken, IsMade, world_of, seen_of}
 
 -- the parts at another place
 abbrev pub at_place : Parts → ℕ → Parts
@@ -16,8 +20,32 @@ at_place p place = record { alloc = p.alloc; roster = p.roster; nodes = p.nodes;
 sound_there : (p : Parts) (place : ℕ) → IsSound p → IsSound (at_place p place)
 sound_there p place sound = record { nodes = sound.nodes; ids = sound.ids; master = sound.master }
 
+-- of what lacked no memory no want of memory is told
+no_memory_told : (seen : SeenHere) → LackedNothing seen → fault_of (seen_of seen) ≢ Some (actor.Step step_fault.NoMemory)
+no_memory_told (here.Replied node (Ok reply)) had is = cc
+no_memory_told (here.Replied node (Err f)) had is = had.0 (cc)
+no_memory_told (here.Issued number) had is = cc
+no_memory_told (here.NotIssued f) had is = cc
+no_memory_told (here.Told number status) had is = cc
+no_memory_told here.Nothing had is = cc
+
+-- of what met no failing store no fault of a store is told
+no_store_told : (seen : SeenHere) → LackedNothing seen → fault_of (seen_of seen) ≢ Some (actor.Step step_fault.StoreFault)
+no_store_told (here.Replied node (Ok reply)) had is = cc
+no_store_told (here.Replied node (Err f)) had is = had.1 (cc)
+no_store_told (here.Issued number) had is = cc
+no_store_told (here.NotIssued f) had is = cc
+no_store_told (here.Told number status) had is = cc
+no_store_told here.Nothing had is = cc
+
+tells_no_lack : (seen : SeenHere) (outcome : Outcome) → LackedNothing seen → outcome.fault ≡ fault_of (seen_of seen) → TellsNoLack outcome
+tells_no_lack seen outcome had told = (λ is. no_memory_told seen had (sym told ∙ is), λ is. no_store_told seen had (sym told ∙ is))
+
 -- a turn that was taken, and the next place
 pub turn_made : (old mid : Parts) (event : WorldEvent) (seen : SeenHere) (outcome : Outcome) → HasTaken old (turn old.roster (world_of old) event) seen mid → IsOfKey event →
     outcome ≡ outcome_of (world_of old) (world_of mid) (seen_of seen) → IsMade old event (Ok outcome) (at_place mid (mid.place + 1))
-turn_made old mid event seen outcome taken key told =
-    (sound_there mid (mid.place + 1) taken.sound, (taken.roster, ap (λ (n : ℕ). n + 1) taken.place, seen_of seen, (key, taken.takes), told))
+turn_made old mid event seen outcome taken key told = (
+  sound_there mid (mid.place + 1) taken.sound,
+  tells_no_lack seen outcome taken.lacked_nothing (ap (λ (o : Outcome). o.fault) told),
+  (taken.roster, ap (λ (n : ℕ). n + 1) taken.place, seen_of seen, (key, taken.takes), told),
+)

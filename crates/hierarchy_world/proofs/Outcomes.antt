@@ -1,24 +1,10 @@
 -- What is told, by how much was sent.
-use Rattle.std.proofs.Common.{◌≡◌, ℕ, ◌-◌, List, Option, length, ◌∙◌, ap}
-use Rattle.world_rules.specs.declared.outcome.Outcome.{Outcome}
+use Rattle.std.proofs.Common.{◌≡◌, ◌-◌, length, ◌∙◌, ap}
 use Rattle.world_rules.specs.World.{World}
 use Rattle.world_rules.specs.Turn.{Seen}
-use Rattle.world_rules.specs.Apply.{numbers_after, new_item, reply_of, purge_of, status_of, round_in, read_in, fault_of, outcome_of}
+use Rattle.world_rules.specs.Apply.{numbers_after, new_item, told_by, outcome_of}
 use Rattle.hierarchy_world.specs.declared.telling.Counts.{Counts}
 use Rattle.hierarchy_world.specs.Told.{AreCounts, outcome_by}
-
-abbrev told_by : Seen → Option ℕ → List ℕ → Option ℕ → Outcome
-told_by seen answer sent ask = record {
-  serve = (reply_of seen).serve;
-  answer = answer;
-  purge = purge_of seen;
-  status = status_of seen;
-  round = round_in (reply_of seen).begin;
-  sent = sent;
-  ask = ask;
-  read = read_in (reply_of seen).begin;
-  fault = fault_of seen;
-}
 
 -- what is told by these counts is what is told of these worlds
 pub outcome_told : (old new : World) (before after : Counts) (seen : Seen) → AreCounts old before → AreCounts new after → outcome_by before after seen ≡ outcome_of old new seen

@@ -155,7 +155,7 @@ foreign_to_none w id serial answer o is = ap (λ (x : Option (Pending ℕ)). for
 
 -- the turn ends with nothing seen, and this is the world after it
 pub ends_so : (old new : Parts) (w : World) → IsSound new → new.roster ≡ old.roster → new.place ≡ old.place → world_of new ≡ w → IsTaken old (Ends Nothing w) (Ok here.Nothing) new
-ends_so old new w sound roster place is = record { sound = sound; roster = roster; place = place; takes = (refl, is) }
+ends_so old new w sound roster place is = record { sound = sound; roster = roster; place = place; lacked_nothing = tt; takes = (refl, is) }
 
 module _ (old new : Parts) (n : MemberNode) (id place serial : ℕ) (answer : AnswerText) (sound : IsSound old) (found : (is_member old.roster id ≡ true) × IsPlace old.nodes.items id place)
     (below : place < length old.nodes.items) (at : n ≡ get_or old.nodes.items place n) where

@@ -1,7 +1,8 @@
 -- Runs, one event at a time.
-use Rattle.std.proofs.Common.{◌≡◌, ℕ, suc, ◌+◌, ◌<◌, false, List, [], ◌∷◌, ◌++◌, length, map, take, drop, get_or, Err, refl, sym, ◌∙◌, ap, subst, inr, arith, length-append}
+use Rattle.std.proofs.Common.{◌≡◌, ℕ, suc, ◌+◌, ◌<◌, false, All, List, [], ◌∷◌, ◌++◌, length, map, take, drop, get_or, Err, refl, sym, ◌∙◌, ap, subst, inr, arith, length-append}
 use Rattle.std.proofs.Math.Seq.{drop-cons}
 use Rattle.std.proofs.lemmas.List.{map-id, take-append-drop}
+use Rattle.std.proofs.lemmas.List.Elements.{All-nil, All-push}
 use Rattle.roster_tables.specs.declared.plain.Tables.{Tables}
 use Rattle.roster.specs.Judged.{IsRoster}
 use Rattle.world_rules.specs.declared.event.WorldEvent.{WorldEvent}
@@ -14,7 +15,7 @@ use Rattle.world_rules.specs.Run.{Step, Happens, Plays}
 use Rattle.world_rules.specs.Apply.{outcome_of}
 use Rattle.world_rules.proofs.Runs.{plays_run}
 use Rattle.world_rules.proofs.Safe.{nothing_old_is_served, siblings_ask_nothing}
-use Rattle.hierarchy_world.specs.View.{WorldView, HasHappened, IsApplied}
+use Rattle.hierarchy_world.specs.View.{WorldView, TellsNoLack, HasHappened, IsApplied}
 use Rattle.hierarchy_world.specs.Runs.{Tells, IsSafeRun, IsRunSoFar, HasRun, HasStopped}
 
 -- one more event at the end
@@ -80,26 +81,29 @@ run_is_safe t events new outcomes proper run =
 -- The world as callers see it, and the loop over the events
 
 abbrev pub IsAt : Tables → List WorldEvent → WorldView → List Outcome → Type 0
-IsAt t events w outcomes = (w.roster ≡ t) × (w.place ≡ 1 + length events) × (w.spoilt ≡ false) × IsRunSoFar t events w.world outcomes
+IsAt t events w outcomes = (w.roster ≡ t) × (w.place ≡ 1 + length events) × (w.spoilt ≡ false) × All TellsNoLack outcomes × IsRunSoFar t events w.world outcomes
 
-pub view_starts : (t : Tables) → (w : WorldView) → w ≡ record { roster = t; place = 1; spoilt = false; world = new_world t } → IsAt t [] w []
-view_starts t w is = subst (λ (v : WorldView). IsAt t [] v []) (sym is) (refl, refl, refl, run_starts t)
+pub view_starts : (t : Tables) (w : WorldView) (now : List Outcome) → w ≡ record { roster = t; place = 1; spoilt = false; world = new_world t } → now ≡ [] → IsAt t [] w now
+view_starts t w now is none =
+    subst (λ (l : List Outcome). IsAt t [] w l) (sym none)
+    (subst (λ (v : WorldView). IsAt t [] v []) (sym is) (refl, refl, refl, All-nil TellsNoLack, run_starts t))
 
 -- one more event was applied
 pub view_goes_on : (t : Tables) (events : List WorldEvent) (old new : WorldView) (outcomes now : List Outcome) (event : WorldEvent) (outcome : Outcome) →
-    IsAt t events old outcomes → HasHappened old event outcome new → new.spoilt ≡ false → now ≡ outcomes ++ outcome ∷ [] → IsAt t (events ++ event ∷ []) new now
-view_goes_on t events old new outcomes now event outcome (at_roster, at_place, at_spoilt, run) (roster, place, seen, happens, told) usable is =
+    IsAt t events old outcomes → HasHappened old event outcome new → new.spoilt ≡ false → TellsNoLack outcome → now ≡ outcomes ++ outcome ∷ [] → IsAt t (events ++ event ∷ []) new now
+view_goes_on t events old new outcomes now event outcome (at_roster, at_place, at_spoilt, at_lacks, run) (roster, place, seen, happens, told) usable lacks is =
     let here : new.place ≡ 1 + length (events ++ event ∷ []) = omega (arith, length-append events (event ∷ [])) in
     let happens_here : Happens t old.place old.world event seen new.world = subst (λ (r : Tables). Happens r old.place old.world event seen new.world) at_roster happens in
     let all : now ≡ outcomes ++ outcome_of old.world new.world seen ∷ [] = is ∙ ap (λ (o : Outcome). outcomes ++ o ∷ []) told in
-    (roster ∙ at_roster, here, usable, subst (λ (l : List Outcome). IsRunSoFar t (events ++ event ∷ []) new.world l) (sym all) (run_goes_on t events old.world new.world outcomes event seen old.place run at_place happens_here))
+    let all_lack : All TellsNoLack now = subst (All TellsNoLack) (sym is) (All-push TellsNoLack outcomes outcome at_lacks lacks) in
+    (roster ∙ at_roster, here, usable, all_lack, subst (λ (l : List Outcome). IsRunSoFar t (events ++ event ∷ []) new.world l) (sym all) (run_goes_on t events old.world new.world outcomes event seen old.place run at_place happens_here))
 
 -- all were applied
 pub view_ends : (t : Tables) (events all : List WorldEvent) (w : WorldView) (outcomes now : List Outcome) → IsRoster t → IsAt t events w outcomes → events ≡ all → now ≡ outcomes → HasRun t all w now
 view_ends t events all w outcomes now proper at is same =
     subst (λ (l : List WorldEvent). HasRun t l w now) is
     (subst (λ (l : List Outcome). HasRun t events w l) (sym same)
-    (at.0, at.1, at.2, run_is_safe t events w.world outcomes proper at.3))
+    (at.0, at.1, at.2, at.3, run_is_safe t events w.world outcomes proper at.4))
 
 -- the event that comes next, and those after it
 pub parted_at : {A : Type 0} (all so_far : List A) (x : A) → map (λ y. y) so_far ≡ take (length so_far) all → (length so_far < length all) × (x ≡ get_or all (length so_far) x) →
@@ -113,9 +117,9 @@ parted_at all so_far x first (less, is) =
 pub view_stops : (t : Tables) (all events : List WorldEvent) (old new : WorldView) (outcomes : List Outcome) (event : WorldEvent) (after : List WorldEvent) (f : WorldFault) →
     IsAt t events old outcomes → all ≡ events ++ event ∷ after → IsApplied old event (Err f) new → HasStopped t all f
 view_stops t all events old new outcomes event after fault.NoMemory at is applied = tt
-view_stops t all events old new outcomes event after fault.PlacesSpent (at_roster, at_place, at_spoilt, run) is (spent, same) =
+view_stops t all events old new outcomes event after fault.PlacesSpent (at_roster, at_place, at_spoilt, at_lacks, run) is (spent, same) =
     omega (arith, ap (λ (l : List WorldEvent). length l) is, length-append events (event ∷ after))
-view_stops t all events old new outcomes event after fault.NoSuchPacket (at_roster, at_place, at_spoilt, run) is (refused, same) =
+view_stops t all events old new outcomes event after fault.NoSuchPacket (at_roster, at_place, at_spoilt, at_lacks, run) is (refused, same) =
     (events, event, after, old.world, outcomes, is, run, subst (λ (r : Tables). turn r old.world event ≡ Refused fault.NoSuchPacket) at_roster refused)
-view_stops t all events old new outcomes event after fault.NotPending (at_roster, at_place, at_spoilt, run) is (refused, same) =
+view_stops t all events old new outcomes event after fault.NotPending (at_roster, at_place, at_spoilt, at_lacks, run) is (refused, same) =
     (events, event, after, old.world, outcomes, is, run, subst (λ (r : Tables). turn r old.world event ≡ Refused fault.NotPending) at_roster refused)

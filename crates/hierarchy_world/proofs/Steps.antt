@@ -6,11 +6,10 @@ use Rattle.node_rules.specs.declared.event.Event.{Event}
 use Rattle.node_rules.specs.declared.reply.Reply.{Reply}
 use Rattle.node_rules.specs.declared.reply.StepFault.{StepFault}
 use Rattle.node_rules.specs.declared.reply.StepFault.TheVariants as fault
-use Rattle.node_rules.specs.State.{Setting, Stepped, refuses, setting}
+use Rattle.node_rules.specs.State.{Setting, refuses, setting}
 use Rattle.node_rules.specs.Relation.{Steps}
-use Rattle.node_rules.specs.Effect.{Effect, Stays, Serves, Brings, Purges, Drops}
 use Rattle.node_rules.specs.Step.{step, step_if}
-use Rattle.node_rules.proofs.Effects.{step_does}
+use Rattle.node_rules.proofs.Stepping.{the_function_closes_no_node}
 use Rattle.floor_rules.specs.Store.{HaveRisen}
 use Rattle.node_core.specs.Closing.{KeepsStore, FailsWithCause}
 use Rattle.node_core.specs.View.{IsSameMember, IsTied, setting_of}
@@ -18,17 +17,6 @@ use Rattle.key_texts.specs.KeyOf.{GivesKeys, key_of}
 use Rattle.key_texts.proofs.Outcomes.{gives_keys}
 use Rattle.hierarchy_world.specs.declared.seats.Stepped.{Stepped as SteppedHere}
 use Rattle.hierarchy_world.specs.Parts.{MemberNode, IsStored, IsStep}
-
-effect_closed : {X : Type 0} (g : Setting) (s : NodeState X) (e : Event X) (mark : X) (r : Stepped X) → Effect g s e mark r → r.state.closed ≡ s.closed
-effect_closed g s e mark r (Stays pending next outcome _ _) = refl
-effect_closed g s e mark r (Serves key c pending next outcome _ _ _ _) = refl
-effect_closed g s e mark r (Brings c life pending next outcome _ _ _ _ _) = refl
-effect_closed g s e mark r (Purges key n pending next outcome _ _ _) = refl
-effect_closed g s e mark r (Drops key pending next outcome _ _) = refl
-
--- the function leaves a node as open as it was
-step_closed : {X : Type 0} (g : Setting) (s : NodeState X) (e : Event X) (mark : X) → (step g s e mark).state.closed ≡ s.closed
-step_closed g s e mark = effect_closed g s e mark _ (step_does g s mark e)
 
 closed_step : {X : Type 0} (g : Setting) (s : NodeState X) (e : Event X) (mark : X) → s.closed ≡ true → step g s e mark ≡ refuses s fault.Closed
 unfolding step step_if
@@ -62,7 +50,7 @@ stored_by : (closed : Bool) (before after : MemberNode) (g : Setting) (e : Event
     (after.state.closed ≡ false → after.store ≡ after.state.floors) →
     step g before.state e mark ≡ record { state = after.state; outcome = outcome } → Keeps before after outcome → after.store ≡ after.state.floors
 stored_by true before after g e mark outcome is_closed stored tied is keeps =
-    stored_closed before after g e mark outcome (sym (step_closed g before.state e mark) ∙ ap (λ r. r.state.closed) is ∙ is_closed) stored is keeps
+    stored_closed before after g e mark outcome (sym (the_function_closes_no_node g before.state e mark) ∙ ap (λ r. r.state.closed) is ∙ is_closed) stored is keeps
 stored_by false before after g e mark outcome is_open stored tied is keeps = tied is_open
 
 -- the store has the floors after the step too
@@ -85,6 +73,8 @@ is_step before after e mark s stored same keeps cause steps tied memory first la
   id = same.id;
   stored = stored_after before after (setting before.roster before.id) e mark s.outcome stored (λ still. (tied still).1 tt) memory (never_fails s.outcome cause) (steps key_of gives_keys) keeps;
   steps = steps key_of gives_keys;
+  memory = memory;
+  store = never_fails s.outcome cause;
   next_before = first;
   next_after = last;
 }

@@ -39,6 +39,8 @@ module _ (old new : Parts) (before n : MemberNode) (id place : ℕ) (e : Event �
     place = changed.place;
     next = n.state;
     steps = steps_here;
+    memory = is.memory;
+    store = is.store;
     next_before = is.next_before ∙ ap (λ x. x.next) (sym is_state);
     next_after = is.next_after;
     world = same_world (world_of new) (with_state (world_of old) id n.state)
@@ -109,6 +111,7 @@ module _ (old mid sent new : Parts) (id : ℕ) (e : Event ℕ) (asked : Option A
     sound = adds_sound sent new _ _ _ _ last (adds_sound mid sent _ _ _ _ first h.sound);
     roster = last.roster ∙ first.roster ∙ h.roster;
     place = last.place ∙ first.place ∙ h.place;
+    lacked_nothing = (h.memory, h.store);
     takes = (
       s.outcome,
       h.next,

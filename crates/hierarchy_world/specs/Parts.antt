@@ -1,5 +1,5 @@
 -- The parts of a world, what holds of them, and what a turn does to them.
-use Rattle.std.specs.Prelude.{◌≡◌, ℕ, suc, Bool, ◌==◌, false, List, [], ◌∷◌, ◌++◌, map, option_map, Option, Some, None, Result, Ok, Err, if◌then◌else◌}
+use Rattle.std.specs.Prelude.{◌≡◌, ◌≢◌, ℕ, suc, Bool, ◌==◌, false, List, [], ◌∷◌, ◌++◌, map, option_map, Option, Some, None, Result, Ok, Err, if◌then◌else◌}
 use Rattle.std.specs.List.{AllByRecursion}
 use Rattle.floor_rules.specs.Floors.{FloorMap}
 use Rattle.roster_tables.specs.declared.plain.Tables.{Tables}
@@ -8,6 +8,7 @@ use Rattle.purge_rules.specs.Purges.{PurgeList}
 use Rattle.purge_master.specs.View.{MasterView}
 use Rattle.node_rules.specs.declared.state.NodeState.{NodeState}
 use Rattle.node_rules.specs.declared.event.Event.{Event}
+use Rattle.node_rules.specs.declared.reply.StepFault.TheVariants as step_fault
 use Rattle.node_rules.specs.Relation.{Steps}
 use Rattle.node_core.specs.View.{NodeText}
 use Rattle.world_rules.specs.declared.event.WorldEvent.{WorldEvent}
@@ -22,7 +23,7 @@ use Rattle.hierarchy_world.specs.declared.parts.Parts.{Parts}
 use Rattle.hierarchy_world.specs.declared.seats.Stepped.{Stepped}
 use Rattle.hierarchy_world.specs.declared.telling.Seen.{Seen as SeenHere}
 use Rattle.hierarchy_world.specs.declared.telling.Seen.TheVariants as here
-use Rattle.hierarchy_world.specs.View.{WorldView, HasHappened}
+use Rattle.hierarchy_world.specs.View.{WorldView, TellsNoLack, HasHappened}
 
 -- a member's node, over floors in memory
 abbrev pub MemberNode : Type 0
@@ -87,12 +88,14 @@ seen_of (here.NotIssued f) = NotIssued f
 seen_of (here.Told number status) = Told number status
 seen_of here.Nothing = Nothing
 
--- A node has taken this step under this mark.
+-- A node has taken this step under this mark. A step that lacked memory is none, and floors in memory never fail.
 pub record IsStep (before : MemberNode) (mark : ℕ) (e : Event ℕ) (s : Stepped) (after : MemberNode) : Type 0 where
   pub roster : after.roster ≡ before.roster
   pub id : after.id ≡ before.id
   pub stored : IsStored after
   pub steps : Steps (setting before.roster before.id) before.state e mark s.outcome after.state
+  pub memory : s.outcome ≢ Err step_fault.NoMemory
+  pub store : s.outcome ≢ Err step_fault.StoreFault
   pub next_before : s.before ≡ before.state.next
   pub next_after : s.after ≡ after.state.next
 
@@ -107,15 +110,23 @@ pub record HasStepped (old : Parts) (id : ℕ) (e : Event ℕ) (s : Stepped) (ne
   pub place : new.place ≡ old.place
   pub next : NodeState ℕ
   pub steps : Steps (setting old.roster id) (node_at (world_of old).seats id) e old.place s.outcome next
+  pub memory : s.outcome ≢ Err step_fault.NoMemory
+  pub store : s.outcome ≢ Err step_fault.StoreFault
   pub next_before : s.before ≡ (node_at (world_of old).seats id).next
   pub next_after : s.after ≡ next.next
   pub world : world_of new ≡ with_state (world_of old) id next
+
+-- what is seen is no step that lacked memory or met a failing store
+abbrev pub LackedNothing : SeenHere → Type 0
+LackedNothing (here.Replied node outcome) = (outcome ≢ Err step_fault.NoMemory) × (outcome ≢ Err step_fault.StoreFault)
+LackedNothing _ = Unit {0}
 
 -- the turn is taken, and this is seen
 pub record HasTaken (old : Parts) (t : Turn) (seen : SeenHere) (new : Parts) : Type 0 where
   pub sound : IsSound new
   pub roster : new.roster ≡ old.roster
   pub place : new.place ≡ old.place
+  pub lacked_nothing : LackedNothing seen
   pub takes : Takes old.roster old.place (world_of old) t (seen_of seen) (world_of new)
 
 -- A turn is taken, or it is refused and changes nothing. Of want of memory nothing is said.
@@ -155,6 +166,6 @@ IsKeyed event (Err f) = Unit {0}
 
 -- The event has happened at its place, or it is refused and changes nothing. Of want of memory nothing is said.
 abbrev pub IsMade : Parts → WorldEvent → Result Outcome WorldFault → Parts → Type 0
-IsMade old event (Ok outcome) new = IsSound new × HasHappened (view_of old false) event outcome (view_of new false)
+IsMade old event (Ok outcome) new = IsSound new × TellsNoLack outcome × HasHappened (view_of old false) event outcome (view_of new false)
 IsMade old event (Err fault.NoMemory) new = Unit {0}
 IsMade old event (Err f) new = (turn old.roster (world_of old) event ≡ Refused f) × (new ≡ old)

@@ -1,5 +1,5 @@
 -- A run: events that were applied one after the other, what was told of each, and the headline of it.
-use Rattle.std.specs.Prelude.{◌≡◌, ℕ, ◌+◌, ◌-◌, ◌^◌, ◌≤◌, false, List, [], ◌∷◌, ◌++◌, length, map}
+use Rattle.std.specs.Prelude.{◌≡◌, ℕ, ◌+◌, ◌-◌, ◌^◌, ◌≤◌, false, All, List, [], ◌∷◌, ◌++◌, length, map}
 use Rattle.roster_tables.specs.declared.plain.Tables.{Tables}
 use Rattle.world_rules.specs.declared.event.WorldEvent.{WorldEvent}
 use Rattle.world_rules.specs.declared.outcome.Outcome.{Outcome}
@@ -10,7 +10,7 @@ use Rattle.world_rules.specs.Turn.{Refused, turn}
 use Rattle.world_rules.specs.Run.{Step, Happens, Plays}
 use Rattle.world_rules.specs.Safety.{NothingOldIsServed, SiblingsAskNothing}
 use Rattle.world_rules.specs.Apply.{outcome_of}
-use Rattle.hierarchy_world.specs.View.{WorldView}
+use Rattle.hierarchy_world.specs.View.{WorldView, TellsNoLack}
 
 -- these steps, the first of them at the place, lead from the old world to the new, and these outcomes are told of them
 abbrev pub Tells : Tables → ℕ → World → List Step → World → List Outcome → Type 0
@@ -28,10 +28,10 @@ pub record IsSafeRun (roster : Tables) (all_events : List WorldEvent) (new : Wor
   pub served : NothingOldIsServed steps
   pub siblings : SiblingsAskNothing roster steps
 
--- the world after all these events, which is usable, and what was told of each
+-- the world after all these events, which is usable, and what was told of each: no step that lacked memory or met a failing store
 abbrev pub HasRun : Tables → List WorldEvent → WorldView → List Outcome → Type 0
 HasRun roster events w outcomes =
-    (w.roster ≡ roster) × (w.place ≡ 1 + length events) × (w.spoilt ≡ false) × IsSafeRun roster events w.world outcomes
+    (w.roster ≡ roster) × (w.place ≡ 1 + length events) × (w.spoilt ≡ false) × All TellsNoLack outcomes × IsSafeRun roster events w.world outcomes
 
 -- so far: the events up to here were applied, and these outcomes are told of them
 pub record IsRunSoFar (roster : Tables) (all_events : List WorldEvent) (new : World) (outcomes : List Outcome) : Type 0 where

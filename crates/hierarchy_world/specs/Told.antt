@@ -3,7 +3,7 @@ use Rattle.std.specs.Prelude.{◌≡◌, ◌-◌, length}
 use Rattle.world_rules.specs.declared.outcome.Outcome.{Outcome}
 use Rattle.world_rules.specs.World.{World}
 use Rattle.world_rules.specs.Turn.{Seen}
-use Rattle.world_rules.specs.Apply.{numbers_after, new_item, reply_of, purge_of, status_of, round_in, read_in, fault_of}
+use Rattle.world_rules.specs.Apply.{numbers_after, new_item, told_by}
 use Rattle.hierarchy_world.specs.declared.telling.Counts.{Counts}
 
 -- so much was sent in this world
@@ -14,14 +14,5 @@ pub record AreCounts (w : World) (c : Counts) : Type 0 where
 
 -- what is told of what was seen, where so much was sent before and after it
 abbrev pub outcome_by : Counts → Counts → Seen → Outcome
-outcome_by before after seen = record {
-  serve = (reply_of seen).serve;
-  answer = new_item before.answers after.answers;
-  purge = purge_of seen;
-  status = status_of seen;
-  round = round_in (reply_of seen).begin;
-  sent = numbers_after before.datagrams (after.datagrams - before.datagrams);
-  ask = new_item before.asks after.asks;
-  read = read_in (reply_of seen).begin;
-  fault = fault_of seen;
-}
+outcome_by before after seen =
+    told_by seen (new_item before.answers after.answers) (numbers_after before.datagrams (after.datagrams - before.datagrams)) (new_item before.asks after.asks)

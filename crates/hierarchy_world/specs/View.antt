@@ -1,8 +1,10 @@
 -- A world as contracts see it, and what applying an event does to it.
-use Rattle.std.specs.Prelude.{◌≡◌, ℕ, ◌+◌, ◌-◌, ◌^◌, Bool, Result, Ok, Err}
+use Rattle.std.specs.Prelude.{◌≡◌, ◌≢◌, ℕ, ◌+◌, ◌-◌, ◌^◌, Bool, Some, Result, Ok, Err}
 use Rattle.roster_tables.specs.declared.plain.Tables.{Tables}
+use Rattle.node_rules.specs.declared.reply.StepFault.TheVariants as step_fault
 use Rattle.world_rules.specs.declared.event.WorldEvent.{WorldEvent}
 use Rattle.world_rules.specs.declared.outcome.Outcome.{Outcome}
+use Rattle.world_rules.specs.declared.outcome.ActorFault.TheVariants as actor
 use Rattle.world_rules.specs.declared.outcome.WorldFault.{WorldFault}
 use Rattle.world_rules.specs.declared.outcome.WorldFault.TheVariants as fault
 use Rattle.world_rules.specs.World.{World}
@@ -16,6 +18,10 @@ pub record WorldView : Type 0 where
   pub place : ℕ
   pub spoilt : Bool
   pub world : World
+
+-- No step that lacked memory or met a failing store is told: where a node lacks memory, applying the event does, and floors in memory never fail.
+abbrev pub TellsNoLack : Outcome → Type 0
+TellsNoLack outcome = (outcome.fault ≢ Some (actor.Step step_fault.NoMemory)) × (outcome.fault ≢ Some (actor.Step step_fault.StoreFault))
 
 -- the event has happened at the old place, and this is told of it
 abbrev pub HasHappened : WorldView → WorldEvent → Outcome → WorldView → Type 0

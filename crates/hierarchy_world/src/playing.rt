@@ -5,7 +5,7 @@ ghost use Rattle.world_rules.specs.World.{new_world};
 ghost use Rattle.node_rules.specs.State.{opened};
 ghost use Rattle.std.specs.FinMap.{empty};
 ghost use Rattle.roster.specs.Judged.{IsRoster};
-ghost use Rattle.hierarchy_world.specs.View.{IsApplied};
+ghost use Rattle.hierarchy_world.specs.View.{IsApplied, TellsNoLack};
 ghost use Rattle.hierarchy_world.specs.Runs.{HasRun, HasStopped};
 ghost use Rattle.hierarchy_world.specs.Parts.{IsSound, world_of};
 
@@ -131,6 +131,7 @@ impl World {
         ensures spoilt { self.old.spoilt ≡ true → (self.new ≡ self.old) × (self.old.place ≢ 2 ^ 64 - 1 → result ≡ Err NoMemory) }
         ensures spoils { result ≡ Err NoMemory → self.new.spoilt ≡ true }
         ensures usable { OnOk result (self.new.spoilt ≡ false) }
+        ensures lack { IfOk result TellsNoLack }
     {
         if self.parts.place == u64::MAX {
             return Err(WorldFault::PlacesSpent);

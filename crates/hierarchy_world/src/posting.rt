@@ -2,9 +2,8 @@
 ghost use Rattle.std.specs.Prelude.{◌≡◌, ◌≤◌, ◌<◌, length, ◌==◌, ◌&&◌, true, [], map, find, Option, Some, None, IfOk, OnOk};
 ghost use Rattle.std.specs.List.{cons_option};
 ghost use Rattle.fetch_messages.specs.Field.{field_text};
-ghost use Rattle.roster.specs.Lookups.{member_of as member_by_id, address_by as address_for};
+ghost use Rattle.roster.specs.Lookups.{member_of as member_by_id};
 ghost use Rattle.node_rules.specs.Arrivals.{is_gateway_fault};
-ghost use Rattle.node_rules.specs.Messages.{protocol_of as udp_of_text};
 ghost use Rattle.world_rules.specs.World as world;
 ghost use Rattle.world_rules.specs.Turn.{NodeSteps};
 ghost use Rattle.hierarchy_world.specs.Parts.{IsSound, IsPlace, IsTaken, Adds};
@@ -34,7 +33,7 @@ pub(crate) fn copy_of_message(alloc: Global, message: &Message) -> Result<Messag
 
 /// The datagram of a member that a message to be sent makes.
 fn datagram_from(alloc: Global, cache: &Cache, sent: &Outgoing) -> Result<Datagram, AllocError>
-    ensures { IfOk result (λ made. made ≡ record { sender = address_for (udp_of_text sent.now.message) cache.now; receiver = sent.now.to; message = sent.now.message }) }
+    ensures { IfOk result (λ made. made ≡ world.datagram_from cache.now sent.now) }
 {
     let message = sent.message.message();
     Ok(Datagram {
@@ -50,7 +49,7 @@ fn datagrams_from(
     cache: &Cache,
     sent: &[Outgoing],
 ) -> Result<Vec<Datagram>, AllocError>
-    ensures { IfOk result (λ made. made.items ≡ map (λ o. record { sender = address_for (udp_of_text o.message) cache.now; receiver = o.to; message = o.message }) sent.now) }
+    ensures { IfOk result (λ made. made.items ≡ map (world.datagram_from cache.now) sent.now) }
 {
     let mut made = Vec::with_capacity(alloc, sent.len())?;
     for outgoing in sent {

@@ -63,7 +63,7 @@ pub record Clears (section : Data) (reason : ℕ) (spec : Specifier) : Type 0 wh
 abbrev pub is_ask : ℕ → Bool
 is_ask opcode = (opcode == nop) || (opcode == tst) || (opcode == clr)
 
--- the responses that have a content of their own
+-- the responses with MO 0 that have a content of their own
 abbrev pub is_answer : ℕ → ℕ → Bool
 is_answer opcode code =
     ((opcode == nop) && (code == 0)) || ((opcode == tst) && (code == 0)) || ((opcode == tst) && (code == 1))

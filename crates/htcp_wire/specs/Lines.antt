@@ -13,6 +13,7 @@ joined (line ∷ next ∷ lines) = line ++ carriage_return ∷ line_feed ∷ joi
 pub record IsLine (line : List ℕ) : Type 0 where
   pub whole : (before after : List ℕ) → line ≢ before ++ carriage_return ∷ line_feed ∷ after
 
+-- these are the lines of the text
 pub record AreLines (text : List ℕ) (lines : List (List ℕ)) : Type 0 where
   pub some : lines ≢ []
   pub each : AllByRecursion IsLine lines

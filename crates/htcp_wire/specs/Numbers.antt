@@ -30,6 +30,7 @@ lines_behind line (octet ∷ text) =
     let ends = ends_line line octet in
     (if ends then take (length line - 1) line ∷ [] else []) ++ lines_behind (if ends then [] else line ++ octet ∷ []) text
 
+-- the lines of a text
 abbrev pub lines_of : List ℕ → List (List ℕ)
 lines_of text = lines_behind [] text
 

@@ -10,6 +10,7 @@ use Rattle.htcp_wire.specs.declared.message.Content.TheVariants.{NopAsk, NopAnsw
 use Rattle.htcp_wire.specs.declared.message.Htcp.{Htcp}
 use Rattle.htcp_wire.specs.Grammar.{Data, nop, tst, clr}
 
+-- what comes next, of the value where there is one: std's `option_and_then` with its arguments turned round
 infixl 10 ◌>>=◌
 abbrev pub ◌>>=◌ : {A B : Type 0} → Option A → (A → Option B) → Option B
 None >>= f = None

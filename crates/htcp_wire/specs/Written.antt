@@ -31,10 +31,11 @@ written_data (OtherAnswer opcode code) = answer opcode code false []
 abbrev pub written_with : ℕ → Data → List ℕ
 written_with trans section = header (14 + length section.op_data) 0 ++ (data_text 0 trans section ++ auth [])
 
+-- the written text of a message of MINOR 0
 abbrev pub written : Htcp → List ℕ
 written message = written_with message.trans (written_data message.content)
 
--- the numbers that a content may have
+-- the numbers that a content may have where it is written; an OtherAnswer is not
 abbrev pub InRange : Content → Type 0
 InRange (ClrAsk desired reason spec) = reason < 16
 InRange (ClrAnswer code) = code ≤ 2

@@ -179,8 +179,8 @@ impl Content {
     }
 }
 
-/// A message, without its spare octets, reserved bits and signature, which may hold anything where it is read and
-/// are zero or absent where it is written.
+/// A message, without its spare octets, reserved bits, signature and a request's RESPONSE, which may hold anything where
+/// it is read and are zero or absent where it is written.
 #[derive(Debug, PartialEq, Eq, Drop)]
 pub struct Htcp {
     /// MINOR of the HEADER. MAJOR is 0.

@@ -133,6 +133,11 @@ fn heads_of_requests(rt: HostRuntime) -> Result<(), Fail> {
         ] {
             let read = request(&rt, &mut Pieces::new(text, len));
             assert_eq!(rt; read.err(), fault, "{text:?} in pieces of {len}");
+            // A malformed head goes before a reader that fails, too.
+            if fault == Some(FetchFault::BadHead) {
+                let read = request(&rt, &mut Pieces::failing(text, len));
+                assert_eq!(rt; read.err(), fault, "{text:?} in pieces of {len}, cut");
+            }
         }
     }
     Ok(())
@@ -186,7 +191,7 @@ fn a_head_behind_another(rt: HostRuntime) -> Result<(), Fail> {
 
 #[test]
 fn a_whole_head_waits_for_no_call(rt: HostRuntime) -> Result<(), Fail> {
-    // A call past the head would fail.
+    // A call past the head would fail, and be counted.
     for text in [
         b"GET / HTTP/1.1\r\nhost: o\r\n\r\n".as_slice(),
         b"GET / HTTP/1.1\nhost: o\n\n".as_slice(),
@@ -195,8 +200,11 @@ fn a_whole_head_waits_for_no_call(rt: HostRuntime) -> Result<(), Fail> {
         b"\n\r\n\nGET / HTTP/1.1\n\n".as_slice(),
     ] {
         for len in 1..=text.len() {
-            let read = request(&rt, &mut Pieces::failing(text, len));
+            let mut reader = Pieces::failing(text, len);
+            let read = request(&rt, &mut reader);
             assert_eq!(rt; read.err(), None, "{text:?} in pieces of {len}");
+            let calls = text.len().div_ceil(len);
+            assert_eq!(rt; reader.calls as usize, calls, "calls in pieces of {len}");
         }
         let cut = &text[..text.len() - 1];
         for len in PIECES {

@@ -9,8 +9,8 @@ use Rattle.icp_wire.specs.declared.message.IcpOp.TheVariants.{Query, Hit, Miss, 
 use Rattle.icp_wire.specs.declared.fault.IcpFault.{IcpFault}
 use Rattle.icp_wire.specs.declared.fault.IcpFault.TheVariants.{Short, TooLong, BadVersion, BadLength, NoZero, Trailing, BadObject, NoMemory}
 use Rattle.icp_wire.specs.Grammar.{Spells}
-use Rattle.icp_wire.specs.Faults.{number_field, payload_field, op_of, opcode_field, object_fault, rest_fault, payload_fault, opcode_fault, first_fault}
-use Rattle.icp_wire.specs.Reading.{url_in, object_in, Holds}
+use Rattle.icp_wire.specs.Faults.{object_fault, rest_fault, payload_fault, opcode_fault, first_fault}
+use Rattle.icp_wire.specs.Reading.{number_field, payload_field, op_of, opcode_field, url_in, object_in, Holds}
 use Rattle.icp_wire.specs.Laws.{IsDecided}
 use Rattle.icp_wire.proofs.Readings.{passes, spells_of, read_of}
 

@@ -12,8 +12,8 @@ use Rattle.icp_wire.specs.declared.message.IcpOp.TheVariants.{Query, Hit, Miss, 
 use Rattle.icp_wire.specs.declared.fault.IcpFault.{IcpFault}
 use Rattle.icp_wire.specs.declared.fault.IcpFault.TheVariants.{NoZero, Trailing, BadObject}
 use Rattle.icp_wire.specs.Grammar.{IsPayload}
-use Rattle.icp_wire.specs.Faults.{is_zero, from_url, object_fault, rest_fault, payload_fault}
-use Rattle.icp_wire.specs.Reading.{url_in, counted_text, object_behind, object_in}
+use Rattle.icp_wire.specs.Faults.{object_fault, rest_fault, payload_fault}
+use Rattle.icp_wire.specs.Reading.{is_zero, from_url, url_in, counted_text, object_behind, object_in}
 use Rattle.icp_wire.proofs.Zeros.{around_zero, before-append, after-append, position-append}
 
 -- a test of a chain that has no fault

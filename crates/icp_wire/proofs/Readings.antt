@@ -10,8 +10,8 @@ use Rattle.icp_wire.specs.declared.message.Icp.{Icp}
 use Rattle.icp_wire.specs.declared.message.IcpOp.{IcpOp}
 use Rattle.icp_wire.specs.declared.message.IcpOp.TheVariants.{Query, Hit, Miss, Error, MissNoFetch, Denied, HitObj}
 use Rattle.icp_wire.specs.Grammar.{version, opcode, Spells}
-use Rattle.icp_wire.specs.Faults.{opcode_field, version_field, length_field, number_field, payload_field, op_of, from_url, payload_fault, opcode_fault, first_fault}
-use Rattle.icp_wire.specs.Reading.{Holds}
+use Rattle.icp_wire.specs.Faults.{payload_fault, opcode_fault, first_fault}
+use Rattle.icp_wire.specs.Reading.{opcode_field, version_field, length_field, number_field, payload_field, op_of, from_url, Holds}
 use Rattle.icp_wire.proofs.Zeros.{before_zero}
 use Rattle.icp_wire.proofs.Payloads.{passed, payload_spells, payload_again}
 use Rattle.icp_wire.proofs.Headers.{after_version, header_cut, header_again, length-after_version}

@@ -6,7 +6,7 @@ use Rattle.std.proofs.lemmas.Bool.{eqb-true, eqb-false, ne_eqb, ltb-true, lt-ltb
 use Rattle.std.proofs.lemmas.List.{get_or-take, length-append, length-take, take_at, drop_at, drop-drop}
 use Rattle.std.proofs.lemmas.List.Sums.{split_at_first, fails_before_first, passes_at_first, position_or_len_is}
 use Rattle.memchr.specs.Find.{IsFirstByte, is_byte}
-use Rattle.icp_wire.specs.Faults.{is_zero}
+use Rattle.icp_wire.specs.Reading.{is_zero}
 
 found : (inside : Bool) (i : ℕ) → is_none (cond inside (Some i) None) ≡ false → inside ≡ true
 found true i e = refl

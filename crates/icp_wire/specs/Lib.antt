@@ -1,6 +1,6 @@
 pub mod Names
 pub mod Grammar
-pub mod Faults
 pub mod Reading
+pub mod Faults
 pub mod Written
 pub mod Laws

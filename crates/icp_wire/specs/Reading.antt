@@ -1,11 +1,40 @@
 -- What stands at the offsets of a message (RFC 2186, "ICP Message Format").
-use Rattle.std.specs.Prelude.{◌≡◌, ℕ, List, [], Option, Some, None}
-use Rattle.wire_octets.specs.Counted.{split_counted}
+use Rattle.std.specs.Prelude.{◌≡◌, ℕ, Bool, ◌==◌, List, [], ◌∷◌, drop, slice_index, find, Option, Some, None}
 use Rattle.std.specs.List.{before_first, after_first}
+use Rattle.byteorder.specs.Endian.{big_number}
+use Rattle.wire_octets.specs.Counted.{split_counted}
 use Rattle.icp_wire.specs.declared.message.Icp.{Icp}
 use Rattle.icp_wire.specs.declared.message.IcpOp.{IcpOp}
-use Rattle.icp_wire.specs.declared.message.IcpOp.TheVariants.{HitObj}
-use Rattle.icp_wire.specs.Faults.{opcode_field, number_field, payload_field, op_of, is_zero, from_url}
+use Rattle.icp_wire.specs.declared.message.IcpOp.TheVariants.{Query, Hit, Miss, Error, MissNoFetch, Denied, HitObj}
+use Rattle.icp_wire.specs.Grammar.{header_length, opcode}
+
+-- the fields of a header, by their offsets (RFC 2186, "ICP Message Format")
+abbrev pub opcode_field : List ℕ → ℕ
+opcode_field octets = slice_index octets 0
+
+abbrev pub version_field : List ℕ → ℕ
+version_field octets = slice_index octets 1
+
+abbrev pub length_field : List ℕ → ℕ
+length_field octets = big_number 2 (drop 2 octets)
+
+abbrev pub number_field : List ℕ → ℕ
+number_field octets = big_number 4 (drop 4 octets)
+
+abbrev pub payload_field : List ℕ → List ℕ
+payload_field octets = drop header_length octets
+
+-- the opcode of a number, where it is read
+abbrev pub op_of : ℕ → Option IcpOp
+op_of code = find (λ op. opcode op == code) (Query ∷ Hit ∷ Miss ∷ Error ∷ MissNoFetch ∷ Denied ∷ HitObj ∷ [])
+
+abbrev pub is_zero : ℕ → Bool
+is_zero octet = octet == 0
+
+-- the URL and what follows: in a QUERY they stand behind the four octets of the requester's address
+abbrev pub from_url : IcpOp → List ℕ → List ℕ
+from_url Query payload = drop 4 payload
+from_url op payload = payload
 
 -- the URL in a payload: what stands before the first zero octet
 abbrev pub url_in : IcpOp → List ℕ → List ℕ

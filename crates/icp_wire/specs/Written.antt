@@ -20,6 +20,7 @@ abbrev pub written_with : IcpOp → ℕ → List ℕ → List ℕ
 written_with op number payload =
     opcode op ∷ version ∷ (big_bytes 2 (header_length + length payload) ++ big_bytes 4 number ++ unset ++ unset ++ unset ++ payload)
 
+-- the written text of a message that has no object
 abbrev pub written : Icp → List ℕ
 written message = written_with message.op message.number (written_payload message.op message.url)
 

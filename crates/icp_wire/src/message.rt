@@ -29,7 +29,7 @@ pub enum IcpOp {
     Error = 4,
     /// ICP_OP_MISS_NOFETCH: it does not, and is not to be asked to fetch it.
     MissNoFetch = 21,
-    /// ICP_OP_DENIED: the sender may not ask.
+    /// ICP_OP_DENIED: the sender may not fetch the URL from it.
     Denied = 22,
     /// ICP_OP_HIT_OBJ: it does, and here is the object.
     HitObj = 23,

@@ -25,6 +25,6 @@ key_in (Err fault) = None
 abbrev pub key_of : List ℕ → Option (List ℕ)
 key_of text = key_in (outcome_of text)
 
--- it gives the key that each text has
+-- it gives the key that each text has, and none where the text has none
 abbrev pub GivesKeys : (List ℕ → Option (List ℕ)) → Type 0
-GivesKeys key_of = (text : List ℕ) (outcome : Result (List ℕ) KeyFault) → HasKey text outcome → key_of text ≡ key_in outcome
+GivesKeys given = (text : List ℕ) (outcome : Result (List ℕ) KeyFault) → HasKey text outcome → given text ≡ key_in outcome

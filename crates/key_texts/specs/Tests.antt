@@ -1,4 +1,4 @@
--- The grammar of URIs as tests (RFC 3986, section 3): each answers what the definition of http_uri in brackets says. The texts are those that pass the early tests: of visible ASCII, with no `#`, and at most 1,024 octets long.
+-- The grammar of http_uri as tests, which is near that of RFC 3986, section 3, and not the same: each answers what the definition of http_uri in brackets says. The texts are those that pass the early tests: of visible ASCII, with no `#`, and at most 1,024 octets long.
 use Rattle.std.specs.Prelude.{ℕ, zero, suc, ◌-◌, Bool, true, not, ◌&&◌, ◌||◌, ◌==◌, nat_lt, nat_le, bytes_eq, List, [], length, take, drop, slice_index, unwrap_or, codes}
 use Rattle.std.specs.List.{list_all}
 use Rattle.http_uri.specs.ByteClasses.{is_scheme_byte, is_authority_byte, is_path_byte, is_query_byte, is_delimiter, count_of, split_once_front, split_once_back, at_sign, colon, left_bracket, percent_sign, question_mark, right_bracket, slash}

@@ -50,8 +50,5 @@ is_applied {before} e behind made opening told takes = record {
   entries = behind ∙ ap (λ x. before.entries ++ x ∷ []) made;
   opening = opening;
   told_of = told;
-  same = takes.same;
-  steps = takes.steps;
-  store = takes.store;
-  cause = takes.cause;
+  step = takes;
 }

@@ -1,6 +1,5 @@
 -- The book of a node's steps.
-use Rattle.std.specs.Prelude.{◌≡◌, ◌⊎◌, ℕ, ◌≤◌, List, [], ◌∷◌, ◌++◌, length, Option, Result, Ok, Err}
-use Rattle.key_texts.specs.KeyOf.{key_of, GivesKeys}
+use Rattle.std.specs.Prelude.{◌≡◌, ◌⊎◌, ℕ, ◌≤◌, List, [], ◌∷◌, ◌++◌, length, Result, Ok, Err}
 use Rattle.floor_rules.specs.Floors.{FloorMap}
 use Rattle.roster_tables.specs.declared.plain.Tables.{Tables}
 use Rattle.node_rules.specs.declared.event.Event.{Event}
@@ -9,8 +8,8 @@ use Rattle.node_rules.specs.declared.reply.StepFault.{StepFault}
 use Rattle.node_rules.specs.declared.state.NodeState.{NodeState}
 use Rattle.node_rules.specs.State.{Setting, setting}
 use Rattle.node_rules.specs.Relation.{Steps}
-use Rattle.node_core.specs.View.{NodeText, IsSameMember, setting_of}
-use Rattle.node_core.specs.Closing.{KeepsStore, FailsWithCause}
+use Rattle.node_core.specs.View.{NodeText}
+use Rattle.node_bytes.specs.Nodes.{TakesStep}
 use Rattle.node_book.specs.declared.book.NodeEntry.{NodeEntry}
 use Rattle.node_book.specs.declared.book.BookFault.{BookFault}
 use Rattle.node_book.specs.declared.book.BookFault.TheVariants as faults
@@ -42,7 +41,4 @@ pub record IsApplied {S : Type 0} (honest : Type 0) (may_find : FloorMap → Typ
   pub entries : after.entries ≡ before.entries ++ record { seat = seat; place = place; event = e; outcome = outcome } ∷ []
   pub opening : after.opening ≡ before.opening
   pub told_of : IsToldOf outcome told
-  pub same : IsSameMember before.node after.node
-  pub steps : (key_of : List ℕ → Option (List ℕ)) → GivesKeys key_of → Steps (setting_of before.node key_of) before.node.state e tt outcome after.node.state
-  pub store : KeepsStore honest may_find before.node after.node outcome
-  pub cause : FailsWithCause honest have_risen outcome
+  pub step : TakesStep honest may_find have_risen before.node e outcome after.node

@@ -12,11 +12,10 @@ use Rattle.node_rules.specs.declared.state.NodeState.{NodeState}
 use Rattle.node_rules.specs.declared.reply.Served.TheVariants.{Copy}
 use Rattle.node_rules.specs.declared.state.Fetch.{Fetch}
 use Rattle.node_rules.specs.declared.state.Fetch.TheVariants.{Nowhere, AtPeer, AtOrigin}
-use Rattle.node_rules.specs.State.{Setting, replies, quiet, serving, with_copies, with_pending, changing, served_age, is_idle}
+use Rattle.node_rules.specs.State.{Setting, replies, quiet, serving, with_copies, with_pending, changing, ended, served_age, is_idle}
 use Rattle.node_rules.specs.Fetching.{go_on, give_up}
 use Rattle.node_rules.specs.Arrivals.{unknown, new_copy, stored, use_answer, try_on, is_gateway_fault, peer_gave, from_peer, peer_answer_to, origin_gave, from_origin, origin_answer_to, fails, failure_of, not_fetching, with_round, round_moves, expires, expiry_of}
 use Rattle.node_waiting.specs.CanGoOn.{CanGoOn}
-use Rattle.node_waiting.specs.Changed.{ended}
 
 -- an answer becomes a copy, which is stored before its ask ends
 pub uses : {X : Type 0} (g : Setting) (s after : NodeState X) (p q : Pending X) (place : ℕ) (key : List ℕ) (stamp asked : ℕ) (life : Option ℕ) (answer : AnswerText) (tag : X) (now : ℕ) → slice_get s.pending place ≡ Some p → slice_get after.pending place ≡ Some q → key ≡ p.ask.key → life ≡ lifetime answer g.roster.limits.default_lifetime → after ≡ with_copies s (stored g.roster.limits (new_copy key stamp asked life answer tag) life s.copies) → use_answer g s p stamp asked answer tag now ≡ replies (with_pending after (ended q.block after.pending)) (serving (Some q.block) q.asker (Copy (new_copy key stamp asked life answer tag) (served_age (new_copy key stamp asked life answer tag) now)))

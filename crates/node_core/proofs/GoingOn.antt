@@ -15,11 +15,10 @@ use Rattle.peer_chooser.specs.Round.{RoundText}
 use Rattle.peer_chooser.specs.Choice.{choice}
 use Rattle.peer_chooser.proofs.Choices.{each_choice_follows}
 use Rattle.node_rules.specs.declared.state.Fetch.TheVariants.{AtPeer}
-use Rattle.node_rules.specs.State.{Setting, Stepped, is_idle}
+use Rattle.node_rules.specs.State.{Setting, Stepped, changed, ended, is_idle}
 use Rattle.node_rules.specs.Known.{has_origin}
 use Rattle.node_rules.specs.Fetching.{fetching, choice_of, go_on, go_to, read_origin, begin_read, give_up}
 use Rattle.node_waiting.specs.CanGoOn.{CanGoOn}
-use Rattle.node_waiting.specs.Changed.{changed, ended}
 use Rattle.node_waiting.proofs.Changing.{all_changed, all_ended}
 use Rattle.node_waiting.proofs.Counting.{one_less}
 use Rattle.node_core.specs.View.{IsNode}

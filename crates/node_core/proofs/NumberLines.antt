@@ -11,7 +11,7 @@ use Rattle.node_rules.specs.State.{Setting}
 use Rattle.node_rules.specs.Datagrams.{htcp_clr, clr_by_line, plain_clr, numbered_clr, purge_of}
 use Rattle.key_texts.specs.KeyOf.{GivesKeys}
 use Rattle.node_core.specs.View.{HasKeyOf}
-use Rattle.node_core.specs.Closing.{purge_meant}
+use Rattle.node_rules.specs.Relation.{purge_meant}
 use Rattle.node_core.specs.Leads.{Leads, MayClose}
 use Rattle.node_core.proofs.Outcomes.{leads_may_close}
 

@@ -1,27 +1,17 @@
 -- A node whose store of floors fails, and what a purge leaves there.
-use Rattle.std.specs.Prelude.{◌≡◌, ◌⊎◌, ℕ, List, Option, Result, Ok, Err}
-use Rattle.htcp_wire.specs.declared.message.Specifier.{Specifier}
-use Rattle.htcp_wire.specs.declared.numbers.HeaderKind.TheVariants.{PurgeNumber}
-use Rattle.htcp_wire.specs.Numbers.{number_in_text}
+use Rattle.std.specs.Prelude.{◌≡◌, ◌⊎◌, Result, Ok, Err}
 use Rattle.floor_rules.specs.Floors.{FloorMap}
 use Rattle.floor_rules.specs.declared.fault.FloorFault.{FloorFault}
 use Rattle.floor_rules.specs.declared.fault.FloorFault.TheVariants as floor_fault
-use Rattle.roster_tables.specs.declared.plain.Address.{Address}
 use Rattle.node_rules.specs.declared.reply.Reply.{Reply}
 use Rattle.node_rules.specs.declared.reply.StepFault.{StepFault}
 use Rattle.node_rules.specs.declared.reply.StepFault.TheVariants as fault
-use Rattle.node_rules.specs.State.{Setting}
-use Rattle.node_rules.specs.Relation.{purge_by_line}
 use Rattle.node_core.specs.View.{NodeText}
 
 -- what a step answers where the store of floors answered so
 abbrev pub step_fault_of : FloorFault → StepFault
 step_fault_of floor_fault.NoMemory = fault.NoMemory
 step_fault_of _ = fault.StoreFault
-
--- the purge that a CLR of this SPECIFIER brings, its key and its number
-abbrev pub purge_meant : Setting → Address → ℕ → Specifier → Option (List ℕ × ℕ)
-purge_meant g from trans spec = purge_by_line g from trans (g.key_of spec.uri) (number_in_text spec.request_headers PurgeNumber)
 
 -- What a step leaves in the store of floors: the store as it was, or one that an honest disk leaves so. After an answer an open after a crash finds the
 -- floors as they are now; after a fault it finds them from before the step or as they are now.

@@ -19,7 +19,7 @@ pub enum OpenFault {
     /// The roster has no member of this id.
     #[error("no member has this id")]
     NoSuchNode,
-    /// The store of floors failed, or holds no floors.
+    /// The store of floors did not load: an earlier call of it had failed, or there was no memory for the floors.
     #[error("the floors were not read")]
     Floors(FloorFault),
     /// A growth was refused.
@@ -83,6 +83,7 @@ impl<T, S: FloorStore + Drop> Node<T, S> {
         ensures member { IfOk result (λ node. (node.roster ≡ roster) × (node.id ≡ id)) }
         ensures no_such { is_member_of roster id ≡ false → result ≡ Err OpenFault.NoSuchNode }
         ensures such { is_member_of roster id ≡ true → result ≢ Err OpenFault.NoSuchNode }
+        ensures fresh { IfOk result (λ node. node.state ≡ opened node.state.floors) }
         ensures state { IfOk result (λ node. S.is_honest node.store → node.state ≡ opened (S.content store)) }
         ensures store { IfOk result (λ node. node.store ≡ store) }
         ensures cause { result ≡ Err (OpenFault.Floors FloorFault.StoreFault) → S.is_usable store ≡ false }
@@ -103,6 +104,7 @@ impl<T, S: FloorStore + Drop> Node<T, S> {
         ensures member { IfOk result (λ node. (node.roster ≡ roster) × (node.id ≡ id)) }
         ensures no_such { is_member_of roster id ≡ false → result ≡ Err OpenFault.NoSuchNode }
         ensures such { is_member_of roster id ≡ true → result ≢ Err OpenFault.NoSuchNode }
+        ensures fresh { IfOk result (λ node. node.state ≡ opened node.state.floors) }
         ensures state { IfOk result (λ node. S.is_honest node.store → node.state ≡ opened (S.content store)) }
         ensures store { IfOk result (λ node. node.store ≡ store) }
         ensures cause { result ≡ Err (OpenFault.Floors FloorFault.StoreFault) → S.is_usable store ≡ false }
@@ -122,6 +124,7 @@ impl<T, S: FloorStore + Drop> Node<T, S> {
         ensures member { IfOk result (λ node. (node.roster ≡ roster) × (node.id ≡ id)) }
         ensures no_such { is_member_of roster id ≡ false → result ≡ Err OpenFault.NoSuchNode }
         ensures such { is_member_of roster id ≡ true → result ≢ Err OpenFault.NoSuchNode }
+        ensures fresh { IfOk result (λ node. node.state ≡ opened node.state.floors) }
         ensures state { IfOk result (λ node. S.is_honest node.store → node.state ≡ opened (S.content store)) }
         ensures store { IfOk result (λ node. node.store ≡ store) }
         ensures cause { result ≡ Err (OpenFault.Floors FloorFault.StoreFault) → S.is_usable store ≡ false }

@@ -2,13 +2,14 @@
 ghost use Rattle.std.specs.Prelude.{◌≡◌, ◌≤◌, ℕ, List, Option, Some, None, option_map, IfOk, false, Err};
 ghost use Rattle.node_rules.specs.State as state;
 ghost use Rattle.node_rules.specs.Datagrams as datagrams;
+ghost use Rattle.node_rules.specs.Relation.{purge_meant};
 ghost use Rattle.object_store.specs.Listed.{copy_of};
 ghost use Rattle.object_store.specs.Held.{is_older_than};
 ghost use Rattle.node_rules.specs.declared.state.NodeState.{NodeState};
 ghost use Rattle.key_texts.specs.KeyOf.{GivesKeys};
 ghost use Rattle.node_core.specs.View.{IsSameNode, IsSameMember, setting_of};
 ghost use Rattle.floor_rules.specs.Store.{HaveRisen};
-ghost use Rattle.node_core.specs.Closing.{step_fault_of as answer_to_fault, purge_meant, KeepsStore, FailsWithCause};
+ghost use Rattle.node_core.specs.Closing.{step_fault_of as answer_to_fault, KeepsStore, FailsWithCause};
 ghost use Rattle.node_core.specs.Leads.{Leads, MayClose};
 
 use crate::Node;

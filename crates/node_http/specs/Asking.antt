@@ -1,7 +1,7 @@
 -- What becomes of an ask over HTTP.
 use Rattle.std.specs.Prelude.{◌≡◌, ◌⊎◌, ℕ, ◌/◌, Bool, not, ◌&&◌, ◌==◌, List, [], Option, Some, None, Result, Ok, Err, MatchResult, if◌then◌else◌}
 use Rattle.std.specs.Io.KnownBytes.{Appends}
-use Rattle.text_writer.specs.Writing.{AppendsFront}
+use Rattle.text_writer.specs.Writing.{AppendsFront, AppendsProperFront}
 use Rattle.fetch_messages.specs.declared.ask.Ask.{Ask}
 use Rattle.fetch_messages.specs.declared.fault.FetchFault.{FetchFault}
 use Rattle.fetch_messages.specs.declared.fault.FetchFault.TheVariants.{Io}
@@ -13,11 +13,10 @@ use Rattle.node_rules.specs.declared.event.Event.{Event}
 use Rattle.node_rules.specs.declared.event.Event.TheVariants as event
 use Rattle.node_rules.specs.declared.reply.Served.{Served}
 use Rattle.node_rules.specs.declared.reply.Begin.{Begin}
-use Rattle.node_rules.specs.declared.reply.Begin.TheVariants as begin
 use Rattle.node_rules.specs.declared.reply.Reply.{Reply}
 use Rattle.node_rules.specs.declared.reply.StepFault.{StepFault}
 use Rattle.node_rules.specs.declared.reply.StepFault.TheVariants.{NoMemory}
-use Rattle.node_rules.specs.State.{serving}
+use Rattle.node_rules.specs.State.{serving, serial_of}
 use Rattle.node_bytes.specs.Turns.{turn_of}
 use Rattle.node_http.specs.declared.asking.Asked.{Asked}
 use Rattle.node_http.specs.declared.asking.Asked.TheVariants.{Answered, Waits}
@@ -36,14 +35,14 @@ name_by (Some m) = m.cache.name
 abbrev pub name_of : Tables → ℕ → List ℕ
 name_of roster id = name_by (member_of roster id)
 
--- another member of the hierarchy
-abbrev pub is_other_member : Tables → ℕ → ℕ → Bool
-is_other_member roster id member = is_member roster member && not (member == id)
+-- the id is that of another member of the hierarchy
+abbrev pub is_anothers_id : Tables → ℕ → ℕ → Bool
+is_anothers_id roster id member = is_member roster member && not (member == id)
 
 -- the member that asks the node of this id: the one that the ask names, unless it is none of the roster or the node itself
 abbrev pub asker_of : Tables → ℕ → Option ℕ → Option ℕ
 asker_of roster id None = None
-asker_of roster id (Some member) = if is_other_member roster id member then Some member else None
+asker_of roster id (Some member) = if is_anothers_id roster id member then Some member else None
 
 -- a client's ask, or a member's
 abbrev pub event_by : Option ℕ → Ask → ℕ → Event (Unit {0})
@@ -52,23 +51,19 @@ event_by (Some asker) ask now = event.PeerAsk asker ask now
 
 -- What waits
 
-abbrev pub serial_of : Begin → ℕ
-serial_of (begin.Round serial) = serial
-serial_of (begin.Peer serial peer ask) = serial
-serial_of (begin.Read serial ask) = serial
-
 -- block b has the serials 32b to 32b + 31
 abbrev pub block_of : Begin → ℕ
 block_of begun = serial_of begun / 32
 
 -- What is written and answered. The writer held the first, and holds the second.
 
--- the text is written; or the writer failed, and a front of it is
+-- the text is written; or the writer failed, and a front of it is, not all of it
 abbrev pub IsTold : Option (List ℕ) → Option (List ℕ) → List ℕ → Result Asked ServeFault → Type 0
 IsTold old new text result =
-    MatchResult result (λ asked. (asked ≡ Answered) × Appends old new text) (λ fault. (fault ≡ Fetch Io) × AppendsFront old new text)
+    MatchResult result (λ asked. (asked ≡ Answered) × Appends old new text) (λ fault. (fault ≡ Fetch Io) × AppendsProperFront old new text)
 
--- this fault is answered, and the text of its refusal is written, unless the writer failed: then a front of it is
+-- this fault is answered, and a front of the text of its refusal is written: all of it unless the writer failed, but no clause can say that,
+-- since a writer counts no failures
 abbrev pub IsRefused : Option (List ℕ) → Option (List ℕ) → List ℕ → ServeFault → Result Asked ServeFault → Type 0
 IsRefused old new text fault result = (result ≡ Err fault) × AppendsFront old new text
 

@@ -1,17 +1,10 @@
 //! Members of a roster, by their ids.
-ghost use Rattle.std.specs.Prelude.{◌≡◌, ◌==◌, true, find, option_map, IsTrue};
+ghost use Rattle.std.specs.Prelude.{◌≡◌, true, IsTrue};
 ghost use Rattle.roster.specs.Lookups.{is_member as is_member_of};
 ghost use Rattle.peer_writing.specs.Name.{is_name as names_cache};
 ghost use Rattle.node_http.specs.Asking.{name_of as name_in, asker_of as asker_in};
 
-use roster::{Member, Roster};
-
-/// The member of this id among these.
-fn member_of(members: &[Member], id: u8) -> Option<&Member>
-    ensures { option_map (λ m. m.now) result ≡ find (λ m. m.cache.id == id) members.now }
-{
-    members.iter().find(|member| member.cache.id == id)
-}
+use roster::Roster;
 
 /// The name of the member of this id, which its answers bear in `via`.
 pub fn name_of(roster: &Roster, id: u8) -> &[u8]
@@ -19,7 +12,7 @@ pub fn name_of(roster: &Roster, id: u8) -> &[u8]
     ensures value { result.now ≡ name_in roster.now id }
     ensures valid { IsTrue (names_cache result.now) }
 {
-    match member_of(roster.members(), id) {
+    match roster.member(id) {
         Some(member) => member.cache.name.as_slice(),
         None => unreachable!(),
     }

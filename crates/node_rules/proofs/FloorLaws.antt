@@ -1,15 +1,16 @@
 -- How a floor and its raising go together.
-use Rattle.std.proofs.Common.{◌≡◌, ℕ, ◌≤◌, Bool, true, false, cond, List, [], ◌∷◌, map, Option, Some, refl, sym, ◌∙◌, ap, subst, max, unwrap_or, arith}
-use Rattle.std.specs.Prelude.{bytes_eq}
+use Rattle.std.proofs.Common.{◌≡◌, ℕ, ◌<◌, ◌≤◌, ◌⊎◌, Bool, true, false, cond, not, ◌&&◌, List, [], ◌∷◌, map, Option, Some, None, refl, sym, ◌∙◌, ap, subst, inl, inr, max, nat_le, unwrap_or, leb-false, arith}
+use Rattle.std.specs.Prelude.{bytes_eq, is_some, IsSome}
 use Rattle.std.specs.Ordering.{nat_cmp, is_eq}
 use Rattle.std.specs.Cmp.Lexicographic.{slice_cmp, nat_list_cmp_total}
-use Rattle.std.specs.FinMap.{get, insert, entries, find, get-insert, get-entries, entries-insert}
+use Rattle.std.specs.FinMap.{get, insert, len, entries, find, get-insert, get-entries, entries-insert}
 use Rattle.std.specs.FinMap.Entries.{put, by_order}
 use Rattle.std.specs.declared.cmp.Ordering.{Ordering}
 use Rattle.std.specs.declared.cmp.Ordering.TheVariants.{Less, Equal, Greater}
 use Rattle.std.proofs.lemmas.Map.Text.{is_eq-slice_cmp}
 use Rattle.std.proofs.lemmas.Slice.Eq.{bytes_eq-Decides}
-use Rattle.floor_rules.specs.Floors.{FloorMap, floor, seen, greatest, raised}
+use Rattle.floor_rules.specs.Floors.{FloorMap, HasRoom, floor, seen, greatest, raised}
+use Rattle.node_rules.specs.Datagrams.{is_full}
 use Rattle.node_rules.proofs.Cases.{branches}
 
 pub same_text : (x y : List ℕ) → bytes_eq x y ≡ true → x ≡ y
@@ -40,6 +41,20 @@ raise_rises floors u v n =
     (branches P (bytes_eq v u) _ _
     (λ h. let Q : List ℕ → Type 0 = λ w. floor floors w ≤ max (floor floors u) n in subst Q (sym (same_text v u h)) (omega arith))
     (λ _. omega arith))
+
+-- Room for a floor
+
+alone : (b : Bool) → (b && true) ≡ b
+alone true = refl
+alone false = refl
+
+room_by : (o : Option ℕ) (most rows : ℕ) → (nat_le most rows && not (is_some o)) ≡ false → IsSome o ⊎ (rows < most)
+room_by (Some n) most rows free = inl refl
+room_by None most rows free = inr (leb-false most rows (sym (alone (nat_le most rows)) ∙ free))
+
+-- where the floors are not full for a key, there is room for its floor
+pub room_for : (floors : FloorMap) (u : List ℕ) → is_full floors u ≡ false → HasRoom floors u
+room_for floors u free = room_by (get floors u) 65536 (len floors) free
 
 -- The greatest number of the floors
 

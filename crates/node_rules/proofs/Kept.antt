@@ -1,21 +1,27 @@
 -- What each of the five effects keeps.
-use Rattle.std.proofs.Common.{◌≡◌, ℕ, ◌≤◌, true, not, ◌&&◌, List, Some, sym, ◌∙◌, subst, nat_lt, arith}
+use Rattle.std.proofs.Common.{◌≡◌, ℕ, ◌≤◌, true, not, ◌&&◌, List, refl, sym, subst, nat_lt, arith}
 use Rattle.std.specs.Prelude.{bytes_eq}
 use Rattle.std.specs.List.{AllByRecursion}
-use Rattle.std.proofs.lemmas.Option.{none-some}
 use Rattle.object_store.specs.declared.copy.WebCopy.{WebCopy}
 use Rattle.node_rules.specs.declared.state.NodeState.{NodeState}
 use Rattle.node_rules.specs.declared.event.Event.{Event}
 use Rattle.floor_rules.specs.Floors.{floor, raised}
 use Rattle.object_store.specs.Copy.{is_of}
 use Rattle.node_rules.specs.State.{Setting, Stepped}
-use Rattle.node_rules.specs.Effect.{Effect, Stays, Serves, Brings, Purges, Drops, copy_served}
+use Rattle.node_rules.specs.Effect.{Effect, Stays, Serves, Brings, Purges, Drops}
 use Rattle.node_rules.specs.Good.{IsAbove, AreStored}
-use Rattle.node_rules.proofs.Cases.{branches, same_Some, not_both, test_lt}
+use Rattle.node_rules.proofs.Cases.{branches, not_both, test_lt}
 use Rattle.node_rules.proofs.FloorLaws.{floor-raise, raise_rises, same_text, text_same}
-use Rattle.node_rules.proofs.Stores.{all_filtered, all_kept, found, all_to_front, all_stored, store_to_front, store_stored, store_filtered}
+use Rattle.node_rules.proofs.Stores.{all_filtered, all_kept, all_to_front, all_stored, store_to_front, store_stored, store_filtered}
 
 module _ {X : Type 0} (g : Setting) (s : NodeState X) (e : Event X) (mark : X) where
+  pub closed_kept : (r : Stepped X) → Effect g s e mark r → r.state.closed ≡ s.closed
+  closed_kept r (Stays pending next outcome none keeps) = refl
+  closed_kept r (Serves key c pending next outcome is_open h e keeps) = refl
+  closed_kept r (Brings c life pending next outcome is_open came h e keeps) = refl
+  closed_kept r (Purges key n pending next outcome purge none keeps) = refl
+  closed_kept r (Drops key pending next outcome none keeps) = refl
+
   pub floors_rise : (r : Stepped X) → Effect g s e mark r → (u : List ℕ) → floor s.floors u ≤ floor r.state.floors u
   floors_rise r (Stays pending next outcome none keeps) u = omega arith
   floors_rise r (Serves key c pending next outcome is_open h e keeps) u = omega arith
@@ -40,13 +46,6 @@ module _ {X : Type 0} (g : Setting) (s : NodeState X) (e : Event X) (mark : X) w
   above_kept r (Brings c life pending next outcome is_open came h e keeps) all = all_stored (IsAbove s.floors) g.roster.limits c life s.copies h all
   above_kept r (Purges key n pending next outcome purge none keeps) all = all_filtered (IsAbove s.floors) (IsAbove (raised s.floors key n)) _ s.copies (purge_leaves key n) all
   above_kept r (Drops key pending next outcome none keeps) all = all_kept (IsAbove s.floors) _ s.copies all
-
-  pub served_above : (r : Stepped X) → Effect g s e mark r → AllByRecursion (IsAbove s.floors) s.copies → (c : WebCopy X) → copy_served r.outcome ≡ Some c → IsAbove r.state.floors c
-  served_above r (Stays pending next outcome none keeps) all c is = absurd (none-some c (sym none ∙ is))
-  served_above r (Serves key d pending next outcome is_open h e keeps) all c is = subst (IsAbove s.floors) (same_Some d c (sym e ∙ is)) (found (IsAbove s.floors) (is_of key) s.copies d all h.0)
-  served_above r (Brings d life pending next outcome is_open came h e keeps) all c is = subst (IsAbove s.floors) (same_Some d c (sym e ∙ is)) h
-  served_above r (Purges key n pending next outcome purge none keeps) all c is = absurd (none-some c (sym none ∙ is))
-  served_above r (Drops key pending next outcome none keeps) all c is = absurd (none-some c (sym none ∙ is))
 
   pub store_kept : (r : Stepped X) → Effect g s e mark r → AreStored g.roster.limits s.copies → AreStored g.roster.limits r.state.copies
   store_kept r (Stays pending next outcome none keeps) is = is

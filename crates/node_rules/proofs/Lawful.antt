@@ -77,7 +77,7 @@ module _ {X : Type 0} (g : Setting) (s : NodeState X) (e : Event X) (mark : X) w
   closed_on_seen None next h = absurd h
   closed_on_seen (Some x) next h = elim h.floors [
     | inl same ↦ subst (λ rows. seen rows ≤ max (seen s.floors) x.1) (sym same) (omega arith)
-    | inr raised ↦ subst (λ rows. seen rows ≤ max (seen s.floors) x.1) (sym raised) (seen-raise s.floors x.0 x.1)
+    | inr after ↦ subst (λ rows. seen rows ≤ max (seen s.floors) x.1) (sym after.1) (seen-raise s.floors x.0 x.1)
   ]
 
   closed_on_pending : (o : Option (List ℕ × ℕ)) (next : NodeState X) → ClosesOn s o next → next.pending ≡ []

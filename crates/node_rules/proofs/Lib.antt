@@ -7,6 +7,7 @@ pub mod Kept
 pub mod Stepping
 pub mod Questions
 pub mod Lawful
+pub mod FewAsks
 pub mod TagLists
 pub mod TagSteps
 pub mod TagRelation

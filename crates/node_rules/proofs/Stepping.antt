@@ -1,6 +1,5 @@
 -- What holds of the function, of an unchanged state and of a closed one holds of the relation.
 use Rattle.std.proofs.Common.{◌≡◌, ℕ, ◌≤◌, false, List, Option, Some, None, Result, Ok, Err, sym, ◌∙◌, subst, inl, inr, arith}
-use Rattle.object_store.specs.declared.copy.WebCopy.{WebCopy}
 use Rattle.node_rules.specs.declared.state.NodeState.{NodeState}
 use Rattle.node_rules.specs.declared.event.Event.{Event}
 use Rattle.node_rules.specs.declared.reply.Reply.{Reply}
@@ -9,16 +8,18 @@ use Rattle.node_rules.specs.declared.reply.StepFault.TheVariants as fault
 use Rattle.floor_rules.specs.Floors.{floor}
 use Rattle.node_rules.specs.State.{Setting, Stepped}
 use Rattle.node_rules.specs.Step.{step}
-use Rattle.node_rules.specs.Effect.{copy_served}
-use Rattle.node_rules.specs.Good.{AllAbove, IsAbove, AreStored}
+use Rattle.node_rules.specs.Good.{AllAbove, AreStored}
 use Rattle.node_rules.specs.Relation.{Steps, Closes, ClosesOn, purge_in}
 use Rattle.node_rules.proofs.FloorLaws.{raise_rises}
 use Rattle.node_rules.proofs.Effects.{step_does}
-use Rattle.node_rules.proofs.Kept.{floors_rise, above_kept, served_above, store_kept}
-use Rattle.std.proofs.lemmas.Option.{none-some}
+use Rattle.node_rules.proofs.Kept.{closed_kept, floors_rise, above_kept, store_kept}
 use Rattle.node_rules.proofs.Cases.{true_not_false}
 
 module _ {X : Type 0} (g : Setting) (s : NodeState X) (e : Event X) (mark : X) where
+  -- a node is as open behind the function as before it
+  pub the_function_closes_no_node : (step g s e mark).state.closed ≡ s.closed
+  the_function_closes_no_node = closed_kept g s e mark _ (step_does g s mark e)
+
   pub steps_case : (P : Stepped X → Type 0) → P (step g s e mark) → P record { state = s; outcome = Err fault.NoMemory } → ((next : NodeState X) (f : StepFault) → Closes g s e next → P record { state = next; outcome = Err f }) → (outcome : Result (Reply X) StepFault) (next : NodeState X) → Steps g s e mark outcome next → P record { state = next; outcome = outcome }
   steps_case P stepped same closes (Ok reply) next is = subst P is stepped
   steps_case P stepped same closes (Err fault.Closed) next is = subst P is stepped
@@ -34,7 +35,7 @@ module _ {X : Type 0} (g : Setting) (s : NodeState X) (e : Event X) (mark : X) w
   closed_on_rises None next u h = absurd h
   closed_on_rises (Some x) next u h = elim h.floors [
     | inl same ↦ subst (λ rows. floor s.floors u ≤ floor rows u) (sym same) (omega arith)
-    | inr raised ↦ subst (λ rows. floor s.floors u ≤ floor rows u) (sym raised) (raise_rises s.floors x.0 u x.1)
+    | inr after ↦ subst (λ rows. floor s.floors u ≤ floor rows u) (sym after.1) (raise_rises s.floors x.0 u x.1)
   ]
 
   pub floors_never_fall : (outcome : Result (Reply X) StepFault) (next : NodeState X) (u : List ℕ) → Steps g s e mark outcome next → floor s.floors u ≤ floor next.floors u
@@ -51,11 +52,6 @@ module _ {X : Type 0} (g : Setting) (s : NodeState X) (e : Event X) (mark : X) w
   stays_above outcome next all =
       steps_case (λ r. r.state.closed ≡ false → AllAbove r.state)
       (λ _. above_kept g s e mark _ (step_does g s mark e) all) (λ _. all) (λ n f h is_open. absurd (closing_closes (purge_in g e) n h.1 is_open)) outcome next
-
-  pub serves_above : (outcome : Result (Reply X) StepFault) (next : NodeState X) → AllAbove s → Steps g s e mark outcome next → (c : WebCopy X) → copy_served outcome ≡ Some c → IsAbove next.floors c
-  serves_above outcome next all =
-      steps_case (λ r. (c : WebCopy X) → copy_served r.outcome ≡ Some c → IsAbove r.state.floors c)
-      (served_above g s e mark _ (step_does g s mark e) all) (λ c is. absurd (none-some c is)) (λ n f h c is. absurd (none-some c is)) outcome next
 
   pub stays_store : (outcome : Result (Reply X) StepFault) (next : NodeState X) → AreStored g.roster.limits s.copies → Steps g s e mark outcome next → next.closed ≡ false → AreStored g.roster.limits next.copies
   stays_store outcome next is =

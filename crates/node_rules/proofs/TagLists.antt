@@ -11,7 +11,7 @@ use Rattle.object_store.specs.declared.store.Put.{Put}
 use Rattle.object_store.specs.declared.store.Put.TheVariants.{TooLarge, Kept, Stored}
 use Rattle.object_store.specs.Copy.{size, is_of}
 use Rattle.object_store.specs.Listed.{copy_of, without, in_front, to_front, fitting, without_below, is_below}
-use Rattle.object_store.specs.Held.{is_newer_than, put_answer, copies_after}
+use Rattle.object_store.specs.Held.{is_outdone_by, put_answer, copies_after}
 use Rattle.node_rules.specs.State.{is_of_block, is_good, if_good, good_copy}
 use Rattle.node_rules.specs.Asks.{copy_for}
 use Rattle.node_rules.specs.Arrivals.{stored, store_of}
@@ -65,14 +65,14 @@ module _ {X Y : Type 0} (f : X → Y) where
       both_ways (map (retag_copy f)) (nat_lt 0 count && nat_le (size c) octets) (c ∷ fitting (count - 1) (octets - size c) copies) [] _ _
       (ap (λ cs. retag_copy f c ∷ cs) (fitting-retag (count - 1) (octets - size c) copies)) refl
 
-  older-retag : (c : WebCopy X) (o : Option (WebCopy X)) → is_newer_than (retag_copy f c) (option_map (retag_copy f) o) ≡ is_newer_than c o
+  older-retag : (c : WebCopy X) (o : Option (WebCopy X)) → is_outdone_by (retag_copy f c) (option_map (retag_copy f) o) ≡ is_outdone_by c o
   older-retag c None = refl
   older-retag c (Some held) = refl
 
   put_answer-retag : (limits : Limits) (c : WebCopy X) (copies : List (WebCopy X)) → put_answer (store_of limits (map (retag_copy f) copies)) (retag_copy f c) ≡ put_answer (store_of limits copies) c
   put_answer-retag limits c copies =
       ap (λ b. cond (nat_lt limits.bytes (size c)) TooLarge (cond b Kept Stored))
-      (ap (is_newer_than (retag_copy f c)) (copy_of-retag c.key copies) ∙ older-retag c (copy_of c.key copies))
+      (ap (is_outdone_by (retag_copy f c)) (copy_of-retag c.key copies) ∙ older-retag c (copy_of c.key copies))
 
   copies_after-retag : (limits : Limits) (c : WebCopy X) (copies : List (WebCopy X)) (answer : Put) → copies_after (store_of limits (map (retag_copy f) copies)) (retag_copy f c) answer ≡ map (retag_copy f) (copies_after (store_of limits copies) c answer)
   copies_after-retag limits c copies TooLarge = refl

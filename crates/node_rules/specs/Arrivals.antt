@@ -71,7 +71,7 @@ origin_gave g s p stamp asked read_mark answer now mark =
     then use_answer g s p stamp asked answer read_mark now
     else go_on g s (not_fetching p p.tried) now mark
 
--- the ask is fetching under this serial, and for this key
+-- the ask is for this key, and its last fetch has this serial, or its round where it has begun none
 abbrev pub is_fetch : {X : Type 0} → ℕ → List ℕ → Pending X → Bool
 is_fetch serial key p = (fetch_serial p == serial) && bytes_eq p.ask.key key
 
@@ -112,6 +112,7 @@ origin_answer_to g s answer now mark (Some p) = from_origin g s p answer now mar
 unfoldable pub origin_answer : {X : Type 0} → Setting → NodeState X → ℕ → List ℕ → AnswerText → ℕ → X → Stepped X
 origin_answer g s serial key answer now mark = origin_answer_to g s answer now mark (find (is_fetch serial key) s.pending)
 
+-- a failure is that of the present fetch
 unfoldable pub fails : {X : Type 0} → Setting → NodeState X → Pending X → ℕ → X → Fetch X → Stepped X
 fails g s p now mark (AtPeer peer asked) = try_on g s p peer now mark
 fails g s p now mark (AtOrigin stamp asked read_mark) = give_up s p (Some p.block) 502

@@ -1,5 +1,5 @@
 -- A client's or a member's ask comes.
-use Rattle.std.specs.Prelude.{ℕ, ◌+◌, ◌*◌, Bool, false, ◌||◌, nat_le, nat_lt, List, [], ◌∷◌, length, Option, Some, None, option_map, if◌then◌else◌}
+use Rattle.std.specs.Prelude.{ℕ, ◌+◌, Bool, false, ◌||◌, nat_le, nat_lt, List, [], ◌∷◌, length, Option, Some, None, option_map, if◌then◌else◌}
 use Rattle.std.specs.List.{filter_map}
 use Rattle.fetch_messages.specs.declared.ask.Ask.{Ask}
 use Rattle.object_store.specs.declared.copy.WebCopy.{WebCopy}
@@ -18,7 +18,7 @@ use Rattle.node_rules.specs.declared.reply.Begin.TheVariants as begin
 use Rattle.node_rules.specs.declared.reply.StepFault.TheVariants.{Busy}
 use Rattle.node_rules.specs.Messages.{to, query}
 use Rattle.node_rules.specs.Known.{cache_of}
-use Rattle.node_rules.specs.State.{Setting, Stepped, replies, refuses, serving, with_copies, adding, good_copy, served_age}
+use Rattle.node_rules.specs.State.{Setting, Stepped, replies, refuses, serving, with_copies, adding, good_copy, served_age, round_serial}
 use Rattle.node_rules.specs.Fetching.{read_origin}
 
 abbrev pub is_siblings_ask : Setting → Option ℕ → Bool
@@ -46,8 +46,9 @@ question_to roster serial key p = option_map (λ c. to (address_by p.by c) (quer
 -- the peers are asked in the roster's order
 unfoldable pub begin_round : {X : Type 0} → Setting → NodeState X → Option ℕ → Ask → ℕ → RoundText → Stepped X
 begin_round g s asker ask block round =
-    replies (adding s (new_ask block asker ask (Some round)))
-    record { serve = None; send = filter_map (question_to g.roster (32 * block) ask.key) round.asked; begin = Some (begin.Round (32 * block)) }
+    let p = new_ask block asker ask (Some round) in
+    replies (adding s p)
+    record { serve = None; send = filter_map (question_to g.roster (round_serial p) ask.key) round.asked; begin = Some (begin.Round (round_serial p)) }
 
 -- without anybody to ask the origin is read
 unfoldable pub ask_around : {X : Type 0} → Setting → NodeState X → Option ℕ → Ask → ℕ → ℕ → X → RoundText → List Peer → Stepped X

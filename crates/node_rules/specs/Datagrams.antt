@@ -13,7 +13,7 @@ use Rattle.htcp_wire.specs.Numbers.{number_in_text}
 use Rattle.object_store.specs.declared.copy.WebCopy.{WebCopy}
 use Rattle.object_store.specs.Listed.{copy_of, without, without_below}
 use Rattle.object_store.specs.Held.{is_older_than}
-use Rattle.floor_rules.specs.Floors.{FloorMap, raised}
+use Rattle.floor_rules.specs.Floors.{FloorMap, most_rows, raised}
 use Rattle.roster_tables.specs.Ranges.{is_foreign_id}
 use Rattle.roster_tables.specs.declared.plain.Address.{Address}
 use Rattle.roster_tables.specs.declared.plain.Udp.{Udp}
@@ -46,6 +46,7 @@ abbrev pub hit_or_miss : {X : Type 0} → Option (WebCopy X) → IcpOp
 hit_or_miss None = op.Miss
 hit_or_miss (Some c) = op.Hit
 
+-- DENIED to a sender that is not known, ERR where the URL has no key, else whether a copy may be served
 abbrev pub icp_answer : {X : Type 0} → Bool → NodeState X → ℕ → Option (List ℕ) → IcpOp
 icp_answer false s now key = op.Denied
 icp_answer true s now None = op.Error
@@ -71,6 +72,7 @@ copy_at s now (Some key) = good_copy s key now
 abbrev pub copy_meant : {X : Type 0} → Setting → NodeState X → Specifier → ℕ → Option (WebCopy X)
 copy_meant g s spec now = if bytes_eq spec.method (codes "GET") then copy_at s now (g.key_of spec.uri) else None
 
+-- a sender that is not known gets the overall code 5, any other whether a copy may be served
 unfoldable pub htcp_tst : {X : Type 0} → Setting → NodeState X → Address → ℕ → Bool → Specifier → ℕ → Stepped X
 htcp_tst g s from trans desired spec now =
     if_desired s desired from
@@ -95,6 +97,7 @@ unfoldable pub told_by : {X : Type 0} → Setting → NodeState X → Pending X 
 told_by g s p said now mark None = replies s quiet
 told_by g s p said now mark (Some peer) = hears g s p peer (said peer) now mark p.round
 
+-- it counts where a peer of that ask's round said it
 unfoldable pub told_to : {X : Type 0} → Setting → NodeState X → Udp → Address → (Peer → Said) → ℕ → X → Option (Pending X) → Stepped X
 told_to g s by from said now mark None = replies s quiet
 told_to g s by from said now mark (Some p) = told_by g s p said now mark (peer_at g by from p.round)
@@ -103,7 +106,7 @@ abbrev pub is_key : Option (List ℕ) → List ℕ → Bool
 is_key None key = false
 is_key (Some read) key = bytes_eq read key
 
--- an object that comes with a hit is not used
+-- an object that comes with a hit is not used; a QUERY is a question and never comes here
 abbrev pub icp_said : IcpOp → Said
 icp_said op.Hit = said.Hit None
 icp_said op.HitObj = said.Hit None
@@ -128,6 +131,7 @@ stamp_in (Err fault) = None
 abbrev pub tst_hit_said : List ℕ → Peer → Said
 tst_hit_said headers p = said.Hit (if is_foreign_id p.id then None else stamp_in (number_in_text headers PurgeStamp))
 
+-- It counts for a pending round whose serial is its TRANS-ID; a response names no URL.
 unfoldable pub htcp_told : {X : Type 0} → Setting → NodeState X → Address → ℕ → (Peer → Said) → ℕ → X → Stepped X
 htcp_told g s from trans said now mark =
     told_to g s udp.Htcp from said now mark (find (λ p. round_serial p == trans) s.pending)
@@ -148,13 +152,14 @@ clr_done s from trans desired dropped = if_desired s desired from (htcp trans (c
 
 -- 65,536 keys have floors, and this one has none
 abbrev pub is_full : FloorMap → List ℕ → Bool
-is_full floors key = nat_le 65536 (len floors) && not (is_some (get floors key))
+is_full floors key = nat_le most_rows (len floors) && not (is_some (get floors key))
 
 -- a purge leaves no copy of its key below it
 abbrev pub purged : {X : Type 0} → NodeState X → List ℕ → ℕ → NodeState X
 purged s key n = record { floors = raised s.floors key n; copies = without_below key n s.copies; pending = s.pending; next = s.next; closed = s.closed }
 
--- the floor is raised and committed before the copy goes and the answer is sent
+-- The floor is raised, an older copy goes, and the answer says whether one went.
+-- That the raise is committed first is said where the store is: KeepsStore of node_core.
 unfoldable pub purge : {X : Type 0} → NodeState X → Address → ℕ → Bool → List ℕ → ℕ → Stepped X
 purge s from trans desired key n =
     if is_full s.floors key

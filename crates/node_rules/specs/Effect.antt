@@ -129,7 +129,7 @@ IsReadOf s mark outcome p = IsReadFrom s mark outcome p p.fetch
 
 -- Where a new copy comes from
 
--- the ask is fetching under this serial, and for this key
+-- the ask is for this key, and its last fetch has this serial, or its round where it has begun none
 pub record IsAt {X : Type 0} (serial : ℕ) (key : List ℕ) (p : Pending X) : Type 0 where
   pub serial_same : fetch_serial p ≡ serial
   pub key_same : p.ask.key ≡ key
@@ -167,7 +167,7 @@ IsAnswerOf s e c = (p : Pending _) × Contains s.pending p × IsAnswerTo e p c
 abbrev pub state_of : {X : Type 0} → FloorMap → List (WebCopy X) → Bool → List (Pending X) → ℕ → NodeState X
 state_of rows copies closed pending next = record { floors = rows; copies = copies; pending = pending; next = next; closed = closed }
 
--- a good copy of the key is held
+-- this is the key's copy, and it is not below the floor
 abbrev pub IsHeldAbove : {X : Type 0} → FloorMap → List (WebCopy X) → List ℕ → WebCopy X → Type 0
 IsHeldAbove rows copies key c = (copy_of key copies ≡ Some c) × (floor rows key ≤ c.stamp)
 

@@ -31,6 +31,7 @@ peer_ask key cached member = record { key = key; only_if_cached = cached; no_cac
 abbrev pub origin_ask : Ask → Ask
 origin_ask ask = record { key = ask.key; only_if_cached = false; no_cache = ask.no_cache; member = None }
 
+-- the peer is asked, under the next serial of the block
 unfoldable pub ask_peer : {X : Type 0} → Setting → NodeState X → Pending X → ℕ → Bool → ℕ → Stepped X
 ask_peer g s p peer cached now =
     let q = fetching p p.reads (AtPeer peer now) in

@@ -25,7 +25,7 @@ HasOrGets s e c = (s.closed ≡ false) × (Contains s.copies c ⊎ IsAnswerOf s 
 pub record Lawful {X : Type 0} (g : Setting) (s : NodeState X) (e : Event X) (mark : X) (outcome : Result (Reply X) StepFault) (next : NodeState X) : Type 0 where
   -- no floor falls
   pub floors : (key : List ℕ) → floor s.floors key ≤ floor next.floors key
-  -- only a numbered CLR of the master raises one, and to no more than its number
+  -- the greatest floor rises only by a numbered CLR of the master, and to no more than its number
   pub seen_bound : seen next.floors ≤ max (seen s.floors) (number_of_purge (purge_in g e))
   -- a copy that an open node holds was held, or came with this event
   pub held : next.closed ≡ false → AllByRecursion (HasOrGets s e) next.copies

@@ -2,10 +2,11 @@
 use Rattle.std.specs.Prelude.{◌≡◌, ℕ, true, false, List, [], ◌⊎◌, Option, Some, None, Result, Ok, Err}
 use Rattle.htcp_wire.specs.declared.message.Content.{Content}
 use Rattle.htcp_wire.specs.declared.message.Content.TheVariants as content
+use Rattle.htcp_wire.specs.declared.message.Specifier.{Specifier}
 use Rattle.htcp_wire.specs.declared.fault.HtcpFault.{HtcpFault}
 use Rattle.htcp_wire.specs.declared.numbers.HeaderKind.TheVariants.{PurgeNumber}
 use Rattle.htcp_wire.specs.Numbers.{number_in_text}
-use Rattle.floor_rules.specs.Floors.{raised}
+use Rattle.floor_rules.specs.Store.{IsBeforeOrAfter}
 use Rattle.roster_tables.specs.declared.plain.Address.{Address}
 use Rattle.node_rules.specs.declared.message.Message.{Message}
 use Rattle.node_rules.specs.declared.message.Message.TheVariants as message
@@ -24,8 +25,12 @@ purge_by_line g from trans key (Ok None) = None
 purge_by_line g from trans key (Ok (Some n)) = purge_of g from trans key n
 purge_by_line g from trans key (Err fault) = None
 
+-- the purge that a CLR of this SPECIFIER brings, its key and its number
+abbrev pub purge_meant : Setting → Address → ℕ → Specifier → Option (List ℕ × ℕ)
+purge_meant g from trans spec = purge_by_line g from trans (g.key_of spec.uri) (number_in_text spec.request_headers PurgeNumber)
+
 abbrev pub purge_in_content : Setting → Address → ℕ → Content → Option (List ℕ × ℕ)
-purge_in_content g from trans (content.ClrAsk desired reason spec) = purge_by_line g from trans (g.key_of spec.uri) (number_in_text spec.request_headers PurgeNumber)
+purge_in_content g from trans (content.ClrAsk desired reason spec) = purge_meant g from trans spec
 purge_in_content g from trans _ = None
 
 abbrev pub purge_in_message : Setting → Address → Message → Option (List ℕ × ℕ)
@@ -37,11 +42,11 @@ abbrev pub purge_in : {X : Type 0} → Setting → Event X → Option (List ℕ 
 purge_in g (event.Datagram from message now) = purge_in_message g from message
 purge_in g _ = None
 
--- closed, with no ask pending, and with the raise in the floors or without it
+-- closed, with no ask pending, and with the raise in the floors, if there was room for it, or without it
 pub record IsClosed {X : Type 0} (s : NodeState X) (key : List ℕ) (n : ℕ) (next : NodeState X) : Type 0 where
   pub closed : next.closed ≡ true
   pub pending : next.pending ≡ []
-  pub floors : (next.floors ≡ s.floors) ⊎ (next.floors ≡ raised s.floors key n)
+  pub floors : IsBeforeOrAfter s.floors key n next.floors
 
 abbrev pub ClosesOn : {X : Type 0} → NodeState X → Option (List ℕ × ℕ) → NodeState X → Type 0
 ClosesOn s None next = ⊥

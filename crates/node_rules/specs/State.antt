@@ -13,6 +13,7 @@ use Rattle.node_rules.specs.declared.state.Pending.{Pending}
 use Rattle.node_rules.specs.declared.state.NodeState.{NodeState}
 use Rattle.node_rules.specs.declared.reply.Served.{Served}
 use Rattle.node_rules.specs.declared.reply.Begin.{Begin}
+use Rattle.node_rules.specs.declared.reply.Begin.TheVariants as begin
 use Rattle.node_rules.specs.declared.reply.Reply.{Reply}
 use Rattle.node_rules.specs.declared.reply.StepFault.{StepFault}
 
@@ -75,12 +76,20 @@ abbrev pub adding : {X : Type 0} → NodeState X → Pending X → NodeState X
 adding s p = with_pending s (s.pending ++ p ∷ [])
 
 -- the ask of its block becomes this one
+abbrev pub changed : {X : Type 0} → Pending X → List (Pending X) → List (Pending X)
+changed p asks = map (λ q. if is_of_block p.block q then p else q) asks
+
+-- the same in a state
 abbrev pub changing : {X : Type 0} → NodeState X → Pending X → NodeState X
-changing s p = with_pending s (map (λ q. if is_of_block p.block q then p else q) s.pending)
+changing s p = with_pending s (changed p s.pending)
 
 -- the ask of this block waits no longer
+abbrev pub ended : {X : Type 0} → ℕ → List (Pending X) → List (Pending X)
+ended block asks = filter (λ q. not (is_of_block block q)) asks
+
+-- the same in a state
 abbrev pub ending : {X : Type 0} → NodeState X → ℕ → NodeState X
-ending s block = with_pending s (filter (λ q. not (is_of_block block q)) s.pending)
+ending s block = with_pending s (ended block s.pending)
 
 -- Copies
 
@@ -112,6 +121,12 @@ round_serial p = 32 * p.block
 
 abbrev pub fetch_serial : {X : Type 0} → Pending X → ℕ
 fetch_serial p = 32 * p.block + p.fetches
+
+-- the serial with which something begins
+abbrev pub serial_of : Begin → ℕ
+serial_of (begin.Round serial) = serial
+serial_of (begin.Peer serial peer ask) = serial
+serial_of (begin.Read serial ask) = serial
 
 abbrev pub is_idle : {X : Type 0} → Fetch X → Bool
 is_idle Nowhere = true

@@ -1,5 +1,5 @@
 //! Laws of the definitions. Each function does nothing: its clauses are the law.
-ghost use Rattle.std.specs.Prelude.{◌≡◌, ◌≤◌, ℕ, List, Result, Some, true, false};
+ghost use Rattle.std.specs.Prelude.{◌≡◌, ◌≤◌, ℕ, List, length, Result, Some, true, false};
 ghost use Rattle.object_store.specs.declared.copy.WebCopy.{WebCopy};
 ghost use Rattle.floor_rules.specs.Floors.{floor};
 ghost use Rattle.node_rules.specs.declared.state.NodeState.{NodeState};
@@ -21,24 +21,36 @@ pub fn the_function_is_a_step<T>()
         Steps g s e mark (step g s e mark).outcome (step g s e mark).state }
 {}
 
+/// The function closes no node: only want of memory and a store that fails do.
+pub fn the_function_closes_no_node<T>()
+    ensures { (g : Setting) (s : NodeState T) (e : Event T) (mark : T) →
+        (step g s e mark).state.closed ≡ s.closed }
+{}
+
 /// The floors of a node never fall.
 pub fn floors_never_fall<T>()
     ensures { (g : Setting) (s : NodeState T) (e : Event T) (mark : T) (outcome : Result (Reply T) StepFault) (next : NodeState T) (key : List ℕ) →
         Steps g s e mark outcome next → floor s.floors key ≤ floor next.floors key }
 {}
 
-/// Where no copy is below the floor of its key, a step leaves none below it, and serves none below it.
+/// A step serves no copy below the floor of its key. Where none is held below it, a step that leaves the node open leaves none below it.
 pub fn copies_stay_above_their_floors<T>()
     ensures stored { (g : Setting) (s : NodeState T) (e : Event T) (mark : T) (outcome : Result (Reply T) StepFault) (next : NodeState T) →
         AllAbove s → Steps g s e mark outcome next → next.closed ≡ false → AllAbove next }
     ensures served { (g : Setting) (s : NodeState T) (e : Event T) (mark : T) (outcome : Result (Reply T) StepFault) (next : NodeState T) →
-        AllAbove s → Steps g s e mark outcome next → (c : WebCopy T) → copy_served outcome ≡ Some c → IsAbove next.floors c }
+        Steps g s e mark outcome next → (c : WebCopy T) → copy_served outcome ≡ Some c → IsAbove next.floors c }
 {}
 
-/// A step keeps the store within its limits, with one copy for each key.
+/// A step that leaves the node open keeps the store within its limits, with one copy for each key.
 pub fn the_store_keeps_its_limits<T>()
     ensures { (g : Setting) (s : NodeState T) (e : Event T) (mark : T) (outcome : Result (Reply T) StepFault) (next : NodeState T) →
         AreStored g.roster.limits s.copies → Steps g s e mark outcome next → next.closed ≡ false → AreStored g.roster.limits next.copies }
+{}
+
+/// At most 1,024 asks wait: where no more do, a step leaves no more waiting.
+pub fn few_asks_wait<T>()
+    ensures { (g : Setting) (s : NodeState T) (e : Event T) (mark : T) (outcome : Result (Reply T) StepFault) (next : NodeState T) →
+        length s.pending ≤ 1024 → Steps g s e mark outcome next → length next.pending ≤ 1024 }
 {}
 
 /// No QUERY, no TST and no ask of a member that takes this node for a sibling begins anything or is left waiting.

@@ -1,2 +1,4 @@
 mod Closings
 mod Fullness
+mod Orders
+mod Telling

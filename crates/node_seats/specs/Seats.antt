@@ -3,6 +3,9 @@ use Rattle.std.specs.Prelude.{◌≡◌, ◌≤◌, ◌⊎◌, ℕ, zero, suc, �
 use Rattle.node_rules.specs.declared.event.Event.{Event}
 use Rattle.node_rules.specs.declared.reply.Reply.{Reply}
 use Rattle.node_rules.specs.declared.reply.StepFault.{StepFault}
+use Rattle.node_rules.specs.declared.state.NodeState.{NodeState}
+use Rattle.node_rules.specs.State.{Setting}
+use Rattle.node_rules.specs.Relation.{Steps}
 use Rattle.node_book.specs.declared.book.NodeEntry.{NodeEntry}
 use Rattle.node_book.specs.declared.book.BookFault.{BookFault}
 use Rattle.node_book.specs.declared.book.BookFault.TheVariants.{ShiftFull, Step, NoMemory, ReplyLost}
@@ -60,6 +63,16 @@ Leaves old event None new = new ≡ old
 
 abbrev pub Called : SeatView → Event (Unit {0}) → Result (Reply (Unit {0})) BookFault → SeatView → Type 0
 Called old event answer new = Leaves old event (told_of answer) new
+
+-- a node that goes by the rules may answer the event so, in some state
+abbrev pub MayAnswer : Event (Unit {0}) → Result (Reply (Unit {0})) StepFault → Type 0
+MayAnswer event outcome = (g : Setting) × (old : NodeState (Unit {0})) × (new : NodeState (Unit {0})) × Steps g old event tt outcome new
+
+-- what is told of a call is such an outcome, where one is known
+abbrev pub IsRightlyTold : Event (Unit {0}) → Option Told → Type 0
+IsRightlyTold event (Some (Known outcome)) = MayAnswer event outcome
+IsRightlyTold event (Some Unknown) = Unit {0}
+IsRightlyTold event None = Unit {0}
 
 -- what was told is the outcome, where it is known
 abbrev pub IsTold : Told → Result (Reply (Unit {0})) StepFault → Type 0

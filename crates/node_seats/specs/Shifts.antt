@@ -1,5 +1,5 @@
 -- Shifts: what the seats of one know together.
-use Rattle.std.specs.Prelude.{◌≡◌, ℕ, List, [], ◌∷◌, length}
+use Rattle.std.specs.Prelude.{◌≡◌, ◌<◌, ℕ, List, [], ◌∷◌, length, slice_index_or}
 use Rattle.std.specs.List.{All, sum_by}
 use Rattle.node_core.specs.View.{NodeText}
 use Rattle.node_book.specs.declared.book.NodeEntry.{NodeEntry}
@@ -44,6 +44,14 @@ pub record Closes {S : Type 0} (seats : List SeatView) (shift : ShiftView S) : T
   pub agree : All (Agrees shift.record_of.entries) seats
   pub counted : shift.count ≡ amount_in seats
 
+-- a seat of so many, with this number
+abbrev pub IsSeatOf : ℕ → ℕ → SeatView → Type 0
+IsSeatOf count number seat = (seat.seats ≡ count) × (seat.number ≡ number)
+
+-- these are all seats of a shift with so many, in the order of their numbers, from 0 on
+abbrev pub AreAll : ℕ → List SeatView → Type 0
+AreAll count seats = (length seats ≡ count) × ((k : ℕ) (d : SeatView) → k < length seats → IsSeatOf count k (slice_index_or seats k d))
+
 -- a desk with no entry, at a node and a count
 abbrev pub new_desk : {S : Type 0} → NodeText (Unit {0}) S → ℕ → DeskView S
 new_desk node count = record { book = record { node = node; opening = node.state; entries = [] }; before = count }
@@ -54,8 +62,8 @@ pub record Opens {S : Type 0} (shift : ShiftView S) (last : Record) (seats : ℕ
   pub count : length row ≡ seats
   pub first : IsFirstOf shift.count row
 
--- why a shift is not closed: at Mismatch some seat's list differs from the entries
-abbrev pub IsCause : List NodeEntry → List SeatView → CloseFault → Type 0
-IsCause entries seats SeatMissing = Unit {0}
-IsCause entries seats Mismatch = ¬ (All (Agrees entries) seats)
-IsCause entries seats NoMemory = Unit {0}
+-- Why a shift with so many seats is not closed. At SeatMissing these are not all of them; at Mismatch they are, and some seat's list differs from the entries; at NoMemory neither is so.
+abbrev pub IsCause : ℕ → List NodeEntry → List SeatView → CloseFault → Type 0
+IsCause count entries seats SeatMissing = ¬ (AreAll count seats)
+IsCause count entries seats Mismatch = AreAll count seats × (¬ (All (Agrees entries) seats))
+IsCause count entries seats NoMemory = AreAll count seats × All (Agrees entries) seats

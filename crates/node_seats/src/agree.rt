@@ -1,8 +1,8 @@
 //! Whether the seats' own lists are what the book says.
 ghost use Rattle.std.specs.Prelude.{◌≡◌, ◌≤◌, ◌<◌, ◌↔◌, IsTrue};
 ghost use Rattle.std.specs.List.{All};
-ghost use Rattle.node_seats.specs.Seats.{Agree, Agrees, IsTold, entries_of};
-ghost use Rattle.node_seats.specs.Shifts.{parts_in};
+ghost use Rattle.node_seats.specs.Seats.{Agree, Agrees, IsTold, entries_of, parts_of};
+ghost use Rattle.node_seats.specs.Shifts.{AreAll, IsSeatOf, parts_in};
 
 use crate::seat::{Calls, Made, Seat, Told};
 use node_book::NodeEntry;
@@ -56,17 +56,25 @@ pub(crate) fn all_agree<L: Calls>(seats: &[Seat<L>], entries: &[NodeEntry]) -> b
     true
 }
 
+/// Whether this is the seat of so many that has this number.
+fn is_seat_of<L: Calls>(seat: &Seat<L>, count: u8, number: usize) -> bool
+    ensures seat { IsTrue result ↔ IsSeatOf count number seat.now }
+    ensures parts { IsTrue result → seat.now.parts ≡ parts_of L.all count number }
+{
+    seat.seats == count && usize::from(seat.number) == number
+}
+
 /// Whether these are all seats of a shift with so many, in the order of their numbers.
 pub(crate) fn are_all<L: Calls>(seats: &[Seat<L>], count: u8) -> bool
     requires { (0 < count) × (count ≤ L.all) }
-    ensures { IsTrue result → parts_in seats.now ≡ L.all }
+    ensures all { IsTrue result ↔ AreAll count seats.now }
+    ensures parts { IsTrue result → parts_in seats.now ≡ L.all }
 {
     if seats.len() != usize::from(count) {
         return false;
     }
     for i in 0..seats.len() {
-        let seat = &seats[i];
-        if seat.seats != count || usize::from(seat.number) != i {
+        if !is_seat_of(&seats[i], count, i) {
             return false;
         }
     }

@@ -1,7 +1,7 @@
 //! A node that threads share.
 ghost use Rattle.std.specs.Prelude.{◌≡◌, ◌≤◌, ◌<◌, [], length, vec_capacity, MatchResult, IfOk};
 ghost use Rattle.node_bytes.specs.Stepping.{AnswersAsk};
-ghost use Rattle.node_seats.specs.Seats.{Called, parts_of};
+ghost use Rattle.node_seats.specs.Seats.{Called, IsRightlyTold, parts_of, told_of};
 ghost use Rattle.node_seats.specs.Shifts.{IsFirstOf};
 
 use crate::desk::Desk;
@@ -66,6 +66,7 @@ impl<S: FloorStore, L: Calls> SharedNode<S, L> {
         event: Event<()>,
     ) -> (Seat<L>, Result<Reply<()>, BookFault>)
         ensures called { Called seat event result.1 result.0 }
+        ensures right { IsRightlyTold event (told_of result.1) }
         ensures asks { IfOk result.1 (AnswersAsk event) }
     {
         let answer = self.desk.lock(rt).call(&mut seat, event);

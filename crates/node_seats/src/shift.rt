@@ -99,7 +99,7 @@ fn close_desk<S: FloorStore, L: Calls>(
     requires count { (0 < count) × (count ≤ L.all) × (L.all ≡ L.parts) }
     ensures ok { IfOk result (λ shift. (shift.node ≡ desk.book.node) × (shift.record_of.opening ≡ desk.book.opening) × (shift.record_of.entries ≡ desk.book.entries)
         × (shift.count ≡ count_of desk) × Closes seats.items shift) }
-    ensures err { IfErr result (λ refused. (refused.0 ≡ desk) × (refused.1 ≡ seats) × IsCause desk.book.entries seats.items refused.2) }
+    ensures err { IfErr result (λ refused. (refused.0 ≡ desk) × (refused.1 ≡ seats) × IsCause count desk.book.entries seats.items refused.2) }
 {
     if !are_all(seats.as_slice(), count) {
         return Err((desk, seats, CloseFault::SeatMissing));

@@ -1,5 +1,5 @@
 -- A node in its shifts: one call, and from one shift to the next.
-use Rattle.std.specs.Prelude.{◌≡◌, ◌⊎◌, ℕ, ◌+◌, ◌-◌, ◌<◌, ◌≤◌, nat_lt, min, Bool, false, if◌then◌else◌, List, [], ◌∷◌, ◌++◌, length, Option, Some, None, Result, Ok, Err, slice_index_or, MatchOption, IsSome}
+use Rattle.std.specs.Prelude.{◌≡◌, ◌⊎◌, ℕ, ◌+◌, ◌-◌, ◌<◌, ◌≤◌, nat_lt, min, Bool, false, if◌then◌else◌, List, [], ◌∷◌, ◌++◌, length, Option, Some, None, Result, Ok, Err, slice_get, MatchOption, IsSome}
 use Rattle.std.specs.List.{insert, remove, sum_by}
 use Rattle.node_rules.specs.declared.event.Event.{Event}
 use Rattle.node_rules.specs.declared.reply.Reply.{Reply}
@@ -8,7 +8,7 @@ use Rattle.node_rules.specs.declared.reply.StepFault.TheVariants as step
 use Rattle.node_book.specs.declared.book.BookFault.{BookFault}
 use Rattle.node_book.specs.declared.book.BookFault.TheVariants.{ShiftFull, Step, NoMemory, ReplyLost}
 use Rattle.node_book.specs.declared.record.Record.{Record}
-use Rattle.node_seats.specs.Seats.{SeatView, Called}
+use Rattle.node_seats.specs.Seats.{SeatView, Called, IsRightlyTold, told_of}
 use Rattle.node_seats.specs.Shifts.{ShiftView, Closes, Opens}
 use Rattle.node_shifts.specs.declared.history.History.{History}
 use Rattle.node_shifts.specs.declared.history.History.TheVariants.{UpTo, Dropped}
@@ -39,13 +39,14 @@ outcome_of (Err ShiftFull) = Err step.NoMemory
 outcome_of (Err NoMemory) = Err step.NoMemory
 outcome_of (Err ReplyLost) = Err step.NoMemory
 
--- the seat at this place, and no other, makes one call with this event, and what it is answered is the outcome
+-- there is a seat at this place; it, and no other, makes one call with this event, and what it is answered is the outcome
 pub record CallsInRow (place : ℕ) (event : Event (Unit {0})) (outcome : Result (Reply (Unit {0})) StepFault) (old new : List SeatView) : Type 0 where
   pub before : SeatView
   pub after : SeatView
-  pub is_there : before ≡ slice_index_or old place before
+  pub is_there : slice_get old place ≡ Some before
   pub answer : Result (Reply (Unit {0})) BookFault
   pub called : Called before event answer after
+  pub right : IsRightlyTold event (told_of answer)
   pub told : outcome ≡ outcome_of answer
   pub row : new ≡ insert (remove old place) place after
 

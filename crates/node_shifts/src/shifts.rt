@@ -1,5 +1,5 @@
 //! A node in its shifts.
-ghost use Rattle.std.specs.Prelude.{◌≡◌, ◌≤◌, ◌<◌, ◌↔◌, ◌⊎◌, [], vec_len, option_map, None, IsSome, IsNone, Err, IsTrue, IsFalse, IfOk, IfErr, MatchResult};
+ghost use Rattle.std.specs.Prelude.{◌≡◌, ◌≤◌, ◌<◌, ◌↔◌, ◌⊎◌, [], length, vec_len, option_map, None, IsSome, IsNone, Err, IsTrue, IsFalse, IfOk, IfErr, MatchResult};
 ghost use Rattle.node_bytes.specs.Stepping.{AnswersAsk};
 ghost use Rattle.node_rules.specs.declared.reply.StepFault.TheVariants as step;
 ghost use Rattle.node_seats.specs.Shifts.{IsFirstOf};
@@ -72,7 +72,7 @@ impl<S: FloorStore + Drop, L: Calls> Shifts<S, L> {
         requires parts { (blank.parts ≡ L.parts) × (L.all ≡ L.parts) }
         requires seats { (0 < seats) × (seats ≤ L.all) }
         ensures { MatchResult result
-            (λ made. IsFirstOf 0 made.row × (made.octets ≡ 0) × (made.closed ≡ None) × (made.seats ≡ seats) × (made.history ≡ history) × (made.records ≡ []))
+            (λ made. IsFirstOf 0 made.row × (length made.row ≡ seats) × (made.octets ≡ 0) × (made.closed ≡ None) × (made.seats ≡ seats) × (made.history ≡ history) × (made.records ≡ []))
             (λ refused. refused.0 ≡ book) }
     {
         match SharedNode::open(alloc, book, seats, blank, places) {

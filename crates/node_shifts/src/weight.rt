@@ -58,7 +58,7 @@ fn message_octets(message: &Message) -> u64
 }
 
 /// How many octets an event brings along, at most 262,140: those of a datagram's texts, or of an answer as a store counts them.
-pub(crate) fn octets_of(event: &Event<()>) -> u64
+pub fn octets_of(event: &Event<()>) -> u64
     ensures value { result ≡ octets_of_event event.now }
     ensures bound { result ≤ 262140 }
 {

@@ -99,9 +99,11 @@ fn names_of_faults(rt: HostRuntime) -> Result<(), Fail> {
 #[test]
 fn laws_can_be_called() {
     laws::the_function_is_a_step::<u64>();
+    laws::the_function_closes_no_node::<u64>();
     laws::floors_never_fall::<u64>();
     laws::copies_stay_above_their_floors::<u64>();
     laws::the_store_keeps_its_limits::<u64>();
+    laws::few_asks_wait::<u64>();
     laws::siblings_begin_nothing::<u64>();
     laws::steps_are_lawful::<u64>();
     laws::nodes_never_look_at_tags::<u64, ()>();

@@ -203,7 +203,6 @@ fn laws_can_be_called() {
     laws::fetching_asks_can_go_on::<u64>();
     laws::asks_can_go_on_after_a_fetch::<u64>();
     laws::asks_can_go_on_with_their_rounds::<u64>();
-    laws::changes_are_by_the_rules::<u64>();
     laws::later_changes_count::<u64>();
     laws::blocks_stay_below::<u64>();
 }

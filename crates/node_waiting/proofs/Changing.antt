@@ -10,10 +10,9 @@ use Rattle.std.proofs.lemmas.List.Elements.{at_read, All-push, All-set, All-filt
 use Rattle.std.proofs.lemmas.List.Kept.{AllPairs-filter}
 use Rattle.std.proofs.lemmas.List.Quantifiers.{all_pairs_push}
 use Rattle.node_rules.specs.declared.state.Pending.{Pending}
-use Rattle.node_rules.specs.State.{is_of_block}
+use Rattle.node_rules.specs.State.{is_of_block, changed, ended}
 use Rattle.node_waiting.specs.CanGoOn.{CanGoOn}
 use Rattle.node_waiting.specs.InOrder.{IsBlock, AreInOrder}
-use Rattle.node_waiting.specs.Changed.{changed, ended}
 use Rattle.node_waiting.proofs.Finding.{Ascend}
 
 pub added : {X : Type 0} (asks : List (Pending X)) (p : Pending X) → AreInOrder asks → IsBlock p.block → All (λ q. q.block < p.block) asks → CanGoOn p → AreInOrder (asks ++ p ∷ [])

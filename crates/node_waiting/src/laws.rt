@@ -8,13 +8,11 @@ ghost use Rattle.peer_chooser.specs.Round.{RoundText, started, answered, ended};
 ghost use Rattle.peer_chooser.specs.Choice.{choice};
 ghost use Rattle.node_rules.specs.declared.state.Fetch.TheVariants.{AtPeer, AtOrigin};
 ghost use Rattle.node_rules.specs.declared.state.Pending.{Pending};
-ghost use Rattle.node_rules.specs.declared.state.NodeState.{NodeState};
-ghost use Rattle.node_rules.specs.State.{is_idle, with_pending, changing, ending};
+ghost use Rattle.node_rules.specs.State.{is_idle, changed, ended as without_block};
 ghost use Rattle.node_rules.specs.Asks.{new_ask};
 ghost use Rattle.node_rules.specs.Fetching.{fetching};
 ghost use Rattle.node_rules.specs.Arrivals.{not_fetching, with_round};
 ghost use Rattle.node_waiting.specs.CanGoOn.{CanGoOn};
-ghost use Rattle.node_waiting.specs.Changed.{changed, ended as without_block};
 
 use peer_chooser::choices_follow_answers;
 
@@ -57,12 +55,6 @@ pub fn asks_can_go_on_with_their_rounds<T>()
         CanGoOn p → p.round ≡ Some r → length (answered r id said).told ≤ 23 → CanGoOn (with_round p (answered r id said)) }
     ensures ended { (p : Pending T) (r : RoundText) →
         CanGoOn p → p.round ≡ Some r → CanGoOn (with_round p (ended r)) }
-{}
-
-/// What becomes of the asks is what a node's rules say of its state.
-pub fn changes_are_by_the_rules<T>()
-    ensures changed { (s : NodeState T) (p : Pending T) → changing s p ≡ with_pending s (changed p s.pending) }
-    ensures ended { (s : NodeState T) (block : ℕ) → ending s block ≡ with_pending s (without_block block s.pending) }
 {}
 
 /// Of two changes of one ask the later one counts.

@@ -1,7 +1,7 @@
 ghost use Rattle.std.specs.Prelude.{◌≡◌, ◌<◌, ◌==◌, ◌&&◌, Bool, All, length, [], ◌∷◌, ◌++◌, find, slice_get, Some, MatchOption, IfSome, IfErr, OnOk, OnErr};
 ghost use Rattle.std.specs.Option.{option_and_then};
 ghost use Rattle.node_rules.specs.declared.state.Pending.{Pending};
-ghost use Rattle.node_rules.specs.State.{round_serial, fetch_serial};
+ghost use Rattle.node_rules.specs.State.{changed, ended, round_serial, fetch_serial};
 
 use crate::Progress;
 use node_rules::Pending;
@@ -32,7 +32,7 @@ impl<T> Model for Waiting<T> {
 impl<T> Waiting<T> {
     ghost use Rattle.node_waiting.specs.CanGoOn.{CanGoOn};
     ghost use Rattle.node_waiting.specs.InOrder.{IsBlock, AreInOrder};
-    ghost use Rattle.node_waiting.specs.Changed.{progress_of, with_progress, changed, ended};
+    ghost use Rattle.node_waiting.specs.Changed.{progress_of, with_progress};
     ghost use Rattle.node_waiting.specs.Found.{IsPlaceOf, IsAbsent, if_passes};
 
     /// No ask waits. It takes no memory.
@@ -156,7 +156,7 @@ impl<T> Waiting<T> {
 
 impl<T: Drop> Waiting<T> {
     ghost use Rattle.node_waiting.specs.CanGoOn.{CanGoOn};
-    ghost use Rattle.node_waiting.specs.Changed.{with_progress, changed};
+    ghost use Rattle.node_waiting.specs.Changed.{with_progress};
 
     /// The ask at a place, which is below `len`, becomes as far as this, and can go on. It stays in its place. It takes no
     /// memory.

@@ -112,8 +112,7 @@ all_kept_by P Q h (x ∷ xs) all = (h x all.0, all_kept_by P Q h xs all.1)
 pub store_filtered : {X : Type 0} (most limit : ℕ) (test : WebCopy X → Bool) (copies : List (WebCopy X)) → IsStoreOf most limit copies → IsStoreOf most limit (filter test copies)
 store_filtered most limit test copies is =
     record {
-      count = omega (arith, length_filter test copies, is.count);
-      bytes = omega (arith, sum_filter size test copies, is.bytes);
+      within = (omega (arith, length_filter test copies, is.within.0), omega (arith, sum_filter size test copies, is.within.1));
       one_each = one_each_filtered test copies is.one_each;
     }
 
@@ -128,8 +127,7 @@ store_to_front most limit u copies is = go (copy_of u copies) refl
         let room = found_room size (is_of u) copies c e in
         let here : c.key ≡ u = same_text c.key u (found_passes (is_of u) copies c e) in
         record {
-          count = omega (arith, room.0, is.count);
-          bytes = omega (arith, room.1, is.bytes, sum_by-cons size c (without u copies));
+          within = (omega (arith, room.0, is.within.0), omega (arith, room.1, is.within.1, sum_by-cons size c (without u copies)));
           one_each = (all_kept_by (λ (d : WebCopy _). d.key ≡ u → ⊥) (λ (d : WebCopy _). d.key ≡ c.key → ⊥) (λ d n same. n (same ∙ here)) (without u copies) (others_apart u copies), one_each_filtered _ copies is.one_each);
         }
 
@@ -138,8 +136,7 @@ store_put most limit c copies TooLarge is = is
 store_put most limit c copies Kept is = is
 store_put most limit c copies Stored is =
     record {
-      count = fits_count most limit (c ∷ without c.key copies);
-      bytes = fits_bytes most limit (c ∷ without c.key copies);
+      within = (fits_count most limit (c ∷ without c.key copies), fits_bytes most limit (c ∷ without c.key copies));
       one_each = one_each_fitting most limit (c ∷ without c.key copies) (others_apart c.key copies, one_each_filtered _ copies is.one_each);
     }
 

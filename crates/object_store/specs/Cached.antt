@@ -14,7 +14,7 @@ AreKeyed {T} entries = AllByRecursion (λ (e : List ℕ × WebCopy T). e.0 ≡ e
 abbrev pub copies_in : {T : Type 0} → LruCache (List ℕ) (WebCopy T) → List (WebCopy T)
 copies_in cache = values_of cache.entries
 
--- each copy stands under its own key, and none goes by itself
+-- the entries are keyed so, and none goes by itself, since the capacity is the greatest
 pub record IsCached {T : Type 0} (cache : LruCache (List ℕ) (WebCopy T)) : Type 0 where
   pub keyed : AreKeyed cache.entries
   pub cap : cache.cap ≡ 2 ^ 64 - 1

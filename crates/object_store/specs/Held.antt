@@ -1,10 +1,10 @@
 -- A store as contracts see it, and what putting a copy into it does.
-use Rattle.std.specs.Prelude.{ℕ, ◌≤◌, Bool, false, nat_lt, List, ◌∷◌, length, Option, Some, None, if◌then◌else◌}
+use Rattle.std.specs.Prelude.{ℕ, Bool, false, nat_lt, List, ◌∷◌, Option, Some, None, if◌then◌else◌}
 use Rattle.object_store.specs.declared.copy.WebCopy.{WebCopy}
 use Rattle.object_store.specs.declared.store.Put.{Put}
 use Rattle.object_store.specs.declared.store.Put.TheVariants.{TooLarge, Kept, Stored}
 use Rattle.object_store.specs.Copy.{size}
-use Rattle.object_store.specs.Listed.{copy_of, without, fitting, octets, OneEach}
+use Rattle.object_store.specs.Listed.{copy_of, without, fitting, IsWithin, OneEach}
 
 -- the limits, and the copies with the most recent first
 pub record Held (T : Type 0) : Type 0 where
@@ -14,14 +14,13 @@ pub record Held (T : Type 0) : Type 0 where
 
 -- within its limits, with at most one copy of each key
 pub record IsStore {T : Type 0} (held : Held T) : Type 0 where
-  pub count : length held.copies ≤ held.limit_count
-  pub bytes : octets held.copies ≤ held.limit_bytes
+  pub within : IsWithin held.limit_count held.limit_bytes held.copies
   pub one_each : OneEach held.copies
 
--- a copy with a greater stamp than this one's
-abbrev pub is_newer_than : {T : Type 0} → WebCopy T → Option (WebCopy T) → Bool
-is_newer_than c None = false
-is_newer_than c (Some old) = nat_lt c.stamp old.stamp
+-- the copy that is held has a greater stamp than this one
+abbrev pub is_outdone_by : {T : Type 0} → WebCopy T → Option (WebCopy T) → Bool
+is_outdone_by c None = false
+is_outdone_by c (Some held) = nat_lt c.stamp held.stamp
 
 -- a copy with a stamp of less than n
 abbrev pub is_older_than : {T : Type 0} → ℕ → Option (WebCopy T) → Bool
@@ -32,7 +31,7 @@ is_older_than n (Some old) = nat_lt old.stamp n
 abbrev pub put_answer : {T : Type 0} → Held T → WebCopy T → Put
 put_answer held c =
     if nat_lt held.limit_bytes (size c) then TooLarge
-    else (if is_newer_than c (copy_of c.key held.copies) then Kept else Stored)
+    else (if is_outdone_by c (copy_of c.key held.copies) then Kept else Stored)
 
 -- the copies after that answer: a new copy comes to the front, in the place of the key's old one, and the least recent copies that no longer fit go
 abbrev pub copies_after : {T : Type 0} → Held T → WebCopy T → Put → List (WebCopy T)
@@ -44,5 +43,6 @@ copies_after held c Stored = fitting held.limit_count held.limit_bytes (c ∷ wi
 abbrev pub with_copies : {T : Type 0} → Held T → List (WebCopy T) → Held T
 with_copies held copies = record held { copies = copies }
 
+-- the store after putting a copy
 abbrev pub after_put : {T : Type 0} → Held T → WebCopy T → Held T
 after_put held c = with_copies held (copies_after held c (put_answer held c))

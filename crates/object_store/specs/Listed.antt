@@ -14,6 +14,7 @@ copy_of key copies = find (is_of key) copies
 abbrev pub without : {T : Type 0} → List ℕ → List (WebCopy T) → List (WebCopy T)
 without key copies = filter (λ c. not (is_of key c)) copies
 
+-- a copy, if there is one, in front of others
 abbrev pub in_front : {T : Type 0} → Option (WebCopy T) → List (WebCopy T) → List (WebCopy T)
 in_front None copies = copies
 in_front (Some c) copies = c ∷ copies

@@ -41,7 +41,7 @@ impl<T: Copy> WebCopy<T> {
 }
 
 /// The octets that a copy counts in a store: those of its key and its body, and for each field those of its name and
-/// value and 4 more.
+/// value and 4 more. They are at most 82,560 (1,024 of the key, 16,000 of the fields, 65,536 of the body).
 pub fn size<T>(copy: &WebCopy<T>) -> u64
     ensures value { result ≡ size_of_copy copy.now }
     ensures bound { result ≤ 82560 }

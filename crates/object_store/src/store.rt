@@ -57,7 +57,7 @@ impl<T> Model for Store<T> {
 
 impl<T> Store<T> {
     ghost use Rattle.object_store.specs.Looked.{EndsInFront};
-    ghost use Rattle.object_store.specs.Held.{Held, IsStore, is_newer_than, put_answer, after_put, with_copies};
+    ghost use Rattle.object_store.specs.Held.{Held, IsStore, is_outdone_by, put_answer, after_put, with_copies};
 
     /// A store without copies, for at most so many copies with at most so many octets (both at least 1).
     ///
@@ -193,7 +193,7 @@ impl<T: Copy> Store<T> {
 }
 
 impl<T: Drop> Store<T> {
-    ghost use Rattle.object_store.specs.Held.{Held, is_newer_than, is_older_than, put_answer, after_put, with_copies};
+    ghost use Rattle.object_store.specs.Held.{Held, is_outdone_by, is_older_than, put_answer, after_put, with_copies};
 
     /// Puts a copy into the store, unless it alone is too large or a copy of the key with a greater stamp is held.
     /// Where there is no memory for one more copy the store is as it was, and the copy comes back.
@@ -219,7 +219,7 @@ impl<T: Drop> Store<T> {
 
     /// Whether a copy of the same key with a greater stamp is held.
     fn holds_newer(&self, copy: &WebCopy<T>) -> bool
-        ensures { result ≡ is_newer_than copy.now (copy_by_key copy.now.key self.now.copies) }
+        ensures { result ≡ is_outdone_by copy.now (copy_by_key copy.now.key self.now.copies) }
     {
         match self.peek(&copy.key) {
             None => false,

@@ -1,7 +1,7 @@
 -- What becomes of an ask.
 use Rattle.std.specs.Prelude.{◌≡◌, ℕ, List, [], Option, Some, None, Result, Ok, Err, codes}
 use Rattle.std.specs.Io.KnownBytes.{Appends}
-use Rattle.text_writer.specs.Writing.{AppendsFront}
+use Rattle.text_writer.specs.Writing.{AppendsFront, AppendsProperFront}
 use Rattle.fetch_messages.specs.declared.ask.Ask.{Ask}
 use Rattle.fetch_messages.specs.declared.fault.FetchFault.{FetchFault}
 use Rattle.fetch_messages.specs.declared.fault.FetchFault.TheVariants.{Io, NoMemory}
@@ -30,10 +30,10 @@ refusal fault = refusal_by (refusal_of fault)
 
 -- What is written. The writer held the first, and holds the second.
 
--- after an ask was read: its answer; or the writer failed, and a front of it; or there was no memory for it, and that is told
+-- after an ask was read: its answer; or the writer failed, and a front of it, not all of it; or there was no memory for it, and that is told
 abbrev pub AnswersAsk : Option (List ℕ) → Option (List ℕ) → Ask → ℕ → Result (Unit {0}) FetchFault → Type 0
 AnswersAsk old new ask count (Ok done) = Appends old new (told ask count)
-AnswersAsk old new ask count (Err Io) = AppendsFront old new (told ask count)
+AnswersAsk old new ask count (Err Io) = AppendsProperFront old new (told ask count)
 AnswersAsk old new ask count (Err NoMemory) = AppendsFront old new (refusal NoMemory)
 AnswersAsk old new ask count (Err fault) = ⊥
 

@@ -19,4 +19,4 @@ few_of_members (m ∷ members) id few =
     first_or_later (m.cache.id == id) m _ (ltb-false 23 (length m.peers) parts.0) (few_of_members members id parts.1)
 
 pub few_peers : (t : Tables) (id : ℕ) → IsRoster t → length (peers_of t id) ≤ 23
-few_peers t id roster = few_of_members t.members id (or_parts _ _ (or_parts _ _ (or_parts _ _ roster.few).1).1).0
+few_peers t id roster = few_of_members t.members id (or_parts _ _ (or_parts _ _ (or_parts _ _ roster.fit.few).1).1).0

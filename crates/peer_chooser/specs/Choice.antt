@@ -2,7 +2,7 @@
 use Rattle.std.specs.Prelude.{ℕ, Bool, true, false, not, ◌&&◌, ◌||◌, ◌==◌, nat_le, List, find, Option, Some, None, if◌then◌else◌}
 use Rattle.std.specs.List.{list_any, list_all}
 use Rattle.roster_tables.specs.declared.plain.Peer.{Peer}
-use Rattle.roster.specs.Lookups.{is_sibling, is_parent}
+use Rattle.roster_tables.specs.Roles.{is_sibling, is_parent}
 use Rattle.peer_chooser.specs.declared.said.Said.{Said}
 use Rattle.peer_chooser.specs.declared.said.Said.TheVariants as said
 use Rattle.peer_chooser.specs.declared.said.Told.{Told}
@@ -21,6 +21,7 @@ is_hit floor (said.Hit stamp) = reaches floor stamp
 is_hit floor said.Miss = false
 is_hit floor said.NoFetch = false
 
+-- the peer has no copy; a parent would get one
 abbrev pub is_miss : Said → Bool
 is_miss (said.Hit stamp) = false
 is_miss said.Miss = true
@@ -46,10 +47,12 @@ is_over r = r.expired || list_all (λ p. has_told r.told p.id) r.asked
 abbrev pub from : Peer → Source
 from p = source.Peer p.id (is_sibling p.role)
 
+-- a parent that answered, or else the origin
 abbrev pub from_parent : Option Told → Source
 from_parent (Some t) = from t.peer
 from_parent None = source.Origin
 
+-- a peer that told of a good hit; or else wait, or go on without one
 abbrev pub from_hit : RoundText → ℕ → List ℕ → Option Told → Source
 from_hit r floor tried (Some t) = from t.peer
 from_hit r floor tried None =

@@ -20,6 +20,7 @@ may_ask floor p = (floor == 0) || not (is_foreign_id p.id)
 abbrev pub started : List Peer → ℕ → RoundText
 started peers floor = record { asked = filter (may_ask floor) peers; told = []; expired = false }
 
+-- the peer of this id has answered
 abbrev pub has_told : List Told → ℕ → Bool
 has_told told id = list_any (λ t. t.peer.id == id) told
 
@@ -27,6 +28,7 @@ has_told told id = list_any (λ t. t.peer.id == id) told
 abbrev pub awaited : RoundText → ℕ → Option Peer
 awaited r id = if has_told r.told id then None else find (λ p. p.id == id) r.asked
 
+-- what a peer says is added behind the answers, where there is such a peer
 abbrev pub with_answer : RoundText → Said → Option Peer → RoundText
 with_answer r said None = r
 with_answer r said (Some p) = record { asked = r.asked; told = r.told ++ record { peer = p; said = said } ∷ []; expired = r.expired }

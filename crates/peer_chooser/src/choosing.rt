@@ -2,36 +2,17 @@
 
 ghost use Rattle.std.specs.Prelude.{◌≡◌, ◌==◌, find, option_map};
 ghost use Rattle.std.specs.List.{list_all, list_any};
-ghost use Rattle.roster.specs.Lookups.{is_sibling as is_sibling_role, is_parent as is_parent_role};
 ghost use Rattle.peer_chooser.specs.Round.{RoundText, may_ask as may_be_asked, has_told as has_answered};
 ghost use Rattle.peer_chooser.specs.Choice as spec;
 
 use crate::{Said, Source, Told};
-use roster::{Peer, Role, is_foreign};
+use roster::{Peer, is_foreign};
 
 /// Whether a peer may be asked at this floor: a foreign cache only where nothing was purged.
 pub(crate) fn may_ask(floor: u32, peer: Peer) -> bool
     ensures { result ≡ may_be_asked floor peer }
 {
     floor == 0 || !is_foreign(peer.id)
-}
-
-fn is_sibling(role: Role) -> bool
-    ensures { result ≡ is_sibling_role role }
-{
-    match role {
-        Role::Sibling => true,
-        Role::Parent => false,
-    }
-}
-
-fn is_parent(role: Role) -> bool
-    ensures { result ≡ is_parent_role role }
-{
-    match role {
-        Role::Sibling => false,
-        Role::Parent => true,
-    }
 }
 
 /// Whether a peer may be asked at this floor, and was not tried.
@@ -76,7 +57,7 @@ fn is_good_hit(floor: u32, tried: &[u8], told: Told) -> bool
 fn is_parent_miss(floor: u32, tried: &[u8], told: Told) -> bool
     ensures { result ≡ spec.is_parent_miss floor tried.now told }
 {
-    is_open(floor, tried, told.peer) && (is_parent(told.peer.role) && is_miss(told.said))
+    is_open(floor, tried, told.peer) && (told.peer.role.is_parent() && is_miss(told.said))
 }
 
 /// Whether the peer of this id has answered.
@@ -110,7 +91,7 @@ fn source_from(peer: Peer) -> Source
 {
     Source::Peer {
         id: peer.id,
-        only_if_cached: is_sibling(peer.role),
+        only_if_cached: peer.role.is_sibling(),
     }
 }
 

@@ -155,8 +155,6 @@ fn peers_of(roster: &Roster, id: u8) -> &[Peer]
     ensures value { result.now ≡ peers_of_member roster.now id }
     ensures few { length result.now ≤ 23 }
 {
-    // What holds of every roster is told with its members.
-    let _ = roster.members();
     roster.peers(id)
 }
 

@@ -1,6 +1,6 @@
 use roster::Peer;
 
-/// What a peer says that is asked for a copy (RFC 2186, section 2; RFC 2756, section 6.2).
+/// What a peer says that is asked for a copy (RFC 2186, "ICP Opcodes"; RFC 2756, "TST").
 #[derive(Clone, Copy, Debug, PartialEq, Eq)]
 pub enum Said {
     /// It holds a copy, under this purge stamp if it told one.

@@ -11,8 +11,9 @@ use Rattle.peer_writing.specs.Answer.{answer_text}
 use Rattle.peer_fields.specs.declared.framing.Framing.TheVariants.{Length}
 use Rattle.peer_intake.specs.Reading.{Takes, most_turns}
 use Rattle.peer_intake.specs.Heads.{longest_head, head_window, IsLongResponse}
+use Rattle.peer_intake.specs.Bodies.{StopsBefore}
 use Rattle.peer_reading.specs.AnswerHead.{ToldText, parts_of, is_interim, told}
-use Rattle.peer_reading.specs.Answers.{IsInterim, PassesInterim, HeadSays, SpellsAnswer, EndsWithInput, StopsAtHead, StopsBefore, StopsInBody, StopsInAnswer, ReadsAnswer}
+use Rattle.peer_reading.specs.Answers.{IsInterim, PassesInterim, HeadSays, SpellsAnswer, EndsWithInput, StopsAtHead, StopsInBody, StopsInAnswer, ReadsAnswer}
 use Rattle.peer_fetch.specs.Writable.{IsWritableAnswer}
 use Rattle.peer_fetch.specs.Reading.{StopsInAnswerText}
 use Rattle.peer_fetch.proofs.Excess.{response_longer}
@@ -96,7 +97,7 @@ module _ (a : AnswerText) (via rest octets left input : List ℕ) (p : Parts a) 
   ended none has = has (head_of a via) behind (subst (λ (t : List ℕ). ReadsResponse t (head_of a via) behind) (taken ∙ ap (λ (t : List ℕ). octets ++ t) none ∙ append-nil octets) whole)
 
   long : IsLongResponse window → ⊥
-  long (inl (full, none)) =
+  long (inl (full, none, may)) =
       let short = head_short a via p name in
       let begins = front_of_front (head_text a via) behind window tail (sym head_at ∙ window_is) (omega arith) in
       none (head_of a via) _ (subst (λ (t : List ℕ). ReadsResponse t (head_of a via) (drop (length (head_text a via)) window)) (sym begins) (head_reads a via (drop (length (head_text a via)) window) p name))
@@ -122,8 +123,8 @@ module _ (a : AnswerText) (via rest octets left input : List ℕ) (p : Parts a) 
   unfolding window
   head_stops Io stops = inl refl
   head_stops NoMemory stops = inr (inl refl)
-  head_stops TooManyTurns stops = absurd (spent stops.0 stops.1)
-  head_stops EndOfInput stops = absurd (ended stops.1 stops.0)
+  head_stops TooManyTurns stops = absurd (spent stops.0.0 stops.1)
+  head_stops EndOfInput stops = absurd (ended stops.1 stops.0.0)
   head_stops BadHead stops = absurd (never stops)
   head_stops HeadTooLong stops = absurd (long stops)
   head_stops (BadTarget f) stops = absurd stops
@@ -141,10 +142,10 @@ module _ (a : AnswerText) (via rest octets left input : List ℕ) (p : Parts a) 
   length_stops : (fault : FetchFault) → StopsBefore (length a.body) (Some left) octets (length (head_text a via)) fault → StopsInAnswerText (answer_text a via) fault
   length_stops Io stops = inl refl
   length_stops NoMemory stops = inr (inl refl)
-  length_stops TooManyTurns stops = inr (inr (refl, omega (arith, text_length, stops.0, stops.1)))
+  length_stops TooManyTurns stops = inr (inr (refl, omega (arith, text_length, stops.0.1, stops.1)))
   length_stops EndOfInput stops =
       let size = ap length (taken ∙ ap (λ (t : List ℕ). octets ++ t) stops.1 ∙ append-nil octets) in
-      absurd (omega (arith, size, stops.0, room))
+      absurd (omega (arith, size, stops.0.1, room))
   length_stops BodyTooLong stops = let short = p.short in absurd (omega (arith, short, stops))
   length_stops BadHead stops = absurd stops
   length_stops HeadTooLong stops = absurd stops

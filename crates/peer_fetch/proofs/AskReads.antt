@@ -57,7 +57,7 @@ module _ (input text rest octets left : List ℕ) (ask : Ask) (input_is : input 
       none spells.head _ (subst (λ (t : List ℕ). ReadsRequest t spells.head (drop (length text) octets)) (sym begins) (ReadsRequest-append text spells.head [] (drop (length text) octets) spells.reads))
 
   long : IsLongRequest window → ⊥
-  long (inl (full, none)) =
+  long (inl (full, none, may)) =
       let short = spells.short in
       let begins = front_of_front text rest window tail (sym input_is ∙ window_is) (omega arith) in
       none spells.head _ (subst (λ (t : List ℕ). ReadsRequest t spells.head (drop (length text) window)) (sym begins) (ReadsRequest-append text spells.head [] (drop (length text) window) spells.reads))
@@ -71,8 +71,8 @@ module _ (input text rest octets left : List ℕ) (ask : Ask) (input_is : input 
   unfolding window
   fault_stops Io stops = inl refl
   fault_stops NoMemory stops = inr refl
-  fault_stops TooManyTurns stops = absurd (spent stops.0 stops.1)
-  fault_stops EndOfInput stops = absurd (ended stops.1 stops.0)
+  fault_stops TooManyTurns stops = absurd (spent stops.0.0 stops.1)
+  fault_stops EndOfInput stops = absurd (ended stops.1 stops.0.0)
   fault_stops BadHead (inl none) = absurd (never none)
   fault_stops BadHead (inr says) = absurd (no_fault BadHead says)
   fault_stops HeadTooLong stops = absurd (long stops)

@@ -1,8 +1,8 @@
 -- What the fields of an ask say of it.
-use Rattle.std.specs.Prelude.{ℕ, Bool, ◌||◌, nat_lt, List, [], ◌∷◌, length, codes, Option, option_and_then}
+use Rattle.std.specs.Prelude.{ℕ, Bool, ◌||◌, List, [], ◌∷◌, codes, Option, option_and_then}
 use Rattle.peer_fields.specs.declared.ask.Host.{Host}
 use Rattle.peer_fields.specs.declared.ask.Host.TheVariants.{Absent, One, Several}
-use Rattle.peer_fields.specs.Fields.{values_named, only_of}
+use Rattle.peer_fields.specs.Fields.{values_named, has_field, only_of}
 use Rattle.peer_fields.specs.Decimal.{plain_number}
 
 -- what a clause sees of the `host` fields
@@ -24,10 +24,6 @@ host_told (value ∷ other ∷ others) = several
 -- the `host` fields (RFC 9112, section 3.2)
 abbrev pub host : List (List ℕ × List ℕ) → HostText
 host fields = host_told (values_named (codes "host") fields)
-
--- there is a field of this name
-abbrev pub has_field : List ℕ → List (List ℕ × List ℕ) → Bool
-has_field name fields = nat_lt 0 (length (values_named name fields))
 
 -- credentials, for the origin or for a proxy (RFC 9110, sections 11.6.2 and 11.7.2)
 abbrev pub has_credentials : List (List ℕ × List ℕ) → Bool

@@ -12,7 +12,7 @@ is_digits text = nat_lt 0 (length text) && list_all is_ascii_digit text
 abbrev pub number_up_to : ℕ → List ℕ → Option ℕ
 number_up_to cap text = if is_digits text then Some (min (digits_value 10 text) cap) else None
 
--- a zero stands first, and other digits behind it
+-- a zero stands first, and other octets behind it
 abbrev pub has_leading_zero : List ℕ → Bool
 has_leading_zero text = (slice_index text 0 == 48) && nat_lt 1 (length text)
 

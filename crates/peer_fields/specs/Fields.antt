@@ -1,5 +1,5 @@
 -- The fields of a head: names and values, as they stand in its octets (RFC 9110, sections 5.1 and 5.2).
-use Rattle.std.specs.Prelude.{ℕ, Bool, List, map, filter, Option, Some, None, [], ◌∷◌}
+use Rattle.std.specs.Prelude.{ℕ, Bool, nat_lt, List, map, filter, length, Option, Some, None, [], ◌∷◌}
 use Rattle.std.specs.Str.{str_eq_ignore_ascii_case}
 use Rattle.httparse.specs.Spans.{header_bytes}
 use Rattle.httparse.specs.declared.spans.HeaderSpan.{HeaderSpan}
@@ -19,6 +19,10 @@ value_of field = field.1
 -- the values of the fields of a name, in order
 abbrev pub values_named : List ℕ → List (List ℕ × List ℕ) → List (List ℕ)
 values_named name fields = map value_of (filter (is_named name) fields)
+
+-- there is a field of this name
+abbrev pub has_field : List ℕ → List (List ℕ × List ℕ) → Bool
+has_field name fields = nat_lt 0 (length (values_named name fields))
 
 -- the first value, if there is one
 abbrev pub first_of : List (List ℕ) → Option (List ℕ)

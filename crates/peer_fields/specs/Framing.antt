@@ -1,15 +1,16 @@
 -- How the body behind a head is framed (RFC 9112, sections 6.1 to 6.3).
-use Rattle.std.specs.Prelude.{ℕ, Bool, true, false, not, ◌&&◌, ◌||◌, ◌==◌, nat_lt, nat_le, bytes_eq, List, [], ◌∷◌, length, codes, Option, Some, None, Result, Ok, Err, if◌then◌else◌}
+use Rattle.std.specs.Prelude.{ℕ, Bool, true, false, not, ◌&&◌, ◌||◌, ◌==◌, nat_le, bytes_eq, List, [], ◌∷◌, length, codes, Option, Some, None, Result, Ok, Err, if◌then◌else◌}
 use Rattle.std.specs.List.{list_all, list_any}
 use Rattle.std.specs.Str.{str_eq_ignore_ascii_case}
 use Rattle.std.specs.Str.Parse.{digits_value}
 use Rattle.fetch_messages.specs.declared.fault.FetchFault.{FetchFault}
 use Rattle.fetch_messages.specs.declared.fault.FetchFault.TheVariants.{BadBody, BodyTooLong}
+use Rattle.fetch_messages.specs.Answer.{longest_body}
 use Rattle.peer_fields.specs.declared.framing.BadLength.{BadLength}
 use Rattle.peer_fields.specs.declared.framing.BadCoding.{BadCoding}
 use Rattle.peer_fields.specs.declared.framing.Framing.{Framing}
 use Rattle.peer_fields.specs.declared.framing.Framing.TheVariants.{Length, Chunked, ToEnd}
-use Rattle.peer_fields.specs.Fields.{values_named}
+use Rattle.peer_fields.specs.Fields.{values_named, has_field}
 use Rattle.peer_fields.specs.Decimal.{is_digits}
 
 -- 1 to 19 digits, which 64 bits hold
@@ -39,10 +40,6 @@ coding_told (value ∷ other ∷ others) = Err (record {})
 abbrev pub is_chunked : List (List ℕ × List ℕ) → Result Bool BadCoding
 is_chunked fields = coding_told (values_named (codes "transfer-encoding") fields)
 
--- the longest body that is read
-abbrev pub longest_body : ℕ
-longest_body = 65536
-
 -- a body of a length, if it is not too long
 abbrev pub framing_by_length : ℕ → Result Framing FetchFault
 framing_by_length length = if nat_le length longest_body then Ok (Length length) else Err BodyTooLong
@@ -67,5 +64,4 @@ is_zero value = is_digits value && (digits_value 10 value == 0)
 -- an ask has a body where a `transfer-encoding` field stands, or a `content-length` field that is not 0 (RFC 9112, section 6)
 abbrev pub ask_has_body : List (List ℕ × List ℕ) → Bool
 ask_has_body fields =
-    nat_lt 0 (length (values_named (codes "transfer-encoding") fields))
-    || list_any (λ value. not (is_zero value)) (values_named (codes "content-length") fields)
+    has_field (codes "transfer-encoding") fields || list_any (λ value. not (is_zero value)) (values_named (codes "content-length") fields)

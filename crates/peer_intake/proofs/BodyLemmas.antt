@@ -1,12 +1,12 @@
 -- A body's octets among those of its message.
-use Rattle.std.proofs.Common.{◌≡◌, ℕ, ◌+◌, ◌<◌, ◌≤◌, ◌⊎◌, IsTrue, inl, inr, min, List, ◌++◌, length, take, drop, Option, refl, sym, ap, ◌∙◌, subst, arith, append-nil, length-append, length-drop, length-take, length-take-le, take_all}
+use Rattle.std.proofs.Common.{◌≡◌, ◌≢◌, ℕ, ◌+◌, ◌<◌, ◌≤◌, ◌⊎◌, IsTrue, inl, inr, min, List, ◌++◌, length, take, drop, Option, refl, sym, ap, ◌∙◌, subst, arith, append-nil, length-append, length-drop, length-take, length-take-le, take_all}
 use Rattle.std.proofs.lemmas.List.{take-append-le, drop-append-le, nil_from_length}
 use Rattle.std.proofs.Math.Decide.{dec_le}
 use Rattle.std.specs.Io.KnownBytes.{IsAtEnd}
 use Rattle.fetch_messages.specs.declared.fault.FetchFault.{FetchFault}
-use Rattle.fetch_messages.specs.declared.fault.FetchFault.TheVariants.{BodyTooLong, TooManyTurns}
+use Rattle.fetch_messages.specs.declared.fault.FetchFault.TheVariants.{Io, EndOfInput, BodyTooLong, TooManyTurns, NoMemory}
 use Rattle.peer_intake.specs.Reading.{Takes}
-use Rattle.peer_intake.specs.Bodies.{ReadsBodyOf, CutsBodyOf, FillsShort, ReadsToEnd, StopsBeforeEnd, is_end_fault, is_length_fault}
+use Rattle.peer_intake.specs.Bodies.{ReadsBodyOf, IsOpenBody, StopsBefore, CutsBodyOf, FillsShort, ReadsToEnd, StopsBeforeEnd, CutsToEnd}
 use Rattle.peer_intake.specs.Reading.{is_read_fault}
 use Rattle.std.proofs.lemmas.Bool.{false≢true}
 
@@ -53,11 +53,25 @@ pub front_came : (items memory behind : List ℕ) (came : ℕ) → came ≤ leng
     → take came memory ≡ take came behind
 front_came items memory behind came few is front = ap (take came) is ∙ ap (λ n. take n items) (sym (length-take-le came behind few)) ∙ front
 
--- a fault of the reader is one of reading a body whose length is told, and says nothing of that length
-length_kind : (fault : FetchFault) → IsTrue (is_read_fault fault) → IsTrue (is_length_fault fault)
-length_kind BodyTooLong kind = refl
-length_kind fault kind = kind
+-- a fault of the reader comes while a body whose length is told is not whole
+cut_why : (reader : Option (List ℕ)) (octets : List ℕ) (start len : ℕ) (fault : FetchFault) → IsTrue (is_read_fault fault) → IsOpenBody len octets start
+    → (fault ≡ EndOfInput → IsAtEnd reader) → (fault ≡ TooManyTurns → 70000 ≤ length octets) → StopsBefore len reader octets start fault
+cut_why reader octets start len Io kind opened ended spent = opened
+cut_why reader octets start len EndOfInput kind opened ended spent = (opened, ended refl)
+cut_why reader octets start len TooManyTurns kind opened ended spent = (opened, spent refl)
+cut_why reader octets start len NoMemory kind opened ended spent = opened.0
+cut_why reader octets start len fault kind opened ended spent = absurd (false≢true kind)
 
+-- a fault of the reader, but that the input ended, comes while a body up to the end of the input is not too long
+pub end_why : (octets : List ℕ) (start : ℕ) (fault : FetchFault) → IsTrue (is_read_fault fault) → fault ≢ EndOfInput → length octets ≤ start + 65536
+    → (fault ≡ TooManyTurns → 70000 ≤ length octets) → StopsBeforeEnd octets start fault
+end_why octets start Io kind other short spent = short
+end_why octets start EndOfInput kind other short spent = absurd (other refl)
+end_why octets start TooManyTurns kind other short spent = (short, spent refl)
+end_why octets start NoMemory kind other short spent = tt
+end_why octets start fault kind other short spent = absurd (false≢true kind)
+
+-- a fault of the reader says nothing of a length
 pub not_long : (fault : FetchFault) → IsTrue (is_read_fault fault) → fault ≡ BodyTooLong → ⊥
 not_long fault kind is =
     let no_read : IsTrue (is_read_fault BodyTooLong) = subst (λ f. IsTrue (is_read_fault f)) is kind in
@@ -78,10 +92,8 @@ cuts_body a b old behind front buffer start len came turns fault within behind_i
     record {
       octets = old ++ piece;
       taken = (piece, refl, consumed);
-      long = λ e. absurd (not_long fault cut.kind e);
-      ended = λ e. (omega arith, cut.ended e);
-      spent = λ e. let spent = cut.spent e in (omega arith, omega arith);
-      kind = length_kind fault cut.kind;
+      untouched = λ e. absurd (not_long fault cut.kind e);
+      why = cut_why b (old ++ piece) start len fault cut.kind (small, omega arith) cut.ended (λ e. let spent = cut.spent e in omega arith);
     }
 
 -- the octets behind start, and then those that were read, are those of the message behind start
@@ -99,15 +111,12 @@ reads_to_end a b old body start within (piece, is, consumed) ended short = recor
 }
 
 pub stops_before_end : (a b : Option (List ℕ)) (old body : List ℕ) (start : ℕ) (fault : FetchFault) → start ≤ length old → Takes a b (drop start old) body
-    → (fault ≡ BodyTooLong → 65536 < length body) → (fault ≡ TooManyTurns → 70000 ≤ start + length body) → IsTrue (is_end_fault fault)
-    → StopsBeforeEnd a b old start fault
-stops_before_end a b old body start fault within (piece, is, consumed) long spent kind =
+    → ((octets : List ℕ) → start + length body ≡ length octets → StopsBeforeEnd octets start fault) → CutsToEnd a b old start fault
+stops_before_end a b old body start fault within (piece, is, consumed) why =
     let grown : start + length body ≡ length (old ++ piece) =
     omega (arith, ap length (behind_grows old piece body start within is), length-drop start (old ++ piece), length-append old piece) in
     record {
       octets = old ++ piece;
       taken = (piece, refl, consumed);
-      long = λ e. let much = long e in omega arith;
-      spent = λ e. let much = spent e in omega arith;
-      kind = kind;
+      why = why (old ++ piece) grown;
     }

@@ -1,6 +1,7 @@
 -- What one call after another takes from a reader, and what the window shows of the octets.
-use Rattle.std.proofs.Common.{◌≡◌, ℕ, ◌<◌, List, ◌++◌, length, drop, Option, ap, ◌∙◌, arith, append_assoc, length-take, take_all}
+use Rattle.std.proofs.Common.{◌≡◌, ℕ, ◌<◌, ◌≤◌, List, ◌++◌, length, drop, Option, ap, ◌∙◌, arith, append_assoc, length-take, take_all}
 use Rattle.std.proofs.KnownBytes.{Consumes-trans}
+use Rattle.std.proofs.Math.Decide.{dec_le}
 use Rattle.peer_intake.specs.Reading.{Takes}
 use Rattle.peer_intake.specs.Heads.{head_window}
 
@@ -12,3 +13,7 @@ takes_then a b c old mid new (first, is, took) (second, then_is, then_took) =
 pub whole_window : (start : ℕ) (octets window : List ℕ) → window ≡ head_window start octets → length window < 16384 → window ≡ drop start octets
 whole_window start octets window is short =
     is ∙ take_all 16384 (drop start octets) (omega (arith, ap length is, length-take 16384 (drop start octets)))
+
+-- a window that is not full has fewer octets than a head may have
+pub not_full : (n : ℕ) → n ≤ 16384 → (n ≡ 16384 → ⊥) → n < 16384
+not_full n few none = elim (dec_le 16384 n) as (λ _. n < 16384) [ yes h ↦ absurd (none (omega (arith, h))) | no h ↦ omega (arith, h) ]

@@ -1,13 +1,10 @@
 -- Bodies whose length is told, and bodies up to the end of the input (RFC 9112, section 6.3).
-use Rattle.std.specs.Prelude.{◌≡◌, ℕ, ◌+◌, ◌<◌, ◌≤◌, max, Bool, true, false, IsTrue, List, length, take, drop, Option}
+use Rattle.std.specs.Prelude.{◌≡◌, ℕ, ◌+◌, ◌<◌, ◌≤◌, ⊤, max, IsTrue, List, length, take, drop, Option}
 use Rattle.std.specs.Io.KnownBytes.{IsAtEnd}
 use Rattle.fetch_messages.specs.declared.fault.FetchFault.{FetchFault}
-use Rattle.fetch_messages.specs.declared.fault.FetchFault.TheVariants.{EndOfInput, BodyTooLong, TooManyTurns}
+use Rattle.fetch_messages.specs.declared.fault.FetchFault.TheVariants.{Io, EndOfInput, BodyTooLong, TooManyTurns, NoMemory}
+use Rattle.fetch_messages.specs.Answer.{longest_body}
 use Rattle.peer_intake.specs.Reading.{Takes, most_turns, is_read_fault}
-
--- a body has at most this many octets
-abbrev pub longest_body : ℕ
-longest_body = 65536
 
 -- the octets read of the message grew to some whose len octets from start on are the body; no octet behind it was taken
 pub record ReadsBodyOf (reader_old reader_new : Option (List ℕ)) (old : List ℕ) (start len : ℕ) (body : List ℕ) : Type 0 where
@@ -17,19 +14,25 @@ pub record ReadsBodyOf (reader_old reader_new : Option (List ℕ)) (old : List �
   pub body_is : body ≡ take len (drop start octets)
   pub no_more : length octets ≤ max (length old) (start + len)
 
--- the faults of reading a body whose length is told
-abbrev pub is_length_fault : FetchFault → Bool
-is_length_fault BodyTooLong = true
-is_length_fault fault = is_read_fault fault
+-- the octets end before a body of so many octets, which is not too long
+abbrev pub IsOpenBody : ℕ → List ℕ → ℕ → Type 0
+IsOpenBody len octets start = (len ≤ longest_body) × (length octets < start + len)
 
--- the octets read of the message grew to some, and then reading stopped: the told length is too great, the input ended before the body did, or the calls were spent
+-- why reading a body of so many octets stopped: the told length is too great, a call failed, the input ended before the body did, or the calls were spent
+abbrev pub StopsBefore : ℕ → Option (List ℕ) → List ℕ → ℕ → FetchFault → Type 0
+StopsBefore len reader octets start Io = IsOpenBody len octets start
+StopsBefore len reader octets start NoMemory = len ≤ longest_body
+StopsBefore len reader octets start EndOfInput = IsOpenBody len octets start × IsAtEnd reader
+StopsBefore len reader octets start TooManyTurns = IsOpenBody len octets start × (most_turns ≤ length octets)
+StopsBefore len reader octets start BodyTooLong = longest_body < len
+StopsBefore len reader octets start fault = ⊥
+
+-- the octets read of the message grew to some, and then reading stopped; a length that is too great takes none
 pub record CutsBodyOf (reader_old reader_new : Option (List ℕ)) (old : List ℕ) (start len : ℕ) (fault : FetchFault) : Type 0 where
   pub octets : List ℕ
   pub taken : Takes reader_old reader_new old octets
-  pub long : fault ≡ BodyTooLong → longest_body < len
-  pub ended : fault ≡ EndOfInput → (length octets < start + len) × IsAtEnd reader_new
-  pub spent : fault ≡ TooManyTurns → (length octets < start + len) × (most_turns ≤ length octets)
-  pub kind : IsTrue (is_length_fault fault)
+  pub untouched : fault ≡ BodyTooLong → octets ≡ old
+  pub why : StopsBefore len reader_new octets start fault
 
 -- the octets read of the message grew by all that the reader had, and those from start on are the body
 pub record ReadsToEnd (reader_old reader_new : Option (List ℕ)) (old : List ℕ) (start : ℕ) (body : List ℕ) : Type 0 where
@@ -39,19 +42,19 @@ pub record ReadsToEnd (reader_old reader_new : Option (List ℕ)) (old : List �
   pub body_is : body ≡ drop start octets
   pub short : length body ≤ longest_body
 
--- the faults of reading a body up to the end of the input
-abbrev pub is_end_fault : FetchFault → Bool
-is_end_fault EndOfInput = false
-is_end_fault BodyTooLong = true
-is_end_fault fault = is_read_fault fault
+-- why reading a body up to the end of the input stopped: it is too long, a call failed, or the calls were spent
+abbrev pub StopsBeforeEnd : List ℕ → ℕ → FetchFault → Type 0
+StopsBeforeEnd octets start Io = length octets ≤ start + longest_body
+StopsBeforeEnd octets start NoMemory = ⊤
+StopsBeforeEnd octets start TooManyTurns = (length octets ≤ start + longest_body) × (most_turns ≤ length octets)
+StopsBeforeEnd octets start BodyTooLong = start + longest_body < length octets
+StopsBeforeEnd octets start fault = ⊥
 
--- the octets read of the message grew to some, and then reading stopped: the body is too long, or the calls were spent
-pub record StopsBeforeEnd (reader_old reader_new : Option (List ℕ)) (old : List ℕ) (start : ℕ) (fault : FetchFault) : Type 0 where
+-- the octets read of the message grew to some, and then reading stopped
+pub record CutsToEnd (reader_old reader_new : Option (List ℕ)) (old : List ℕ) (start : ℕ) (fault : FetchFault) : Type 0 where
   pub octets : List ℕ
   pub taken : Takes reader_old reader_new old octets
-  pub long : fault ≡ BodyTooLong → start + longest_body < length octets
-  pub spent : fault ≡ TooManyTurns → most_turns ≤ length octets
-  pub kind : IsTrue (is_end_fault fault)
+  pub why : StopsBeforeEnd octets start fault
 
 -- the front of a buffer grew to a longer front by what the reader gave, and then reading stopped before the buffer was full
 pub record FillsShort (reader_old reader_new : Option (List ℕ)) (turns from : ℕ) (front buffer : List ℕ) (fault : FetchFault) : Type 0 where

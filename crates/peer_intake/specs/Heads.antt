@@ -1,15 +1,18 @@
 -- When the head of a message is read, and when it is refused (RFC 9112, sections 2 to 5).
-use Rattle.std.specs.Prelude.{ℕ, ◌≤◌, ◌⊎◌, Bool, true, false, IsTrue, List, length, take, drop, Option}
-use Rattle.std.specs.Io.KnownBytes.{IsAtEnd}
+use Rattle.std.specs.Prelude.{ℕ, ◌<◌, ◌≤◌, ◌⊎◌, Bool, true, false, IsTrue, List, length, take, drop}
 use Rattle.fetch_messages.specs.declared.fault.FetchFault.{FetchFault}
 use Rattle.fetch_messages.specs.declared.fault.FetchFault.TheVariants.{BadHead, HeadTooLong}
-use Rattle.httparse.specs.Grammar.{HasNoRequest, HasNoResponse}
+use Rattle.httparse.specs.Grammar.{HasNoRequest, HasNoResponse, MayBecomeRequest, MayBecomeResponse}
 use Rattle.httparse.specs.Spans.{RequestExceeds, ResponseExceeds}
-use Rattle.peer_intake.specs.Reading.{most_turns, is_read_fault}
+use Rattle.peer_intake.specs.Reading.{is_read_fault}
 
 -- a head has at most this many octets
 abbrev pub longest_head : ℕ
 longest_head = 16384
+
+-- so many octets are read at most where a head may stand: the last call may give 4,096 at once
+abbrev pub longest_read : ℕ
+longest_read = 20480
 
 -- a head has at most this many fields
 abbrev pub most_fields : ℕ
@@ -19,29 +22,22 @@ most_fields = 64
 abbrev pub head_window : ℕ → List ℕ → List ℕ
 head_window start octets = take longest_head (drop start octets)
 
--- no head of a request ends within the octets that a head may have, or one has too many fields
+-- no head of a request ends within the octets that a head may have, though one could with more of them, or one has too many fields
 abbrev pub IsLongRequest : List ℕ → Type 0
-IsLongRequest window = ((longest_head ≤ length window) × HasNoRequest window) ⊎ RequestExceeds most_fields window
+IsLongRequest window = ((longest_head ≤ length window) × HasNoRequest window × MayBecomeRequest window) ⊎ RequestExceeds most_fields window
 
 -- the same for a response
 abbrev pub IsLongResponse : List ℕ → Type 0
-IsLongResponse window = ((longest_head ≤ length window) × HasNoResponse window) ⊎ ResponseExceeds most_fields window
+IsLongResponse window = ((longest_head ≤ length window) × HasNoResponse window × MayBecomeResponse window) ⊎ ResponseExceeds most_fields window
 
--- the input ended before a head of a request did
-abbrev pub EndsBeforeRequest : Option (List ℕ) → ℕ → List ℕ → Type 0
-EndsBeforeRequest reader start octets = HasNoRequest (drop start octets) × IsAtEnd reader
+-- A head of a request may still come of these octets: it does not end in them, they are fewer than it may have, and some can follow that make them one, or they end
+-- inside a target, whose test for UTF-8 waits for its end.
+abbrev pub IsOpenRequest : List ℕ → Type 0
+IsOpenRequest octets = HasNoRequest octets × MayBecomeRequest octets × (length octets < longest_head)
 
--- the same for a response
-abbrev pub EndsBeforeResponse : Option (List ℕ) → ℕ → List ℕ → Type 0
-EndsBeforeResponse reader start octets = HasNoResponse (drop start octets) × IsAtEnd reader
-
--- the calls of the reader were spent before a head of a request ended
-abbrev pub SpentBeforeRequest : ℕ → List ℕ → Type 0
-SpentBeforeRequest start octets = HasNoRequest (drop start octets) × (most_turns ≤ length octets)
-
--- the same for a response
-abbrev pub SpentBeforeResponse : ℕ → List ℕ → Type 0
-SpentBeforeResponse start octets = HasNoResponse (drop start octets) × (most_turns ≤ length octets)
+-- a head of a response may still come of these octets: it does not end in them, they are fewer than it may have, and some can follow that make them one
+abbrev pub IsOpenResponse : List ℕ → Type 0
+IsOpenResponse octets = HasNoResponse octets × MayBecomeResponse octets × (length octets < longest_head)
 
 -- the faults of a head's octets
 abbrev pub is_head_refusal : FetchFault → Bool

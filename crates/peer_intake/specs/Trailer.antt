@@ -1,10 +1,11 @@
 -- The trailer behind the last chunk, and the whole of a body in chunks (RFC 9112, sections 7.1 and 7.1.2).
-use Rattle.std.specs.Prelude.{ℕ, ◌+◌, ◌≤◌, ◌⊎◌, ⊤, List, length, drop, Option}
+use Rattle.std.specs.Prelude.{ℕ, ◌+◌, ◌<◌, ◌≤◌, ◌⊎◌, List, length, drop, Option}
 use Rattle.std.specs.Io.KnownBytes.{IsAtEnd}
-use Rattle.httparse.specs.Grammar.{Field, LineEnd, ReadsSection, HasNoSection, NeverHasSection}
+use Rattle.httparse.specs.Grammar.{Field, LineEnd, ReadsSection, HasNoSection, NeverHasSection, MayBecomeSection}
 use Rattle.httparse.specs.Spans.{SectionExceeds}
 use Rattle.fetch_messages.specs.declared.fault.FetchFault.{FetchFault}
 use Rattle.fetch_messages.specs.declared.fault.FetchFault.TheVariants.{Io, EndOfInput, HeadTooLong, BadBody, TooManyTurns, NoMemory}
+use Rattle.fetch_messages.specs.Answer.{longest_body}
 use Rattle.peer_intake.specs.Reading.{most_turns}
 use Rattle.peer_intake.specs.Heads.{longest_head, most_fields, head_window}
 use Rattle.peer_intake.specs.Chunks.{HoldsChunks, StopsInChunks}
@@ -19,9 +20,13 @@ pub record HoldsTrailer (octets : List ℕ) (start end : ℕ) : Type 0 where
   pub forward : start ≤ end
   pub within : end ≤ length octets
 
--- no trailer ends within the octets that it may have, or it has too many fields
+-- no trailer ends within the octets that it may have, though one could with more of them, or it has too many fields
 abbrev pub IsLongTrailer : List ℕ → Type 0
-IsLongTrailer window = ((longest_head ≤ length window) × HasNoSection window) ⊎ SectionExceeds most_fields window
+IsLongTrailer window = ((longest_head ≤ length window) × HasNoSection window × MayBecomeSection window) ⊎ SectionExceeds most_fields window
+
+-- a trailer may still come of these octets: it does not end in them, they are fewer than it may have, and some can follow that make them one
+abbrev pub IsOpenTrailer : List ℕ → Type 0
+IsOpenTrailer octets = HasNoSection octets × MayBecomeSection octets × (length octets < longest_head)
 
 -- why the octets in which a trailer may stand were refused
 abbrev pub RefusesTrailer : List ℕ → FetchFault → Type 0
@@ -31,10 +36,10 @@ RefusesTrailer window fault = ⊥
 
 -- why reading stopped in the trailer that begins at start
 abbrev pub StopsInTrailer : Option (List ℕ) → List ℕ → ℕ → FetchFault → Type 0
-StopsInTrailer reader octets start Io = ⊤
-StopsInTrailer reader octets start NoMemory = ⊤
-StopsInTrailer reader octets start EndOfInput = HasNoSection (drop start octets) × IsAtEnd reader
-StopsInTrailer reader octets start TooManyTurns = HasNoSection (drop start octets) × (most_turns ≤ length octets)
+StopsInTrailer reader octets start Io = IsOpenTrailer (drop start octets)
+StopsInTrailer reader octets start NoMemory = IsOpenTrailer (drop start octets)
+StopsInTrailer reader octets start EndOfInput = IsOpenTrailer (drop start octets) × IsAtEnd reader
+StopsInTrailer reader octets start TooManyTurns = IsOpenTrailer (drop start octets) × (most_turns ≤ length octets)
 StopsInTrailer reader octets start fault = RefusesTrailer (head_window start octets) fault
 
 -- the octets from start to end are chunks, the line of the last one and a trailer
@@ -47,4 +52,4 @@ pub record HoldsChunkedBody (octets : List ℕ) (start end : ℕ) (body : List �
 abbrev pub StopsInChunkedBody : Option (List ℕ) → List ℕ → ℕ → FetchFault → Type 0
 StopsInChunkedBody reader octets start fault =
     StopsInChunks reader octets start fault
-    ⊎ ((trailer : ℕ) × (body : List ℕ) × HoldsChunks octets start trailer body × StopsInTrailer reader octets trailer fault)
+    ⊎ ((trailer : ℕ) × (body : List ℕ) × HoldsChunks octets start trailer body × (length body ≤ longest_body) × StopsInTrailer reader octets trailer fault)

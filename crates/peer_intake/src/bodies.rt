@@ -1,6 +1,7 @@
 //! Bodies whose length is told, and bodies up to the end of the input (RFC 9112, section 6.3).
-ghost use Rattle.std.specs.Prelude.{◌≡◌, ◌≤◌, length, take, vec_len, IsTrue, OnOk, IfOk, IfErr};
-ghost use Rattle.peer_intake.specs.Bodies.{longest_body, ReadsBodyOf, CutsBodyOf, ReadsToEnd, StopsBeforeEnd, is_end_fault};
+ghost use Rattle.std.specs.Prelude.{◌≡◌, ◌≢◌, ◌≤◌, length, take, vec_len, OnOk, IfOk, IfErr};
+ghost use Rattle.fetch_messages.specs.Answer.{longest_body};
+ghost use Rattle.peer_intake.specs.Bodies.{ReadsBodyOf, CutsBodyOf, ReadsToEnd, CutsToEnd};
 ghost use Rattle.peer_intake.specs.Reading.{IsReadFault};
 
 use crate::Intake;
@@ -66,7 +67,7 @@ impl Intake {
         ensures body { IfOk result (λ body. ReadsToEnd (R.remaining reader.old) (R.remaining reader.new)
             self start body.items) }
         ensures stopped { IfErr result
-            (StopsBeforeEnd (R.remaining reader.old) (R.remaining reader.new) self start) }
+            (CutsToEnd (R.remaining reader.old) (R.remaining reader.new) self start) }
     {
         let (octets, mut turns) = self.into_parts();
         let (_, behind) = octets.as_slice().split_at(start);
@@ -93,7 +94,7 @@ impl Intake {
 fn unless_ended(fault: FetchFault) -> Result<(), FetchFault>
     requires { IsReadFault fault }
     ensures ended { OnOk result (fault ≡ FetchFault.EndOfInput) }
-    ensures other { IfErr result (λ other. (other ≡ fault) × IsTrue (is_end_fault other)) }
+    ensures other { IfErr result (λ other. (other ≡ fault) × (other ≢ FetchFault.EndOfInput)) }
 {
     match fault {
         FetchFault::EndOfInput => Ok(()),

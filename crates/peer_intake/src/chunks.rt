@@ -1,10 +1,9 @@
 //! Bodies in chunks (RFC 9112, section 7.1).
 ghost use Rattle.std.specs.Prelude.{◌≡◌, ◌≤◌, length, drop, vec_len, OnErr, IfOk, IfErr};
-ghost use Rattle.httparse.specs.Grammar.{HasNoChunkLine};
 ghost use Rattle.httparse.specs.Outcome.{IfComplete, OnPartial};
 ghost use Rattle.peer_intake.specs.Reading.{Takes};
-ghost use Rattle.peer_intake.specs.Bodies.{longest_body};
-ghost use Rattle.peer_intake.specs.Chunks.{longest_line, HasLine, HasBadLine, IsStep, RefusesStep, HoldsChunks, StopsInChunks};
+ghost use Rattle.fetch_messages.specs.Answer.{longest_body};
+ghost use Rattle.peer_intake.specs.Chunks.{longest_line, HasLine, HasBadLine, IsOpenLine, IsStep, RefusesStep, HoldsChunks, StopsInChunks};
 
 use crate::Intake;
 use crate::bodies::LONGEST_BODY;
@@ -61,7 +60,7 @@ impl Intake {
 fn chunk_line(rest: &[u8]) -> Result<Status<(usize, u64)>, FetchFault>
     ensures line { IfComplete result (λ line. HasLine rest.now line.0 line.1) }
     ensures short { IfComplete result (λ line. line.0 ≤ longest_line) }
-    ensures open { OnPartial result (HasNoChunkLine rest.now) }
+    ensures open { OnPartial result (IsOpenLine rest.now) }
     ensures bad { IfErr result (λ fault. HasBadLine rest.now × (fault ≡ FetchFault.BadBody)) }
 {
     match parse_chunk_size(rest) {

@@ -1,9 +1,9 @@
 //! What a parser says of the octets in which a head may stand.
 ghost use Rattle.std.specs.Prelude.{◌≡◌, ◌<◌, ◌≤◌, length, IfErr, IsErrOf};
-ghost use Rattle.httparse.specs.Grammar.{HasNoRequest, HasNoResponse, NeverHasRequest, NeverHasResponse};
+ghost use Rattle.httparse.specs.Grammar.{NeverHasRequest, NeverHasResponse};
 ghost use Rattle.httparse.specs.Outcome.{IfComplete, OnPartial};
 ghost use Rattle.httparse.specs.Spans.{IsRequestOf, IsRequestWithin, IsResponseOf, IsResponseWithin};
-ghost use Rattle.peer_intake.specs.Heads.{most_fields, longest_head, IsLongRequest, IsLongResponse, IsHeadRefusal};
+ghost use Rattle.peer_intake.specs.Heads.{most_fields, longest_head, IsLongRequest, IsLongResponse, IsOpenRequest, IsOpenResponse, IsHeadRefusal};
 
 use crate::head_watch::LONGEST_HEAD;
 use fetch_messages::FetchFault;
@@ -19,8 +19,7 @@ pub(crate) fn judge_request(
     requires window { length window.now ≤ longest_head }
     ensures head { IfComplete result (IsRequestOf window.now headers.new) }
     ensures within { IfComplete result (IsRequestWithin window.now headers.new) }
-    ensures unfinished { OnPartial result (HasNoRequest window.now) }
-    ensures open { OnPartial result (length window.now < longest_head) }
+    ensures unfinished { OnPartial result (IsOpenRequest window.now) }
     ensures bad { IsErrOf result FetchFault.BadHead → NeverHasRequest window.now }
     ensures long { IsErrOf result FetchFault.HeadTooLong → IsLongRequest window.now }
     ensures faults { IfErr result IsHeadRefusal }
@@ -42,8 +41,7 @@ pub(crate) fn judge_response(
     requires window { length window.now ≤ longest_head }
     ensures head { IfComplete result (IsResponseOf window.now headers.new) }
     ensures within { IfComplete result (IsResponseWithin window.now headers.new) }
-    ensures unfinished { OnPartial result (HasNoResponse window.now) }
-    ensures open { OnPartial result (length window.now < longest_head) }
+    ensures unfinished { OnPartial result (IsOpenResponse window.now) }
     ensures bad { IsErrOf result FetchFault.BadHead → NeverHasResponse window.now }
     ensures long { IsErrOf result FetchFault.HeadTooLong → IsLongResponse window.now }
     ensures faults { IfErr result IsHeadRefusal }

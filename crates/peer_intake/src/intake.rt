@@ -1,10 +1,10 @@
 //! The octets of one message that were read so far.
-ghost use Rattle.std.specs.Prelude.{◌≡◌, ◌+◌, ◌*◌, ◌<◌, ◌≤◌, List, ℕ, [], length, drop, vec_len, OnOk, OnErr, IfOk, IfErr, IsErrOf};
+ghost use Rattle.std.specs.Prelude.{◌≡◌, ◌+◌, ◌*◌, ◌<◌, ◌≤◌, List, ℕ, [], length, drop, vec_len, max, OnOk, OnErr, IfOk, IfErr, IsErrOf};
 ghost use Rattle.std.specs.Io.KnownBytes.{IsAtEnd};
-ghost use Rattle.httparse.specs.Grammar.{HasNoRequest, HasNoResponse, NeverHasRequest, NeverHasResponse};
+ghost use Rattle.httparse.specs.Grammar.{NeverHasRequest, NeverHasResponse};
 ghost use Rattle.httparse.specs.Spans.{IsRequestOf, IsRequestWithin, IsResponseOf, IsResponseWithin};
 ghost use Rattle.peer_intake.specs.Reading.{Takes, most_turns, IsReadFault};
-ghost use Rattle.peer_intake.specs.Heads.{head_window, longest_head, most_fields, IsLongRequest, IsLongResponse, EndsBeforeRequest, EndsBeforeResponse, SpentBeforeRequest, SpentBeforeResponse, IsHeadFault};
+ghost use Rattle.peer_intake.specs.Heads.{head_window, longest_head, longest_read, most_fields, IsLongRequest, IsLongResponse, IsOpenRequest, IsOpenResponse, IsHeadFault};
 
 use crate::head_watch::{HeadWatch, LONGEST_HEAD};
 use crate::heads::{judge_request, judge_response};
@@ -85,6 +85,7 @@ impl Intake {
         ensures taken { Takes (R.remaining reader.old) (R.remaining reader.new) self.old self.new }
         ensures kept { OnErr result (self.new ≡ self.old) }
         ensures grown { OnOk result (length self.old < length self.new) }
+        ensures piece { length self.new ≤ length self.old + 4096 }
         ensures short { length self.new ≤ 286720000 }
         ensures spent { IsErrOf result FetchFault.TooManyTurns → most_turns ≤ length self.new }
         ensures ended { IsErrOf result FetchFault.EndOfInput → IsAtEnd (R.remaining reader.new) }
@@ -103,6 +104,7 @@ impl Intake {
         requires { start ≤ length self.old }
         ensures taken { Takes (R.remaining reader.old) (R.remaining reader.new) self.old self.new }
         ensures grown { OnOk result (length self.old < length self.new) }
+        ensures no_more { length self.new ≤ max (length self.old) (start + longest_head) + 4096 }
         ensures short { length self.new ≤ 286720000 }
         ensures spent { IsErrOf result FetchFault.TooManyTurns → most_turns ≤ length self.new }
         ensures ended { IsErrOf result FetchFault.EndOfInput → IsAtEnd (R.remaining reader.new) }
@@ -120,12 +122,12 @@ impl Intake {
     }
 
     /// Reads until the head of a request stands from `start` on, and says where its parts are. The places count from
-    /// `start`. A head has at most 16,384 octets and 64 fields. The octets that were read stay, whatever the answer.
+    /// `start`. A head has at most 16,384 octets and 64 fields, and at most 4,096 more are read. The octets that were read stay, whatever the answer.
     ///
-    /// Errors: `BadHead` where no octets can follow that make it a head, `HeadTooLong` where it goes beyond either
+    /// Errors: `BadHead` only where no octets can follow that make it a head, `HeadTooLong` where it goes beyond either
     /// limit, `EndOfInput` where the input ended before the head did, `TooManyTurns` where a call more than 70,000
     /// would be needed, `Io` where a call failed, `NoMemory` where a growth was refused. `BadHead` and `HeadTooLong` go
-    /// before the others.
+    /// before the others, but a target that is no UTF-8 is found at its end.
     pub fn read_request_head<R: Read>(
         &mut self,
         reader: &mut R,
@@ -136,6 +138,7 @@ impl Intake {
         requires room { length headers.old ≡ most_fields }
         ensures taken { Takes (R.remaining reader.old) (R.remaining reader.new) self.old self.new }
         ensures short { length self.new ≤ 286720000 }
+        ensures no_more { length self.new ≤ max (length self.old) (start + longest_read) }
         ensures head { IfOk result (IsRequestOf (head_window start self.new) headers.new) }
         ensures within { IfOk result (IsRequestWithin (head_window start self.new) headers.new) }
         ensures inside { IfOk result (λ head. start + head.len ≤ length self.new) }
@@ -143,10 +146,9 @@ impl Intake {
             → NeverHasRequest (head_window start self.new) }
         ensures long { IsErrOf result FetchFault.HeadTooLong
             → IsLongRequest (head_window start self.new) }
-        ensures ended { IsErrOf result FetchFault.EndOfInput
-            → EndsBeforeRequest (R.remaining reader.new) start self.new }
-        ensures spent { IsErrOf result FetchFault.TooManyTurns
-            → SpentBeforeRequest start self.new }
+        ensures open { IfErr result (λ fault. IsReadFault fault → IsOpenRequest (drop start self.new)) }
+        ensures ended { IsErrOf result FetchFault.EndOfInput → IsAtEnd (R.remaining reader.new) }
+        ensures spent { IsErrOf result FetchFault.TooManyTurns → most_turns ≤ length self.new }
         ensures faults { IfErr result IsHeadFault }
     {
         let mut watch = HeadWatch::new(self.window(start).len(), true);
@@ -180,7 +182,7 @@ impl Intake {
             → NeverHasRequest (head_window start self.now) }
         ensures long { IsErrOf result FetchFault.HeadTooLong
             → IsLongRequest (head_window start self.now) }
-        ensures cut { IfErr result (λ e. IsReadFault e → (e ≡ fault) × HasNoRequest (drop start self.now)) }
+        ensures cut { IfErr result (λ e. IsReadFault e → (e ≡ fault) × IsOpenRequest (drop start self.now)) }
         ensures faults { IfErr result IsHeadFault }
     {
         match judge_request(self.window(start), headers) {
@@ -191,9 +193,9 @@ impl Intake {
     }
 
     /// Reads until the head of a response stands from `start` on, and says where its parts are. The places count from
-    /// `start`. A head has at most 16,384 octets and 64 fields. The octets that were read stay, whatever the answer.
+    /// `start`. A head has at most 16,384 octets and 64 fields, and at most 4,096 more are read. The octets that were read stay, whatever the answer.
     ///
-    /// Errors: `BadHead` where no octets can follow that make it a head, `HeadTooLong` where it goes beyond either
+    /// Errors: `BadHead` only where no octets can follow that make it a head, `HeadTooLong` where it goes beyond either
     /// limit, `EndOfInput` where the input ended before the head did, `TooManyTurns` where a call more than 70,000
     /// would be needed, `Io` where a call failed, `NoMemory` where a growth was refused. `BadHead` and `HeadTooLong` go
     /// before the others.
@@ -207,6 +209,7 @@ impl Intake {
         requires room { length headers.old ≡ most_fields }
         ensures taken { Takes (R.remaining reader.old) (R.remaining reader.new) self.old self.new }
         ensures short { length self.new ≤ 286720000 }
+        ensures no_more { length self.new ≤ max (length self.old) (start + longest_read) }
         ensures head { IfOk result (IsResponseOf (head_window start self.new) headers.new) }
         ensures within { IfOk result (IsResponseWithin (head_window start self.new) headers.new) }
         ensures inside { IfOk result (λ head. start + head.len ≤ length self.new) }
@@ -214,10 +217,9 @@ impl Intake {
             → NeverHasResponse (head_window start self.new) }
         ensures long { IsErrOf result FetchFault.HeadTooLong
             → IsLongResponse (head_window start self.new) }
-        ensures ended { IsErrOf result FetchFault.EndOfInput
-            → EndsBeforeResponse (R.remaining reader.new) start self.new }
-        ensures spent { IsErrOf result FetchFault.TooManyTurns
-            → SpentBeforeResponse start self.new }
+        ensures open { IfErr result (λ fault. IsReadFault fault → IsOpenResponse (drop start self.new)) }
+        ensures ended { IsErrOf result FetchFault.EndOfInput → IsAtEnd (R.remaining reader.new) }
+        ensures spent { IsErrOf result FetchFault.TooManyTurns → most_turns ≤ length self.new }
         ensures faults { IfErr result IsHeadFault }
     {
         let mut watch = HeadWatch::new(self.window(start).len(), true);
@@ -251,7 +253,7 @@ impl Intake {
             → NeverHasResponse (head_window start self.now) }
         ensures long { IsErrOf result FetchFault.HeadTooLong
             → IsLongResponse (head_window start self.now) }
-        ensures cut { IfErr result (λ e. IsReadFault e → (e ≡ fault) × HasNoResponse (drop start self.now)) }
+        ensures cut { IfErr result (λ e. IsReadFault e → (e ≡ fault) × IsOpenResponse (drop start self.now)) }
         ensures faults { IfErr result IsHeadFault }
     {
         match judge_response(self.window(start), headers) {

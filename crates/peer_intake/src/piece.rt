@@ -26,6 +26,7 @@ pub(crate) fn read_piece<R: Read>(
     ensures counted { turns.new + vec_len octets.old ≤ turns.old + vec_len octets.new }
     ensures grown { OnOk result (vec_len octets.old < vec_len octets.new) }
     ensures short { vec_len octets.new + 4096 * turns.old ≤ vec_len octets.old + 4096 * turns.new }
+    ensures piece { vec_len octets.new ≤ vec_len octets.old + 4096 }
     ensures spent { IsErrOf result FetchFault.TooManyTurns → turns.new ≡ 70000 }
     ensures ended { IsErrOf result FetchFault.EndOfInput → IsAtEnd (R.remaining reader.new) }
     ensures faults { IfErr result IsReadFault }

@@ -1,11 +1,10 @@
 //! The trailer behind the last chunk, and the whole of a body in chunks (RFC 9112, sections 7.1 and 7.1.2).
 ghost use Rattle.std.specs.Prelude.{◌≡◌, ◌+◌, ◌<◌, ◌≤◌, ◌⊎◌, length, drop, vec_len, IfOk, IfErr};
-ghost use Rattle.httparse.specs.Grammar.{HasNoSection};
 ghost use Rattle.httparse.specs.Outcome.{IfComplete, OnPartial};
 ghost use Rattle.peer_intake.specs.Reading.{Takes, IsReadFault};
 ghost use Rattle.peer_intake.specs.Heads.{longest_head, head_window};
-ghost use Rattle.peer_intake.specs.Bodies.{longest_body};
-ghost use Rattle.peer_intake.specs.Trailer.{HoldsTrailer, RefusesTrailer, StopsInTrailer, HoldsChunkedBody, StopsInChunkedBody};
+ghost use Rattle.fetch_messages.specs.Answer.{longest_body};
+ghost use Rattle.peer_intake.specs.Trailer.{HoldsTrailer, IsOpenTrailer, RefusesTrailer, StopsInTrailer, HoldsChunkedBody, StopsInChunkedBody};
 
 use crate::Intake;
 use crate::head_watch::{HeadWatch, LONGEST_HEAD};
@@ -24,7 +23,7 @@ impl Intake {
     ///
     /// A chunk's line has at most 256 octets, a body at most 65,536, and a trailer at most 16,384 octets and 64 fields.
     ///
-    /// Errors: `BadBody` where no octets can follow that make it such a body, `BodyTooLong` once a chunk's line says
+    /// Errors: `BadBody` only where no octets can follow that make it such a body, `BodyTooLong` once a chunk's line says
     /// more octets than a body may still gain, before any of them is read; `HeadTooLong` where the trailer goes beyond
     /// a limit, `EndOfInput` where the input ended before the trailer did, `TooManyTurns` where a call more than 70,000
     /// would be needed, `Io` where a call failed, `NoMemory` where a growth was refused.
@@ -77,7 +76,7 @@ impl Intake {
         requires fault { IsReadFault fault }
         ensures section { IfOk result (HoldsTrailer self.now start) }
         ensures cut { IfErr result (λ other. RefusesTrailer (head_window start self.now) other
-            ⊎ ((other ≡ fault) × HasNoSection (drop start self.now))) }
+            ⊎ ((other ≡ fault) × IsOpenTrailer (drop start self.now))) }
     {
         match judge_trailer(self.window(start)) {
             Ok(Status::Complete(len)) => Ok(start + len),
@@ -91,8 +90,7 @@ impl Intake {
 fn judge_trailer(window: &[u8]) -> Result<Status<usize>, FetchFault>
     requires { length window.now ≤ longest_head }
     ensures section { IfComplete result (HoldsTrailer window.now 0) }
-    ensures unfinished { OnPartial result (HasNoSection window.now) }
-    ensures open { OnPartial result (length window.now < longest_head) }
+    ensures unfinished { OnPartial result (IsOpenTrailer window.now) }
     ensures refused { IfErr result (RefusesTrailer window.now) }
 {
     let mut headers = [EMPTY_HEADER_SPAN; MOST_FIELDS];

@@ -11,8 +11,9 @@ use Rattle.fetch_messages.specs.Answer.{AnswerText}
 use Rattle.fetch_messages.specs.declared.fault.FetchFault.{FetchFault}
 use Rattle.fetch_messages.specs.declared.fault.FetchFault.TheVariants.{Io, EndOfInput, BadHead, HeadTooLong, BadTarget, MethodNotServed, Credentials, BadBody, BodyTooLong, TooManyTurns, NoMemory}
 use Rattle.peer_fields.specs.Fields.{fields_of}
-use Rattle.peer_intake.specs.Reading.{Takes}
-use Rattle.peer_intake.specs.Heads.{longest_head, most_fields, head_window, IsLongResponse, EndsBeforeResponse, SpentBeforeResponse, IsHeadFault}
+use Rattle.std.specs.Io.KnownBytes.{IsAtEnd}
+use Rattle.peer_intake.specs.Reading.{Takes, IsReadFault}
+use Rattle.peer_intake.specs.Heads.{longest_head, most_fields, head_window, IsLongResponse, IsOpenResponse, IsHeadFault}
 use Rattle.peer_reading.specs.AnswerHead.{AnswerHead, ToldText, parts_of, head_at, is_interim, told}
 use Rattle.peer_reading.specs.Answers.{IsShortHead, IsInterim, PassesInterim, HeadSays, StopsAtHead, ReadsRest, ReadsOn}
 use Rattle.peer_reading.proofs.BodyLemmas.{takes_none}
@@ -184,26 +185,26 @@ some_octets octets headers r (h, is) =
 
 pub head_stops : (reader_old reader : Option (List ℕ)) (old octets : List ℕ) (start : ℕ) (fault : FetchFault) → Takes reader_old reader old octets → PassesInterim octets start → IsHeadFault fault
     → (fault ≡ BadHead → NeverHasResponse (head_window start octets)) → (fault ≡ HeadTooLong → IsLongResponse (head_window start octets))
-    → (fault ≡ EndOfInput → EndsBeforeResponse reader start octets) → (fault ≡ TooManyTurns → SpentBeforeResponse start octets) → ReadsOn reader_old reader old (Err fault)
-head_stops reader_old reader old octets start fault taken passes kind bad long ended spent = record {
+    → (IsReadFault fault → IsOpenResponse (drop start octets)) → (fault ≡ EndOfInput → IsAtEnd reader) → (fault ≡ TooManyTurns → 70000 ≤ length octets) → ReadsOn reader_old reader old (Err fault)
+head_stops reader_old reader old octets start fault taken passes kind bad long opened ended spent = record {
   octets = octets;
   taken = taken;
-  outcome = inl (start, passes, stops fault kind bad long ended spent);
+  outcome = inl (start, passes, stops fault kind bad long opened ended spent);
 }
   where
     stops : (fault : FetchFault) → IsHeadFault fault → (fault ≡ BadHead → NeverHasResponse (head_window start octets)) → (fault ≡ HeadTooLong → IsLongResponse (head_window start octets))
-        → (fault ≡ EndOfInput → EndsBeforeResponse reader start octets) → (fault ≡ TooManyTurns → SpentBeforeResponse start octets) → StopsAtHead reader octets start fault
-    stops Io kind bad long ended spent = tt
-    stops EndOfInput kind bad long ended spent = ended refl
-    stops BadHead kind bad long ended spent = bad refl
-    stops HeadTooLong kind bad long ended spent = long refl
-    stops (BadTarget f) kind bad long ended spent = absurd cc
-    stops MethodNotServed kind bad long ended spent = absurd cc
-    stops Credentials kind bad long ended spent = absurd cc
-    stops BadBody kind bad long ended spent = absurd cc
-    stops BodyTooLong kind bad long ended spent = absurd cc
-    stops TooManyTurns kind bad long ended spent = spent refl
-    stops NoMemory kind bad long ended spent = tt
+        → (IsReadFault fault → IsOpenResponse (drop start octets)) → (fault ≡ EndOfInput → IsAtEnd reader) → (fault ≡ TooManyTurns → 70000 ≤ length octets) → StopsAtHead reader octets start fault
+    stops Io kind bad long opened ended spent = opened refl
+    stops EndOfInput kind bad long opened ended spent = (opened refl, ended refl)
+    stops BadHead kind bad long opened ended spent = bad refl
+    stops HeadTooLong kind bad long opened ended spent = long refl
+    stops (BadTarget f) kind bad long opened ended spent = absurd cc
+    stops MethodNotServed kind bad long opened ended spent = absurd cc
+    stops Credentials kind bad long opened ended spent = absurd cc
+    stops BadBody kind bad long opened ended spent = absurd cc
+    stops BodyTooLong kind bad long opened ended spent = absurd cc
+    stops TooManyTurns kind bad long opened ended spent = (opened refl, spent refl)
+    stops NoMemory kind bad long opened ended spent = tt
 
 pub takes_then : (old middle new : List ℕ) (before between after : Option (List ℕ)) → Takes before between old middle → Takes between after middle new → Takes before after old new
 takes_then old middle new before between after (first, first_is, first_read) (second, second_is, second_read) =

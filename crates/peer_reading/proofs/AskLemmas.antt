@@ -1,5 +1,5 @@
 -- From the places of a head to the head, and why reading a head stopped.
-use Rattle.std.proofs.Common.{◌≡◌, ℕ, ◌≤◌, ◌⊎◌, List, [], ◌++◌, length, take, drop, Option, Result, Ok, Err, IfErr, IsTrue, MatchResult, refl, sym, ◌∙◌, ap, subst, inl, inr, arith, ◌+◌, length-take, take-append-drop, append_assoc, append-nil, length-append}
+use Rattle.std.proofs.Common.{◌≡◌, ℕ, ◌≤◌, ◌⊎◌, List, [], ◌++◌, length, take, drop, max, Option, Result, Ok, Err, IfErr, IsTrue, MatchResult, refl, sym, ◌∙◌, ap, subst, inl, inr, arith, ◌+◌, length-take, take-append-drop, append_assoc, append-nil, length-append}
 use Rattle.std.proofs.lemmas.List.{length-map}
 use Rattle.httparse.specs.Grammar.{RequestHead, print_request, NeverHasRequest}
 use Rattle.httparse.specs.declared.spans.HeaderSpan.{HeaderSpan}
@@ -9,8 +9,9 @@ use Rattle.fetch_messages.specs.declared.ask.Ask.{Ask}
 use Rattle.fetch_messages.specs.declared.fault.FetchFault.{FetchFault}
 use Rattle.fetch_messages.specs.declared.fault.FetchFault.TheVariants.{Io, EndOfInput, BadHead, HeadTooLong, BadTarget, MethodNotServed, Credentials, BadBody, BodyTooLong, TooManyTurns, NoMemory}
 use Rattle.peer_fields.specs.Fields.{fields_of}
-use Rattle.peer_intake.specs.Reading.{Takes}
-use Rattle.peer_intake.specs.Heads.{longest_head, most_fields, head_window, IsLongRequest, EndsBeforeRequest, SpentBeforeRequest, IsHeadFault}
+use Rattle.std.specs.Io.KnownBytes.{IsAtEnd}
+use Rattle.peer_intake.specs.Reading.{Takes, IsReadFault}
+use Rattle.peer_intake.specs.Heads.{longest_head, longest_read, most_fields, head_window, IsLongRequest, IsOpenRequest, IsHeadFault}
 use Rattle.peer_reading.specs.AskHead.{AskHead, parts_of, head_at, is_ask_fault, Says}
 use Rattle.peer_reading.specs.Asks.{FrontSays, StopsInAsk, ReadsAsk}
 
@@ -59,18 +60,18 @@ front_says octets headers r outcome room (h, is) says =
 -- the fault of reading a head, by its kind
 pub head_stops : (reader : Option (List ℕ)) (octets : List ℕ) (fault : FetchFault) → IsHeadFault fault
     → (fault ≡ BadHead → NeverHasRequest (head_window 0 octets)) → (fault ≡ HeadTooLong → IsLongRequest (head_window 0 octets))
-    → (fault ≡ EndOfInput → EndsBeforeRequest reader 0 octets) → (fault ≡ TooManyTurns → SpentBeforeRequest 0 octets) → StopsInAsk reader octets fault
-head_stops reader octets Io kind bad long ended spent = tt
-head_stops reader octets EndOfInput kind bad long ended spent = ended refl
-head_stops reader octets BadHead kind bad long ended spent = inl (bad refl)
-head_stops reader octets HeadTooLong kind bad long ended spent = long refl
-head_stops reader octets (BadTarget f) kind bad long ended spent = absurd cc
-head_stops reader octets MethodNotServed kind bad long ended spent = absurd cc
-head_stops reader octets Credentials kind bad long ended spent = absurd cc
-head_stops reader octets BadBody kind bad long ended spent = absurd cc
-head_stops reader octets BodyTooLong kind bad long ended spent = absurd cc
-head_stops reader octets TooManyTurns kind bad long ended spent = spent refl
-head_stops reader octets NoMemory kind bad long ended spent = tt
+    → (IsReadFault fault → IsOpenRequest octets) → (fault ≡ EndOfInput → IsAtEnd reader) → (fault ≡ TooManyTurns → 70000 ≤ length octets) → StopsInAsk reader octets fault
+head_stops reader octets Io kind bad long opened ended spent = opened refl
+head_stops reader octets EndOfInput kind bad long opened ended spent = (opened refl, ended refl)
+head_stops reader octets BadHead kind bad long opened ended spent = inl (bad refl)
+head_stops reader octets HeadTooLong kind bad long opened ended spent = long refl
+head_stops reader octets (BadTarget f) kind bad long opened ended spent = absurd cc
+head_stops reader octets MethodNotServed kind bad long opened ended spent = absurd cc
+head_stops reader octets Credentials kind bad long opened ended spent = absurd cc
+head_stops reader octets BadBody kind bad long opened ended spent = absurd cc
+head_stops reader octets BodyTooLong kind bad long opened ended spent = absurd cc
+head_stops reader octets TooManyTurns kind bad long opened ended spent = (opened refl, spent refl)
+head_stops reader octets NoMemory kind bad long opened ended spent = tt
 
 -- the fault that a whole head has
 says_stops : (reader : Option (List ℕ)) (octets : List ℕ) (fault : FetchFault) → IsTrue (is_ask_fault fault) → FrontSays octets (Err fault) → StopsInAsk reader octets fault
@@ -80,25 +81,31 @@ says_stops reader octets MethodNotServed kind front = front
 says_stops reader octets Credentials kind front = front
 says_stops reader octets BadBody kind front = front
 says_stops reader octets NoMemory kind front = tt
-says_stops reader octets Io kind front = tt
+says_stops reader octets Io kind front = absurd cc
 says_stops reader octets EndOfInput kind front = absurd cc
 says_stops reader octets HeadTooLong kind front = absurd cc
 says_stops reader octets BodyTooLong kind front = absurd cc
 says_stops reader octets TooManyTurns kind front = absurd cc
 
+-- of a message of which nothing was read so many octets are read at most
+pub few_read : (old new : List ℕ) → old ≡ [] → length new ≤ max (length old) (0 + longest_read) → length new ≤ longest_read
+few_read old new none few = let empty : length old ≡ 0 = ap length none in omega (arith, empty, few)
+
 -- what a whole head says is what reading it answers
 pub head_read : (reader_old reader_new : Option (List ℕ)) (octets : List ℕ) (headers : List HeaderSpan) (r : RequestSpans) (result : Result Ask FetchFault) → Takes reader_old reader_new [] octets
-    → length headers ≡ most_fields → IsRequestOf (head_window 0 octets) headers r
+    → length octets ≤ longest_read → length headers ≡ most_fields → IsRequestOf (head_window 0 octets) headers r
     → MatchResult result (λ ask. Says (head_at (head_window 0 octets) headers r) (Ok ask)) (λ fault. (fault ≡ NoMemory) ⊎ Says (head_at (head_window 0 octets) headers r) (Err fault))
     → IfErr result (λ fault. IsTrue (is_ask_fault fault)) → ReadsAsk reader_old reader_new result
-head_read reader_old reader_new octets headers r (Ok ask) taken room is says kind = record {
+head_read reader_old reader_new octets headers r (Ok ask) taken few room is says kind = record {
   octets = octets;
   taken = taken;
+  few = few;
   outcome = front_says octets headers r (Ok ask) room is says;
 }
-head_read reader_old reader_new octets headers r (Err fault) taken room is says kind = record {
+head_read reader_old reader_new octets headers r (Err fault) taken few room is says kind = record {
   octets = octets;
   taken = taken;
+  few = few;
   outcome = elim says [
     | inl same ↦ subst (StopsInAsk reader_new octets) (sym same) tt
     | inr told ↦ says_stops reader_new octets fault kind (front_says octets headers r (Err fault) room is told)

@@ -4,13 +4,12 @@ use Rattle.std.specs.Prelude.{Vec}
 use Rattle.std.specs.declared.alloc.Global.{Global}
 use Rattle.std.specs.Io.KnownBytes.{Consumes}
 use Rattle.fetch_messages.specs.declared.fault.FetchFault.{FetchFault}
-use Rattle.fetch_messages.specs.declared.fault.FetchFault.TheVariants.{Io, EndOfInput, BadHead, HeadTooLong, BadTarget, MethodNotServed, Credentials, BadBody, BodyTooLong, TooManyTurns, NoMemory}
+use Rattle.fetch_messages.specs.declared.fault.FetchFault.TheVariants.{NoMemory}
 use Rattle.peer_fields.specs.declared.framing.Framing.TheVariants.{Length, Chunked, ToEnd}
 use Rattle.peer_intake.specs.Reading.{Takes}
-use Rattle.peer_intake.specs.Bodies.{ReadsBodyOf, CutsBodyOf, ReadsToEnd, is_end_fault}
-use Rattle.peer_intake.specs.Bodies as intake
+use Rattle.peer_intake.specs.Bodies.{ReadsBodyOf, CutsBodyOf, ReadsToEnd, CutsToEnd}
 use Rattle.peer_intake.specs.Trailer.{HoldsChunkedBody, StopsInChunkedBody}
-use Rattle.peer_reading.specs.Answers.{ReadsBody, StopsBefore, StopsBeforeEnd}
+use Rattle.peer_reading.specs.Answers.{ReadsBody}
 
 abbrev Octets : Type 0
 Octets = Vec ℕ Global
@@ -35,45 +34,19 @@ no_body reader old start body empty = record { octets = old; taken = takes_none 
 short_body : (octets : Octets) (body : List ℕ) → body ≡ octets.items → vec_len octets ≤ 65536 → length body ≤ 65536
 short_body octets body held few = subst (λ (b : List ℕ). length b ≤ 65536) (sym held) (omega (arith, octets.ok.0, few))
 
-cut_stops : (before after : Option (List ℕ)) (old : List ℕ) (start n : ℕ) (fault : FetchFault) (cut : CutsBodyOf before after old start n fault) → StopsBefore n after cut.octets start fault
-cut_stops before after old start n Io cut = tt
-cut_stops before after old start n EndOfInput cut = cut.ended refl
-cut_stops before after old start n TooManyTurns cut = cut.spent refl
-cut_stops before after old start n BodyTooLong cut = cut.long refl
-cut_stops before after old start n NoMemory cut = tt
-cut_stops before after old start n BadHead cut = absurd (let kind = cut.kind in cc)
-cut_stops before after old start n HeadTooLong cut = absurd (let kind = cut.kind in cc)
-cut_stops before after old start n (BadTarget f) cut = absurd (let kind = cut.kind in cc)
-cut_stops before after old start n MethodNotServed cut = absurd (let kind = cut.kind in cc)
-cut_stops before after old start n Credentials cut = absurd (let kind = cut.kind in cc)
-cut_stops before after old start n BadBody cut = absurd (let kind = cut.kind in cc)
-
 pub length_read : (before after : Option (List ℕ)) (old : List ℕ) (start n : ℕ) (read : Result Octets FetchFault) (result : Result (List ℕ) FetchFault)
     → IfOk read (λ body. ReadsBodyOf before after old start n body.items) → IfOk read (λ body. vec_len body ≤ 65536) → IfErr read (CutsBodyOf before after old start n) → IsHeld read result → ReadsBody (Some (Length n)) before after old start result
 length_read before after old start n (Ok octets) (Ok body) ok few err held = record { octets = ok.octets; taken = ok.taken; outcome = (start + n, (refl, ok.whole, held ∙ ok.body_is), tt); short = short_body octets body held few }
 length_read before after old start n (Ok octets) (Err fault) ok few err held = record { octets = ok.octets; taken = ok.taken; outcome = inl held; short = tt }
 length_read before after old start n (Err fault) result ok few err held =
-    subst (ReadsBody (Some (Length n)) before after old start) (sym held) (record { octets = err.octets; taken = err.taken; outcome = inr (cut_stops before after old start n fault err); short = tt })
-
-end_stops : (before after : Option (List ℕ)) (old : List ℕ) (start : ℕ) (fault : FetchFault) (cut : intake.StopsBeforeEnd before after old start fault) → StopsBeforeEnd after cut.octets start fault
-end_stops before after old start Io cut = tt
-end_stops before after old start NoMemory cut = tt
-end_stops before after old start TooManyTurns cut = cut.spent refl
-end_stops before after old start BodyTooLong cut = cut.long refl
-end_stops before after old start EndOfInput cut = absurd (let kind = cut.kind in cc)
-end_stops before after old start BadHead cut = absurd (let kind = cut.kind in cc)
-end_stops before after old start HeadTooLong cut = absurd (let kind = cut.kind in cc)
-end_stops before after old start (BadTarget f) cut = absurd (let kind = cut.kind in cc)
-end_stops before after old start MethodNotServed cut = absurd (let kind = cut.kind in cc)
-end_stops before after old start Credentials cut = absurd (let kind = cut.kind in cc)
-end_stops before after old start BadBody cut = absurd (let kind = cut.kind in cc)
+    subst (ReadsBody (Some (Length n)) before after old start) (sym held) (record { octets = err.octets; taken = err.taken; outcome = inr err.why; short = tt })
 
 pub end_read : (before after : Option (List ℕ)) (old : List ℕ) (start : ℕ) (read : Result Octets FetchFault) (result : Result (List ℕ) FetchFault)
-    → IfOk read (λ body. ReadsToEnd before after old start body.items) → IfErr read (intake.StopsBeforeEnd before after old start) → IsHeld read result → ReadsBody (Some ToEnd) before after old start result
+    → IfOk read (λ body. ReadsToEnd before after old start body.items) → IfErr read (CutsToEnd before after old start) → IsHeld read result → ReadsBody (Some ToEnd) before after old start result
 end_read before after old start (Ok octets) (Ok body) ok err held = record { octets = ok.octets; taken = ok.taken; outcome = (length ok.octets, (refl, held ∙ ok.body_is), ok.ended); short = subst (λ (b : List ℕ). length b ≤ 65536) (sym held) ok.short }
 end_read before after old start (Ok octets) (Err fault) ok err held = record { octets = ok.octets; taken = ok.taken; outcome = inl held; short = tt }
 end_read before after old start (Err fault) result ok err held =
-    subst (ReadsBody (Some ToEnd) before after old start) (sym held) (record { octets = err.octets; taken = err.taken; outcome = inr (end_stops before after old start fault err); short = tt })
+    subst (ReadsBody (Some ToEnd) before after old start) (sym held) (record { octets = err.octets; taken = err.taken; outcome = inr err.why; short = tt })
 
 pub chunks_read : (before after : Option (List ℕ)) (old new : List ℕ) (start end : ℕ) (octets : Octets) (result : Result (List ℕ) FetchFault)
     → Takes before after old new → HoldsChunkedBody new start end octets.items → vec_len octets ≤ 65536 → IsHeld (Ok octets) result → ReadsBody (Some Chunked) before after old start result

@@ -1,17 +1,17 @@
 -- Which octets spell an answer, and why reading one stops (RFC 9112, sections 4 to 7).
-use Rattle.std.specs.Prelude.{◌≡◌, ℕ, ◌≤◌, ◌<◌, ◌+◌, ◌⊎◌, ⊤, true, false, List, [], length, drop, take, flat_map, Option, Some, None, Result, Ok, Err, IfOk, MatchResult}
+use Rattle.std.specs.Prelude.{◌≡◌, ℕ, ◌≤◌, ◌+◌, ◌⊎◌, ⊤, true, false, List, [], length, drop, take, flat_map, Option, Some, None, Result, Ok, Err, IfOk, MatchResult}
 use Rattle.std.specs.List.{AllByRecursion}
 use Rattle.std.specs.Io.KnownBytes.{IsAtEnd}
 use Rattle.httparse.specs.Grammar.{ResponseHead, IsResponseHead, print_response, status_code, ReadsResponse, NeverHasResponse}
-use Rattle.fetch_messages.specs.Answer.{AnswerText}
+use Rattle.fetch_messages.specs.Answer.{AnswerText, longest_body}
 use Rattle.fetch_messages.specs.declared.fault.FetchFault.{FetchFault}
-use Rattle.fetch_messages.specs.declared.fault.FetchFault.TheVariants.{Io, EndOfInput, BadHead, HeadTooLong, BodyTooLong, TooManyTurns, NoMemory}
+use Rattle.fetch_messages.specs.declared.fault.FetchFault.TheVariants.{Io, EndOfInput, BadHead, HeadTooLong, TooManyTurns, NoMemory}
 use Rattle.peer_fields.specs.declared.framing.Framing.{Framing}
 use Rattle.peer_fields.specs.declared.framing.Framing.TheVariants.{Length, Chunked, ToEnd}
 use Rattle.peer_intake.specs.Reading.{Takes, most_turns}
-use Rattle.peer_intake.specs.Heads.{longest_head, most_fields, head_window, IsLongResponse, EndsBeforeResponse, SpentBeforeResponse}
+use Rattle.peer_intake.specs.Heads.{longest_head, most_fields, head_window, IsLongResponse, IsOpenResponse}
 use Rattle.peer_intake.specs.Trailer.{HoldsChunkedBody, StopsInChunkedBody}
-use Rattle.peer_intake.specs.Bodies.{longest_body}
+use Rattle.peer_intake.specs.Bodies.{StopsBefore, StopsBeforeEnd}
 use Rattle.peer_reading.specs.AnswerHead.{parts_of, is_interim, ToldText, told}
 
 -- a head within the limits
@@ -69,37 +69,20 @@ EndsWithInput framing reader = ⊤
 
 -- why reading a head stopped, behind interim heads
 abbrev pub StopsAtHead : Option (List ℕ) → List ℕ → ℕ → FetchFault → Type 0
-StopsAtHead reader octets start Io = ⊤
+StopsAtHead reader octets start Io = IsOpenResponse (drop start octets)
 StopsAtHead reader octets start NoMemory = ⊤
-StopsAtHead reader octets start EndOfInput = EndsBeforeResponse reader start octets
-StopsAtHead reader octets start TooManyTurns = SpentBeforeResponse start octets
+StopsAtHead reader octets start EndOfInput = IsOpenResponse (drop start octets) × IsAtEnd reader
+StopsAtHead reader octets start TooManyTurns = IsOpenResponse (drop start octets) × (most_turns ≤ length octets)
 StopsAtHead reader octets start BadHead = NeverHasResponse (head_window start octets)
 StopsAtHead reader octets start HeadTooLong = IsLongResponse (head_window start octets)
 StopsAtHead reader octets start fault = ⊥
-
--- why reading a body of n octets stopped
-abbrev pub StopsBefore : ℕ → Option (List ℕ) → List ℕ → ℕ → FetchFault → Type 0
-StopsBefore n reader octets start Io = ⊤
-StopsBefore n reader octets start NoMemory = ⊤
-StopsBefore n reader octets start EndOfInput = (length octets < start + n) × IsAtEnd reader
-StopsBefore n reader octets start TooManyTurns = (length octets < start + n) × (most_turns ≤ length octets)
-StopsBefore n reader octets start BodyTooLong = longest_body < n
-StopsBefore n reader octets start fault = ⊥
-
--- why reading a body up to the end of the input stopped
-abbrev pub StopsBeforeEnd : Option (List ℕ) → List ℕ → ℕ → FetchFault → Type 0
-StopsBeforeEnd reader octets start Io = ⊤
-StopsBeforeEnd reader octets start NoMemory = ⊤
-StopsBeforeEnd reader octets start TooManyTurns = most_turns ≤ length octets
-StopsBeforeEnd reader octets start BodyTooLong = start + longest_body < length octets
-StopsBeforeEnd reader octets start fault = ⊥
 
 -- why reading a body that is framed so stopped
 abbrev pub StopsInBody : Option Framing → Option (List ℕ) → List ℕ → ℕ → FetchFault → Type 0
 StopsInBody None reader octets start fault = ⊥
 StopsInBody (Some (Length n)) reader octets start fault = StopsBefore n reader octets start fault
 StopsInBody (Some Chunked) reader octets start fault = StopsInChunkedBody reader octets start fault
-StopsInBody (Some ToEnd) reader octets start fault = StopsBeforeEnd reader octets start fault
+StopsInBody (Some ToEnd) reader octets start fault = StopsBeforeEnd octets start fault
 
 -- what was taken from the reader, behind the octets that were there, is the body, or tells why there is none
 pub record ReadsBody (framing : Option Framing) (reader_old reader_new : Option (List ℕ)) (old : List ℕ) (start : ℕ) (result : Result (List ℕ) FetchFault) : Type 0 where

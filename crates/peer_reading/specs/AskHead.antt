@@ -29,7 +29,7 @@ abbrev pub is_origin_form : List ℕ → Bool
 is_origin_form [] = false
 is_origin_form (octet ∷ text) = octet == 47
 
--- one `host` field, or none where HTTP/1.0 names an absolute target (RFC 9112, section 3.2)
+-- one `host` field, or none where a request of HTTP/1.0 has a target that is no path (RFC 9112, section 3.2)
 abbrev pub may_have : HostText → ℕ → List ℕ → Bool
 may_have absent minor target = (minor == 0) && not (is_origin_form target)
 may_have (one value) minor target = true
@@ -40,7 +40,7 @@ host_value absent = []
 host_value (one value) = value
 host_value several = []
 
--- the URL of a target: an absolute one, or a path at the host (RFC 9112, section 3.3)
+-- the URL of a target: a path at the host, and any other target as it stands (RFC 9112, section 3.3)
 abbrev pub url_by : HostText → List ℕ → List ℕ
 url_by named target = if is_origin_form target then codes "http://" ++ (host_value named ++ target) else target
 

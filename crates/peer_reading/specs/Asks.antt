@@ -1,11 +1,12 @@
 -- Which octets spell an ask, and why reading one stops (RFC 9112, sections 2 to 3).
 use Rattle.std.specs.Prelude.{◌≡◌, ℕ, ◌≤◌, ◌⊎◌, ⊤, List, [], ◌++◌, length, Option, Result, Ok, Err, MatchResult}
+use Rattle.std.specs.Io.KnownBytes.{IsAtEnd}
 use Rattle.httparse.specs.Grammar.{RequestHead, ReadsRequest, NeverHasRequest}
 use Rattle.fetch_messages.specs.declared.ask.Ask.{Ask}
 use Rattle.fetch_messages.specs.declared.fault.FetchFault.{FetchFault}
 use Rattle.fetch_messages.specs.declared.fault.FetchFault.TheVariants.{Io, EndOfInput, BadHead, HeadTooLong, TooManyTurns, NoMemory}
-use Rattle.peer_intake.specs.Reading.{Takes}
-use Rattle.peer_intake.specs.Heads.{longest_head, most_fields, head_window, IsLongRequest, EndsBeforeRequest, SpentBeforeRequest}
+use Rattle.peer_intake.specs.Reading.{Takes, most_turns}
+use Rattle.peer_intake.specs.Heads.{longest_head, longest_read, most_fields, head_window, IsLongRequest, IsOpenRequest}
 use Rattle.peer_reading.specs.AskHead.{parts_of, Says}
 
 -- the octets are the head of a request within the limits, and it says this
@@ -26,16 +27,17 @@ FrontSays octets outcome = (front : List ℕ) × (rest : List ℕ) × (octets �
 
 -- why reading an ask stopped after these octets
 abbrev pub StopsInAsk : Option (List ℕ) → List ℕ → FetchFault → Type 0
-StopsInAsk reader octets Io = ⊤
+StopsInAsk reader octets Io = IsOpenRequest octets
 StopsInAsk reader octets NoMemory = ⊤
-StopsInAsk reader octets EndOfInput = EndsBeforeRequest reader 0 octets
-StopsInAsk reader octets TooManyTurns = SpentBeforeRequest 0 octets
+StopsInAsk reader octets EndOfInput = IsOpenRequest octets × IsAtEnd reader
+StopsInAsk reader octets TooManyTurns = IsOpenRequest octets × (most_turns ≤ length octets)
 StopsInAsk reader octets BadHead = NeverHasRequest (head_window 0 octets) ⊎ FrontSays octets (Err BadHead)
 StopsInAsk reader octets HeadTooLong = IsLongRequest (head_window 0 octets)
 StopsInAsk reader octets fault = FrontSays octets (Err fault)
 
--- what was taken from the reader spells the ask at its front, or tells why there is none
+-- what was taken from the reader, so many octets at most, spells the ask at its front, or tells why there is none
 pub record ReadsAsk (reader_old reader_new : Option (List ℕ)) (result : Result Ask FetchFault) : Type 0 where
   pub octets : List ℕ
   pub taken : Takes reader_old reader_new [] octets
+  pub few : length octets ≤ longest_read
   pub outcome : MatchResult result (λ ask. FrontSays octets (Ok ask)) (StopsInAsk reader_new octets)

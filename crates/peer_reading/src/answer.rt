@@ -22,7 +22,8 @@ use std::io::Read;
 /// Faults, while a head is read: `BadHead` where no octets can follow that make one, `HeadTooLong` over 16,384 octets or
 /// 64 fields, `EndOfInput`, `Io`, `TooManyTurns` (70,000 calls of the reader were not enough), `NoMemory`. Then, in this
 /// order: `BadHead` (the status is 101, below 100 or above 599), `HeadTooLong` (more than 56 fields are kept, or 16,000 octets
-/// of their lines), `BadBody` and `BodyTooLong` by what its fields say of the body, and the faults of reading it.
+/// of their lines), `BadBody` and `BodyTooLong` by what its fields say of the body (a status of 204 or 304 has no body, whatever its
+/// fields say), and the faults of reading it.
 pub fn read_answer<R: Read>(alloc: Global, reader: &mut R) -> Result<Answer, FetchFault>
     ensures { ReadsAnswer (R.remaining reader.old) (R.remaining reader.new) result }
 {

@@ -20,13 +20,13 @@ use url_key::{Key, KeyFault};
 pub(crate) const MOST_FIELDS: usize = 64;
 
 /// Reads an ask (RFC 9112, section 3): its head, behind which no body may follow. Octets behind the head may have been
-/// taken from the reader too, and are lost.
+/// taken from the reader too, and are lost: at most 20,480 octets are taken in all.
 ///
 /// Faults, while the head is read: `BadHead` where no octets can follow that make one, `HeadTooLong` over 16,384 octets or
 /// 64 fields, `EndOfInput`, `Io`, `TooManyTurns` (70,000 calls of the reader were not enough), `NoMemory`. Then, in this
 /// order: `BadHead` (several `host` fields, or none in an ask of HTTP/1.1 or for a path), `MethodNotServed` (not `GET`),
-/// `BadTarget` (an absolute target, or a path at its host, is no key), `Credentials`, `BadBody` (a `transfer-encoding`, or a
-/// `content-length` that is not 0).
+/// `BadTarget` (a path at its host, or any other target as it stands, is no key), `Credentials`, `BadBody` (a `transfer-encoding`,
+/// or a `content-length` that is not 0).
 pub fn read_ask<R: Read>(alloc: Global, reader: &mut R) -> Result<Ask, FetchFault>
     ensures { ReadsAsk (R.remaining reader.old) (R.remaining reader.new) result }
 {
@@ -93,7 +93,7 @@ fn is_origin_form(target: &[u8]) -> bool
     target.first() == Some(&b'/')
 }
 
-/// The key of the URL that is asked for: an absolute target, or a path at the host (RFC 9112, section 3.3).
+/// The key of the URL that is asked for: a path at the host, or any other target as it stands (RFC 9112, section 3.3).
 fn key_of(alloc: Global, host: Host<'_>, target: &[u8]) -> Result<Key, FetchFault>
     ensures { KeyOf (url_by (host_text host.entry) target.now) result }
 {

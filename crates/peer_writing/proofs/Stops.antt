@@ -2,11 +2,11 @@
 use Rattle.std.proofs.Common.{ℕ, List, ◌++◌, Option, Result}
 use Rattle.std.specs.Result.{IsErrAnd}
 use Rattle.std.proofs.lemmas.Result.{err_from_is_err_and}
-use Rattle.text_writer.specs.Writing.{AppendsFront, Writes}
+use Rattle.text_writer.specs.Writing.{AppendsProperFront, Writes}
 use Rattle.text_writer.proofs.Laws.{writes_stop}
 
 -- a piece failed, so nothing behind it was written
-pub stops : {E : Type 0} (P : E → Type 0) (a c : Option (List ℕ)) (piece rest : List ℕ) (r : Result (Unit {0}) E) → IsErrAnd r P → AppendsFront a c piece → Writes a c r (piece ++ rest)
+pub stops : {E : Type 0} (P : E → Type 0) (a c : Option (List ℕ)) (piece rest : List ℕ) (r : Result (Unit {0}) E) → IsErrAnd r P → AppendsProperFront a c piece → Writes a c r (piece ++ rest)
 stops P a c piece rest r failed front =
     let fault = err_from_is_err_and r failed in
     writes_stop a c piece rest r fault.0 fault.1 front

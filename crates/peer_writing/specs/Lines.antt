@@ -18,6 +18,6 @@ abbrev pub number_line : List ℕ → Option ℕ → List ℕ
 number_line name None = []
 number_line name (Some number) = field_line name (decimal number)
 
--- what ends each head: the connection closes behind the message (RFC 9112, section 9.6), and the cache names itself (RFC 9110, section 7.6.3)
+-- what each head says of its connection and its writer: the connection closes behind the message (RFC 9112, section 9.6), and the cache names itself (RFC 9110, section 7.6.3)
 abbrev pub last_lines : List ℕ → List ℕ
 last_lines via = field_line (codes "connection") (codes "close") ++ field_line (codes "via") (codes "1.1 " ++ via)

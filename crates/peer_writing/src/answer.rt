@@ -12,7 +12,7 @@ use std::io::Write;
 /// Writes an answer: the status line with an empty reason, its fields in order, `age` and `x-purge-stamp` where it
 /// has them, `content-length` unless its status is 204 or 304, `connection: close`, `via` with the name of the cache
 /// that answers, and the body. `Io` comes where the writer failed, and is the only fault; a front of the text is
-/// written then. It takes no memory.
+/// written then, and not all of it. It takes no memory.
 pub fn write_answer<W: Write>(writer: &mut W, answer: &Answer, via: &[u8]) -> Result<(), FetchFault>
     requires { IsTrue (names_cache via.now) }
     ensures written { Writes (W.contents writer.old) (W.contents writer.new) result

@@ -19,8 +19,8 @@ pub enum AskForm {
 
 /// Writes an ask: a GET in HTTP/1.1 with the fields `host`, `cache-control` where a directive is set,
 /// `connection: close`, `via` with the name of the cache that asks, and `x-purge-member` where it is a member of
-/// the hierarchy. `Io` comes where the writer failed, and is the only fault; a front of the text is written then.
-/// It takes no memory.
+/// the hierarchy. `Io` comes where the writer failed, and is the only fault; a front of the text is written then,
+/// and not all of it. It takes no memory.
 pub fn write_ask<W: Write>(
     writer: &mut W,
     ask: &Ask,

@@ -1,9 +1,10 @@
 //! The texts of HTTP asks and answers, as they are written to peers, origins and clients (RFC 9112).
 //!
-//! `write_ask` writes `ask_text` of `specs/Ask`, `write_answer` writes `answer_text` of `specs/Answer`, and
-//! after a fault a front of it. Neither takes memory.
+//! `write_ask` writes `ask_text` of `specs/Ask`, `write_answer` writes `answer_text` of `specs/Answer`,
+//! `write_served` and `write_status` write `answer_text` of what `specs/Served` says, and after a fault a front of
+//! it, not all of it. None takes memory.
 //!
-//! The trait of writing counts no failures, so a body that answers `Io` at once would meet both contracts. That `Io` comes only
+//! The trait of writing counts no failures, so a body that answers `Io` at once would meet each contract. That `Io` comes only
 //! where the writer failed is shown by tests.
 #![tactic(auto)]
 

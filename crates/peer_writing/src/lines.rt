@@ -68,7 +68,7 @@ pub(crate) fn write_number<W: Write>(
     }
 }
 
-/// Writes the lines that end each head: the connection closes, and the cache names itself.
+/// Writes the lines by which the connection closes and the cache names itself.
 pub(crate) fn write_last_lines<W: Write>(writer: &mut W, via: &[u8]) -> Result<(), FetchFault>
     ensures written { Writes (W.contents writer.old) (W.contents writer.new) result
         (last_lines via.now) }

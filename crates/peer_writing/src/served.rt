@@ -14,8 +14,9 @@ use fetch_messages::{Answer, FetchFault, Field};
 use itoa::Buffer;
 use std::io::Write;
 
-/// Writes a stored answer as it is served: as `write_answer`, with this age in seconds and this stamp in place of its own. `Io` comes
-/// where the writer failed, and is the only fault; a front of the text is written then. It takes no memory.
+/// Writes a stored answer as it is served: as `write_answer`, with this age in seconds and this stamp in place of its own. The age is
+/// written as it is: that it is at most 2,147,483,648 is the caller's to see to. `Io` comes where the writer failed, and is the only
+/// fault; a front of the text is written then, and not all of it. It takes no memory.
 pub fn write_served<W: Write>(
     writer: &mut W,
     answer: &Answer,
@@ -39,9 +40,9 @@ pub fn write_served<W: Write>(
     )
 }
 
-/// Writes a status alone (RFC 9110, section 15): no fields but `content-length: 0`, which 204 and 304 do not have, `connection: close`
-/// and `via` with the name of the cache, and an empty body. `Io` comes where the writer failed, and is the only fault; a front of the
-/// text is written then. It takes no memory.
+/// Writes a final status alone, 200 to 599 (RFC 9110, section 15; that it is one is the caller's to see to): no fields but
+/// `content-length: 0`, which 204 and 304 do not have, `connection: close` and `via` with the name of the cache, and an empty body. `Io`
+/// comes where the writer failed, and is the only fault; a front of the text is written then, and not all of it. It takes no memory.
 pub fn write_status<W: Write>(writer: &mut W, status: u16, via: &[u8]) -> Result<(), FetchFault>
     requires { IsTrue (names_cache via.now) }
     ensures written { Writes (W.contents writer.old) (W.contents writer.new) result

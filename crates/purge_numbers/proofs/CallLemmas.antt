@@ -1,5 +1,5 @@
 -- What a call with the statement that puts a floor does to a connection.
-use Rattle.std.proofs.Common.{◌≡◌, ◌⊎◌, inl, inr, ℕ, List, None, Ok, Err, Result, IsTrue, sym, ap, subst, ◌∙◌, append-nil, OnOk, OnErr, arith}
+use Rattle.std.proofs.Common.{◌≡◌, ◌⊎◌, inl, inr, ℕ, List, None, Ok, Err, Result, IsTrue, sym, ap, subst, ◌∙◌, append-nil, OnOk, IfErr, arith}
 use Rattle.std.specs.FinMap.{insert}
 use Rattle.sqlite_trees.specs.Tree.{Trees}
 use Rattle.sqlite.specs.Listing.{understood}
@@ -14,7 +14,7 @@ use Rattle.floor_rules.specs.Floors.{FloorMap}
 use Rattle.purge_numbers.specs.Tables.{node_schema, floors_in}
 use Rattle.purge_numbers.specs.Store.{IsReady, committed_floors, MayFind}
 use Rattle.purge_numbers.proofs.Texts.{put_command, put_is, put_plain}
-use Rattle.purge_numbers.specs.Put.{put_text, put_params, FailsToPut}
+use Rattle.purge_numbers.specs.Put.{put_text, put_params}
 use Rattle.purge_numbers.proofs.PutLemmas.{does_put}
 
 pub put_runs : (old new : State) (u : List ℕ) (n count : ℕ) → IsReady old → Executes put_text (put_params u n) old new (Ok count)
@@ -68,6 +68,7 @@ put_crash g old new u n settled was survives clean floors may =
 pub settled_crash : {S : Type 0} (g : Ghosts S) (h : Held S) → IsSettledBy g → IsReady (state g h) → (floors : FloorMap) → MayFind (state g h) floors → floors ≡ committed_floors (state g h)
 settled_crash g h settled ready floors may = may.2 ∙ ap floors_in (settled h.store may.0 ready.is_open may.1)
 
-pub put_fails : (old new : State) (u : List ℕ) (n : ℕ) (r : Result ℕ Error) → (HasCleanDisk new → Executes put_text (put_params u n) old new r) → OnErr r (HasCleanDisk new → FailsToPut old new u n)
+pub put_fails : (old new : State) (u : List ℕ) (n : ℕ) (r : Result ℕ Error) → (HasCleanDisk new → Executes put_text (put_params u n) old new r)
+    → IfErr r (λ e. HasCleanDisk new → Executes put_text (put_params u n) old new (Err e))
 put_fails old new u n (Ok count) h = tt
-put_fails old new u n (Err e) h = λ clean. (e, h clean)
+put_fails old new u n (Err e) h = h

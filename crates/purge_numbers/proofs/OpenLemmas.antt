@@ -12,7 +12,7 @@ use Rattle.std.proofs.lemmas.List.Sorted.{IsPermutation-sym, length_permutation}
 use Rattle.std.proofs.lemmas.List.{length-map}
 use Rattle.floor_rules.specs.declared.fault.FloorFault.{FloorFault}
 use Rattle.floor_rules.specs.Floors.{FloorMap}
-use Rattle.purge_numbers.specs.Tables.{node_schema, floors_in}
+use Rattle.purge_numbers.specs.Tables.{node_schema, floors_in, IsFloorTable}
 use Rattle.purge_numbers.specs.Making.{IsNodeFile, LeavesNoOther}
 use Rattle.purge_numbers.specs.Rows.{Adds, IsFloor, shown_row, shown_version, HasVersionOne}
 use Rattle.purge_numbers.specs.Store.{AreIn, committed_floors}
@@ -37,14 +37,38 @@ module _ (old new : State) (rows : List Row) (all : FloorMap) (autocommit : old.
         same = read.2 ∙ ap (λ (d : Database). floors_in d.trees) (settled same.0.was_open ∙ sym same.0.committed_is);
       }
 
+few_rows : (old : State) (rows : List Row) → IsPermutation (map shown_row (old.now.trees 1)) rows → length rows ≤ 65536 → length (old.now.trees 1) ≤ 65536
+few_rows old rows shown few =
+    omega (arith, few, length_permutation (map shown_row (old.now.trees 1)) rows shown, length-map (old.now.trees 1) shown_row)
+
+-- a file with the tables of a node's file is one too
+pub same_file : (a b : State) → a.in_transaction ≡ b.in_transaction → a.now ≡ b.now → IsNodeFile a → IsNodeFile b
+same_file a b mode now file = record {
+  autocommit = sym mode ∙ file.autocommit;
+  schema = ap (λ (d : Database). d.schema) (sym now) ∙ file.schema;
+  version = subst (λ (d : Database). HasVersionOne (d.trees 0)) now file.version;
+  floors = subst (λ (d : Database). AllByRecursion IsFloor (d.trees 1)) now file.floors;
+  once = subst (λ (d : Database). IsFloorTable (d.trees 1)) now file.once;
+  few = subst (λ (d : Database). length (d.trees 1) ≤ 65536) now file.few;
+}
+
 pub one_version : (table rows : List Row) (row : Row) → IsPermutation (map shown_version table) rows → rows ≡ row ∷ [] → map shown_version table ≡ row ∷ []
 one_version table rows row same is = one_permutation row (map shown_version table) (IsPermutation-sym (map shown_version table) (row ∷ []) (rw (← is) same))
 
 module _ (old new : State) (rows : List Row) (autocommit : old.in_transaction ≡ false) (settled : IsTrue old.is_open → old.now ≡ old.committed) (has : old.now.schema ≡ node_schema)
     (same : HasCleanDisk new → IsUnchanged old new) (shown : HasCleanDisk new → IsPermutation (map shown_row (old.now.trees 1)) rows) where
-  pub read_rows : (r : Result FloorMap FloorFault) → IfOk r (λ all. Adds empty rows all) → OnOk r (HasCleanDisk new → AllByRecursion IsFloor (old.now.trees 1))
-  read_rows (Err fault) adds = tt
-  read_rows (Ok all) adds = λ clean. (reads_floors (old.now.trees 1) rows all (shown clean) adds).0
+  -- a file of version 1 whose rows were read is a node's
+  pub read_node : (HasCleanDisk new → HasVersionOne (old.now.trees 0)) → length rows ≤ 65536 → (r : Result FloorMap FloorFault) → IfOk r (λ all. Adds empty rows all) → OnOk r (HasCleanDisk new → IsNodeFile old)
+  read_node version few (Err fault) adds = tt
+  read_node version few (Ok all) adds = λ clean.
+      let read = reads_floors (old.now.trees 1) rows all (shown clean) adds in record {
+        autocommit = autocommit;
+        schema = has;
+        version = version clean;
+        floors = read.0;
+        once = (floor_rows (old.now.trees 1) read.0, read.1);
+        few = few_rows old rows (shown clean) few;
+      }
 
   pub read_kept : (r : Result FloorMap FloorFault) → IfOk r (λ all. Adds empty rows all) → IfOk r (λ all. HasCleanDisk new → AreIn new all)
   read_kept (Err fault) adds = tt
@@ -63,10 +87,6 @@ not_added old rows shown none file =
 pub too_many : (old : State) (rows : List Row) → IsPermutation (map shown_row (old.now.trees 1)) rows → 65536 < length rows → ¬ IsNodeFile old
 too_many old rows shown many file =
     omega (arith, many, file.few, length_permutation (map shown_row (old.now.trees 1)) rows shown, length-map (old.now.trees 1) shown_row)
-
-pub few_rows : (old : State) (rows : List Row) → IsPermutation (map shown_row (old.now.trees 1)) rows → length rows ≤ 65536 → length (old.now.trees 1) ≤ 65536
-few_rows old rows shown few =
-    omega (arith, few, length_permutation (map shown_row (old.now.trees 1)) rows shown, length-map (old.now.trees 1) shown_row)
 
 pub kept_crash : (old mid new : State) → LeavesNoOther old mid → Survives mid new (λ _. ⊥) → LeavesNoOther old new
 kept_crash old mid new first second clean left may = elim (second.crash clean may.0 may.1) [

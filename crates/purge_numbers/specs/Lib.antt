@@ -1,5 +1,6 @@
 pub mod Store
 pub mod Tables
+pub mod Faults
 pub mod Put
 pub mod Rows
 pub mod Making

@@ -4,7 +4,7 @@ use Rattle.std.specs.FinMap.{empty}
 use Rattle.std.specs.List.{AllByRecursion}
 use Rattle.sqlite.specs.Effect.{Database}
 use Rattle.sqlite.specs.State.{State, HasCleanDisk}
-use Rattle.floor_rules.specs.Floors.{FloorMap}
+use Rattle.floor_rules.specs.Floors.{FloorMap, most_rows}
 use Rattle.purge_numbers.specs.Rows.{HasVersion, HasVersionOne, IsFloor}
 use Rattle.purge_numbers.specs.Store.{MayFind, committed_floors}
 use Rattle.purge_numbers.specs.Tables.{empty_schema, form_schema, node_schema, IsFloorTable}
@@ -46,14 +46,12 @@ pub record IsNodeFile (file : State) : Type 0 where
   pub version : HasVersionOne (file.now.trees 0)
   pub floors : AllByRecursion IsFloor (file.now.trees 1)
   pub once : IsFloorTable (file.now.trees 1)
-  pub few : length (file.now.trees 1) ≤ 65536
+  pub few : length (file.now.trees 1) ≤ most_rows
 
--- a file with nothing in it has no floors, and a node's file in version 1, whose rows are at most 65,536 and all floors, has those that were committed
+-- a file with nothing in it, and no transaction open, has no floors, and a node's file has those that were committed
 abbrev pub OpensWith : State → FloorMap → Type 0
-OpensWith file floors =
-    (IsBlank file.now × (floors ≡ empty))
-    ⊎ ((file.now.schema ≡ node_schema) × HasVersionOne (file.now.trees 0) × AllByRecursion IsFloor (file.now.trees 1) × (length (file.now.trees 1) ≤ 65536) × (floors ≡ committed_floors file))
+OpensWith file floors = ((file.in_transaction ≡ false) × IsBlank file.now × (floors ≡ empty)) ⊎ (IsNodeFile file × (floors ≡ committed_floors file))
 
--- a crash leaves what it may have left before, or no floors where the file had nothing in it
+-- a crash leaves what it may have left before, or no floors where the file had nothing in it and no transaction was open
 abbrev pub LeavesNoOther : State → State → Type 0
-LeavesNoOther old new = HasCleanDisk new → (left : FloorMap) → MayFind new left → MayFind old left ⊎ (IsBlank old.now × (left ≡ empty))
+LeavesNoOther old new = HasCleanDisk new → (left : FloorMap) → MayFind new left → MayFind old left ⊎ ((old.in_transaction ≡ false) × IsBlank old.now × (left ≡ empty))

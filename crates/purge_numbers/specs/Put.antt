@@ -1,9 +1,11 @@
 -- The one statement that a raise runs.
-use Rattle.std.specs.Prelude.{ℕ, pos, List, [], ◌∷◌, codes, Err}
+use Rattle.std.specs.Prelude.{◌≡◌, ℕ, pos, List, [], ◌∷◌, codes, Err}
 use Rattle.sqlite.specs.declared.types.Value.TheVariants.{Int, Text}
 use Rattle.sqlite_value.specs.Order.{Row}
 use Rattle.sqlite.specs.declared.error.Error.{Error}
 use Rattle.sqlite.specs.State.{State, Executes}
+use Rattle.floor_rules.specs.declared.fault.FloorFault.TheVariants.{StoreFault}
+use Rattle.purge_numbers.specs.Faults.{told_as}
 
 -- gives a url a number, in place of its own where it has one
 abbrev pub put_text : List ℕ
@@ -12,6 +14,6 @@ put_text = codes "INSERT INTO floors (url, number) VALUES (?1, ?2) ON CONFLICT (
 abbrev pub put_params : List ℕ → ℕ → Row
 put_params url number = Text url ∷ Int (pos number) ∷ []
 
--- the database was given the statement, and answered with an error
+-- the database was given the statement, and answered with an error that is not want of memory
 abbrev pub FailsToPut : State → State → List ℕ → ℕ → Type 0
-FailsToPut old new url number = (e : Error) × Executes put_text (put_params url number) old new (Err e)
+FailsToPut old new url number = (e : Error) × (told_as e ≡ StoreFault) × Executes put_text (put_params url number) old new (Err e)

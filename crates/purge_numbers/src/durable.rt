@@ -1,5 +1,5 @@
 //! Floors in a file of SQLite.
-ghost use Rattle.std.specs.Prelude.{◌≡◌, ◌≢◌, false, IsTrue, IfOk, IfErr};
+ghost use Rattle.std.specs.Prelude.{◌≡◌, ◌≢◌, false, None, IsTrue, IfOk, IfErr};
 ghost use Rattle.sqlite.specs.State.{HasCleanDisk};
 ghost use Rattle.sqlite.specs.Held.{state};
 ghost use Rattle.purge_numbers.specs.Put.{FailsToPut};
@@ -43,13 +43,15 @@ impl<S: Alter> SqliteFloors<S> {
     /// `BadTable` comes where the connection has an open transaction, where the tables are not those of a node, where the
     /// version is not 1, where a row is no floor (a text that is its own key, a number of 1 to 4294967295), and
     /// where there are more than 65,536 rows. A file with nothing in it is never answered so, unless a transaction is open.
-    /// `StoreFault` and `NoMemory` come where the connection fails so.
+    /// `StoreFault` and `NoMemory` come where the connection fails so. A limit on steps that the connection had is lifted.
     pub fn open(
         alloc: Global,
         mut conn: Connection<S>,
     ) -> Result<SqliteFloors<S>, (Connection<S>, FloorFault)>
         ensures found { IfOk result (λ it. HasCleanDisk (state S.Store it.conn) → OpensWith (state S.Store conn) (committed_floors (state S.Store it.conn))) }
+        ensures node { IfOk result (λ it. HasCleanDisk (state S.Store it.conn) → IsNodeFile (state S.Store it.conn)) }
         ensures usable { IfOk result (λ it. IsTrue it.is_usable × (it.failures ≡ 0)) }
+        ensures unlimited { IfOk result (λ it. (state S.Store it.conn).step_limit ≡ None) }
         ensures crash { IfOk result (λ it. LeavesNoOther (state S.Store conn) (state S.Store it.conn)) }
         ensures bad { IfErr result (λ e. e.1 ≡ FloorFault.BadTable → HasCleanDisk (state S.Store e.0) → ¬ IsNodeFile (state S.Store conn)) }
         ensures blank { IfErr result (λ e. IsBlank (state S.Store conn).now → (state S.Store conn).in_transaction ≡ false → HasCleanDisk (state S.Store e.0) → e.1 ≢ FloorFault.BadTable) }

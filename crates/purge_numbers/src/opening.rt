@@ -1,11 +1,10 @@
 //! Opening a node's file.
-ghost use Rattle.std.specs.Prelude.{◌≡◌, ◌≢◌, ◌≤◌, ◌⊎◌, ◌∷◌, [], false, pos, length, map, IsPermutation, IsTrue, IfOk, OnOk, Err};
-ghost use Rattle.std.specs.List.{AllByRecursion};
+ghost use Rattle.std.specs.Prelude.{◌≡◌, ◌≢◌, ◌⊎◌, ◌∷◌, [], false, pos, map, IsPermutation, IsTrue, IfOk, OnOk, None, Err};
 ghost use Rattle.sqlite.specs.State.{HasCleanDisk, Survives, IsUnchanged};
 ghost use Rattle.sqlite.specs.Held.{state};
 ghost use Rattle.sqlite.specs.declared.types.Value.TheVariants.{Int};
 ghost use Rattle.purge_numbers.specs.Making.{IsBlank, IsFormed, IsMade, IsNodeFile, IsUnversioned, IsUnused, IsVersioned, LeavesNoOther, Makes, OpensWith};
-ghost use Rattle.purge_numbers.specs.Rows.{HasVersionOne, IsFloor, shown_row, shown_version};
+ghost use Rattle.purge_numbers.specs.Rows.{HasVersionOne, shown_row, shown_version};
 ghost use Rattle.purge_numbers.specs.Store.{AreIn, committed_floors};
 ghost use Rattle.purge_numbers.specs.Tables.{node_schema, empty_schema};
 
@@ -72,12 +71,13 @@ fn check_version<S: Alter>(conn: &mut Connection<S>) -> Result<(), FloorFault>
     }
 }
 
-/// Reads the floors of a file that has the tables of a node.
+/// Reads the floors of a file that has the tables of a node, in their one version.
 fn read_floors<S: Alter>(conn: &mut Connection<S>, alloc: Global) -> Result<Floors, FloorFault>
+    requires { HasCleanDisk (state S.Store conn.old) → HasVersionOne ((state S.Store conn.old).now.trees 0) }
     ensures kept { IfOk result (λ floors. HasCleanDisk (state S.Store conn.new) → AreIn (state S.Store conn.new) floors) }
     ensures same { OnOk result (HasCleanDisk (state S.Store conn.new) → committed_floors (state S.Store conn.new) ≡ committed_floors (state S.Store conn.old)) }
-    ensures rows { OnOk result (HasCleanDisk (state S.Store conn.new) → AllByRecursion IsFloor ((state S.Store conn.old).now.trees 1)) }
-    ensures few { OnOk result (HasCleanDisk (state S.Store conn.new) → length ((state S.Store conn.old).now.trees 1) ≤ 65536) }
+    ensures file { OnOk result (HasCleanDisk (state S.Store conn.new) → IsNodeFile (state S.Store conn.old)) }
+    ensures node { OnOk result (HasCleanDisk (state S.Store conn.new) → IsNodeFile (state S.Store conn.new)) }
     ensures bad { result ≡ Err FloorFault.BadTable → HasCleanDisk (state S.Store conn.new) → ¬ IsNodeFile (state S.Store conn.old) }
     ensures survives { Survives (state S.Store conn.old) (state S.Store conn.new) (λ _. ⊥) }
     ensures full { result ≢ Err FloorFault.FloorsFull }
@@ -164,9 +164,11 @@ fn is_blank(schema: &Schema) -> bool
 
 /// Makes the tables in a file that has none.
 fn make_where_blank<S: Alter>(conn: &mut Connection<S>) -> Result<(), FloorFault>
+    requires { (state S.Store conn.old).in_transaction ≡ false }
     ensures done { OnOk result ((IsBlank (state S.Store conn.old).now × (HasCleanDisk (state S.Store conn.new) → IsMade (state S.Store conn.new))) ⊎ ((¬ IsBlank (state S.Store conn.old).now) × (conn.new ≡ conn.old))) }
     ensures named { result ≢ Err FloorFault.BadTable }
     ensures crash { LeavesNoOther (state S.Store conn.old) (state S.Store conn.new) }
+    ensures limit { (state S.Store conn.new).step_limit ≡ (state S.Store conn.old).step_limit }
     ensures full { result ≢ Err FloorFault.FloorsFull }
 {
     if !is_blank(conn.schema()) {
@@ -178,14 +180,12 @@ fn make_where_blank<S: Alter>(conn: &mut Connection<S>) -> Result<(), FloorFault
     }
 }
 
-/// Reads the floors of a file that has the tables of a node, in their one version.
+/// Reads the floors of a node's file.
 fn read_file<S: Alter>(conn: &mut Connection<S>, alloc: Global) -> Result<Floors, FloorFault>
     ensures kept { IfOk result (λ floors. HasCleanDisk (state S.Store conn.new) → AreIn (state S.Store conn.new) floors) }
-    ensures version { OnOk result (HasCleanDisk (state S.Store conn.new) → HasVersionOne ((state S.Store conn.old).now.trees 0)) }
+    ensures file { OnOk result (HasCleanDisk (state S.Store conn.new) → IsNodeFile (state S.Store conn.old)) }
+    ensures node { OnOk result (HasCleanDisk (state S.Store conn.new) → IsNodeFile (state S.Store conn.new)) }
     ensures same { OnOk result (HasCleanDisk (state S.Store conn.new) → committed_floors (state S.Store conn.new) ≡ committed_floors (state S.Store conn.old)) }
-    ensures schema { OnOk result ((state S.Store conn.old).now.schema ≡ node_schema) }
-    ensures rows { OnOk result (HasCleanDisk (state S.Store conn.new) → AllByRecursion IsFloor ((state S.Store conn.old).now.trees 1)) }
-    ensures few { OnOk result (HasCleanDisk (state S.Store conn.new) → length ((state S.Store conn.old).now.trees 1) ≤ 65536) }
     ensures bad { result ≡ Err FloorFault.BadTable → HasCleanDisk (state S.Store conn.new) → ¬ IsNodeFile (state S.Store conn.old) }
     ensures survives { Survives (state S.Store conn.old) (state S.Store conn.new) (λ _. ⊥) }
     ensures full { result ≢ Err FloorFault.FloorsFull }
@@ -204,9 +204,11 @@ pub(crate) fn open_file<S: Alter>(
 ) -> Result<Floors, FloorFault>
     ensures kept { IfOk result (λ floors. HasCleanDisk (state S.Store conn.new) → AreIn (state S.Store conn.new) floors) }
     ensures found { OnOk result (HasCleanDisk (state S.Store conn.new) → OpensWith (state S.Store conn.old) (committed_floors (state S.Store conn.new))) }
+    ensures node { OnOk result (HasCleanDisk (state S.Store conn.new) → IsNodeFile (state S.Store conn.new)) }
     ensures bad { result ≡ Err FloorFault.BadTable → HasCleanDisk (state S.Store conn.new) → ¬ IsNodeFile (state S.Store conn.old) }
     ensures blank { IsBlank (state S.Store conn.old).now → (state S.Store conn.old).in_transaction ≡ false → HasCleanDisk (state S.Store conn.new) → result ≢ Err FloorFault.BadTable }
     ensures crash { LeavesNoOther (state S.Store conn.old) (state S.Store conn.new) }
+    ensures unlimited { (state S.Store conn.new).step_limit ≡ None }
     ensures full { result ≢ Err FloorFault.FloorsFull }
 {
     conn.set_step_limit(None);

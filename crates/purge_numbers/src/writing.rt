@@ -1,10 +1,10 @@
 //! The calls of the database.
-ghost use Rattle.std.specs.Prelude.{◌≡◌, ◌≢◌, ◌⊎◌, ◌≤◌, IsTrue, None, OnOk, OnErr};
+ghost use Rattle.std.specs.Prelude.{◌≡◌, ◌≢◌, ◌⊎◌, ◌≤◌, None, IfErr, OnOk};
 ghost use Rattle.std.specs.FinMap.{get, insert, len};
-ghost use Rattle.sqlite.specs.State.{HasCleanDisk};
+ghost use Rattle.sqlite.specs.State.{HasCleanDisk, Executes};
 ghost use Rattle.sqlite.specs.Held.{state};
-ghost use Rattle.floor_rules.specs.Floors.{FloorMap, HasRoom, raised};
-ghost use Rattle.purge_numbers.specs.Put.{FailsToPut};
+ghost use Rattle.floor_rules.specs.Floors.{FloorMap, HasRoom, most_rows, raised};
+ghost use Rattle.purge_numbers.specs.Put.{FailsToPut, put_params, put_text};
 ghost use Rattle.floor_rules.specs.Store.{IsBeforeOrAfter};
 ghost use Rattle.purge_numbers.specs.Store.{IsReady, AreIn, committed_floors, MayFind};
 
@@ -22,7 +22,7 @@ fn put<S: Alter>(conn: &mut Connection<S>, url: &[u8], number: u32) -> Result<us
     ensures honest { HasCleanDisk (state S.Store conn.new) → HasCleanDisk (state S.Store conn.old) }
     ensures ready { OnOk result (HasCleanDisk (state S.Store conn.new) → IsReady (state S.Store conn.new)) }
     ensures put { OnOk result (HasCleanDisk (state S.Store conn.new) → committed_floors (state S.Store conn.new) ≡ insert (committed_floors (state S.Store conn.old)) url.now number) }
-    ensures failed { OnErr result (HasCleanDisk (state S.Store conn.new) → FailsToPut (state S.Store conn.old) (state S.Store conn.new) url.now number) }
+    ensures failed { IfErr result (λ e. HasCleanDisk (state S.Store conn.new) → Executes put_text (put_params url.now number) (state S.Store conn.old) (state S.Store conn.new) (Err e)) }
     ensures crash { HasCleanDisk (state S.Store conn.new) → (floors : FloorMap) → MayFind (state S.Store conn.new) floors
         → (floors ≡ committed_floors (state S.Store conn.old)) ⊎ (floors ≡ insert (committed_floors (state S.Store conn.old)) url.now number) }
 {
@@ -47,7 +47,7 @@ pub(crate) fn raise<S: Alter>(
     ensures raised { OnOk result (HasCleanDisk (state S.Store conn.new) → committed_floors (state S.Store conn.new) ≡ raised (committed_floors (state S.Store conn.old)) key.now number) }
     ensures crash { HasCleanDisk (state S.Store conn.new) → (left : FloorMap) → MayFind (state S.Store conn.new) left
         → IsBeforeOrAfter (committed_floors (state S.Store conn.old)) key.now number left }
-    ensures full { result ≡ Err FloorFault.FloorsFull → (conn.new ≡ conn.old) × (floors.new ≡ floors.old) × (65536 ≤ len floors.old) × (get floors.old key.now ≡ None) }
+    ensures full { result ≡ Err FloorFault.FloorsFull → (conn.new ≡ conn.old) × (floors.new ≡ floors.old) × (most_rows ≤ len floors.old) × (get floors.old key.now ≡ None) }
     ensures room { OnOk result (HasCleanDisk (state S.Store conn.new) → HasRoom (committed_floors (state S.Store conn.old)) key.now) }
     ensures cause { result ≡ Err FloorFault.StoreFault → HasCleanDisk (state S.Store conn.new) → FailsToPut (state S.Store conn.old) (state S.Store conn.new) key.now number }
     ensures named { result ≢ Err FloorFault.BadTable }

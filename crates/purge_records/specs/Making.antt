@@ -40,10 +40,10 @@ pub record IsMasterFile (file : State) : Type 0 where
   pub master : IsMaster file.now
   pub few : length (file.now.trees 2) ≤ 1024
 
--- a file with nothing in it has no purges, and a master's file has those that were committed
+-- a file with nothing in it, and no transaction open, has no purges, and a master's file has those that were committed
 abbrev pub OpensWith : State → PurgeList → Type 0
-OpensWith file purges = (IsBlank file.now × (purges ≡ no_purges)) ⊎ (IsMasterFile file × (purges ≡ committed_purges file))
+OpensWith file purges = ((file.in_transaction ≡ false) × IsBlank file.now × (purges ≡ no_purges)) ⊎ (IsMasterFile file × (purges ≡ committed_purges file))
 
--- a crash leaves what it may have left before, or no purges where the file had nothing in it
+-- a crash leaves what it may have left before, or no purges where the file had nothing in it and no transaction was open
 abbrev pub LeavesNoOther : State → State → Type 0
-LeavesNoOther old new = HasCleanDisk new → (left : PurgeList) → MayFind new left → MayFind old left ⊎ (IsBlank old.now × (left ≡ no_purges))
+LeavesNoOther old new = HasCleanDisk new → (left : PurgeList) → MayFind new left → MayFind old left ⊎ ((old.in_transaction ≡ false) × IsBlank old.now × (left ≡ no_purges))

@@ -32,7 +32,7 @@ committed_purges s = purges_in s.committed.trees
 abbrev pub MayFind : State → PurgeList → Type 0
 MayFind s purges = (trees : Trees) × s.may_leave trees × (purges ≡ purges_in trees)
 
--- the durable purges: a connection, what it last committed, and whether no call has failed
+-- the durable purges: a connection, the copy of its purges in memory, whether no call has failed, and how many calls were answered with `StoreFault`
 pub record Durable (S : Type 0) : Type 0 where
   pub conn : Held S
   pub purges : PurgeList

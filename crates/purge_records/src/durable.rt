@@ -1,5 +1,5 @@
 //! Purges in a file of SQLite.
-ghost use Rattle.std.specs.Prelude.{◌≡◌, ◌≢◌, false, IsTrue, IfOk, IfErr};
+ghost use Rattle.std.specs.Prelude.{◌≡◌, ◌≢◌, false, None, IsTrue, IfOk, IfErr};
 ghost use Rattle.sqlite.specs.State.{HasCleanDisk};
 ghost use Rattle.sqlite.specs.Held.{state};
 ghost use Rattle.purge_numbers.specs.Making.{IsBlank};
@@ -15,8 +15,6 @@ use std::marker::Model;
 use url_key::Key;
 
 /// Purges in the tables of a connection, with a copy in memory that a load hands out.
-///
-/// A caller adds no purge while 1,024 are pending: the file would hold more than an open reads.
 ///
 /// A contract sees the connection, that copy, whether no call has failed, and how many calls were answered with `StoreFault`.
 #[derive(Drop)]
@@ -46,13 +44,14 @@ impl<S: Alter> SqlitePurges<S> {
     /// version is not 1, where there is no row with the last number (0 to 4294967295), where a row is no pending purge (a number
     /// of 1 to the last one, a text that is its own key) or no ack (the number of a pending purge, a member of 1 to 16), and where
     /// there are more than 1,024 purges. A file with nothing in it is never answered so, unless a transaction is open.
-    /// `StoreFault` and `NoMemory` come where the connection fails so.
+    /// `StoreFault` and `NoMemory` come where the connection fails so. A limit on steps that the connection had is lifted.
     pub fn open(
         alloc: Global,
         mut conn: Connection<S>,
     ) -> Result<SqlitePurges<S>, (Connection<S>, PurgeFault)>
         ensures found { IfOk result (λ it. HasCleanDisk (state S.Store it.conn) → OpensWith (state S.Store conn) (committed_purges (state S.Store it.conn))) }
         ensures usable { IfOk result (λ it. IsTrue it.is_usable × (it.failures ≡ 0)) }
+        ensures unlimited { IfOk result (λ it. (state S.Store it.conn).step_limit ≡ None) }
         ensures crash { IfOk result (λ it. LeavesNoOther (state S.Store conn) (state S.Store it.conn)) }
         ensures bad { IfErr result (λ e. e.1 ≡ PurgeFault.BadTable → HasCleanDisk (state S.Store e.0) → ¬ IsMasterFile (state S.Store conn)) }
         ensures blank { IfErr result (λ e. IsBlank (state S.Store conn).now → (state S.Store conn).in_transaction ≡ false → HasCleanDisk (state S.Store e.0) → e.1 ≢ PurgeFault.BadTable) }

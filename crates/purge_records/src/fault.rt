@@ -1,12 +1,14 @@
 //! Faults of the store.
 ghost use Rattle.std.specs.Prelude.{◌≡◌, ◌⊎◌};
+ghost use Rattle.purge_records.specs.Faults.{told_as};
 
 use purge_rules::PurgeFault;
 use sqlite::{Error, ErrorCode};
 
 /// What a failure of the connection is told as.
 pub(crate) fn fault_of(error: Error) -> PurgeFault
-    ensures { (result ≡ PurgeFault.NoMemory) ⊎ (result ≡ PurgeFault.StoreFault) }
+    ensures told { result ≡ told_as error }
+    ensures named { (result ≡ PurgeFault.NoMemory) ⊎ (result ≡ PurgeFault.StoreFault) }
 {
     match error {
         Error::SqliteFailure(ErrorCode::OutOfMemory) => PurgeFault::NoMemory,

@@ -132,9 +132,11 @@ fn is_blank(schema: &Schema) -> bool
 
 /// Makes the tables in a file that has none.
 pub(crate) fn make_where_blank<S: Alter>(conn: &mut Connection<S>) -> Result<(), PurgeFault>
+    requires { (state S.Store conn.old).in_transaction ≡ false }
     ensures done { OnOk result ((IsBlank (state S.Store conn.old).now × (HasCleanDisk (state S.Store conn.new) → IsMade (state S.Store conn.new))) ⊎ ((¬ IsBlank (state S.Store conn.old).now) × (conn.new ≡ conn.old))) }
     ensures named { result ≢ Err PurgeFault.BadTable }
     ensures crash { LeavesNoOther (state S.Store conn.old) (state S.Store conn.new) }
+    ensures limit { (state S.Store conn.new).step_limit ≡ (state S.Store conn.old).step_limit }
 {
     if !is_blank(conn.schema()) {
         return Ok(());

@@ -228,6 +228,7 @@ pub(crate) fn open_file<S: Alter>(
     ensures bad { result ≡ Err PurgeFault.BadTable → HasCleanDisk (state S.Store conn.new) → ¬ IsMasterFile (state S.Store conn.old) }
     ensures blank { IsBlank (state S.Store conn.old).now → (state S.Store conn.old).in_transaction ≡ false → HasCleanDisk (state S.Store conn.new) → result ≢ Err PurgeFault.BadTable }
     ensures crash { LeavesNoOther (state S.Store conn.old) (state S.Store conn.new) }
+    ensures unlimited { (state S.Store conn.new).step_limit ≡ None }
 {
     conn.set_step_limit(None);
     if !conn.is_autocommit() {

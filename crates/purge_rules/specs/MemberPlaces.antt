@@ -1,4 +1,4 @@
--- The places of ids, and the ids of places: what the one says, the other does.
+-- Lemmas for the type of sets; nothing here is a definition but `numbers`. The places of ids, and the ids of places: what the one says, the other does.
 use Rattle.std.proofs.Common.{◌≡◌, ℕ, zero, suc, ◌+◌, ◌<◌, ◌==◌, Bool, true, false, ◌||◌, List, [], ◌∷◌, map, length, get_or, refl, sym, ap, ◌∙◌, arith}
 use Rattle.std.proofs.lemmas.Bool.Decides.{nat_tests}
 use Rattle.purge_rules.specs.Members.{is_among, ids_from, ids_of, places_of}

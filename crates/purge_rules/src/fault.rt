@@ -45,7 +45,7 @@ impl From<AllocError> for PurgeFault {
 /// Why a call on a master is refused. A full book answers `ShiftFull` before all else; of the others the first whose condition holds is answered, and memory comes last.
 #[derive(Clone, Copy, Debug, PartialEq, Eq, Error)]
 pub enum MasterFault {
-    /// The store has failed in an earlier call. Nothing has changed; the master is to be opened again.
+    /// The store has failed, or had no memory, in an earlier call. Nothing has changed; the master is to be opened again.
     #[error("the master is closed")]
     Closed,
     /// The book of calls is full. Nothing has changed. Only a book answers so.

@@ -7,8 +7,7 @@ use std::alloc::Global;
 use std::marker::Model;
 use url_key::Key;
 
-/// Purges in memory, which no crash touches. They never fail; want of memory leaves them as they are. A contract sees them as
-/// a list of purges.
+/// Purges in memory, which no crash touches. They never fail. A contract sees them as a list of purges.
 #[derive(Debug, Drop)]
 pub struct MemoryPurges {
     purges: Purges,

@@ -1,5 +1,5 @@
 //! The purges that are not done, in memory.
-ghost use Rattle.std.specs.Prelude.{◌≡◌, ℕ, ◌<◌, ◌≤◌, ◌==◌, nat_le, List, length, option_map, MatchOption, IfOk, OnOk, OnErr};
+ghost use Rattle.std.specs.Prelude.{◌≡◌, ℕ, ◌<◌, ◌≤◌, ◌==◌, nat_le, false, List, length, option_map, MatchOption, IfOk, OnOk, OnErr};
 ghost use Rattle.purge_rules.specs.Purges.{PurgeList, AreNumbered, no_purges, pending_at, with_purge, with_mark, without_purge};
 ghost use Rattle.purge_rules.specs.Places.{IsPlaceOf, IsAbsent, CameBy, given_to};
 ghost use Rattle.purge_rules.specs.Calls.{due, status_of};
@@ -91,7 +91,8 @@ impl Purges {
 
     /// Whether 1,024 purges or more are pending.
     pub fn is_full(&self) -> bool
-        ensures { result ≡ nat_le 1024 (length self.now.pending) }
+        ensures value { result ≡ nat_le 1024 (length self.now.pending) }
+        ensures room { result ≡ false → length self.now.pending < 1024 }
     {
         self.pending.len() >= MOST_PENDING
     }

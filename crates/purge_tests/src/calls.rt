@@ -1,5 +1,5 @@
 //! Calls of a store of purges, over any store.
-ghost use Rattle.std.specs.Prelude.{IsTrue};
+ghost use Rattle.std.specs.Prelude.{◌<◌, length, IsTrue};
 ghost use Rattle.purge_rules.specs.Store.{Misses};
 
 use purge_rules::{PurgeFault, PurgeStore, Purges};
@@ -22,7 +22,15 @@ fn is_missed(purges: &Purges, number: u32, member: u8) -> bool
     }
 }
 
-/// Adds a purge of the URL, under a number above the last one.
+/// Whether a purge may be added under this number: it is above the last one, and fewer than 1,024 purges are pending.
+fn may_add(purges: &Purges, number: u32) -> bool
+    ensures above { IsTrue result → purges.now.last < number }
+    ensures room { IsTrue result → length purges.now.pending < 1024 }
+{
+    purges.last() < number && !purges.is_full()
+}
+
+/// Adds a purge of the URL, under a number above the last one, where fewer than 1,024 are pending.
 pub(crate) fn add<P: PurgeStore>(
     store: &mut P,
     alloc: Global,
@@ -31,8 +39,8 @@ pub(crate) fn add<P: PurgeStore>(
 ) -> Result<Result<(), PurgeFault>, Fail> {
     let key = Key::read(alloc, url.as_bytes())?;
     match store.load(alloc) {
-        Ok(purges) if purges.last() < number => Ok(store.add(alloc, number, &key)),
-        Ok(_) => Err("a number above the last one")?,
+        Ok(purges) if may_add(&purges, number) => Ok(store.add(alloc, number, &key)),
+        Ok(_) => Err("a number above the last one, and room")?,
         Err(fault) => Ok(Err(fault)),
     }
 }

@@ -1,5 +1,5 @@
 //! Worked runs of a master, each a table of calls and of what they are answered.
-ghost use Rattle.std.specs.Prelude.{◌≡◌, true};
+ghost use Rattle.std.specs.Prelude.{◌≡◌, ◌==◌};
 
 use htcp_wire::{Content, HeaderKind, Htcp, number_in};
 use purge_master::{Master, MasterBook};
@@ -49,7 +49,7 @@ enum Call {
     Status(u32),
 }
 
-/// A store in memory that fails at each write after so many.
+/// Purges in memory whose store takes so many writes, and then fails for good.
 #[derive(Drop)]
 struct FailingPurges {
     purges: Purges,
@@ -64,16 +64,20 @@ impl PurgeStore for FailingPurges {
 
     ghost is_honest = { λ _. Unit {0} };
 
-    ghost is_usable = { λ _. true };
+    ghost is_usable = { λ store. store.failures == 0 };
 
     ghost failed = { λ store. store.failures };
 
     fn load(&mut self, alloc: Global) -> Result<Purges, PurgeFault> {
+        if self.failures != 0 {
+            self.failures = self.failures.saturating_add(1);
+            return Err(PurgeFault::StoreFault);
+        }
         Ok(self.purges.copy(alloc)?)
     }
 
     fn add(&mut self, alloc: Global, number: u32, key: &Key) -> Result<(), PurgeFault> {
-        if self.writes_left == 0 {
+        if self.failures != 0 || self.writes_left == 0 {
             self.failures = self.failures.saturating_add(1);
             return Err(PurgeFault::StoreFault);
         }
@@ -83,7 +87,7 @@ impl PurgeStore for FailingPurges {
     }
 
     fn mark(&mut self, _alloc: Global, number: u32, member: u8) -> Result<(), PurgeFault> {
-        if self.writes_left == 0 {
+        if self.failures != 0 || self.writes_left == 0 {
             self.failures = self.failures.saturating_add(1);
             return Err(PurgeFault::StoreFault);
         }
@@ -93,7 +97,7 @@ impl PurgeStore for FailingPurges {
     }
 
     fn finish(&mut self, _alloc: Global, number: u32) -> Result<(), PurgeFault> {
-        if self.writes_left == 0 {
+        if self.failures != 0 || self.writes_left == 0 {
             self.failures = self.failures.saturating_add(1);
             return Err(PurgeFault::StoreFault);
         }

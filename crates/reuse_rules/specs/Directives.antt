@@ -18,6 +18,7 @@ pub record DirectiveText : Type 0 where
 abbrev pub directive_text : Directive → DirectiveText
 directive_text d = record { name = d.name.now; value = d.value.now }
 
+-- what stands between a directive's name and its value
 abbrev pub is_equals_sign : ℕ → Bool
 is_equals_sign octet = octet == 61
 
@@ -49,7 +50,7 @@ unquoted value = if is_quoted value then slice_range value 1 (length value - 1) 
 abbrev pub most_seconds : ℕ
 most_seconds = 2147483648
 
--- the seconds that a text of digits names; a text that is not all digits counts as 0
+-- the seconds that a text of digits names; an empty text, and one that is not all digits, counts as 0
 abbrev pub seconds_of : List ℕ → ℕ
 seconds_of text = if list_all is_ascii_digit text then min (digits_value 10 text) most_seconds else 0
 

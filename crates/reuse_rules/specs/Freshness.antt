@@ -1,7 +1,7 @@
 -- Whether a stored answer may still be served (RFC 9111, section 4.2). All numbers are seconds.
 use Rattle.std.specs.Prelude.{ℕ, ◌+◌, ◌-◌, ◌^◌, min, Bool, nat_lt}
 
--- the age that the answer came with, and the time since it was asked for, at most the greatest number of 64 bits; time that runs back counts as none
+-- the age that the answer came with, and the time since it was asked for, at most the greatest number of 64 bits; time that runs back counts as none (RFC 9111, section 4.2.3, without the apparent age, since `Date` is not used)
 abbrev pub age_now : ℕ → ℕ → ℕ → ℕ
 age_now age asked now = min (age + (now - asked)) (2 ^ 64 - 1)
 

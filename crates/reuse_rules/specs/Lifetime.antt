@@ -1,10 +1,10 @@
--- For how long an answer may be served again, if it is stored at all (RFC 9111, sections 3, 4.2.1 and 5.2.2).
+-- For how long an answer may be served again, if it is stored at all (RFC 9111, sections 3, 4.1, 4.2.1, 4.2.2, 5.2.2 and 5.3).
 use Rattle.std.specs.Prelude.{ℕ, Bool, not, ◌||◌, ◌==◌, bytes_eq, List, [], ◌∷◌, codes, find, Option, Some, None, option_map, if◌then◌else◌}
 use Rattle.std.specs.List.{list_any}
 use Rattle.fetch_messages.specs.Answer.{AnswerText}
 use Rattle.reuse_rules.specs.Directives.{DirectiveText, directives, is_called, seconds}
 
--- the statuses whose answers are stored (of those of RFC 9110, section 15.1, that say all of their resource)
+-- the statuses whose answers are stored: six of those that are heuristically cacheable (RFC 9110, section 15.1)
 abbrev pub is_stored_status : ℕ → Bool
 is_stored_status status = list_any (λ s. status == s) (200 ∷ 203 ∷ 300 ∷ 301 ∷ 404 ∷ 410 ∷ [])
 
@@ -12,7 +12,7 @@ is_stored_status status = list_any (λ s. status == s) (200 ∷ 203 ∷ 300 ∷ 
 abbrev pub has_field : List ℕ → AnswerText → Bool
 has_field name a = list_any (λ f. bytes_eq f.name name) a.fields
 
--- a directive that keeps an answer out of a shared store, with or without a value (RFC 9111, sections 5.2.2.4, 5.2.2.5 and 5.2.2.7)
+-- a directive that keeps an answer out of this store, with or without a value: `no-store` and `private` forbid a shared store (RFC 9111, sections 5.2.2.5 and 5.2.2.7), `no-cache` wants a validation, which is not done here (section 5.2.2.4)
 abbrev pub forbids_storing : DirectiveText → Bool
 forbids_storing d = is_called (codes "no-store") d || is_called (codes "private") d || is_called (codes "no-cache") d
 

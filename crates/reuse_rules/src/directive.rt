@@ -44,7 +44,7 @@ impl<'a> Directive<'a> {
         self.name.eq_ignore_ascii_case(name)
     }
 
-    /// The seconds that its value names, at most 2 ^ 31; 0 where the value is not all digits.
+    /// The seconds that its value names, at most 2 ^ 31; 0 where the value is empty or not all digits.
     pub(crate) fn seconds(self) -> u64
         ensures { result ≡ spec.seconds (directive_text self.entry) }
     {

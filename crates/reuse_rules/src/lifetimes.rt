@@ -7,7 +7,7 @@ use crate::directive::{Directive, directives_of};
 use fetch_messages::{Answer, Field};
 
 /// For how many seconds an answer is fresh from the moment when it was asked for, less the age that it came with
-/// (RFC 9111, sections 3, 4.2.1 and 5.2.2); `None`: it is not stored.
+/// (RFC 9111, sections 3, 4.1, 4.2.1, 4.2.2, 5.2.2 and 5.3); `None`: it is not stored.
 ///
 /// An answer is not stored where its status is not 200, 203, 300, 301, 404 or 410, where it has a `vary` field, or
 /// where a directive of a `cache-control` field is `no-store`, `private` or `no-cache`, with or without a value.
@@ -34,7 +34,7 @@ fn is_kept_out(answer: &Answer) -> bool
     !is_stored_status(answer.status()) || has_field("vary", answer) || has_forbidding(answer)
 }
 
-/// Whether a directive of the answer keeps it out of a shared store.
+/// Whether a directive of the answer keeps it out of this store.
 fn has_forbidding(answer: &Answer) -> bool
     ensures { result ≡ list_any spec.forbids_storing (directives answer.now) }
 {
@@ -60,7 +60,7 @@ fn is_among(name: &str, fields: &[Field]) -> bool
     fields.iter().any(|field| field.name.as_str() == name)
 }
 
-/// Whether a directive keeps an answer out of a shared store.
+/// Whether a directive keeps an answer out of this store.
 fn forbids_storing(directive: Directive<'_>) -> bool
     ensures { result ≡ spec.forbids_storing (directive_text directive.entry) }
 {

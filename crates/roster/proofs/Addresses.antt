@@ -12,7 +12,7 @@ use Rattle.roster_tables.specs.declared.plain.Member.{Member}
 use Rattle.roster_tables.specs.declared.plain.Tables.{Tables}
 use Rattle.roster_tables.specs.Ranges.{are_tables}
 use Rattle.roster.specs.Lookups.{same_address, address_by, HasOwnAddresses}
-use Rattle.roster.specs.Judged.{clashes, caches_of, udp_of, udp_addresses, has_doubles, has_too_many, has_double_address, has_unknown_peer, HasParentLoop, IsRoster}
+use Rattle.roster.specs.Judged.{clashes, caches_of, udp_of, udp_addresses, has_doubles, has_double_address, FitTogether, IsRoster}
 
 abbrev now_of : Bor Cache → Cache
 now_of c = c.now
@@ -103,12 +103,5 @@ own_addresses t h =
     }
 
 -- tables in their ranges that have none of the faults
-pub is_roster : (t : Tables) → are_tables t ≡ true → has_too_many t ≡ false → has_double_address t ≡ false → has_unknown_peer t ≡ false → ¬ (HasParentLoop t) → IsRoster t
-is_roster t ranges few apart known no_loop = record {
-  ranges = ranges;
-  few = few;
-  apart = apart;
-  known = known;
-  no_loop = no_loop;
-  own = own_addresses t apart;
-}
+pub is_roster : (t : Tables) → are_tables t ≡ true → FitTogether t → IsRoster t
+is_roster t ranges fit = record { ranges = ranges; fit = fit; own = own_addresses t fit.apart }

@@ -5,7 +5,8 @@ use Rattle.std.specs.List.{list_any}
 use Rattle.roster_tables.specs.declared.plain.Peer.{Peer}
 use Rattle.roster_tables.specs.declared.plain.Member.{Member}
 use Rattle.roster_tables.specs.declared.plain.Tables.{Tables}
-use Rattle.roster.specs.Lookups.{is_parent, names_parent, peers_of, peers_in}
+use Rattle.roster_tables.specs.Roles.{is_parent}
+use Rattle.roster.specs.Lookups.{names_parent, peers_of, peers_in}
 use Rattle.roster.specs.Judged.{Ascends, parent, further, HasParentLoop}
 use Rattle.roster.specs.Among.{is_among, climbs}
 

@@ -2,8 +2,10 @@
 use Rattle.std.specs.Prelude.{ℕ, Bool, ◌&&◌, ◌==◌, List}
 use Rattle.std.specs.List.{list_any}
 use Rattle.roster_tables.specs.declared.plain.Tables.{Tables}
-use Rattle.roster.specs.Lookups.{is_parent, peers_of}
+use Rattle.roster_tables.specs.Roles.{is_parent}
+use Rattle.roster.specs.Lookups.{peers_of}
 
+-- the id is one of these
 abbrev pub is_among : List ℕ → ℕ → Bool
 is_among ids id = list_any (λ other. other == id) ids
 

@@ -25,22 +25,12 @@ IsFirst t fault.ParentLoop =
     (has_too_many t ≡ false) × (has_double_address t ≡ false) × (has_unknown_peer t ≡ false) × HasParentLoop t
 IsFirst t fault.NoMemory = Unit {0}
 
--- no fault holds of tables
-pub record FitTogether (t : Tables) : Type 0 where
-  pub few : has_too_many t ≡ false
-  pub apart : has_double_address t ≡ false
-  pub known : has_unknown_peer t ≡ false
-  pub no_loop : ¬ (HasParentLoop t)
-
 -- the first fault of a text
 abbrev pub IsFirstOf : List ℕ → RosterFault → Type 0
 IsFirstOf text fault.BadToml = tables_in text ≡ None
 IsFirstOf text fault.BadField = tables_in text ≡ Some None
-IsFirstOf text fault.TooMany = (t : Tables) × (tables_in text ≡ Some (Some t)) × IsFirst t fault.TooMany
-IsFirstOf text fault.DoubleAddress = (t : Tables) × (tables_in text ≡ Some (Some t)) × IsFirst t fault.DoubleAddress
-IsFirstOf text fault.UnknownPeer = (t : Tables) × (tables_in text ≡ Some (Some t)) × IsFirst t fault.UnknownPeer
-IsFirstOf text fault.ParentLoop = (t : Tables) × (tables_in text ≡ Some (Some t)) × IsFirst t fault.ParentLoop
 IsFirstOf text fault.NoMemory = Unit {0}
+IsFirstOf text f = (t : Tables) × (tables_in text ≡ Some (Some t)) × IsFirst t f
 
 -- a fault's name, as scripts print it
 abbrev pub fault_name : RosterFault → List ℕ

@@ -51,6 +51,7 @@ has_double_address t =
 abbrev pub is_unknown : List Cache → Member → Peer → Bool
 is_unknown caches m p = (p.id == m.cache.id) || not (list_any (λ c. c.id == p.id) caches)
 
+-- two peers of one id
 abbrev pub same_peer : Peer → Peer → Bool
 same_peer p q = p.id == q.id
 
@@ -58,6 +59,7 @@ same_peer p q = p.id == q.id
 abbrev pub names_unknown : List Cache → Member → Bool
 names_unknown caches m = list_any (is_unknown caches m) m.peers || has_doubles same_peer m.peers
 
+-- some member names such a peer
 abbrev pub has_unknown_peer : Tables → Bool
 has_unknown_peer t = list_any (names_unknown (caches_of t)) t.members
 
@@ -70,11 +72,15 @@ pub data Ascends (t : Tables) : ℕ → ℕ → Type 0 where
 abbrev pub HasParentLoop : Tables → Type 0
 HasParentLoop t = (id : ℕ) × Ascends t id id
 
--- what holds of every roster
-pub record IsRoster (t : Tables) : Type 0 where
-  pub ranges : are_tables t ≡ true
+-- no fault holds of tables
+pub record FitTogether (t : Tables) : Type 0 where
   pub few : has_too_many t ≡ false
   pub apart : has_double_address t ≡ false
   pub known : has_unknown_peer t ≡ false
   pub no_loop : ¬ (HasParentLoop t)
+
+-- what holds of every roster
+pub record IsRoster (t : Tables) : Type 0 where
+  pub ranges : are_tables t ≡ true
+  pub fit : FitTogether t
   pub own : HasOwnAddresses t

@@ -1,35 +1,29 @@
 -- Who is who: look-ups in a roster.
-use Rattle.std.specs.Prelude.{◌≡◌, ℕ, Bool, true, false, ◌&&◌, ◌||◌, ◌==◌, bytes_eq, List, [], option_map, is_some, Option, Some, None}
+use Rattle.std.specs.Prelude.{◌≡◌, ℕ, Bool, false, ◌&&◌, ◌||◌, ◌==◌, bytes_eq, List, [], option_map, is_some, Option, Some, None}
 use Rattle.std.specs.List.{list_any, find}
 use Rattle.roster_tables.specs.declared.plain.Address.{Address}
 use Rattle.roster_tables.specs.declared.plain.Udp.{Udp}
 use Rattle.roster_tables.specs.declared.plain.Udp.TheVariants as udp
-use Rattle.roster_tables.specs.declared.plain.Role.{Role}
-use Rattle.roster_tables.specs.declared.plain.Role.TheVariants as role
 use Rattle.roster_tables.specs.declared.plain.Peer.{Peer}
 use Rattle.roster_tables.specs.declared.plain.Cache.{Cache}
 use Rattle.roster_tables.specs.declared.plain.Member.{Member}
 use Rattle.roster_tables.specs.declared.plain.Origin.{Origin}
 use Rattle.roster_tables.specs.declared.plain.Tables.{Tables}
+use Rattle.roster_tables.specs.Roles.{is_sibling, is_parent}
 
+-- one address and one port
 abbrev pub same_address : Address → Address → Bool
 same_address a b = (a.ip == b.ip) && (a.port == b.port)
-
-abbrev pub is_sibling : Role → Bool
-is_sibling role.Sibling = true
-is_sibling role.Parent = false
-
-abbrev pub is_parent : Role → Bool
-is_parent role.Sibling = false
-is_parent role.Parent = true
 
 -- the member of an id
 abbrev pub member_of : Tables → ℕ → Option Member
 member_of t id = find (λ m. m.cache.id == id) t.members
 
+-- a member has this id
 abbrev pub is_member : Tables → ℕ → Bool
 is_member t id = is_some (member_of t id)
 
+-- the peers of an entry; none where there is no entry
 abbrev pub peers_in : Option Member → List Peer
 peers_in None = []
 peers_in (Some m) = m.peers
@@ -55,6 +49,7 @@ address_by udp.Htcp c = c.htcp
 abbrev pub member_at : Tables → Address → Udp → Option ℕ
 member_at t address by = option_map (λ m. m.cache.id) (find (λ m. same_address address (address_by by m.cache)) t.members)
 
+-- the address is the master's
 abbrev pub is_master : Tables → Address → Bool
 is_master t from = same_address from t.master
 
@@ -70,7 +65,7 @@ is_origin_of host port o = bytes_eq o.host host && (o.port == port)
 abbrev pub origin_at : Tables → List ℕ → ℕ → Option Address
 origin_at t host port = option_map (λ o. o.connect) (find (is_origin_of host port) t.origins)
 
--- each member is found by its HTCP address, and none has the master's
+-- each member is found by its HTCP address, and none has the master's: this follows where no address is double, and is told for callers
 pub record HasOwnAddresses (t : Tables) : Type 0 where
   pub found : (id : ℕ) (m : Member) → member_of t id ≡ Some m → member_at t m.cache.htcp udp.Htcp ≡ Some id
   pub apart : (id : ℕ) (m : Member) (by : Udp) → member_of t id ≡ Some m → is_master t (address_by by m.cache) ≡ false

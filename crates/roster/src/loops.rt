@@ -2,11 +2,12 @@
 ghost use Rattle.std.specs.Prelude.{◌≡◌, ◌==◌, ◌&&◌, map, filter, IfOk, MatchOption, slice_get, length};
 ghost use Rattle.std.specs.List.{list_any};
 ghost use Rattle.roster.specs.Judged.{HasParentLoop};
-ghost use Rattle.roster.specs.Lookups.{peers_of, is_parent as is_parent_role};
+ghost use Rattle.roster.specs.Lookups.{peers_of};
+ghost use Rattle.roster_tables.specs.Roles.{is_parent as is_parent_role};
 ghost use Rattle.roster.specs.Among.{is_among as is_in, climbs as has_parent_in};
 
 use crate::roster::peers_in;
-use crate::{Member, Peer, Role};
+use crate::{Member, Peer};
 use roster_tables::Tables;
 use std::alloc::{AllocError, Global};
 
@@ -24,23 +25,13 @@ fn is_among(id: u8, ids: &[u8]) -> bool
     ids.iter().any(|other| *other == id)
 }
 
-/// Whether the role is a parent's.
-fn is_parent(role: Role) -> bool
-    ensures { result ≡ is_parent_role role }
-{
-    match role {
-        Role::Sibling => false,
-        Role::Parent => true,
-    }
-}
-
 /// Whether one of the peers is a parent whose id is among some.
 fn has_parent(peers: &[Peer], ids: &[u8]) -> bool
     ensures { result ≡ list_any (λ p. is_parent_role p.role && is_in ids.now p.id) peers.now }
 {
     peers
         .iter()
-        .any(|peer| is_parent(peer.role) && is_among(peer.id, ids))
+        .any(|peer| peer.role.is_parent() && is_among(peer.id, ids))
 }
 
 /// Whether a member has a parent whose id is among some.

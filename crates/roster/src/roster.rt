@@ -4,12 +4,13 @@ ghost use Rattle.roster_tables.specs.Reading.{tables_in};
 ghost use Rattle.roster.specs.Faults.{IsFirstOf};
 ghost use Rattle.roster.specs.Judged.{IsRoster};
 ghost use Rattle.roster.specs.Lookups.{is_member as is_member_of, member_of as member_by_id, is_master as is_master_at, is_own as is_own_address, peers_of, peers_in as peers_of_entry, origin_at, member_at as member_by_address, names_sibling as calls_sibling};
-ghost use Rattle.roster.specs.Lookups.{address_by as address_for, is_origin_of as is_origin_for, is_sibling as is_sibling_role};
+ghost use Rattle.roster.specs.Lookups.{address_by as address_for, is_origin_of as is_origin_for};
+ghost use Rattle.roster_tables.specs.Roles.{is_sibling as is_sibling_role};
 ghost use Rattle.std.specs.List.{find, list_any};
 
 use crate::copying::copy_of_tables;
 use crate::judge::judge;
-use crate::{Address, Cache, Limits, Member, Origin, Peer, Role, RosterError, Udp};
+use crate::{Address, Cache, Limits, Member, Origin, Peer, RosterError, Udp};
 use roster_tables::Tables;
 use std::alloc::{AllocError, Global};
 use std::marker::Model;
@@ -58,7 +59,8 @@ impl Roster {
 
     /// The member of this id, if there is one.
     pub fn member(&self, id: u8) -> Option<&Member>
-        ensures { option_map (λ m. m.now) result ≡ member_by_id self.now id }
+        ensures value { option_map (λ m. m.now) result ≡ member_by_id self.now id }
+        ensures valid { IsRoster self.now }
     {
         member_of(self.members(), id)
     }
@@ -73,7 +75,8 @@ impl Roster {
     /// The peers of the member of this id, at most 23, in the order in which it asks them.
     pub fn peers(&self, id: u8) -> &[Peer]
         requires { is_member_of self.now id ≡ true }
-        ensures { result.now ≡ peers_of self.now id }
+        ensures value { result.now ≡ peers_of self.now id }
+        ensures valid { IsRoster self.now }
     {
         peers_in(self.members(), id)
     }
@@ -203,21 +206,11 @@ pub(crate) fn peers_in(members: &[Member], id: u8) -> &[Peer]
     }
 }
 
-/// Whether the role is a sibling's.
-fn is_sibling(role: Role) -> bool
-    ensures { result ≡ is_sibling_role role }
-{
-    match role {
-        Role::Sibling => true,
-        Role::Parent => false,
-    }
-}
-
 /// Whether a cache is among the peers as a sibling.
 fn has_sibling(peers: &[Peer], whom: u8) -> bool
     ensures { result ≡ list_any (λ p. (p.id == whom) && is_sibling_role p.role) peers.now }
 {
     peers
         .iter()
-        .any(|peer| peer.id == whom && is_sibling(peer.role))
+        .any(|peer| peer.id == whom && peer.role.is_sibling())
 }

@@ -16,11 +16,13 @@ IsReason text (BadToml _) = tables_in text ≡ None
 IsReason text (BadField _) = tables_in text ≡ Some None
 IsReason text NoMemory = Unit {0}
 
+-- a bad field
 abbrev pub IsBadField : TablesFault → Type 0
 IsBadField (BadToml _) = ⊥
 IsBadField (BadField _) = Unit {0}
 IsBadField NoMemory = ⊥
 
+-- a text that is no document
 abbrev pub IsBadToml : TablesFault → Type 0
 IsBadToml (BadToml _) = Unit {0}
 IsBadToml (BadField _) = ⊥

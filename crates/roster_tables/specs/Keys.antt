@@ -5,9 +5,11 @@ use Rattle.toml.specs.Data.{Members, no_members, member}
 use Rattle.roster_tables.specs.declared.place.TableKind.{TableKind}
 use Rattle.roster_tables.specs.declared.place.TableKind.TheVariants.{Top, Master, Node, Peer, Foreign, Origin}
 
+-- the keys of a cache's table; that of a member has `peer` as well
 abbrev pub keys_of_cache : List (List ℕ)
 keys_of_cache = codes "id" ∷ codes "name" ∷ codes "address" ∷ codes "http" ∷ codes "icp" ∷ codes "htcp" ∷ []
 
+-- the keys of each kind of table
 abbrev pub keys_of : TableKind → List (List ℕ)
 keys_of Top = codes "default_lifetime" ∷ codes "copies" ∷ codes "bytes" ∷ codes "query_wait"
     ∷ codes "master" ∷ codes "node" ∷ codes "foreign" ∷ codes "origin" ∷ []
@@ -17,6 +19,7 @@ keys_of Peer = codes "id" ∷ codes "role" ∷ codes "by" ∷ []
 keys_of Foreign = keys_of_cache
 keys_of Origin = codes "host" ∷ codes "port" ∷ codes "address" ∷ codes "connect" ∷ []
 
+-- the key is one of these
 abbrev pub is_among : List (List ℕ) → List ℕ → Bool
 is_among keys key = list_any (λ k. bytes_eq key k) keys
 

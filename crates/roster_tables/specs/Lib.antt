@@ -1,4 +1,5 @@
 pub mod Ranges
+pub mod Roles
 pub mod Keys
 pub mod Reading
 pub mod Fault

@@ -9,12 +9,15 @@ use Rattle.roster_tables.specs.declared.plain.Member.{Member}
 use Rattle.roster_tables.specs.declared.plain.Origin.{Origin}
 use Rattle.roster_tables.specs.declared.plain.Tables.{Tables}
 
+-- no less than the first, and no more than the second
 abbrev pub is_between : ℕ → ℕ → ℕ → Bool
 is_between low high n = nat_le low n && nat_le n high
 
+-- a port that something can be sent to
 abbrev pub is_port : ℕ → Bool
 is_port = is_between 1 65535
 
+-- a lower case letter or a digit
 abbrev pub is_name_letter : ℕ → Bool
 is_name_letter b = is_ascii_lowercase b || is_ascii_digit b
 
@@ -30,10 +33,11 @@ is_host_letter b = is_name_letter b || ((b == 46) || (b == 45))
 abbrev pub is_host : List ℕ → Bool
 is_host text = is_between 1 255 (length text) && list_all is_host_letter text
 
--- members have the ids 1 to 16, foreign caches 101 to 108
+-- the id of a member: 1 to 16
 abbrev pub is_member_id : ℕ → Bool
 is_member_id = is_between 1 16
 
+-- the id of a foreign cache: 101 to 108
 abbrev pub is_foreign_id : ℕ → Bool
 is_foreign_id = is_between 101 108
 
@@ -42,21 +46,27 @@ abbrev pub is_cache : Cache → Bool
 is_cache c = is_name c.name && (is_port c.http.port && is_port c.icp.port && is_port c.htcp.port)
     && ((c.icp.ip == c.http.ip) && (c.htcp.ip == c.http.ip))
 
+-- a foreign cache
 abbrev pub is_foreign : Cache → Bool
 is_foreign c = is_foreign_id c.id && is_cache c
 
+-- the id of a cache that a member may ask
 abbrev pub is_peer_id : ℕ → Bool
 is_peer_id id = is_member_id id || is_foreign_id id
 
+-- a peer of a member
 abbrev pub is_peer : Peer → Bool
 is_peer p = is_peer_id p.id
 
+-- a member, with its peers
 abbrev pub is_member : Member → Bool
 is_member m = is_member_id m.cache.id && is_cache m.cache && list_all is_peer m.peers
 
+-- an origin, with the port that URLs name and the one that is connected
 abbrev pub is_origin : Origin → Bool
 is_origin o = is_host o.host && is_port o.port && is_port o.connect.port
 
+-- a default lifetime of at most 2 ^ 31 seconds, 1 to 65,536 copies, 1 octet to 1 GiB, and 1 to 60,000 milliseconds in which peers may answer
 abbrev pub are_limits : Limits → Bool
 are_limits l = nat_le l.default_lifetime 2147483648 && is_between 1 65536 l.copies
     && is_between 1 1073741824 l.bytes && is_between 1 60000 l.query_wait

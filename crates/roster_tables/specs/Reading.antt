@@ -20,6 +20,7 @@ use Rattle.roster_tables.specs.declared.plain.Tables.{Tables}
 use Rattle.roster_tables.specs.Keys.{keys_of, has_only}
 use Rattle.roster_tables.specs.Ranges.{is_between, is_name, is_host, is_peer_id}
 
+-- what is made of a value, where there is one
 infixl 10 ◌>>=◌
 abbrev ◌>>=◌ : {A B : Type 0} → Option A → (A → Option B) → Option B
 o >>= f = option_and_then f o
@@ -33,10 +34,12 @@ abbrev pub natural_of : ℤ → Option ℕ
 natural_of (pos n) = Some n
 natural_of (negsuc n) = None
 
+-- a value that is such a number
 abbrev pub natural_in : Option Data → Option ℕ
 natural_in (Some (integer z)) = natural_of z
 natural_in _ = None
 
+-- a value that is a text
 abbrev pub text_in : Option Data → Option (List ℕ)
 text_in (Some (string text)) = Some text
 text_in _ = None
@@ -45,6 +48,7 @@ text_in _ = None
 abbrev pub number : ℕ → ℕ → List ℕ → Members → Option ℕ
 number low high key ms = natural_in (get_member key ms) >>= checked (is_between low high)
 
+-- the port at a key
 abbrev pub port : List ℕ → Members → Option ℕ
 port = number 1 65535
 
@@ -66,6 +70,7 @@ ip_in None = None
 abbrev pub ip_of : List ℕ → Option ℕ
 ip_of text = ip_in (read_ipv4 text)
 
+-- the address at the key `address`
 abbrev pub ip : Members → Option ℕ
 ip ms = text_in (get_member (codes "address") ms) >>= ip_of
 
@@ -74,16 +79,19 @@ abbrev pub table_in : TableKind → Option Data → Option Members
 table_in k (Some (table ms)) = checked (has_only (keys_of k)) ms
 table_in k _ = None
 
+-- the role of this name
 abbrev pub role_of : List ℕ → Option Role
 role_of word =
     if bytes_eq word (codes "sibling") then Some role.Sibling
     else if bytes_eq word (codes "parent") then Some role.Parent else None
 
+-- the protocol of this name
 abbrev pub udp_of : List ℕ → Option Udp
 udp_of word =
     if bytes_eq word (codes "icp") then Some udp.Icp
     else if bytes_eq word (codes "htcp") then Some udp.Htcp else None
 
+-- the peer that a table `peer` of a node says
 abbrev pub peer_of : Data → Option Peer
 peer_of d = do
   ms ← table_in kind.Peer (Some d)
@@ -123,6 +131,7 @@ list_in f None = Some []
 list_in f (Some (array ds)) = all_of f ds
 list_in f (Some _) = None
 
+-- the member that a table `node` says
 abbrev pub member_of : Data → Option Member
 member_of d = do
   ms ← table_in kind.Node (Some d)
@@ -130,9 +139,11 @@ member_of d = do
   peers ← list_in peer_of (get_member (codes "peer") ms)
   Some (record { cache = cache; peers = peers })
 
+-- the cache that a table `foreign` says
 abbrev pub foreign_of : Data → Option Cache
 foreign_of d = table_in kind.Foreign (Some d) >>= cache_of 101 108
 
+-- the origin that a table `origin` says
 abbrev pub origin_of : Data → Option Origin
 origin_of d = do
   ms ← table_in kind.Origin (Some d)
@@ -142,6 +153,7 @@ origin_of d = do
   host ← text is_host (codes "host") ms
   Some (record { host = host; port = port_named; connect = record { ip = address; port = connect } })
 
+-- the master's address over UDP, which the table `master` says
 abbrev pub master_of : Option Data → Option Address
 master_of d = do
   ms ← table_in kind.Master d
@@ -149,6 +161,7 @@ master_of d = do
   htcp ← port (codes "htcp") ms
   Some (record { ip = address; port = htcp })
 
+-- the limits, which the keys above the first table say
 abbrev pub limits_of : Members → Option Limits
 limits_of ms = do
   default_lifetime ← number 0 2147483648 (codes "default_lifetime") ms

@@ -182,7 +182,7 @@ pub(crate) fn host(alloc: Global, table: &Table, place: Place) -> Result<Listed<
     }
 }
 
-/// The word at a key, read by what it means.
+/// The role at the key `role`.
 pub(crate) fn role(table: &Table, place: Place) -> Result<Role, TablesFault>
     ensures { MatchResult result
         (λ role. option_and_then role_of (text_in (get_member (codes "role") (table_view table.now))) ≡ Some role)

@@ -1,3 +1,6 @@
+ghost use Rattle.std.specs.Prelude.{◌≡◌};
+ghost use Rattle.roster_tables.specs.Roles.{is_sibling as is_sibling_role, is_parent as is_parent_role};
+
 use crate::Listed;
 
 /// Where a socket is: an address of IPv4 and a port.
@@ -25,6 +28,28 @@ pub enum Role {
     Sibling,
     /// It also gets what it doesn't hold.
     Parent,
+}
+
+impl Role {
+    /// Whether the role is a sibling's.
+    pub fn is_sibling(self) -> bool
+        ensures { result ≡ is_sibling_role self }
+    {
+        match self {
+            Role::Sibling => true,
+            Role::Parent => false,
+        }
+    }
+
+    /// Whether the role is a parent's.
+    pub fn is_parent(self) -> bool
+        ensures { result ≡ is_parent_role self }
+    {
+        match self {
+            Role::Sibling => false,
+            Role::Parent => true,
+        }
+    }
 }
 
 /// A cache that a node asks.

@@ -152,6 +152,8 @@ fn peers_are_told(rt: HostRuntime) -> Result<(), Fail> {
             assert_eq!(rt; peers.len(), 1);
             assert_eq!(rt; peers[0].id, 2);
             assert_eq!(rt; peers[0].role, Role::Sibling);
+            assert!(rt; peers[0].role.is_sibling(), "it is a sibling");
+            assert!(rt; !peers[0].role.is_parent(), "it is no parent");
             assert_eq!(rt; peers[0].by, Udp::Icp);
         }
     }

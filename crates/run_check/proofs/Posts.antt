@@ -7,10 +7,11 @@ use Rattle.std.proofs.lemmas.Option.{none-some, slice_get-map, slice_get_read}
 use Rattle.roster_tables.specs.declared.plain.Tables.{Tables}
 use Rattle.run_rules.specs.Board.{Standing, New, Post, standing_at, with_standing}
 use Rattle.run_rules.proofs.Lists.{either, same_some}
+use Rattle.run_notes.specs.Held.{place_in_rest}
 use Rattle.run_check.specs.declared.standing.Standing.{Standing as HeldStanding}
 use Rattle.run_check.specs.declared.board.Post.{Post as HeldPost}
 use Rattle.run_check.specs.Held.{standing_of, IsSound}
-use Rattle.run_check.specs.Boards.{post_of, place_of, place_by}
+use Rattle.run_check.specs.Boards.{post_of, place_of}
 
 later_place : (o : Option ℕ) (at : ℕ) → option_map suc o ≡ Some at → (before : ℕ) × (o ≡ Some before) × (at ≡ suc before)
 later_place None at e = absurd (none-some at e)
@@ -30,7 +31,7 @@ is_at [] id at p place got = absurd (none-some at place)
 is_at (q ∷ posts) id at p place got =
     elim (either (nat_eq q.id id)) [
       | inl here ↦
-          let at_once : 0 ≡ at = same_some 0 at (ap (λ b. place_by b (place_of id posts)) (sym here) ∙ place) in
+          let at_once : 0 ≡ at = same_some 0 at (ap (λ b. place_in_rest b (place_of id posts)) (sym here) ∙ place) in
           let is : q ≡ p = same_some q p (ap (slice_get (q ∷ posts)) at_once ∙ got) in
           record {
             named = ap (λ (r : Post). r.id) (sym is) ∙ eqb-true q.id id here;
@@ -38,7 +39,7 @@ is_at (q ∷ posts) id at p place got =
             with_it = λ s. ap (λ b. cond b (post id s ∷ posts) (q ∷ with_standing posts id s)) here ∙ ap (λ n. set (q ∷ posts) n (post id s)) at_once;
           }
       | inr other ↦
-          let (before, there, is) = later_place (place_of id posts) at (ap (λ b. place_by b (place_of id posts)) (sym other) ∙ place) in
+          let (before, there, is) = later_place (place_of id posts) at (ap (λ b. place_in_rest b (place_of id posts)) (sym other) ∙ place) in
           let rest = is_at posts id before p there (ap (slice_get (q ∷ posts)) (sym is) ∙ got) in
           record {
             named = rest.named;
@@ -55,17 +56,17 @@ pub nowhere : (posts : List Post) (id : ℕ) → place_of id posts ≡ None → 
 nowhere [] id none = refl
 nowhere (q ∷ posts) id none =
     elim (either (nat_eq q.id id)) [
-      | inl here ↦ absurd (none-some 0 (sym none ∙ ap (λ b. place_by b (place_of id posts)) here))
-      | inr other ↦ ap (λ b. cond b q.standing (standing_at posts id)) other ∙ nowhere posts id (no_place (place_of id posts) (ap (λ b. place_by b (place_of id posts)) (sym other) ∙ none))
+      | inl here ↦ absurd (none-some 0 (sym none ∙ ap (λ b. place_in_rest b (place_of id posts)) here))
+      | inr other ↦ ap (λ b. cond b q.standing (standing_at posts id)) other ∙ nowhere posts id (no_place (place_of id posts) (ap (λ b. place_in_rest b (place_of id posts)) (sym other) ∙ none))
     ]
 
 pub comes_last : (posts : List Post) (id : ℕ) (s : Standing) → place_of id posts ≡ None → posts ++ record { id = id; standing = s } ∷ [] ≡ with_standing posts id s
 comes_last [] id s none = refl
 comes_last (q ∷ posts) id s none =
     elim (either (nat_eq q.id id)) [
-      | inl here ↦ absurd (none-some 0 (sym none ∙ ap (λ b. place_by b (place_of id posts)) here))
+      | inl here ↦ absurd (none-some 0 (sym none ∙ ap (λ b. place_in_rest b (place_of id posts)) here))
       | inr other ↦
-          ap (λ l. q ∷ l) (comes_last posts id s (no_place (place_of id posts) (ap (λ b. place_by b (place_of id posts)) (sym other) ∙ none)))
+          ap (λ l. q ∷ l) (comes_last posts id s (no_place (place_of id posts) (ap (λ b. place_in_rest b (place_of id posts)) (sym other) ∙ none)))
           ∙ sym (ap (λ b. cond b (post id s ∷ posts) (q ∷ with_standing posts id s)) other)
     ]
 

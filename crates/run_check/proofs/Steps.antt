@@ -10,11 +10,10 @@ use Rattle.node_rules.specs.declared.event.Event.{Event}
 use Rattle.node_rules.specs.declared.reply.Reply.{Reply}
 use Rattle.node_rules.specs.declared.reply.StepFault.{StepFault}
 use Rattle.node_rules.specs.declared.reply.StepFault.TheVariants as fault
-use Rattle.node_rules.specs.State.{Setting, Stepped, setting}
+use Rattle.node_rules.specs.State.{Setting, setting}
 use Rattle.node_rules.specs.Relation.{Steps}
-use Rattle.node_rules.specs.Effect.{Effect, Stays, Serves, Brings, Purges, Drops}
 use Rattle.node_rules.specs.Step.{step}
-use Rattle.node_rules.proofs.Effects.{step_does}
+use Rattle.node_rules.proofs.Stepping.{the_function_closes_no_node}
 use Rattle.node_book.specs.declared.book.NodeEntry.{NodeEntry}
 use Rattle.node_core.specs.Closing.{FailsWithCause}
 use Rattle.node_core.specs.View.{NodeText, IsSameMember, IsTied, setting_of}
@@ -28,17 +27,6 @@ NodeHere = NodeText (Unit {0}) FloorMap
 
 abbrev Outcome : Type 0
 Outcome = Result (Reply (Unit {0})) StepFault
-
-effect_closed : {X : Type 0} (g : Setting) (s : NodeState X) (e : Event X) (mark : X) (r : Stepped X) → Effect g s e mark r → r.state.closed ≡ s.closed
-effect_closed g s e mark r (Stays pending next outcome _ _) = refl
-effect_closed g s e mark r (Serves key c pending next outcome _ _ _ _) = refl
-effect_closed g s e mark r (Brings c life pending next outcome _ _ _ _ _) = refl
-effect_closed g s e mark r (Purges key n pending next outcome _ _ _) = refl
-effect_closed g s e mark r (Drops key pending next outcome _ _) = refl
-
--- the function leaves a node as open as it was
-step_closed : {X : Type 0} (g : Setting) (s : NodeState X) (e : Event X) (mark : X) → (step g s e mark).state.closed ≡ s.closed
-step_closed g s e mark = effect_closed g s e mark _ (step_does g s mark e)
 
 -- where neither memory nor the store fails, the step is the function's
 by_function : {X : Type 0} (g : Setting) (s : NodeState X) (e : Event X) (mark : X) (outcome : Result (Reply X) StepFault) (next : NodeState X) →
@@ -77,7 +65,7 @@ copy_stepped roster id before after e copy outcome same seated cause steps memor
 pub seated_after : (roster : Tables) (id : ℕ) (before after : NodeHere) (e : Event (Unit {0})) (outcome : Outcome) → IsSeated roster id before → IsSameMember before after →
     step (setting roster id) before.state e tt ≡ record { state = after.state; outcome = outcome } → IsTied after.state.closed after.state.floors true (Unit {0}) after.store → IsSeated roster id after
 seated_after roster id before after e outcome seated same is tied =
-    let still : after.state.closed ≡ false = sym (ap (λ r. r.state.closed) is) ∙ step_closed (setting roster id) before.state e tt ∙ seated.is_open in
+    let still : after.state.closed ≡ false = sym (ap (λ r. r.state.closed) is) ∙ the_function_closes_no_node (setting roster id) before.state e tt ∙ seated.is_open in
     record {
       roster = same.roster ∙ seated.roster;
       id = same.id ∙ seated.id;

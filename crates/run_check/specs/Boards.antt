@@ -1,5 +1,5 @@
 -- Where a run stands, as it is held.
-use Rattle.std.specs.Prelude.{◌≡◌, ℕ, suc, All, Bool, true, false, not, ◌&&◌, ◌==◌, List, [], ◌∷◌, map, option_map, Option, Some, None, if◌then◌else◌}
+use Rattle.std.specs.Prelude.{◌≡◌, ℕ, All, not, ◌&&◌, ◌==◌, List, [], ◌∷◌, map, Option, Some, None, if◌then◌else◌}
 use Rattle.roster_tables.specs.declared.plain.Tables.{Tables}
 use Rattle.purge_rules.specs.Members.{members_of}
 use Rattle.run_rules.specs.declared.verdict.Cause.{Cause}
@@ -7,6 +7,7 @@ use Rattle.run_rules.specs.Notes.{Note}
 use Rattle.run_rules.specs.Sent.{Network, without_waiting}
 use Rattle.run_rules.specs.Board.{Standing, Post, Board}
 use Rattle.run_rules.specs.Judging.{Fine, Flawed, Judges, is_astray}
+use Rattle.run_notes.specs.Held.{place_in_rest}
 use Rattle.run_network.specs.Held.{Holds}
 use Rattle.run_check.specs.declared.board.Post.{Post as HeldPost}
 use Rattle.run_check.specs.declared.board.Posts.{Posts}
@@ -20,13 +21,9 @@ abbrev pub posts_of : Posts → List Post
 posts_of p = map post_of p.posts.items
 
 -- the place of the first of these that has this id
-abbrev pub place_by : Bool → Option ℕ → Option ℕ
-place_by true later = Some 0
-place_by false later = option_map suc later
-
 abbrev pub place_of : ℕ → List Post → Option ℕ
 place_of id [] = None
-place_of id (p ∷ ps) = place_by (p.id == id) (place_of id ps)
+place_of id (p ∷ ps) = place_in_rest (p.id == id) (place_of id ps)
 
 -- each open node is that of its id, and its store has its floors
 abbrev pub AreSeated : Tables → Posts → Type 0

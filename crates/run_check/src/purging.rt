@@ -1,8 +1,7 @@
 //! The purge that an event brings, and the floors that are stored where it fails.
 ghost use Rattle.std.specs.Prelude.{◌≡◌, ◌≤◌, ℕ, IfOk, IfSome};
-ghost use Rattle.node_rules.specs.Relation.{purge_in as purge_of_event, purge_in_message};
+ghost use Rattle.node_rules.specs.Relation.{purge_in as purge_of_event, purge_in_message, purge_meant};
 ghost use Rattle.node_core.specs.View.{HasKeyOf};
-ghost use Rattle.node_core.specs.Closing.{purge_meant};
 ghost use Rattle.node_rules.specs.State.{setting};
 ghost use Rattle.key_texts.specs.KeyOf.{key_of as key_of_octets};
 ghost use Rattle.run_rules.specs.Judging.{stored_by};

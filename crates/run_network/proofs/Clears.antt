@@ -12,9 +12,9 @@ use Rattle.roster.specs.Lookups.{member_of, is_member}
 use Rattle.purge_rules.specs.Members.{possible_ids, members_of}
 use Rattle.purge_rules.specs.Clear.{clear}
 use Rattle.world_rules.specs.Turn.{clear_to, clears_of}
-use Rattle.world_rules.specs.World.{Datagram}
+use Rattle.world_rules.specs.World.{Datagram, datagram_from}
 use Rattle.run_network.specs.declared.letters.Letters.{Letters}
-use Rattle.run_network.specs.Held.{HoldsLetters, datagram_from}
+use Rattle.run_network.specs.Held.{HoldsLetters}
 
 nobody : (t : Tables) (m : Htcp) (o : Option Member) → is_some o ≡ false → clear_to t (Some m) o ≡ []
 nobody t m None e = refl

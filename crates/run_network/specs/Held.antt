@@ -2,11 +2,7 @@
 use Rattle.std.specs.Prelude.{◌≡◌, ◌↔◌, ℕ, nat_eq, List, ◌++◌, Contains, find, option_map, Option, None, Some}
 use Rattle.std.specs.HashMap.{get}
 use Rattle.std.specs.Option.{option_and_then}
-use Rattle.roster_tables.specs.declared.plain.Cache.{Cache}
 use Rattle.roster_tables.specs.declared.plain.Tables.{Tables}
-use Rattle.roster.specs.Lookups.{address_by}
-use Rattle.node_rules.specs.declared.message.Outgoing.{Outgoing}
-use Rattle.node_rules.specs.Messages.{protocol_of}
 use Rattle.world_rules.specs.World.{Datagram}
 use Rattle.run_rules.specs.Sent.{Network, SentAsk, SentAnswer, Waits, text_of, is_waiting, ComesTo, IsAnswerOf}
 use Rattle.run_network.specs.declared.letters.Letter.{Letter}
@@ -41,10 +37,6 @@ IsAnswered roster sent trans a = (d : Datagram) × Contains sent d × IsAnswerOf
 pub record HoldsLetters (roster : Tables) (letters : Letters) (sent : List Datagram) : Type 0 where
   pub sent_to : (l : Letter) → HasLetter letters l ↔ IsSentTo roster sent l
   pub answered : (trans : ℕ) (a : Acknowledgement) → HasAcknowledged letters trans a ↔ IsAnswered roster sent trans a
-
--- the datagram of a cache that a message to be sent makes
-abbrev pub datagram_from : Cache → Outgoing → Datagram
-datagram_from c o = record { sender = address_by (protocol_of o.message) c; receiver = o.to; message = o.message }
 
 -- Asks
 

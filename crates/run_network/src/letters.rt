@@ -3,11 +3,11 @@ ghost use Rattle.std.specs.Prelude.{◌≡◌, ◌⊎◌, ◌↔◌, ℕ, [], �
 ghost use Rattle.roster.specs.Lookups.{member_of as member_by_id, is_master as is_master_at};
 ghost use Rattle.world_rules.specs.Turn.{clear_to, clears_of};
 ghost use Rattle.purge_rules.specs.Clear.{clear as clear_of};
-ghost use Rattle.world_rules.specs.World.{Datagram, datagrams_from};
+ghost use Rattle.world_rules.specs.World.{Datagram, datagram_from, datagrams_from};
 ghost use Rattle.run_network.specs.declared.letters.Letter.{Letter as ALetter};
 ghost use Rattle.run_network.specs.declared.letters.Acknowledgement.{Acknowledgement as AnAcknowledgement};
 ghost use Rattle.run_network.specs.Bags.{Has};
-ghost use Rattle.run_network.specs.Held.{HasLetter, HasAcknowledged, HoldsLetters, datagram_from};
+ghost use Rattle.run_network.specs.Held.{HasLetter, HasAcknowledged, HoldsLetters};
 
 use crate::bags::Bags;
 use crate::prints::letter_print;

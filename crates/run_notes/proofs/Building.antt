@@ -7,8 +7,7 @@ use Rattle.node_book.specs.declared.book.NodeEntry.{NodeEntry}
 use Rattle.node_book.specs.declared.record.Record.{Record}
 use Rattle.purge_master.specs.declared.book.MasterEntry.{MasterEntry}
 use Rattle.node_rules.proofs.Cases.{branches}
-use Rattle.run_rules.specs.Notes.{Note, Opens, Steps, Closes, Calls, steps_of, is_closed_before, is_closed_answer, last_place, kept_by, notes_of, notes_of_all, is_of, calls_of, is_shut_before, is_shut_by, is_status, nodes_in}
-use Rattle.run_notes.specs.Held.{record_notes}
+use Rattle.run_rules.specs.Notes.{Note, Opens, Steps, Closes, Calls, steps_of, is_closed_before, is_closed_answer, last_place, kept_by, record_notes, notes_of, notes_of_all, is_of, calls_of, is_shut_before, is_shut_by, is_status, nodes_in}
 
 -- the items from there on are this one and those behind it
 pub from_there : {A : Type 0} (xs : List A) (at : ℕ) (x : A) → 0 < at → at ≤ length xs → x ≡ get_or xs (at - 1) x → drop (at - 1) xs ≡ x ∷ drop at xs

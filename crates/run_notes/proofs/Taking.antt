@@ -5,9 +5,9 @@ use Rattle.std.specs.List.{flat_map, cons_option}
 use Rattle.std.proofs.lemmas.Option.{none-some}
 use Rattle.node_rules.proofs.Cases.{branches, true_not_false}
 use Rattle.run_rules.specs.Notes.{Note, Taken, turn_of, turn_by, turns_of, place_in, least, lesser, take_from, take_at, take_by, next_note, count_of}
-use Rattle.run_rules.specs.Verdict.{Listed, listed, double_of, order_by, order_on, count_in}
+use Rattle.run_rules.specs.Verdict.{Listed, listed, double_by, double_of, order_by, order_on, count_in}
 use Rattle.run_rules.proofs.Lists.{either, same_some}
-use Rattle.run_notes.specs.Held.{place_at, place_in_rest, has_turn, double_by}
+use Rattle.run_notes.specs.Held.{place_at, place_in_rest, has_turn}
 
 none_some : {A : Type 0} {B : Type 0} (x : A) → None ≡ Some x → B
 none_some x e = absurd (none-some x e)

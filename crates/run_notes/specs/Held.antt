@@ -1,9 +1,7 @@
 -- Notes as they are held, and what is left of them.
-use Rattle.std.specs.Prelude.{ℕ, suc, Bool, true, false, nat_le, ◌==◌, List, [], ◌∷◌, ◌++◌, map, option_map, Option, Some, None, if◌then◌else◌}
+use Rattle.std.specs.Prelude.{ℕ, suc, Bool, true, false, nat_le, ◌==◌, List, [], ◌∷◌, map, option_map, Option, Some, None, if◌then◌else◌}
 use Rattle.std.specs.Global.{Vec}
-use Rattle.floor_rules.specs.Floors.{FloorMap}
-use Rattle.node_book.specs.declared.record.Record.{Record}
-use Rattle.run_rules.specs.Notes.{Note, Opens, Steps, Closes, Calls, steps_of, last_place, lesser, turn_of}
+use Rattle.run_rules.specs.Notes.{Note, Opens, Steps, Closes, Calls, lesser, turn_of}
 use Rattle.run_rules.specs.Verdict.{Listed, order_by, count_in}
 use Rattle.run_notes.specs.declared.note.Note.{Note as Held}
 use Rattle.run_notes.specs.declared.note.Note.TheVariants as held
@@ -37,10 +35,6 @@ tracks_in tracks = map (λ track. track_of track.items) tracks
 abbrev pub order_in : Notes → List Listed
 order_in n = order_by (count_in (tracks_in n.tracks.items)) n.fall (tracks_in n.tracks.items)
 
--- the notes of a record behind which the node opens with these floors
-abbrev pub record_notes : Record → FloorMap → List Note
-record_notes r kept = Opens r.node r.opening ∷ steps_of r.node r.closing.closed kept r.entries ++ Closes r.node (last_place 0 r.entries) r.closing ∷ []
-
 -- the least place that falls, where a place comes before the next one, and among those behind it this is the least
 abbrev pub fall_with : ℕ → Option ℕ → Option ℕ → Option ℕ
 fall_with place None fall = fall
@@ -51,7 +45,7 @@ abbrev pub lesser_fall : Option ℕ → Option ℕ → Option ℕ
 lesser_fall None other = other
 lesser_fall (Some one) other = Some (lesser one other)
 
--- where the first track stands that has this turn
+-- the place of the first that is looked for: this one, if it is, or else the one that is found among those behind it
 abbrev pub place_in_rest : Bool → Option ℕ → Option ℕ
 place_in_rest true later = Some 0
 place_in_rest false later = option_map suc later
@@ -60,12 +54,7 @@ abbrev pub has_turn : ℕ → Option ℕ → Bool
 has_turn turn None = false
 has_turn turn (Some here) = here == turn
 
+-- where the first track stands that has this turn
 abbrev pub place_at : ℕ → List (List Note) → Option ℕ
 place_at turn [] = None
 place_at turn (track ∷ tracks) = place_in_rest (has_turn turn (turn_of track)) (place_at turn tracks)
-
--- the place that is doubled at a note of this place: one that does not rise and is no later, or its own where two tracks have it
-abbrev pub double_by : Option ℕ → Bool → Option ℕ → Option ℕ
-double_by fall is_shared None = None
-double_by None is_shared (Some place) = if is_shared then Some place else None
-double_by (Some fall) is_shared (Some place) = if nat_le fall place then Some fall else (if is_shared then Some place else None)

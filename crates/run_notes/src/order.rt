@@ -1,8 +1,8 @@
 //! Which note comes next: an opening or a closing at once, else the entry of the least place; of several the one of the first track.
 ghost use Rattle.std.specs.Prelude.{◌≡◌, ◌≤◌, ◌<◌, ◌∷◌, [], length, nat_le, Some, None, MatchOption, IfSome, IfOk, if◌then◌else◌};
 ghost use Rattle.run_rules.specs.Notes.{turn_of as turn_of_track, turns_of, least, count_of, tracks_of};
-ghost use Rattle.run_rules.specs.Verdict.{order_of};
-ghost use Rattle.run_notes.specs.Held.{track_of, tracks_in, place_at as place_of_turn, double_by, order_in, listed_of};
+ghost use Rattle.run_rules.specs.Verdict.{double_by, order_of};
+ghost use Rattle.run_notes.specs.Held.{track_of, tracks_in, place_at as place_of_turn, order_in, listed_of};
 
 use crate::Note;
 use crate::falls::least_fall;

@@ -84,7 +84,7 @@ there (Some x) h = (x, refl)
 pub reached : (t : Tables) (id : ℕ) (by : Udp) → IsRoster t → is_member t id ≡ true → (a : Address) × (member_at t a by ≡ Some id)
 reached t id by proper member =
     let (m, is) = there (member_of t id) member in
-    let (caches, more) = or_false (has_doubles clashes (caches_of t)) _ proper.apart in
+    let (caches, more) = or_false (has_doubles clashes (caches_of t)) _ proper.fit.apart in
     let (addresses, origins) = or_false (has_doubles same_address (udp_addresses t)) _ more in
     let (master, rest) = or_false (list_any (same_address t.master) (udp_of (caches_of t))) _ addresses in
     (address_by by m.cache, found_by t.members t.foreign id m by rest is)

@@ -9,13 +9,12 @@ use Rattle.node_rules.specs.declared.event.Event.TheVariants as event
 use Rattle.node_rules.specs.declared.reply.Begin.{Begin}
 use Rattle.node_rules.specs.declared.reply.Reply.{Reply}
 use Rattle.node_rules.specs.declared.reply.StepFault.{StepFault}
-use Rattle.node_rules.specs.State.{Setting, Stepped, replies, refuses}
+use Rattle.node_rules.specs.State.{Setting, Stepped, replies, refuses, serial_of}
 use Rattle.node_rules.specs.Known.{has_origin}
 use Rattle.node_rules.specs.Fetching.{begin_read, read_origin}
 use Rattle.node_rules.specs.Asks.{new_ask, is_cached_only, is_busy, takes_block, begin_round, ask_around, begin_ask, not_held, by_copy, ask_comes}
 use Rattle.node_rules.specs.Step.{open_step, step_if, step}
 use Rattle.node_rules.proofs.Cases.{branches}
-use Rattle.run_rules.specs.Sent.{serial_of}
 
 no_value : {A B : Type 0} (x : A) (f : B) → Err f ≡ Ok x → ⊥
 no_value x f e = cc

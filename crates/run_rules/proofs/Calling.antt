@@ -267,7 +267,7 @@ module _ (t : Tables) (b : Board) (p : Progress) (m : Matches t b p) (place : �
       let purges : PurgeList = (acknowledged (members_of t) w.master id trans code).purges in
       let status : Status = status_of (members_of t) purges trans in
       let left : next ≡ opened purges = acknowledge_called (members_of t) w.master b.master.closed id trans code next (answer.Acknowledge finished) (in_world (call.Acknowledge id trans code) _ is) in
-      by_event (call.Acknowledge id trans code) (Ok (answer.Acknowledge finished)) next (world.Datagram number) (Told trans status) (with_master w purges) (in_run (call.Acknowledge id trans code) _ is) (number, status, refl) tt
+      by_event (call.Acknowledge id trans code) (Ok (answer.Acknowledge finished)) next (world.Datagram number) (Told trans status) (with_master w purges) (in_run (call.Acknowledge id trans code) _ is) (number, d, status, there, its, refl) tt
       (ap (delivered t w) there
       ∙ ap (λ c. cond c (master_hears t w d.sender d.message) (delivered_to w d.sender d.message (member_at t d.receiver (udp_of d.message)))) its.receiver
       ∙ hears_clear t w d.sender d.message trans code its.says

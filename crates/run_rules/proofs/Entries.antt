@@ -1,7 +1,8 @@
 -- An entry of a node stands for events of the world.
-use Rattle.std.proofs.Common.{◌≡◌, ◌⊎◌, ℕ, ◌+◌, Bool, true, false, cond, not, ◌&&◌, List, [], ◌∷◌, ◌++◌, Option, Some, None, Result, Ok, Err, refl, sym, ◌∙◌, ap, inl, inr, nat_le, subst, arith}
+use Rattle.std.proofs.Common.{◌≡◌, ℕ, ◌+◌, Bool, true, false, cond, not, ◌&&◌, List, [], ◌∷◌, ◌++◌, Option, Some, None, Result, Ok, Err, refl, sym, ◌∙◌, ap, inl, inr, nat_le, subst, arith}
 use Rattle.std.proofs.lemmas.List.Elements.{Contains-append_left}
-use Rattle.floor_rules.specs.Floors.{FloorMap, floor, raised}
+use Rattle.floor_rules.specs.Floors.{FloorMap, HasRoom, floor, raised}
+use Rattle.floor_rules.specs.Store.{IsBeforeOrAfter}
 use Rattle.roster_tables.specs.declared.plain.Tables.{Tables}
 use Rattle.roster.specs.Lookups.{is_member}
 use Rattle.roster.specs.Judged.{IsRoster}
@@ -19,19 +20,22 @@ use Rattle.node_rules.specs.Relation.{Steps as NodeStepsBy}
 use Rattle.node_rules.specs.Tags.{retag_reply, retag_stepped}
 use Rattle.node_rules.proofs.TagSteps.{step-retag}
 use Rattle.node_rules.proofs.Lawful.{step_steps}
+use Rattle.node_rules.proofs.Stepping.{the_function_closes_no_node}
+use Rattle.node_rules.proofs.FloorLaws.{room_for}
 use Rattle.node_rules.proofs.Cases.{true_not_false}
 use Rattle.node_book.specs.declared.book.NodeEntry.{NodeEntry}
 use Rattle.world_rules.specs.declared.event.WorldEvent.TheVariants as world
-use Rattle.world_rules.specs.World.{World, after_node, is_waiting_as}
+use Rattle.world_rules.specs.World.{World, reply_in, after_node, is_waiting_as}
 use Rattle.world_rules.specs.declared.outcome.WorldFault.TheVariants.{NoSuchPacket}
 use Rattle.world_rules.specs.Turn.{Replied, Nothing, Turn, Ends, Refused as TurnRefused, turn, with_clock, with_seat}
 use Rattle.world_rules.specs.Run.{Step, Run, Takes}
-use Rattle.run_rules.specs.Sent.{Network, reply_of, with_reply, without_waiting, IsSent}
+use Rattle.world_rules.specs.Asked.{moment}
+use Rattle.run_rules.specs.Sent.{Network, with_reply, without_waiting, IsSent}
 use Rattle.run_rules.specs.Board.{Standing, New, Open, Shut, Astray, Board, standing_at, with_node, with_network}
 use Rattle.run_rules.specs.declared.verdict.Cause.{Cause}
 use Rattle.run_rules.specs.declared.verdict.Cause.TheVariants.{NotSent, OtherReply}
 use Rattle.run_rules.specs.Judging.{Fine, Flawed, Reaches, IsStep, StepsBy, OpenStepsBy, StepsSo, after_entry, wanting, failing, stored_by, shut_by, is_astray, judged, JudgesEntry}
-use Rattle.run_rules.specs.Recorded.{Progress, Goes, IsTaken, ChangesNothing, event_step, moment_of, unmarked, unmarked_event, unmarked_outcome, node_in}
+use Rattle.run_rules.specs.Recorded.{Progress, Goes, IsTaken, ChangesNothing, event_step, unmarked, unmarked_event, unmarked_outcome, node_in}
 use Rattle.run_rules.specs.Recorded.{Stands}
 use Rattle.run_rules.specs.Notes.{Note, Steps}
 use Rattle.world_rules.proofs.Seats.{node_at-same, node_at-other}
@@ -39,7 +43,7 @@ use Rattle.run_rules.proofs.Running.{runs_join}
 use Rattle.run_rules.proofs.Lists.{either, found_still}
 use Rattle.run_rules.proofs.Asking.{ok_same}
 use Rattle.run_rules.proofs.Refusals.{no_fault, refusal_same, closed_refuses}
-use Rattle.run_rules.proofs.Purging.{stays_open, HasPurged, step_purges}
+use Rattle.run_rules.proofs.Purging.{HasPurged, step_purges}
 use Rattle.run_rules.proofs.Matching.{NetworkMatches, waits_dropped, waits_dropped_here}
 use Rattle.run_rules.proofs.Meeting.{Meets, meets}
 use Rattle.run_rules.proofs.Following.{StandsIn, Matches, each_place, each_post, after_goes, place_goes, begins_next, network_replied, quiet_network}
@@ -117,10 +121,10 @@ closing_steps g s e fault.Busy next closing closes = absurd closing
 closing_steps g s e fault.StoreFault next closing closes = closes
 closing_steps g s e fault.NoMemory next closing closes = inr closes
 
--- with the purge in its floors, or without
-kept_or_raised : (flag : Bool) (floors : FloorMap) (key : List ℕ) (n : ℕ) → (cond flag (raised floors key n) floors ≡ floors) ⊎ (cond flag (raised floors key n) floors ≡ raised floors key n)
-kept_or_raised true floors key n = inr refl
-kept_or_raised false floors key n = inl refl
+-- with the purge in its floors, where there was room for it, or without
+kept_or_raised : (flag : Bool) (floors : FloorMap) (key : List ℕ) (n : ℕ) → (flag ≡ true → HasRoom floors key) → IsBeforeOrAfter floors key n (cond flag (raised floors key n) floors)
+kept_or_raised true floors key n room = inr (room refl, refl)
+kept_or_raised false floors key n room = inl refl
 
 not_both_true : (a c : Bool) → (a && not c) ≡ true → c ≡ false
 not_both_true true false h = refl
@@ -144,7 +148,7 @@ module _ (t : Tables) (b : Board) (p : Progress) (m : Matches t b p) (id : ℕ) 
   -- An open node meets an event and takes the step that is defined.
   module _ (is_open : node.closed ≡ false) (e : Event (Unit {0})) (how : Meets t p.world id e) where
     abbrev now : World
-    now = with_clock p.world (moment_of e)
+    now = with_clock p.world (moment e)
 
     abbrev r : Stepped ℕ
     r = step g node how.met (p.place + 1)
@@ -153,7 +157,7 @@ module _ (t : Tables) (b : Board) (p : Progress) (m : Matches t b p) (id : ℕ) 
     q = record { world = after_node t now id how.met how.serial r.outcome r.state; place = p.place + 2; master = p.master }
 
     abbrev these : List Step
-    these = event_step (world.Clock (moment_of e)) Nothing ∷ event_step how.happens (Replied id r.outcome) ∷ []
+    these = event_step (world.Clock (moment e)) Nothing ∷ event_step how.happens (Replied id r.outcome) ∷ []
 
     -- without marks it is the step that the run has
     unmarked_step : step g (unmarked node) e tt ≡ retag_stepped (λ _. tt) r
@@ -186,7 +190,7 @@ module _ (t : Tables) (b : Board) (p : Progress) (m : Matches t b p) (id : ℕ) 
         (network_replied t b.network now id how.met how.serial reply r.state (network_now m.network) taken begins))
 
     open_after : r.state.closed ≡ false
-    open_after = stays_open g node (p.place + 1) how.met ∙ is_open
+    open_after = the_function_closes_no_node g node how.met (p.place + 1) ∙ is_open
 
   -- the world stays, and so does the node
   still : (st : Standing) (n : Network) → StandsIn t id st node → NetworkMatches n p.world → Matches t (with_network (with_node b id st) n) p
@@ -222,15 +226,15 @@ module _ (t : Tables) (b : Board) (p : Progress) (m : Matches t b p) (id : ℕ) 
             master = m.master;
             purges = m.purges;
             network =
-                subst (λ (o : Result (Reply (Unit {0})) StepFault). NetworkMatches (with_reply t b.network id entry.event (reply_of o)) (q is_open entry.event how).world) (sym is_ok)
+                subst (λ (o : Result (Reply (Unit {0})) StepFault). NetworkMatches (with_reply t b.network id entry.event (reply_in o)) (q is_open entry.event how).world) (sym is_ok)
                 (subst (λ (x : Reply (Unit {0})). NetworkMatches (with_reply t b.network id entry.event x) (q is_open entry.event how).world) same (sends is_open entry.event how marked is_marked));
           };
         }
 
     -- a refused entry sends nothing
-    quiet_after : (f : StepFault) → entry.outcome ≡ Err f → NetworkMatches (with_reply t b.network id entry.event (reply_of entry.outcome)) p.world
+    quiet_after : (f : StepFault) → entry.outcome ≡ Err f → NetworkMatches (with_reply t b.network id entry.event (reply_in entry.outcome)) p.world
     quiet_after f is_err =
-        subst (λ (o : Result (Reply (Unit {0})) StepFault). NetworkMatches (with_reply t b.network id entry.event (reply_of o)) p.world) (sym is_err)
+        subst (λ (o : Result (Reply (Unit {0})) StepFault). NetworkMatches (with_reply t b.network id entry.event (reply_in o)) p.world) (sym is_err)
         (subst (λ (n : Network). NetworkMatches n p.world) (sym (quiet_network t b.network id entry.event)) m.network)
 
     unchanged : (f : StepFault) → entry.outcome ≡ Err f → NodeStepsBy g (unmarked node) entry.event tt (Err f) (unmarked node) → ChangesNothing t p id entry [] p
@@ -281,11 +285,14 @@ module _ (t : Tables) (b : Board) (p : Progress) (m : Matches t b p) (id : ℕ) 
       abbrev closed : NodeState (Unit {0})
       closed = record { floors = left; copies = (unmarked node).copies; pending = []; next = node.next; closed = true }
 
+      made_with_room : flag ≡ true → HasRoom node.floors key
+      made_with_room made = room_for node.floors key (not_both_true (nat_le n (floor kept key)) (is_full node.floors key) made)
+
       closes : NodeStepsBy g (unmarked node) entry.event tt entry.outcome closed
       closes =
           subst (λ (o : Result (Reply (Unit {0})) StepFault). NodeStepsBy g (unmarked node) entry.event tt o closed) (sym is_err)
           (closing_steps g (unmarked node) entry.event f closed closing
-          (is_open, subst (λ (o : Option (List ℕ × ℕ)). ClosesOn (unmarked node) o closed) (sym purges) record { closed = refl; pending = refl; floors = kept_or_raised flag node.floors key n }))
+          (is_open, subst (λ (o : Option (List ℕ × ℕ)). ClosesOn (unmarked node) o closed) (sym purges) record { closed = refl; pending = refl; floors = kept_or_raised flag node.floors key n made_with_room }))
 
       abbrev fault_step : Step
       fault_step = event_step (world.Fault id) Nothing

@@ -26,10 +26,11 @@ use Rattle.node_rules.specs.Messages.{protocol_of as udp_of}
 use Rattle.world_rules.specs.World.{World, Datagram, item, node_at}
 use Rattle.world_rules.specs.Turn.{Turn, NodeSteps, Refused, turn, at_member, with_clock, delivered, delivered_to, master_hears, ask_delivered, answer_delivered, origin_to, origin_by, foreign_to, foreign_by, fetching_at}
 use Rattle.world_rules.specs.Run.{IsOfKey}
+use Rattle.world_rules.specs.Asked.{moment}
 use Rattle.world_rules.proofs.Seats.{ids_same, and_parts}
 use Rattle.run_rules.specs.Sent.{Network, IsSent, IsDatagramSent}
 use Rattle.run_rules.specs.Judging.{IsPending, Reaches, is_read, is_foreign_fetch}
-use Rattle.run_rules.specs.Recorded.{unmarked, unmarked_event, moment_of}
+use Rattle.run_rules.specs.Recorded.{unmarked, unmarked_event}
 use Rattle.run_rules.proofs.Lists.{either, contained_item}
 use Rattle.run_rules.proofs.Addresses.{reached}
 use Rattle.run_rules.proofs.Matching.{NetworkMatches}
@@ -40,7 +41,7 @@ pub record Meets (t : Tables) (w : World) (id : ℕ) (e : Event (Unit {0})) : Ty
   pub met : Event ℕ
   pub serial : ℕ
   pub keyed : IsOfKey happens
-  pub turns : turn t (with_clock w (moment_of e)) happens ≡ NodeSteps id met serial
+  pub turns : turn t (with_clock w (moment e)) happens ≡ NodeSteps id met serial
   pub event : unmarked_event met ≡ e
 
 module _ (t : Tables) (proper : IsRoster t) (w : World) (id : ℕ) (member : is_member t id ≡ true) where

@@ -1,4 +1,4 @@
--- What a step does to an open node, and to one that meets a purge.
+-- What a step does to an open node that meets a purge.
 use Rattle.std.proofs.Common.{◌≡◌, ℕ, Bool, true, false, List, Option, Some, None, Result, Ok, Err, refl, sym, ◌∙◌, subst}
 use Rattle.htcp_wire.specs.declared.message.Content.{Content}
 use Rattle.htcp_wire.specs.declared.message.Content.TheVariants as content
@@ -17,8 +17,6 @@ use Rattle.node_rules.specs.State.{Setting, Stepped}
 use Rattle.node_rules.specs.Datagrams.{is_full, if_desired, purged, purge_of, purge, numbered_clr, clr_by_line, htcp_clr, htcp_comes, datagram}
 use Rattle.node_rules.specs.Relation.{purge_in, purge_in_message, purge_in_content, purge_by_line}
 use Rattle.node_rules.specs.Step.{open_step, step_if, step}
-use Rattle.node_rules.specs.Effect.{Effect, Stays, Serves, Brings, Purges, Drops}
-use Rattle.node_rules.proofs.Effects.{step_does}
 use Rattle.node_rules.proofs.Cases.{branches, true_not_false}
 
 -- the purge is made, and answered
@@ -31,17 +29,6 @@ pub same_pair : {A : Type 0} (x y : A) → Some x ≡ Some y → x ≡ y
 same_pair x y e = cc
 
 module _ {X : Type 0} (g : Setting) (s : NodeState X) (mark : X) where
-  closed_by : (e : Event X) (r : Stepped X) → Effect g s e mark r → r.state.closed ≡ s.closed
-  closed_by e r (Stays pending next outcome none keeps) = refl
-  closed_by e r (Serves key c pending next outcome is_open held serves keeps) = refl
-  closed_by e r (Brings c life pending next outcome is_open is above serves keeps) = refl
-  closed_by e r (Purges key n pending next outcome is none keeps) = refl
-  closed_by e r (Drops key pending next outcome none keeps) = refl
-
-  -- the step that is defined closes no node
-  pub stays_open : (e : Event X) → (step g s e mark).state.closed ≡ s.closed
-  stays_open e = closed_by e (step g s e mark) (step_does g s mark e)
-
   abbrev IsPurged : List ℕ → ℕ → Stepped X → Type 0
   IsPurged key n r = HasPurged s key n r
 

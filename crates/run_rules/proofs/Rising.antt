@@ -5,7 +5,7 @@ use Rattle.std.proofs.lemmas.Bool.Decides.{nat_tests}
 use Rattle.node_rules.proofs.Cases.{branches, test_le, test_lt}
 use Rattle.world_rules.proofs.Seats.{same_id}
 use Rattle.run_rules.specs.Notes.{Note, place_in, turn_by, turn_of, turns_of, places_in, falls, falls_from, lesser, least, least_fall, Taken, next_note, count_of}
-use Rattle.run_rules.specs.Verdict.{Listed, double_of, shared, order_on, order_by, count_in, order_of}
+use Rattle.run_rules.specs.Verdict.{Listed, double_of, order_on, order_by, count_in, order_of}
 use Rattle.run_rules.specs.Recorded.{Rise, AllRise}
 use Rattle.run_rules.proofs.Lists.{either, same_some}
 use Rattle.run_rules.proofs.Taking.{Took, taken_by, note_of}
@@ -156,14 +156,14 @@ rise_more : (last : Option ℕ) (p : ℕ) (ps : List ℕ) → Above last p → R
 rise_more None p ps above rise = rise
 rise_more (Some last) p ps above rise = (above, rise)
 
-shared_by : (turns : List ℕ) (p : ℕ) → shared turns p ≡ None → count_of (p + 1) turns ≤ 1
+shared_by : (turns : List ℕ) (p : ℕ) → double_of None turns (Some p) ≡ None → count_of (p + 1) turns ≤ 1
 shared_by turns p is =
     (branches (λ (o : Option ℕ). o ≡ None → count_of (p + 1) turns ≤ 1) (nat_le 2 (count_of (p + 1) turns)) (Some p) None (λ two h. some_none_place p h) (λ one h. omega (greater 2 (count_of (p + 1) turns) one, arith))) is
 
 single_by : (fall : Option ℕ) (turns : List ℕ) (p : ℕ) → double_of fall turns (Some p) ≡ None → (IsLate fall p → ⊥) × (count_of (p + 1) turns ≤ 1)
 single_by None turns p is = ((λ late. no_fall late.0 late.1), shared_by turns p is)
 single_by (Some d) turns p is =
-    (branches (λ (o : Option ℕ). o ≡ None → (IsLate (Some d) p → ⊥) × (count_of (p + 1) turns ≤ 1)) (nat_le d p) (Some d) (shared turns p)
+    (branches (λ (o : Option ℕ). o ≡ None → (IsLate (Some d) p → ⊥) × (count_of (p + 1) turns ≤ 1)) (nat_le d p) (Some d) (double_of None turns (Some p))
     (λ late h. some_none_place d h)
     (λ early h. ((λ late. omega (greater d p early, same_some d late.0 late.1, late.2, arith)), shared_by turns p h))) is
 

@@ -27,10 +27,11 @@ use Rattle.purge_rules.specs.declared.fault.MasterFault.TheVariants as master_fa
 use Rattle.purge_rules.specs.Members.{members_of}
 use Rattle.purge_rules.specs.Calls.{MasterState, called, is_written, is_due, closing}
 use Rattle.purge_master.specs.declared.book.MasterEntry.{MasterEntry}
+use Rattle.world_rules.specs.World.{reply_in}
 use Rattle.run_rules.specs.declared.verdict.Cause.{Cause}
 use Rattle.run_rules.specs.declared.verdict.Cause.TheVariants.{NotSent, OtherReply, OtherState}
 use Rattle.run_rules.specs.Notes.{Note, Opens, Steps, Closes, Calls}
-use Rattle.run_rules.specs.Sent.{Network, reply_of, with_reply, without_waiting, with_clears, IsSent, IsCallSent}
+use Rattle.run_rules.specs.Sent.{Network, with_reply, without_waiting, with_clears, IsSent, IsCallSent}
 use Rattle.run_rules.specs.Board.{Standing, New, Open, Shut, Astray, Board, standing_at, with_node, with_network, with_master}
 
 pub data Judgement : Type 0 where
@@ -142,7 +143,7 @@ StepsSo g Astray e is_closed kept r = r ≡ Ok Astray
 -- what the entry sends is sent; at a node that is closed nothing waits
 abbrev pub network_after : Tables → Network → ℕ → NodeEntry → Standing → Network
 network_after roster n id e (Shut floors) = without_waiting n id
-network_after roster n id e standing = with_reply roster n id e.event (reply_of e.outcome)
+network_after roster n id e standing = with_reply roster n id e.event (reply_in e.outcome)
 
 -- the node stands so now
 abbrev pub after_entry : Tables → Board → ℕ → NodeEntry → Standing → Board

@@ -50,12 +50,13 @@ abbrev pub kept_by : FloorMap → List Record → FloorMap
 kept_by floors [] = floors
 kept_by floors (r ∷ rs) = if r.opening.closed then kept_by floors rs else r.opening.floors
 
+-- the notes of a record behind which the node opens with these floors
+abbrev pub record_notes : Record → FloorMap → List Note
+record_notes r kept = Opens r.node r.opening ∷ steps_of r.node r.closing.closed kept r.entries ++ Closes r.node (last_place 0 r.entries) r.closing ∷ []
+
 -- the notes of a record, which these follow
 abbrev pub notes_of : Record → List Record → List Note
-notes_of r rs =
-    Opens r.node r.opening
-    ∷ steps_of r.node r.closing.closed (kept_by r.closing.floors rs) r.entries
-    ++ Closes r.node (last_place 0 r.entries) r.closing ∷ []
+notes_of r rs = record_notes r (kept_by r.closing.floors rs)
 
 -- those of a node's records
 abbrev pub notes_of_all : List Record → List Note

@@ -1,11 +1,10 @@
 -- What is kept of a run is a run of the world.
-use Rattle.std.specs.Prelude.{◌≡◌, ◌⊎◌, ℕ, ◌+◌, ◌<◌, Bool, true, false, ◌==◌, List, [], ◌∷◌, ◌++◌, filter, length, Result, Ok, Err}
+use Rattle.std.specs.Prelude.{◌≡◌, ◌⊎◌, ℕ, ◌+◌, ◌<◌, Bool, true, false, ◌==◌, List, [], ◌∷◌, ◌++◌, filter, length, Some, Result, Ok, Err}
 use Rattle.std.specs.List.{filter_map}
 use Rattle.roster_tables.specs.declared.plain.Tables.{Tables}
 use Rattle.roster.specs.Lookups.{is_member}
 use Rattle.node_rules.specs.declared.state.NodeState.{NodeState}
 use Rattle.node_rules.specs.declared.event.Event.{Event}
-use Rattle.node_rules.specs.declared.event.Event.TheVariants as event
 use Rattle.node_rules.specs.declared.reply.Reply.{Reply}
 use Rattle.node_rules.specs.declared.reply.StepFault.{StepFault}
 use Rattle.node_rules.specs.State.{opened, setting}
@@ -26,10 +25,12 @@ use Rattle.purge_rules.specs.Purges.{no_purges}
 use Rattle.purge_master.specs.declared.book.MasterEntry.{MasterEntry}
 use Rattle.world_rules.specs.declared.event.WorldEvent.{WorldEvent}
 use Rattle.world_rules.specs.declared.event.WorldEvent.TheVariants as world
-use Rattle.world_rules.specs.World.{World, new_world, node_at}
+use Rattle.world_rules.specs.World.{World, Datagram, new_world, item, node_at}
 use Rattle.world_rules.specs.Turn.{Seen, Replied, Issued, Told, Nothing, NodeSteps as TurnSteps, turn, with_clock}
 use Rattle.world_rules.specs.Run.{Step, Run}
+use Rattle.world_rules.specs.Asked.{moment}
 use Rattle.run_rules.specs.Notes.{Note, Opens, Steps, Closes, Calls, notes_of_all, calls_of, is_of, place_in}
+use Rattle.run_rules.specs.Sent.{IsAnswerOf}
 
 -- Marks are no part of a record: these are without them.
 
@@ -75,25 +76,14 @@ OpensSo roster p id state steps q =
     × (((steps ≡ []) × (q ≡ p) × IsKept (unmarked (node_in p id)) state)
     ⊎ ((steps ≡ event_step (world.Restart id) Nothing ∷ []) × Goes roster p steps p.master q × (state ≡ opened (node_in p id).floors)))
 
--- the moment of an event, if it has one
-abbrev pub moment_of : Event (Unit {0}) → ℕ
-moment_of (event.Client ask now) = now
-moment_of (event.Datagram from message now) = now
-moment_of (event.PeerAsk asker ask now) = now
-moment_of (event.PeerAnswer serial peer key answer tag now) = now
-moment_of (event.OriginAnswer serial key answer now) = now
-moment_of (event.ForeignAnswer serial peer key answer tag now) = now
-moment_of (event.FetchFailed serial now) = now
-moment_of (event.Expired serial now) = now
-
 -- The clock is set, and then the node takes the entry's step, with this outcome.
 pub record IsTaken (roster : Tables) (p : Progress) (id : ℕ) (e : Event (Unit {0})) (outcome : Result (Reply ℕ) StepFault) (these : List Step) (q : Progress) : Type 0 where
   pub happens : WorldEvent
   pub met : Event ℕ
   pub serial : ℕ
-  pub turns : turn roster (with_clock p.world (moment_of e)) happens ≡ TurnSteps id met serial
+  pub turns : turn roster (with_clock p.world (moment e)) happens ≡ TurnSteps id met serial
   pub event : unmarked_event met ≡ e
-  pub steps : these ≡ event_step (world.Clock (moment_of e)) Nothing ∷ event_step happens (Replied id outcome) ∷ []
+  pub steps : these ≡ event_step (world.Clock (moment e)) Nothing ∷ event_step happens (Replied id outcome) ∷ []
   pub goes : Goes roster p these p.master q
 
 -- It is refused, and changes nothing.
@@ -121,11 +111,12 @@ StepsSo roster p id e steps q =
 abbrev pub ClosesSo : Progress → ℕ → NodeState (Unit {0}) → List Step → Progress → Type 0
 ClosesSo p id state steps q = (steps ≡ []) × (q ≡ p) × IsKept (unmarked (node_in p id)) state
 
--- what the master's answer is of in the world
+-- What the master's answer is of in the world. An acknowledgement is of a datagram that was sent and that says just it.
 abbrev pub AnswersSo : Tables → Progress → MasterCall → MasterAnswer → List Step → Type 0
 AnswersSo roster p (call.Issue key) (answer.Issue number) steps = steps ≡ event_step (world.Issue key) (Issued number) ∷ []
 AnswersSo roster p (call.Acknowledge id trans code) (answer.Acknowledge finished) steps =
-    (number : ℕ) × (status : Status) × (steps ≡ event_step (world.Datagram number) (Told trans status) ∷ [])
+    (number : ℕ) × (d : Datagram) × (status : Status) × (item p.world.datagrams number ≡ Some d) × IsAnswerOf roster id trans code d
+    × (steps ≡ event_step (world.Datagram number) (Told trans status) ∷ [])
 AnswersSo roster p call.Due (answer.Due pairs) steps = steps ≡ event_step world.Resend Nothing ∷ []
 AnswersSo roster p (call.Status number) (answer.Status status) steps = steps ≡ event_step (world.Status number) (Told number status) ∷ []
 AnswersSo roster p c a steps = ⊥

@@ -1,5 +1,5 @@
 -- What members and the master sent each other, as those that it comes to see it.
-use Rattle.std.specs.Prelude.{◌≡◌, ℕ, ◌/◌, Bool, true, false, ◌==◌, ◌&&◌, not, List, [], ◌∷◌, ◌++◌, filter, find, Contains, Option, Some, None, option_map, Result, Ok, Err, if◌then◌else◌}
+use Rattle.std.specs.Prelude.{◌≡◌, ℕ, ◌/◌, Bool, true, false, ◌==◌, ◌&&◌, not, List, [], ◌∷◌, ◌++◌, filter, find, Contains, Option, Some, None, option_map, Result, Ok, if◌then◌else◌}
 use Rattle.fetch_messages.specs.declared.ask.Ask.{Ask}
 use Rattle.fetch_messages.specs.Answer.{AnswerText}
 use Rattle.roster_tables.specs.Ranges.{is_foreign_id}
@@ -16,9 +16,8 @@ use Rattle.node_rules.specs.declared.reply.Serve.{Serve}
 use Rattle.node_rules.specs.declared.reply.Begin.{Begin}
 use Rattle.node_rules.specs.declared.reply.Begin.TheVariants as begin
 use Rattle.node_rules.specs.declared.reply.Reply.{Reply}
-use Rattle.node_rules.specs.declared.reply.StepFault.{StepFault}
+use Rattle.node_rules.specs.State.{serial_of}
 use Rattle.node_rules.specs.Tags.{retag_served}
-use Rattle.node_rules.specs.State.{quiet}
 use Rattle.purge_rules.specs.declared.calls.MasterCall.{MasterCall}
 use Rattle.purge_rules.specs.declared.calls.MasterCall.TheVariants as call
 use Rattle.purge_rules.specs.declared.calls.MasterAnswer.{MasterAnswer}
@@ -59,11 +58,6 @@ silence = record { datagrams = []; asks = []; answers = []; waiting = [] }
 
 -- What an entry of a node sends
 
--- a refused step sends nothing
-abbrev pub reply_of : Result (Reply (Unit {0})) StepFault → Reply (Unit {0})
-reply_of (Ok reply) = reply
-reply_of (Err fault) = quiet
-
 -- the ask that it sends to a member
 abbrev pub asks_by : ℕ → Option Begin → List SentAsk
 asks_by id (Some (begin.Peer serial peer ask)) = if is_foreign_id peer then [] else record { sender = id; receiver = peer; ask = ask } ∷ []
@@ -94,12 +88,6 @@ answer_for id _ served _ = []
 abbrev pub answers_by : List Waits → ℕ → Event (Unit {0}) → Option (Serve (Unit {0})) → List SentAnswer
 answers_by waiting id e None = []
 answers_by waiting id e (Some serve) = answer_for id serve.asker serve.served (key_by waiting id e serve.waiter)
-
--- the serial with which something begins
-abbrev pub serial_of : Begin → ℕ
-serial_of (begin.Round serial) = serial
-serial_of (begin.Peer serial peer ask) = serial
-serial_of (begin.Read serial ask) = serial
 
 -- the ask of a member that waits for what it begins, as the block of that serial
 abbrev pub waits_by : ℕ → Event (Unit {0}) → Option Begin → List Waits

@@ -17,15 +17,15 @@ pub record Listed : Type 0 where
   pub note : Note
   pub double : Option ℕ
 
--- the place, if two tracks have it
-abbrev pub shared : List ℕ → ℕ → Option ℕ
-shared turns place = if nat_le 2 (count_of (turn_by (Some place)) turns) then Some place else None
+-- the place that is doubled at a note of this place: one that does not rise and is no later, or its own where two tracks have it
+abbrev pub double_by : Option ℕ → Bool → Option ℕ → Option ℕ
+double_by fall is_shared None = None
+double_by None is_shared (Some place) = if is_shared then Some place else None
+double_by (Some fall) is_shared (Some place) = if nat_le fall place then Some fall else (if is_shared then Some place else None)
 
--- a place that does not rise and is no later than this one, or this one where two tracks have it
+-- the same, where the tracks have these turns
 abbrev pub double_of : Option ℕ → List ℕ → Option ℕ → Option ℕ
-double_of fall turns None = None
-double_of None turns (Some place) = shared turns place
-double_of (Some fall) turns (Some place) = if nat_le fall place then Some fall else shared turns place
+double_of fall turns place = double_by fall (nat_le 2 (count_of (turn_by place) turns)) place
 
 abbrev pub listed : Option ℕ → List (List Note) → Note → Listed
 listed fall tracks note = record { note = note; double = double_of fall (turns_of tracks) (place_in note) }
@@ -57,7 +57,7 @@ place_of (Calls entry is_closed) = entry.place
 abbrev pub is_astray : Post → Bool
 is_astray p = is_unknown p.standing
 
--- a node that is astray at the end is a flaw too
+-- A node that is astray at the end is a flaw too. (None is: where a record opened as it may not, its closing has a flaw.)
 abbrev pub ending : Board → Verdict
 ending b = if list_any is_astray b.posts then No 0 OtherState else Yes
 

@@ -4,7 +4,8 @@ ghost use Rattle.std.specs.List.{list_any};
 ghost use Rattle.cluster_script.specs.Checked.{GoesOn};
 ghost use Rattle.running_cluster.specs.Kept.{gathered_at_first, gathered_in, tells_nothing, with_record};
 
-use node_book::{MOST_ENTRIES, Record};
+use node_book::{MOST_ENTRIES, NodeEntry, Record};
+use node_shifts::octets_of;
 use purge_master::MasterEntry;
 use std::alloc::{AllocError, Global};
 
@@ -27,13 +28,25 @@ pub(crate) struct Memory {
 /// So many floors, copies and asks of a state are weighed as one entry.
 const ROWS_OF_AN_ENTRY: u64 = 4;
 
+/// So many octets that a record's events brought along are weighed as one entry.
+const OCTETS_OF_AN_ENTRY: u64 = 1_024;
+
 /// How much is kept of so many members and a master, where so many shifts of each are: as many entries as these have, all told.
 fn most_entries(members: usize, shifts: u32) -> u64 {
     let each = u64::from(shifts).saturating_mul(MOST_ENTRIES as u64);
     each.saturating_mul((members as u64).saturating_add(1))
 }
 
-/// What a record takes, in entries: its own, and its two states by what they hold.
+/// How many octets the events of these entries brought along.
+fn octets_in(entries: &[NodeEntry]) -> u64 {
+    let mut octets = 0u64;
+    for entry in entries {
+        octets = octets.saturating_add(octets_of(&entry.event));
+    }
+    octets
+}
+
+/// What a record takes, in entries: its own, its two states by what they hold, and its events by the octets that they brought along.
 fn weight(record: &Record) -> u64 {
     let mut rows = 0u64;
     for state in [&record.opening, &record.closing] {
@@ -45,7 +58,10 @@ fn weight(record: &Record) -> u64 {
             rows = rows.saturating_add(part as u64);
         }
     }
-    (record.entries.as_slice().len() as u64).saturating_add(rows / ROWS_OF_AN_ENTRY)
+    let entries = record.entries.as_slice();
+    (entries.len() as u64)
+        .saturating_add(rows / ROWS_OF_AN_ENTRY)
+        .saturating_add(octets_in(entries) / OCTETS_OF_AN_ENTRY)
 }
 
 /// Whether one of the records is of this node.
@@ -73,7 +89,7 @@ impl Kept {
             })
     }
 
-    /// Puts the next record of a member behind those that are kept, unless it tells nothing. Where there is no memory for it, nothing changes.
+    /// Puts the next record of a member behind those that are kept, unless it tells nothing.
     fn put_record(&mut self, next: Record) -> Result<(), AllocError>
         ensures records { OnOk result (self.new.records.items ≡ with_record self.old.records.items next) }
         ensures entries { self.new.entries ≡ self.old.entries }
@@ -84,7 +100,7 @@ impl Kept {
         Ok(self.records.push(next)?)
     }
 
-    /// Puts the next calls of the master behind those that are kept. Where there is no memory for them, nothing changes.
+    /// Puts the next calls of the master behind those that are kept.
     fn put_entries(&mut self, mut entries: Vec<MasterEntry>) -> Result<(), AllocError>
         ensures entries { OnOk result (self.new.entries.items ≡ self.old.entries.items ++ entries.items) }
         ensures records { self.new.records ≡ self.old.records }

@@ -12,6 +12,7 @@ use Rattle.script_lines.specs.declared.fault.RunFault.TheVariants.{Io, TooManyTu
 use Rattle.script_lines.specs.Lines.{newline, lines_of, lines_before, is_last, is_long, has_long_line, begins_long}
 use Rattle.script_lines.specs.Reading.{TakesLine, TakesNone, FailsToTake, IsCounted}
 use Rattle.text_writer.specs.Writing.{AppendsFront, Writes}
+use Rattle.text_writer.proofs.Laws.{proper_front}
 use Rattle.script_lines.specs.Script.{Plays, HasPlayedBefore}
 use Rattle.script_lines.specs.Playing.{Playing}
 
@@ -140,7 +141,7 @@ module _ {S : Type 0} (answers : S → List ℕ → List ℕ → S → Type 0) w
     playing_ends now None held rest writer_old writer writer_new text r on none wrote io = tt
     playing_ends now (Some input) held None writer_old writer writer_new text r on none wrote io = absurd on
     playing_ends now (Some input) held (Some xs) writer_old writer writer_new text (Err fault) on none wrote io =
-        playing_stops now (Some input) held (Some xs) writer_old writer writer_new text fault now on wrote (other_fault held (Some xs) fault (λ e. let bad : Io ≡ LineTooLong = sym io ∙ e in cc)) (λ e. let bad : Io ≡ TooManyTurns = sym io ∙ e in absurd cc)
+        playing_stops now (Some input) held (Some xs) writer_old writer writer_new text fault now on (proper_front writer writer_new text wrote) (other_fault held (Some xs) fault (λ e. let bad : Io ≡ LineTooLong = sym io ∙ e in cc)) (λ e. let bad : Io ≡ TooManyTurns = sym io ∙ e in absurd cc)
     playing_ends now (Some input) held (Some xs) writer_old writer writer_new text (Ok done) on none wrote io =
         let all : lines_before last (lines_of input) ≡ on.taken = on.before ∙ ap (λ t. on.taken ++ t) none ∙ append-nil on.taken in record {
           text = on.done ++ text;

@@ -3,7 +3,7 @@ use std::test::Fail;
 use url_key::{Key, KeyFault};
 
 /// Each text, and the text of its key or the name of its fault.
-const TEXTS: [(&[u8], &[u8]); 33] = [
+const TEXTS: [(&[u8], &[u8]); 34] = [
     (b"HTTP://O", b"http://o/"),
     (b"http://o:8080/A?b", b"http://o:8080/A?b"),
     (b"http://o:080/", b"http://o/"),
@@ -16,6 +16,7 @@ const TEXTS: [(&[u8], &[u8]); 33] = [
         b"http://example.org:8080/A?B",
     ),
     (b"http://[FE80::1]:81/", b"http://[fe80::1]:81/"),
+    (b"http://a[b]/", b"http://a[b]/"),
     (b"http://o:65535/", b"http://o:65535/"),
     (b"HtTp://O:80", b"http://o/"),
     (b"http://o/a b", b"NotVisibleAscii"),

@@ -1,4 +1,4 @@
-//! Writing of whole texts, after which a writer that failed holds a front of the text.
+//! Writing of whole texts, after which a writer that failed holds a front of the text, and not all of it.
 //!
 //! The laws of `proofs/Laws` join texts that are written one after another.
 //!

@@ -3,24 +3,25 @@ ghost use Rattle.text_writer.specs.Writing.{Writes};
 use std::io::Write;
 use thiserror::Error;
 
-/// The writer failed, or took no octet of a text that was not empty. A front of the text is written.
+/// The writer failed, or took no octet of a text that was not empty. A front of the text is written, and not all of it.
 #[derive(Clone, Copy, Debug, PartialEq, Eq, Error)]
 #[error("the writer failed")]
 pub struct WriteFailed;
 
 /// Writes the text, by as many calls as the writer wants: each writes at least one octet or fails. After
-/// `WriteFailed` a front of the text is written. This takes no memory.
+/// `WriteFailed` a front of the text is written, and not all of it. This takes no memory.
 pub fn write_text<W: Write>(writer: &mut W, text: &[u8]) -> Result<(), WriteFailed>
     ensures { Writes (W.contents writer.old) (W.contents writer.new) result text.now }
 {
     let mut rest = text;
     while !rest.is_empty() {
         match writer.write(rest) {
-            Ok(0) | Err(_) => return Err(WriteFailed),
+            Ok(0) => return Err(WriteFailed),
             Ok(count) => {
                 let (_, unwritten) = rest.split_at(count);
                 rest = unwritten;
             }
+            Err(_) => return Err(WriteFailed),
         }
     }
     Ok(())

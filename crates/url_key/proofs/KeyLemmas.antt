@@ -14,7 +14,7 @@ use Rattle.http_uri.specs.Uri.{Spells, SpellsNone, uri_scheme, uri_authority, ur
 use Rattle.http_uri.specs.declared.uri.Uri.{Uri}
 use Rattle.http_uri.proofs.Theorems.{uri_text_parses, uri_text_round_trip}
 use Rattle.url_key.specs.declared.fault.KeyFault.{KeyFault}
-use Rattle.url_key.specs.declared.fault.KeyFault.TheVariants.{TooLong, NotVisibleAscii, Fragment, UserInfo, NotHttp}
+use Rattle.url_key.specs.declared.fault.KeyFault.TheVariants.{TooLong, NotVisibleAscii, Fragment, UserInfo, NotHttp, NoMemory}
 use Rattle.url_key.specs.Fault.{UnlessNoMemory}
 use Rattle.url_key.specs.Text.{http_prefix, is_visible, host_of, after_host, port_of, port_text, canonical_text, key_authority}
 use Rattle.url_key.specs.Key.{HasKey, HasKeyBy, HasUriKey, IsKey, KeepsParts, KeepsPartsOf, early_fault, key_of_uri, key_of_authority, key_of_host, key_within, is_http}
@@ -93,6 +93,19 @@ early_from text short plain =
       list_all-weaker is_plain is_visible plain_visible text plain,
       list_any-none (λ b. b == 35) text (list_all-weaker is_plain (λ b. not (b == 35)) plain_no_hash text plain),
     ) refl
+
+-- want of memory is no early fault
+pub early_is_no_memory : (text : List ℕ) (fault : KeyFault) → Some fault ≡ early_fault text → fault ≢ NoMemory
+early_is_no_memory text fault e memory = elim (cases_Bool (nat_lt 1024 (length text))) [
+  | inl long ↦ let bad : Some fault ≡ Some TooLong = e ∙ rw long refl in cc
+  | inr short ↦ elim (cases_Bool (list_all is_visible text)) [
+    | inr hidden ↦ let bad : Some fault ≡ Some NotVisibleAscii = e ∙ rw (short, hidden) refl in cc
+    | inl visible ↦ elim (cases_Bool (list_any (λ b. b == 35) text)) [
+      | inl hash ↦ let bad : Some fault ≡ Some Fragment = e ∙ rw (short, visible, hash) refl in cc
+      | inr none ↦ let bad : Some fault ≡ None = e ∙ rw (short, visible, none) refl in cc
+    ]
+  ]
+]
 
 -- an http URI is in the absolute form
 absolute : (text : List ℕ) (s a : Option (List ℕ)) (kept : List ℕ) → s ≡ Some (codes "http") → IsForm text s a kept → (authority : List ℕ) × (a ≡ Some authority) × IsAbsoluteForm text (codes "http") authority kept

@@ -1,5 +1,5 @@
 -- A plain key is a key: it spells a URI, whose key is the text itself.
-use Rattle.std.proofs.Common.{◌≡◌, ◌≢◌, ℕ, ◌+◌, ◌-◌, ◌<◌, ◌≤◌, ◌==◌, true, false, cond, Some, List, [], ◌∷◌, ◌++◌, fold, length, take, drop, get_or, Ok, codes, refl, sym, ap, ap₂, ◌∙◌, subst, inl, inr, arith, append-nil, append_assoc, length-append, take-append-drop, take_all, lt-ltb, ne_eqb, IfSome, length-take-le}
+use Rattle.std.proofs.Common.{◌≡◌, ◌≢◌, ℕ, ◌+◌, ◌-◌, ◌<◌, ◌≤◌, ◌==◌, true, false, cond, Some, None, List, [], ◌∷◌, ◌++◌, fold, length, take, drop, get_or, Ok, codes, refl, sym, ap, ap₂, ◌∙◌, subst, inl, inr, arith, append-nil, append_assoc, length-append, take-append-drop, take_all, lt-ltb, ne_eqb, IfSome, length-take-le}
 use Rattle.std.specs.List.{list_all, list_any, prefix_len}
 use Rattle.std.specs.Char.{to_ascii_lowercase}
 use Rattle.std.proofs.lemmas.Bool.{cases_lt, and_parts, eqb-true, ltb-true, le-ltb, leb-true}
@@ -16,7 +16,7 @@ use Rattle.http_uri.specs.Uri.{Spells, uri_path, uri_query}
 use Rattle.http_uri.specs.declared.uri.Uri.{Uri}
 use Rattle.http_uri.proofs.RunLemmas.{AllPass-take, IsAscii-pass, index_of_is, index_of_found, index_of_before, index_of_le, index_of_at_least, run_passes}
 use Rattle.url_key.specs.Text.{http_prefix, host_of, after_host, port_of, canonical_text}
-use Rattle.url_key.specs.Key.{HasKey, HasKeyBy, key_of_uri, key_of_host, key_within}
+use Rattle.url_key.specs.Key.{HasKey, HasKeyBy, early_fault, key_of_uri, key_of_host, key_within}
 use Rattle.url_key.specs.Plain.{is_host_byte, is_path_byte, plain_key}
 use Rattle.url_key.proofs.AuthorityLemmas.{piece_step}
 use Rattle.url_key.proofs.PlainLemmas.{is_plain, list_any-from_reads, list_all-weaker, list_all-at, all_back, all_both}
@@ -250,8 +250,11 @@ module _ (text host tail : List ℕ) (c : Cut text host tail) where
       ∙ all_both is_plain (http_prefix ++ host) tail (all_both is_plain http_prefix host refl (list_all-weaker is_host_byte is_plain host_plain host c.in_host))
       (list_all-weaker is_path_byte is_plain in_path_plain tail c.in_path)
 
+  cut_passes : early_fault text ≡ None
+  cut_passes = early_from text c.short plain
+
   cut_key : HasKey text (Ok text)
-  cut_key = subst (λ fault. HasKeyBy fault text (Ok text)) (sym (early_from text c.short plain)) (inr (u, spells, sym own_key))
+  cut_key = subst (λ fault. HasKeyBy fault text (Ok text)) (sym cut_passes) (inr (u, spells, sym own_key))
 
 -- a plain key is cut behind its prefix, and then where the octets of its host end
 cut_of : (text : List ℕ) → plain_key text ≡ true →
@@ -278,3 +281,7 @@ cut_of text h =
 -- a plain key has the key that it is
 pub plain_has_key : (text : List ℕ) → plain_key text ≡ true → HasKey text (Ok text)
 plain_has_key text h = cut_key text _ _ (cut_of text h)
+
+-- and passes the early tests
+pub plain_passes : (text : List ℕ) → plain_key text ≡ true → early_fault text ≡ None
+plain_passes text h = cut_passes text _ _ (cut_of text h)

@@ -50,15 +50,16 @@ early_fault text =
     else (if not (list_all is_visible text) then Some NotVisibleAscii
     else (if list_any (λ b. b == hash_sign) text then Some Fragment else None))
 
--- the text has this key, or this is the first fault of it
+-- what `HasKey` says of a text, by its early fault if it has one
 abbrev pub HasKeyBy : Option KeyFault → List ℕ → Result (List ℕ) KeyFault → Type 0
 HasKeyBy (Some fault) text outcome = outcome ≡ Err fault
 HasKeyBy None text outcome = HasUriKey text outcome
 
+-- the text has this key, or this is the first fault of it
 abbrev pub HasKey : List ℕ → Result (List ℕ) KeyFault → Type 0
 HasKey text outcome = HasKeyBy (early_fault text) text outcome
 
--- a key's text: it begins as one, is not too long, and what is read of it is itself
+-- a key's text: it is not shorter than `http://`, not too long, and what is read of it is itself
 pub record IsKey (key : List ℕ) : Type 0 where
   pub prefix : length http_prefix ≤ length key
   pub short : length key ≤ longest_key

@@ -4,6 +4,7 @@ use Rattle.std.specs.List.{list_all, prefix_len}
 use Rattle.std.specs.Int.{is_in_range}
 use Rattle.http_uri.specs.ByteClasses.{slash}
 use Rattle.url_key.specs.Text.{http_prefix}
+use Rattle.url_key.specs.Key.{longest_key}
 
 -- `-`, `.`, a decimal digit or a letter of lower case
 abbrev pub is_host_byte : ℕ → Bool
@@ -26,4 +27,4 @@ is_host_and_path text =
 -- the text is a plain key: `http://`, a host and a path, of at most 1,024 octets
 abbrev pub plain_key : List ℕ → Bool
 plain_key text =
-    nat_le (length text) 1024 && bytes_eq (take (length http_prefix) text) http_prefix && is_host_and_path (drop (length http_prefix) text)
+    nat_le (length text) longest_key && bytes_eq (take (length http_prefix) text) http_prefix && is_host_and_path (drop (length http_prefix) text)

@@ -4,7 +4,8 @@ ghost use Rattle.url_key.specs.Fault.{key_fault_name};
 use std::alloc::AllocError;
 use thiserror::Error;
 
-/// Why a text has no key. Each is answered only where none of those above it holds; `NoMemory` may stand in the place of any.
+/// Why a text has no key. Each is answered only where none of those above it holds; `NoMemory` may stand in the place of any but those that
+/// are found before the text is cut: `TooLong` of a text, `NotVisibleAscii` and `Fragment`.
 #[derive(Clone, Copy, Debug, PartialEq, Eq, Hash, Error)]
 pub enum KeyFault {
     /// The text, or the key that it would have, is longer than 1,024 octets.
@@ -16,7 +17,7 @@ pub enum KeyFault {
     /// The text has a `#` (RFC 9110, section 4.2.5).
     #[error("the text has a fragment")]
     Fragment,
-    /// The text is no URI reference of the forms of a request target (RFC 3986; RFC 9112, section 3.2).
+    /// The text has none of the forms of a request target (RFC 9112, section 3.2), as `http_uri` reads them.
     #[error("the text is no URI")]
     NotUri,
     /// There is no scheme, or one that is not `http` in any case of letters.
@@ -28,7 +29,7 @@ pub enum KeyFault {
     /// The host is empty (RFC 9110, section 4.2.1).
     #[error("the host is empty")]
     NoHost,
-    /// A colon follows the host, and not 1 to 5 digits of a value from 1 to 65535.
+    /// What stands behind the host is neither nothing nor a colon and 1 to 5 digits of a value from 1 to 65535.
     #[error("the port is not a number of 1 to 65535")]
     BadPort,
     /// A growth was refused.

@@ -1,4 +1,4 @@
-ghost use Rattle.std.specs.Prelude.{◌≡◌, ◌≤◌, ◌==◌, ◌∷◌, Ok, Err, IfOk, IfErr, MatchResult, [], nat_eq, unwrap_or, option_copied};
+ghost use Rattle.std.specs.Prelude.{◌≡◌, ◌≤◌, ◌==◌, ◌∷◌, Ok, Err, None, IfOk, IfErr, MatchResult, [], nat_eq, unwrap_or, option_copied};
 ghost use Rattle.std.specs.Cmp.{partial_equiv_from_equiv, partial_order_from_own_ties};
 ghost use Rattle.std.specs.Cmp.Lexicographic.{pointwise, nat_list_eq_equiv, slice_cmp};
 ghost use Rattle.std.specs.Cmp.Rules.{comparing, hashing};
@@ -25,7 +25,8 @@ use std::marker::Model;
 /// The most octets that a text which is read may have, and a key too.
 pub const LONGEST_KEY: usize = 1024;
 
-/// The canonical text of an http URL. All texts of one resource have one key.
+/// The canonical text of an http URL. Texts that differ in the case of the scheme or the host, in whether port 80 is written, in leading zeros of the port, or in whether
+/// the `/` of an empty path is, have one key (RFC 9110, section 4.2.3). Percent-encoded octets stay as they came, so `/~a` and `/%7Ea` have two.
 ///
 /// A contract sees it as that text.
 #[derive(Drop)]
@@ -50,6 +51,8 @@ impl Key {
         ensures ok { IfOk result (λ key. HasKey text.now (Ok key)) }
         ensures parts { IfOk result (λ key. KeepsParts text.now key) }
         ensures err { IfErr result (λ fault. UnlessNoMemory fault (HasKey text.now (Err fault))) }
+        // What is tested before the text is cut takes no memory.
+        ensures memory { result ≡ Err KeyFault.NoMemory → first_fault text.now ≡ None }
     {
         match text_of_key(alloc, text) {
             Ok(text) => Ok(Key { text }),
@@ -105,8 +108,9 @@ impl Key {
 
 /// The text of the key of any text, or the first reason why it has none.
 fn text_of_key(alloc: Global, text: &[u8]) -> Result<Vec<u8>, KeyFault>
-    ensures { MatchResult result (λ key. HasKey text.now (Ok key.items))
+    ensures outcome { MatchResult result (λ key. HasKey text.now (Ok key.items))
         (λ fault. UnlessNoMemory fault (HasKey text.now (Err fault))) }
+    ensures memory { result ≡ Err KeyFault.NoMemory → first_fault text.now ≡ None }
 {
     if is_plain_key(text) {
         let key = Vec::from_slice(alloc, text)?;

@@ -1,4 +1,4 @@
--- Counted texts: a length of two octets, and that many octets. HTCP calls this a COUNTSTR (RFC 2756); the object of an ICP HIT_OBJ has the same form (RFC 2186, "ICP_OP_HIT_OBJ").
+-- Counted texts: a length of two octets in network byte order (RFC 791, appendix B), and that many octets. HTCP calls this a COUNTSTR (RFC 2756); the object of an ICP HIT_OBJ has the same form (RFC 2186, "ICP_OP_HIT_OBJ").
 use Rattle.std.specs.Prelude.{ℕ, nat_lt, ◌||◌, List, ◌++◌, length, take, drop, Option, Some, None, if◌then◌else◌}
 use Rattle.byteorder.specs.Endian.{big_bytes, big_number}
 

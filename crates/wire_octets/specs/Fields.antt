@@ -1,4 +1,4 @@
--- Octets in network byte order (RFC 791, appendix B): the most significant octet of a number stands first.
+-- What a list of octets is.
 use Rattle.std.specs.Prelude.{ℕ, ◌<◌, List, slice_index}
 
 -- each item is an octet (what is read past the end counts as 0)

@@ -1,8 +1,8 @@
 //! Octets, and the numbers and texts that they spell in network byte order.
 //!
 //! The codecs of ICP and HTCP stand on this crate. `Octets` is an owned list of octets. The definitions of
-//! `specs/` say what a field of n octets is (`Fields`) and what a counted text is (`Counted`); `specs/Laws`
-//! has the laws of both.
+//! `specs/` say what a list of octets is (`IsOctets`) and what a counted text is (`counted`); `specs/Laws`
+//! has the laws of both, and of the numbers of n octets of `byteorder`.
 #![tactic(auto)]
 
 mod counted;

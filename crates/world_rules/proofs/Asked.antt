@@ -47,7 +47,7 @@ use Rattle.node_rules.proofs.Cases.{branches, unless_refused, true_not_false}
 use Rattle.node_rules.proofs.FloorLaws.{same_text}
 use Rattle.node_rules.proofs.Pendings.{all_mapped, all_joined, all_contained, found, found_passes, all_changed, all_left}
 use Rattle.node_rules.proofs.Stepping.{steps_case, closing_closes}
-use Rattle.world_rules.specs.Asked.{moment, Asks, IsAskAfter, ServesRightly, AnswersAsks}
+use Rattle.world_rules.specs.Asked.{moment, Asks, Waits, IsAskAfter, IsFor, ServesRightly, AnswersAsks}
 
 -- a copy that is chosen for an ask is of its key
 good_key : {X : Type 0} (floor now : ℕ) (o : Option (WebCopy X)) (c : WebCopy X) → if_good floor now o ≡ Some c → o ≡ Some c
@@ -76,8 +76,15 @@ module _ {X : Type 0} (g : Setting) (s : NodeState X) (e : Event X) (mark : X) (
   changed_so : (t : NodeState X) (p : Pending X) (outcome : Result (Reply X) StepFault) → GoesOn t → IsAskAfter s e t.next p → ServesRightly s e outcome → Answers record { state = changing t p; outcome = outcome }
   changed_so t p outcome on is serves = plainly (changing t p) outcome (all_changed (IsAskAfter s e t.next) (is_of_block p.block) p t.pending is on.0, on.1) serves
 
+  was_waiting : (p : Pending X) → Contains s.pending p → Waits s p.block p.asker p.ask
+  was_waiting p has = record { was = p; waits = has; block_same = refl; asker_same = refl; ask_same = refl }
+
   was_asked : (next : ℕ) (p : Pending X) → Contains s.pending p → IsAskAfter s e next p
-  was_asked next p has = inl record { was = p; waits = has; block_same = refl; asker_same = refl; ask_same = refl }
+  was_asked next p has = inl (was_waiting p has)
+
+  -- an ask that waits is served as its block
+  waits_served : (p : Pending X) → Waits s p.block p.asker p.ask → (key : List ℕ) × IsFor s e (Some p.block) p.asker key
+  waits_served p w = (p.ask.key, (w.was, w.waits, w.block_same, w.asker_same, ap (λ (a : Ask). a.key) w.ask_same))
 
   all_asked : (next : ℕ) → AllByRecursion (IsAskAfter s e next) s.pending
   all_asked next = all_mapped (Contains s.pending) (IsAskAfter s e next) (was_asked next) s.pending (all_contained s.pending)
@@ -93,21 +100,21 @@ module _ {X : Type 0} (g : Setting) (s : NodeState X) (e : Event X) (mark : X) (
 
   -- Going on
 
-  read_origin_answers : (t : NodeState X) → GoesOn t → (p : Pending X) → IsAskAfter s e t.next p → (waiter : Option ℕ) (now : ℕ) → Answers (read_origin g t p waiter now mark)
+  read_origin_answers : (t : NodeState X) → GoesOn t → (p : Pending X) → IsAskAfter s e t.next p → (waiter : Option ℕ) → ((key : List ℕ) × IsFor s e waiter p.asker key) → (now : ℕ) → Answers (read_origin g t p waiter now mark)
   unfolding read_origin begin_read
-  read_origin_answers t on p is waiter now =
-      branches Answers (nat_le 3 p.reads) _ _ (λ _. ended_so t p.block _ on tt)
-      (λ _. branches Answers (has_origin g.roster p.ask.key) _ _ (λ _. changed_so t (fetching p (p.reads + 1) (AtOrigin (seen t.floors) now mark)) _ on is tt) (λ _. ended_so t p.block _ on tt))
+  read_origin_answers t on p is waiter serves now =
+      branches Answers (nat_le 3 p.reads) _ _ (λ _. ended_so t p.block _ on serves)
+      (λ _. branches Answers (has_origin g.roster p.ask.key) _ _ (λ _. changed_so t (fetching p (p.reads + 1) (AtOrigin (seen t.floors) now mark)) _ on is tt) (λ _. ended_so t p.block _ on serves))
 
-  go_to_answers : (t : NodeState X) → GoesOn t → (p : Pending X) → IsAskAfter s e t.next p → (now : ℕ) (to : Source) → Answers (go_to g t p now mark to)
+  go_to_answers : (t : NodeState X) → GoesOn t → (p : Pending X) → Waits s p.block p.asker p.ask → (now : ℕ) (to : Source) → Answers (go_to g t p now mark to)
   unfolding go_to ask_peer
-  go_to_answers t on p is now source.Wait = changed_so t p _ on is tt
-  go_to_answers t on p is now (source.Peer peer cached) = changed_so t (fetching p p.reads (AtPeer peer now)) _ on is tt
-  go_to_answers t on p is now source.Origin = read_origin_answers t on p is (Some p.block) now
+  go_to_answers t on p waits now source.Wait = changed_so t p _ on (inl waits) tt
+  go_to_answers t on p waits now (source.Peer peer cached) = changed_so t (fetching p p.reads (AtPeer peer now)) _ on (inl waits) tt
+  go_to_answers t on p waits now source.Origin = read_origin_answers t on p (inl waits) (Some p.block) (waits_served p waits) now
 
-  go_on_answers : (t : NodeState X) → GoesOn t → (p : Pending X) → IsAskAfter s e t.next p → (now : ℕ) → Answers (go_on g t p now mark)
+  go_on_answers : (t : NodeState X) → GoesOn t → (p : Pending X) → Waits s p.block p.asker p.ask → (now : ℕ) → Answers (go_on g t p now mark)
   unfolding go_on
-  go_on_answers t on p is now = go_to_answers t on p is now _
+  go_on_answers t on p waits now = go_to_answers t on p waits now _
 
   -- Asks
 
@@ -120,13 +127,13 @@ module _ {X : Type 0} (g : Setting) (s : NodeState X) (e : Event X) (mark : X) (
 
     ask_around_answers : (round : RoundText) (peers : List Peer) → Answers (ask_around g (takes_block s) asker ask s.next now mark round peers)
     unfolding ask_around begin_round
-    ask_around_answers round [] = read_origin_answers _ (one_more None, omega arith) _ (new_is None) None now
+    ask_around_answers round [] = read_origin_answers _ (one_more None, omega arith) (new_ask s.next asker ask None) (new_is None) None (ask.key, (ask, asks, refl)) now
     ask_around_answers round (p ∷ peers) = plainly _ _ (one_more (Some round), omega arith) tt
 
     not_held_answers : Answers (not_held g s asker ask now mark)
     unfolding not_held begin_ask
     not_held_answers =
-        branches Answers (is_cached_only g asker ask) _ _ (λ _. plainly s _ here tt)
+        branches Answers (is_cached_only g asker ask) _ _ (λ _. plainly s _ here (ask.key, (ask, asks, refl)))
         (λ _. branches Answers (is_busy s) _ _ (λ _. refused _) (λ _. ask_around_answers _ _))
 
     by_copy_answers : (o : Option (WebCopy X)) → ((c : WebCopy X) → o ≡ Some c → c.key ≡ ask.key) → Answers (by_copy g s asker ask now mark o)
@@ -144,8 +151,8 @@ module _ {X : Type 0} (g : Setting) (s : NodeState X) (e : Event X) (mark : X) (
   waiting test p waits = found (Contains s.pending) test s.pending p (all_contained s.pending) waits
 
   module _ (p : Pending X) (has : Contains s.pending p) (now : ℕ) (at : now ≡ moment e) where
-    goes_on : (q : Pending X) → IsAskAfter s e s.next q → Answers (go_on g s q now mark)
-    goes_on q is = go_on_answers s here q is now
+    goes_on : (q : Pending X) → Waits s q.block q.asker q.ask → Answers (go_on g s q now mark)
+    goes_on q waits = go_on_answers s here q waits now
 
     use_answer_answers : (stamp asked : ℕ) (answer : AnswerText) (tag : X) → Answers (use_answer g s p stamp asked answer tag now)
     unfolding use_answer
@@ -156,13 +163,13 @@ module _ {X : Type 0} (g : Setting) (s : NodeState X) (e : Event X) (mark : X) (
     unfolding peer_gave try_on
     peer_gave_answers peer asked stamp answer tag =
         branches Answers (nat_le (floor s.floors p.ask.key) stamp && not (is_gateway_fault answer.status)) _ _
-        (λ _. use_answer_answers stamp asked answer tag) (λ _. goes_on (not_fetching p (p.tried ++ peer ∷ [])) (was_asked s.next p has))
+        (λ _. use_answer_answers stamp asked answer tag) (λ _. goes_on (not_fetching p (p.tried ++ peer ∷ [])) (was_waiting p has))
 
     origin_gave_answers : (stamp asked : ℕ) (read_mark : X) (answer : AnswerText) → Answers (origin_gave g s p stamp asked read_mark answer now mark)
     unfolding origin_gave
     origin_gave_answers stamp asked read_mark answer =
         branches Answers (nat_le (floor s.floors p.ask.key) stamp) _ _
-        (λ _. use_answer_answers stamp asked answer read_mark) (λ _. goes_on (not_fetching p p.tried) (was_asked s.next p has))
+        (λ _. use_answer_answers stamp asked answer read_mark) (λ _. goes_on (not_fetching p p.tried) (was_waiting p has))
 
     from_peer_answers : (peer stamp : ℕ) (answer : AnswerText) (tag : X) (fetch : Fetch X) → Answers (from_peer g s p peer stamp answer tag now mark fetch)
     unfolding from_peer
@@ -179,23 +186,23 @@ module _ {X : Type 0} (g : Setting) (s : NodeState X) (e : Event X) (mark : X) (
 
     fails_answers : (fetch : Fetch X) → Answers (fails g s p now mark fetch)
     unfolding fails try_on
-    fails_answers (AtPeer peer asked) = goes_on (not_fetching p (p.tried ++ peer ∷ [])) (was_asked s.next p has)
-    fails_answers (AtOrigin stamp asked read_mark) = ended_so s p.block _ here tt
+    fails_answers (AtPeer peer asked) = goes_on (not_fetching p (p.tried ++ peer ∷ [])) (was_waiting p has)
+    fails_answers (AtOrigin stamp asked read_mark) = ended_so s p.block _ here (waits_served p (was_waiting p has))
     fails_answers Nowhere = refused _
 
-    moves_answers : (q : Pending X) → IsAskAfter s e s.next q → Answers (round_moves g s q now mark)
+    moves_answers : (q : Pending X) → Waits s q.block q.asker q.ask → Answers (round_moves g s q now mark)
     unfolding round_moves
-    moves_answers q is = branches Answers (is_idle q.fetch) _ _ (λ _. goes_on q is) (λ _. changed_so s q _ here is tt)
+    moves_answers q waits = branches Answers (is_idle q.fetch) _ _ (λ _. goes_on q waits) (λ _. changed_so s q _ here (inl waits) tt)
 
     expires_answers : (o : Option RoundText) → Answers (expires g s p now mark o)
     unfolding expires
     expires_answers None = refused _
-    expires_answers (Some r) = moves_answers (with_round p (ended r)) (was_asked s.next p has)
+    expires_answers (Some r) = moves_answers (with_round p (ended r)) (was_waiting p has)
 
     hears_answers : (peer : Peer) (said : Said) (o : Option RoundText) → Answers (hears g s p peer said now mark o)
     unfolding hears
     hears_answers peer said None = silent
-    hears_answers peer said (Some r) = branches Answers (has_told r.told peer.id) _ _ (λ _. silent) (λ _. moves_answers (with_round p (answered r peer.id said)) (was_asked s.next p has))
+    hears_answers peer said (Some r) = branches Answers (has_told r.told peer.id) _ _ (λ _. silent) (λ _. moves_answers (with_round p (answered r peer.id said)) (was_waiting p has))
 
     told_by_answers : (said : Peer → Said) (o : Option Peer) → Answers (told_by g s p said now mark o)
     unfolding told_by

@@ -10,6 +10,7 @@ pub mod MasterTurns
 pub mod Counting
 pub mod Turns
 pub mod Runs
+pub mod Back
 pub mod Safe
 pub mod Applying
 pub mod Asked

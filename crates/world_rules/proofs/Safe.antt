@@ -6,7 +6,7 @@ use Rattle.object_store.specs.declared.copy.WebCopy.{WebCopy}
 use Rattle.node_rules.specs.declared.reply.Reply.{Reply}
 use Rattle.node_rules.specs.declared.reply.StepFault.{StepFault}
 use Rattle.floor_rules.specs.Floors.{floor}
-use Rattle.node_rules.specs.Effect.{copy_served}
+use Rattle.node_rules.specs.Effect.{copy_served, sent}
 use Rattle.node_rules.specs.Questions.{BeginsNothing}
 use Rattle.node_rules.proofs.Lawful.{steps_are_lawful}
 use Rattle.roster_tables.specs.declared.plain.Tables.{Tables}
@@ -21,13 +21,14 @@ use Rattle.world_rules.specs.World.{World, new_world, node_at}
 use Rattle.world_rules.specs.Turn.{Seen, Replied, Issued, Turn, NodeSteps, Ends, Refused, issue_by, turn}
 use Rattle.world_rules.specs.Run.{Step, Run, Takes, Happens, IsItem, purges, issued, IsIssuedAt, ServesCopy}
 use Rattle.world_rules.specs.Lineage.{IsStamped, HasLineage}
-use Rattle.world_rules.specs.Safety.{NothingOldIsServed, SiblingsAskNothing}
+use Rattle.world_rules.specs.Safety.{NothingOldIsServed, SendsBack, SiblingsAskNothing}
 use Rattle.world_rules.proofs.Items.{item_pushed, item_later, item_taken, same_item, parted}
 use Rattle.world_rules.proofs.Issues.{purges-append, issued_later, issued_up, key_later}
 use Rattle.world_rules.proofs.Seats.{node_at-same}
 use Rattle.world_rules.proofs.NodeTurns.{copy_stamped}
 use Rattle.world_rules.proofs.Turns.{IsRight, turn_right}
 use Rattle.world_rules.proofs.Runs.{lineage_before}
+use Rattle.world_rules.proofs.Back.{sibling_sends_back}
 
 -- a copy that is served has its lineage, and no floor of a member that serves it is above its stamp
 record IsServedRightly (h : Tables) (past : List Step) (w : World) (c : WebCopy ℕ) : Type 0 where
@@ -117,4 +118,7 @@ siblings_ask_nothing h steps past rest event id outcome before after e serial is
     let same : outcome ≡ result = ap (λ (s : Seen). seen_outcome s outcome) is_seen in
     let at_id : node_at after.seats id ≡ next = ap (λ (w : World). node_at w.seats id) is_new ∙ node_at-same before.seats id next in
     let none : BeginsNothing (node_at before.seats id) result next = law.siblings asks in
-    subst (λ r. BeginsNothing (node_at before.seats id) r (node_at after.seats id)) (sym same) (subst (BeginsNothing (node_at before.seats id) result) (sym at_id) none)
+    let back : SendsBack e (sent result) = sibling_sends_back (setting h id) (node_at before.seats id) e (length past + 1) result next asks node_steps in (
+      subst (λ r. BeginsNothing (node_at before.seats id) r (node_at after.seats id)) (sym same) (subst (BeginsNothing (node_at before.seats id) result) (sym at_id) none),
+      subst (λ (r : Result (Reply ℕ) StepFault). SendsBack e (sent r)) (sym same) back,
+    )

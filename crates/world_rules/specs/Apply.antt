@@ -63,19 +63,25 @@ fault_of (Replied id outcome) = fault_in outcome
 fault_of (NotIssued fault) = Some (actor.Master fault)
 fault_of _ = None
 
--- what is told of what was seen, where the first world became the second
-abbrev pub outcome_of : World → World → Seen → Outcome
-outcome_of old new seen = record {
+-- what is told of what was seen, where this answer, these datagrams and this ask were sent
+abbrev pub told_by : Seen → Option ℕ → List ℕ → Option ℕ → Outcome
+told_by seen answer sent ask = record {
   serve = (reply_of seen).serve;
-  answer = new_item (length old.answers) (length new.answers);
+  answer = answer;
   purge = purge_of seen;
   status = status_of seen;
   round = round_in (reply_of seen).begin;
-  sent = numbers_after (length old.datagrams) (length new.datagrams - length old.datagrams);
-  ask = new_item (length old.asks) (length new.asks);
+  sent = sent;
+  ask = ask;
   read = read_in (reply_of seen).begin;
   fault = fault_of seen;
 }
+
+-- what is told of what was seen, where the first world became the second
+abbrev pub outcome_of : World → World → Seen → Outcome
+outcome_of old new seen =
+    told_by seen (new_item (length old.answers) (length new.answers)) (numbers_after (length old.datagrams) (length new.datagrams - length old.datagrams))
+    (new_item (length old.asks) (length new.asks))
 
 -- an event is applied, or it is refused, changes nothing and has no place
 pub data Applied : Type 0 where

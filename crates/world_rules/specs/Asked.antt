@@ -47,10 +47,10 @@ abbrev pub IsFor : {X : Type 0} → NodeState X → Event X → Option ℕ → O
 IsFor s e None asker key = (ask : Ask) × Asks e asker ask × (ask.key ≡ key)
 IsFor s e (Some block) asker key = (p : Pending _) × Contains s.pending p × (p.block ≡ block) × (p.asker ≡ asker) × (p.ask.key ≡ key)
 
--- a copy has its age at this moment
+-- a copy has its age at this moment, and goes to an ask of its key; a bare status goes to an ask of some key
 abbrev pub IsServedRightly : {X : Type 0} → NodeState X → Event X → Option ℕ → Option ℕ → Served X → Type 0
 IsServedRightly s e waiter asker (Copy c age) = (age ≡ served_age c (moment e)) × IsFor s e waiter asker c.key
-IsServedRightly s e waiter asker (Status status) = Unit {0}
+IsServedRightly s e waiter asker (Status status) = (key : List ℕ) × IsFor s e waiter asker key
 
 -- so it is with what is served, if anything is
 abbrev pub IsRightlyIn : {X : Type 0} → NodeState X → Event X → Option (Serve X) → Type 0

@@ -1,10 +1,14 @@
 -- The safety of purges: the theorem that this crate is for.
-use Rattle.std.specs.Prelude.{◌≡◌, ℕ, ◌+◌, ◌<◌, List, ◌∷◌, ◌++◌, length, true, Result}
+use Rattle.std.specs.Prelude.{◌≡◌, ℕ, ◌+◌, ◌<◌, List, [], ◌∷◌, ◌++◌, length, true, Result}
+use Rattle.std.specs.List.{AllByRecursion}
 use Rattle.object_store.specs.declared.copy.WebCopy.{WebCopy}
 use Rattle.node_rules.specs.declared.event.Event.{Event}
+use Rattle.node_rules.specs.declared.event.Event.TheVariants as node_event
+use Rattle.node_rules.specs.declared.message.Outgoing.{Outgoing}
 use Rattle.node_rules.specs.declared.reply.Reply.{Reply}
 use Rattle.node_rules.specs.declared.reply.StepFault.{StepFault}
 use Rattle.node_rules.specs.Questions.{is_from_sibling, BeginsNothing}
+use Rattle.node_rules.specs.Effect.{sent}
 use Rattle.roster_tables.specs.declared.plain.Tables.{Tables}
 use Rattle.world_rules.specs.declared.event.WorldEvent.{WorldEvent}
 use Rattle.node_rules.specs.State.{setting}
@@ -20,12 +24,17 @@ NothingOldIsServed steps =
     IsIssuedAt steps issued number key → IsReportedAt steps reported number → reported < served → IsServedAt steps served c →
     c.key ≡ key → issued < c.tag
 
--- At each place, a step of a member that meets a sibling's ask, a QUERY or a TST begins no round, no fetch and no read, and
--- leaves no ask waiting; whichever worlds the run had before and after it.
+-- Each datagram that is sent goes back to where the event's datagram came from; where the event is none, none is sent.
+abbrev pub SendsBack : {X : Type 0} → Event X → List Outgoing → Type 0
+SendsBack (node_event.Datagram from m now) messages = AllByRecursion (λ (o : Outgoing). o.to ≡ from) messages
+SendsBack _ messages = messages ≡ []
+
+-- At each place, a step of a member that meets a sibling's ask, a QUERY or a TST begins no round, no fetch and no read, leaves no
+-- ask waiting, and sends nothing to anybody but who asked; whichever worlds the run had before and after it.
 abbrev pub SiblingsAskNothing : Tables → List Step → Type 0
 SiblingsAskNothing roster steps =
     (past rest : List Step) (event : WorldEvent) (id : ℕ) (outcome : Result (Reply ℕ) StepFault) (before after : World) (e : Event ℕ) (serial : ℕ) →
     steps ≡ past ++ record { event = event; seen = Replied id outcome } ∷ rest →
     Run roster 1 (new_world roster) past before → Happens roster (length past + 1) before event (Replied id outcome) after →
     turn roster before event ≡ NodeSteps id e serial → is_from_sibling (setting roster id) e ≡ true →
-    BeginsNothing (node_at before.seats id) outcome (node_at after.seats id)
+    BeginsNothing (node_at before.seats id) outcome (node_at after.seats id) × SendsBack e (sent outcome)

@@ -6,6 +6,7 @@ use Rattle.fetch_messages.specs.Answer.{AnswerText}
 use Rattle.object_store.specs.declared.copy.WebCopy.{WebCopy}
 use Rattle.roster_tables.specs.Ranges.{is_foreign_id}
 use Rattle.roster_tables.specs.declared.plain.Address.{Address}
+use Rattle.roster_tables.specs.declared.plain.Cache.{Cache}
 use Rattle.roster_tables.specs.declared.plain.Member.{Member}
 use Rattle.roster_tables.specs.declared.plain.Tables.{Tables}
 use Rattle.roster.specs.Lookups.{member_of, address_by}
@@ -94,10 +95,14 @@ with_node (seat ∷ seats) id node = if seat.id == id then record { id = id; nod
 
 -- What a node's reply sends
 
--- the datagrams of a member, from its address for their protocol
+-- the datagram that a message to be sent makes: from this cache's address for the message's protocol
+abbrev pub datagram_from : Cache → Outgoing → Datagram
+datagram_from c o = record { sender = address_by (protocol_of o.message) c; receiver = o.to; message = o.message }
+
+-- the datagrams of a member
 abbrev pub datagrams_from : Option Member → List Outgoing → List Datagram
 datagrams_from None sent = []
-datagrams_from (Some m) sent = map (λ o. record { sender = address_by (protocol_of o.message) m.cache; receiver = o.to; message = o.message }) sent
+datagrams_from (Some m) sent = map (datagram_from m.cache) sent
 
 -- the ask that it sends to a member; foreign caches are no part of the world
 abbrev pub asks_in : ℕ → Option Begin → List PeerAsk
@@ -161,7 +166,7 @@ waits_now id (event.PeerAsk asker ask now) serial old new = if old.next == new.n
 waits_now id _ serial old new = []
 
 -- a refused step sends nothing
-abbrev pub reply_in : Result (Reply ℕ) StepFault → Reply ℕ
+abbrev pub reply_in : {X : Type 0} → Result (Reply X) StepFault → Reply X
 reply_in (Ok reply) = reply
 reply_in (Err fault) = quiet
 

@@ -19,7 +19,8 @@ ghost use Rattle.world_rules.specs.Provenance.{EachHasSource, EachHasAge};
 ghost use Rattle.world_rules.specs.Apply.{apply, IsDone};
 
 /// The safety of purges, for every roster and every list of events of its members, its master and its network: nothing old is served
-/// once a purge is reported done, no request to a sibling begins anything, and the lineage that both rest on holds at every place.
+/// once a purge is reported done, no request to a sibling begins anything or makes it send to anybody but who asked, and the lineage that
+/// both rest on holds at every place.
 pub fn purges_are_safe()
     ensures served { (roster : Tables) (events : List WorldEvent) (steps : List Step) (w : World) → IsRoster roster → Plays roster 1 (new_world roster) events steps w → NothingOldIsServed steps }
     ensures siblings { (roster : Tables) (events : List WorldEvent) (steps : List Step) (w : World) → Plays roster 1 (new_world roster) events steps w → SiblingsAskNothing roster steps }
@@ -33,7 +34,7 @@ pub fn copies_have_sources()
     ensures ages { (roster : Tables) (events : List WorldEvent) (steps : List Step) (w : World) → Plays roster 1 (new_world roster) events steps w → EachHasAge roster steps w }
 {}
 
-/// Each step of a node serves what was asked: to the event's own ask or to one that waits, a copy of its key with its age.
+/// Each step of a node serves what was asked: to the event's own ask or to one that waits, a copy of its key with its age, or a bare status.
 pub fn nodes_answer_what_is_asked<T>()
     ensures { (g : Setting) (s : NodeState T) (e : Event T) (mark : T) (outcome : Result (Reply T) StepFault) (next : NodeState T) →
         Steps g s e mark outcome next → AnswersAsks s e outcome next }

@@ -11,7 +11,7 @@
 //! an event in the run is the mark of the reads that it begins. A list of events is then an interleaving of the actors' steps, and
 //! the laws hold of every list. What an event names that is not there is refused, changes nothing and has no place.
 //!
-//! Three premises are built into the definitions, and nothing else is taken for granted of the network:
+//! Four premises are built into the definitions, and nothing else is taken for granted of the network:
 //!
 //! - What is stored outlives a restart: `Restart` opens a node with the floors that it had (`specs/Turn`), and the master's purges
 //!   are the same after `RestartMaster`. All else of a node is lost.
@@ -19,6 +19,7 @@
 //!   the lists, and `Strange`, which brings any message, is refused where its sender has such an address.
 //! - An origin's answer comes to the read that asked for it, and no connection outlives its node's restart: `Origin` and `Foreign`
 //!   reach only a read or a fetch that is pending now, and a restart or a fault leaves none pending.
+//! - The roster stays the same: a run has one, and the members that a purge is done for are those of all later restarts.
 //!
 //! The laws are of any roster that can be read (`IsRoster`); what is purged is a key (`IsKey`), and a text has the key that `key_texts`
 //! gives it. Not promised: that a purge is ever done, and that nothing old is served before.

@@ -43,7 +43,8 @@ pub enum ActorFault {
 #[derive(Clone, Copy, Debug, PartialEq, Eq, Error)]
 pub enum WorldFault {
     /// It names a datagram, an ask, an answer or a member that there is not, what comes has a receiver that is neither a member
-    /// nor the master, or a strange datagram has a sender that is a member or the master.
+    /// nor the master, or a strange datagram has a sender that is a member or the master, or comes to no member's address for its
+    /// protocol.
     #[error("there is no such packet")]
     NoSuchPacket,
     /// No read of the origin, or no fetch from a foreign cache, is pending at this serial.

@@ -4,5 +4,4 @@ use Rattle.node_http.proofs.roster_names.name_of.Goals as goal
 
 pub returns-clause-valid : goal.returns-clause-valid
 returns-clause-valid c =
-    let found = rw c.members.ensures.value at c.in-Some.ensures in
-    rw c.as_slice.ensures (name_is_valid c.args.roster.now c.args.id c.in-Some.member.now c.members.ensures.valid.ranges (sym found))
+    rw c.as_slice.ensures (name_is_valid c.args.roster.now c.args.id c.in-Some.member.now c.member.ensures.valid.ranges (sym c.in-Some.ensures.value))

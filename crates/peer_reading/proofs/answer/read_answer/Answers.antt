@@ -41,4 +41,4 @@ returns-in-Err g c =
     head_stops first after [] new c.heads.start c.in-Err.fault
     (takes_then [] c.heads.intake new first before after c.heads.invariant.taken c.in-Err.ensures.taken)
     (passes_taken before after c.heads.intake new c.heads.start c.in-Err.ensures.taken c.heads.invariant.passes)
-    c.in-Err.ensures.faults (λ e. c.in-Err.ensures.bad (ap Err e)) (λ e. c.in-Err.ensures.long (ap Err e)) (λ e. c.in-Err.ensures.ended (ap Err e)) (λ e. c.in-Err.ensures.spent (ap Err e))
+    c.in-Err.ensures.faults (λ e. c.in-Err.ensures.bad (ap Err e)) (λ e. c.in-Err.ensures.long (ap Err e)) c.in-Err.ensures.open (λ e. c.in-Err.ensures.ended (ap Err e)) (λ e. c.in-Err.ensures.spent (ap Err e))

@@ -1,6 +1,7 @@
-use Rattle.std.proofs.Common.{arith, sym, ◌∙◌, inl, inr, ◌<◌, ◌≤◌}
+use Rattle.std.proofs.Common.{◌≡◌, arith, sym, ◌∙◌, inl, inr, ◌<◌, ◌≤◌}
 use Rattle.sqlite.specs.Held.{state}
 use Rattle.floor_rules.specs.Floors.{floor}
+use Rattle.floor_rules.specs.declared.fault.FloorFault.TheVariants.{StoreFault}
 use Rattle.purge_numbers.specs.Store.{committed_floors}
 use Rattle.floor_rules.proofs.MapLemmas.{raised_same, raised_higher}
 use Rattle.purge_numbers.proofs.writing.raise.Goals as goal
@@ -20,3 +21,8 @@ returns-in-Err-clause-crash g c clean left may =
       | inl same ↦ inl same
       | inr put ↦ inr (rw same at (c.has_room.ensures.yes c.if-not-has_room.false), rw c.text.ensures.value at put ∙ sym (raised_higher before c.args.key.now c.args.number higher))
     ]
+
+pub returns-in-Err-clause-cause : goal.returns-in-Err-clause-cause
+returns-in-Err-clause-cause g c refused clean =
+    let fault : c.fault_of.result ≡ StoreFault = cc in
+    (c.in-Err.error, sym c.fault_of.ensures.told ∙ fault, rw c.text.ensures.value at (c.in-Err.ensures.failed clean))

@@ -7,8 +7,7 @@ use Rattle.roster_tables.specs.declared.plain.Address.{Address}
 use Rattle.roster_tables.specs.declared.plain.Tables.{Tables}
 use Rattle.node_rules.specs.declared.message.Message.{Message}
 use Rattle.node_rules.specs.declared.message.Message.TheVariants as message
-use Rattle.node_rules.specs.Relation.{purge_in_message, purge_in_content}
-use Rattle.node_core.specs.Closing.{purge_meant}
+use Rattle.node_rules.specs.Relation.{purge_in_message, purge_in_content, purge_meant}
 use Rattle.node_rules.specs.State.{setting}
 use Rattle.run_check.proofs.purging.purge_by_message.Goals as goal
 

@@ -1,5 +1,6 @@
 use Rattle.std.proofs.Common.{option_map, ◌≡◌, [], drop, refl, sym, ap, subst, Err, ◌∙◌}
 use Rattle.script_lines.specs.declared.fault.RunFault.TheVariants.{Io, TooManyTurns, LineTooLong, NoMemory}
+use Rattle.text_writer.proofs.Laws.{proper_front}
 use Rattle.script_lines.specs.Lines.{is_last}
 use Rattle.script_lines.specs.Reading.{IsCounted}
 use Rattle.script_lines.proofs.Counting.{counted_same, counted_then}
@@ -88,7 +89,7 @@ returns-in-Err-write_text g c =
     let told = c.in_default.ensures in
     let answered = rw c.deref-in-lines-2.ensures.value at told.1 in
     let on = playing_line answers last start c.lines.script c.answer_line.new.script input held rest left after first writer text c.next_line.new.line.items told.0 c.answer_line.new.text.items c.lines.invariant.playing took other answered told.2 in
-    playing_stops answers last start c.answer_line.new.script input left after first writer (g.W.Write.contents c.write_text-then-is_due.new.writer) c.answer_line.new.text.items c.in-Err-write_text.fault c.answer_line.new.script on (rw c.deref-then-is_due.ensures.value at c.in-Err-write_text.ensures.written) (other_fault answers last start left after c.in-Err-write_text.fault (λ e. let bad : Io ≡ LineTooLong = sym c.in-Err-write_text.ensures.fault ∙ e in cc)) (not_spent input c.in-Err-write_text.fault (λ e. let bad : Io ≡ TooManyTurns = sym c.in-Err-write_text.ensures.fault ∙ e in cc))
+    playing_stops answers last start c.answer_line.new.script input left after first writer (g.W.Write.contents c.write_text-then-is_due.new.writer) c.answer_line.new.text.items c.in-Err-write_text.fault c.answer_line.new.script on (proper_front writer (g.W.Write.contents c.write_text-then-is_due.new.writer) c.answer_line.new.text.items (rw c.deref-then-is_due.ensures.value at c.in-Err-write_text.ensures.written)) (other_fault answers last start left after c.in-Err-write_text.fault (λ e. let bad : Io ≡ LineTooLong = sym c.in-Err-write_text.ensures.fault ∙ e in cc)) (not_spent input c.in-Err-write_text.fault (λ e. let bad : Io ≡ TooManyTurns = sym c.in-Err-write_text.ensures.fault ∙ e in cc))
 
 pub lines-preserved : goal.lines-preserved
 lines-preserved g c =

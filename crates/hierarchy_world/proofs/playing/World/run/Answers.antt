@@ -6,13 +6,17 @@ use Rattle.std.proofs.lemmas.Result.{err_from_is_err_and}
 use Rattle.roster_tables.specs.declared.plain.Tables.{Tables}
 use Rattle.hierarchy_world.specs.View.{WorldView}
 use Rattle.roster.specs.Judged.{IsRoster}
-use Rattle.hierarchy_world.proofs.Runs.{view_goes_on, view_stops, view_ends, parted_at}
+use Rattle.hierarchy_world.proofs.Runs.{view_starts, view_goes_on, view_stops, view_ends, parted_at}
 use Rattle.hierarchy_world.proofs.playing.World.run.Goals as goal
+
+pub loop-event-init : goal.loop-event-init
+loop-event-init c =
+    view_starts c.args.roster.now c.in_ok-world.world c.in_ok-outcomes.outcomes.items c.in_ok-world.ensures.made c.in_ok-outcomes.ensures.items
 
 pub loop-event-preserved : goal.loop-event-preserved
 loop-event-preserved c =
     view_goes_on c.args.roster.now c.loop-event.yielded c.loop-event.world c.apply.new.self c.loop-event.outcomes.items c.push.new.self.items c.in-Some.event c.in_ok-outcome.outcome
-    c.loop-event.invariant c.in_ok-outcome.ensures.applied c.in_ok-outcome.ensures.usable (search rules)
+    c.loop-event.invariant c.in_ok-outcome.ensures.applied c.in_ok-outcome.ensures.usable c.in_ok-outcome.ensures.lack (search rules)
 
 pub returns-in_err-outcome-clause-stopped : goal.returns-in_err-outcome-clause-stopped
 returns-in_err-outcome-clause-stopped c =

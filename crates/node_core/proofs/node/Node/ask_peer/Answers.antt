@@ -1,6 +1,7 @@
 use Rattle.std.proofs.Common.{◌≡◌, refl}
 use Rattle.node_rules.specs.Fetching.{ask_peer}
-use Rattle.node_waiting.specs.Changed.{with_progress, changed}
+use Rattle.node_rules.specs.State.{changed}
+use Rattle.node_waiting.specs.Changed.{with_progress}
 use Rattle.node_core.proofs.GoingOn.{changed_node}
 use Rattle.node_core.proofs.node.Node.ask_peer.Goals as goal
 

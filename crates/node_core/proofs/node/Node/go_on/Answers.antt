@@ -3,7 +3,8 @@ use Rattle.floor_rules.specs.Floors.{floor}
 use Rattle.peer_chooser.specs.declared.said.Source.TheVariants as source
 use Rattle.node_rules.specs.Fetching.{choice_of, go_to}
 use Rattle.node_waiting.specs.CanGoOn.{CanGoOn}
-use Rattle.node_waiting.specs.Changed.{with_progress, changed}
+use Rattle.node_rules.specs.State.{changed}
+use Rattle.node_waiting.specs.Changed.{with_progress}
 use Rattle.node_core.specs.View.{setting_of}
 use Rattle.node_core.proofs.GoingOn.{changed_node, goes, peer_can_go_on, leads_by}
 use Rattle.node_core.proofs.node.Node.go_on.Goals as goal

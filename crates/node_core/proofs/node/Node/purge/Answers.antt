@@ -1,20 +1,25 @@
 use Rattle.std.proofs.Common.{◌≡◌, ◌⊎◌, inr, refl, Err, ap, subst, sym, ◌∙◌}
-use Rattle.floor_rules.specs.Floors.{FloorMap}
+use Rattle.floor_rules.specs.Floors.{FloorMap, HasRoom}
 use Rattle.floor_rules.specs.Store.{HaveRisen}
 use Rattle.node_core.specs.Closing.{FailsWithCause}
+use Rattle.node_core.specs.View.{NodeText}
 use Rattle.node_core.proofs.Outcomes.{found_either, keeps_by, not_full, caused, fails_by, IsStoreFault}
 use Rattle.node_core.proofs.Outcomes.{closes}
 use Rattle.node_core.proofs.node.Node.purge.Given.{Over}
 use Rattle.node_core.proofs.node.Node.purge.Goals as goal
 use Rattle.node_core.proofs.node.Node.purge.Goals.{in-Some+in-Peer-2, in-Some+in-Read-2, in-Some+in-Round-2, in-None-4}
 
+-- the floors had room for the raise
+had_room : (g : Over) (c : goal.Joined-reply-9 g) → HasRoom c.args.self.now.state.floors c.args.key.now
+had_room g c = subst (λ (f : FloorMap). HasRoom f c.args.key.now) (ap (λ (v : NodeText _ _). v.state.floors) c.self.view_is) (c.has_room.ensures.yes c.if-not-has_room.false)
+
 pub returns-in-Err-clause-leads : goal.returns-in-Err-clause-leads
 returns-in-Err-clause-leads g c =
     elim c.match-reply-9.branch [
-      | in-Some+in-Peer-2 w ↦ rw (c.step_fault_of.ensures, w.self-is) (closes _ c.args.self.now.state _ c.args.key.now c.args.number c.in-Err.fault record { closed = refl; pending = c.new.ensures; floors = inr (rw (← c.self.view_is) c.in_ok-raise.ensures.ok) })
-      | in-Some+in-Read-2 w ↦ rw (c.step_fault_of.ensures, w.self-is) (closes _ c.args.self.now.state _ c.args.key.now c.args.number c.in-Err.fault record { closed = refl; pending = c.new.ensures; floors = inr (rw (← c.self.view_is) c.in_ok-raise.ensures.ok) })
-      | in-Some+in-Round-2 w ↦ rw (c.step_fault_of.ensures, w.self-is) (closes _ c.args.self.now.state _ c.args.key.now c.args.number c.in-Err.fault record { closed = refl; pending = c.new.ensures; floors = inr (rw (← c.self.view_is) c.in_ok-raise.ensures.ok) })
-      | in-None-4 w ↦ rw (c.step_fault_of.ensures, w.self-is) (closes _ c.args.self.now.state _ c.args.key.now c.args.number c.in-Err.fault record { closed = refl; pending = c.new.ensures; floors = inr (rw (← c.self.view_is) c.in_ok-raise.ensures.ok) })
+      | in-Some+in-Peer-2 w ↦ rw (c.step_fault_of.ensures, w.self-is) (closes _ c.args.self.now.state _ c.args.key.now c.args.number c.in-Err.fault record { closed = refl; pending = c.new.ensures; floors = inr (had_room g c, rw (← c.self.view_is) c.in_ok-raise.ensures.ok) })
+      | in-Some+in-Read-2 w ↦ rw (c.step_fault_of.ensures, w.self-is) (closes _ c.args.self.now.state _ c.args.key.now c.args.number c.in-Err.fault record { closed = refl; pending = c.new.ensures; floors = inr (had_room g c, rw (← c.self.view_is) c.in_ok-raise.ensures.ok) })
+      | in-Some+in-Round-2 w ↦ rw (c.step_fault_of.ensures, w.self-is) (closes _ c.args.self.now.state _ c.args.key.now c.args.number c.in-Err.fault record { closed = refl; pending = c.new.ensures; floors = inr (had_room g c, rw (← c.self.view_is) c.in_ok-raise.ensures.ok) })
+      | in-None-4 w ↦ rw (c.step_fault_of.ensures, w.self-is) (closes _ c.args.self.now.state _ c.args.key.now c.args.number c.in-Err.fault record { closed = refl; pending = c.new.ensures; floors = inr (had_room g c, rw (← c.self.view_is) c.in_ok-raise.ensures.ok) })
     ]
 
 -- what a crash leaves where the store refused the raise

@@ -1,7 +1,7 @@
 use Rattle.std.proofs.Common.{◌≡◌, ◌∙◌, Some, slice_get, refl, true, false, sym}
-use Rattle.node_rules.specs.State.{is_idle}
+use Rattle.node_rules.specs.State.{changed, is_idle}
 use Rattle.node_rules.specs.Arrivals.{with_round}
-use Rattle.node_waiting.specs.Changed.{with_progress, changed}
+use Rattle.node_waiting.specs.Changed.{with_progress}
 use Rattle.node_core.specs.View.{setting_of}
 use Rattle.node_core.proofs.GoingOn.{changed_node, leads_by}
 use Rattle.node_core.proofs.Arrive.{moves_on, only_keeps}

@@ -1,7 +1,7 @@
 use Rattle.std.proofs.Common.{◌≡◌, ◌<◌, length, Some, slice_get, ap, refl, arith}
 use Rattle.std.specs.List.{remove}
 use Rattle.std.proofs.lemmas.Option.{slice_get_read}
-use Rattle.node_waiting.specs.Changed.{ended}
+use Rattle.node_rules.specs.State.{ended}
 use Rattle.node_waiting.proofs.Changing.{removed, order_ended}
 use Rattle.node_waiting.proofs.waiting.Waiting.end.Goals as goal
 

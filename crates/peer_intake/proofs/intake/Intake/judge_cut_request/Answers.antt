@@ -1,14 +1,13 @@
 use Rattle.std.proofs.Common.{◌≡◌, Err, refl, ap, subst}
 use Rattle.fetch_messages.specs.declared.fault.FetchFault.TheVariants.{HeadTooLong}
-use Rattle.httparse.specs.Grammar.{HasNoRequest}
-use Rattle.peer_intake.specs.Heads.{IsLongRequest}
+use Rattle.peer_intake.specs.Heads.{IsLongRequest, IsOpenRequest}
 use Rattle.peer_intake.proofs.ReadingLemmas.{whole_window}
 use Rattle.peer_intake.proofs.intake.Intake.judge_cut_request.Goals as goal
 
 pub returns-in-Ok-Partial-clause-cut : goal.returns-in-Ok-Partial-clause-cut
 returns-in-Ok-Partial-clause-cut c = λ _.
     let partial = rw c.in-Ok-Partial.field-0-is at c.in-Ok-Partial.ensures in
-    (refl, subst HasNoRequest (whole_window c.args.start c.args.self.now c.window.result.now c.window.ensures.value partial.open) partial.unfinished)
+    (refl, subst IsOpenRequest (whole_window c.args.start c.args.self.now c.window.result.now c.window.ensures.value partial.unfinished.2) partial.unfinished)
 
 pub returns-in-Err-clause-long : goal.returns-in-Err-clause-long
 returns-in-Err-clause-long c = λ is.

@@ -1,5 +1,5 @@
 use Rattle.std.proofs.Common.{refl, inr, subst}
-use Rattle.httparse.specs.Grammar.{HasNoSection}
+use Rattle.peer_intake.specs.Trailer.{IsOpenTrailer}
 use Rattle.peer_intake.proofs.ReadingLemmas.{whole_window}
 use Rattle.peer_intake.proofs.TrailerLemmas.{trailer_stands}
 use Rattle.peer_intake.proofs.intake.Intake.judge_cut_trailer.Goals as goal
@@ -12,4 +12,4 @@ returns-in-Ok-Complete-clause-section c =
 pub returns-in-Ok-Partial-clause-cut : goal.returns-in-Ok-Partial-clause-cut
 returns-in-Ok-Partial-clause-cut c =
     let partial = rw c.in-Ok-Partial.field-0-is at c.in-Ok-Partial.ensures in
-    inr (refl, subst HasNoSection (whole_window c.args.start c.args.self.now c.window.result.now c.window.ensures.value partial.open) partial.unfinished)
+    inr (refl, subst IsOpenTrailer (whole_window c.args.start c.args.self.now c.window.result.now c.window.ensures.value partial.unfinished.2) partial.unfinished)

@@ -1,4 +1,4 @@
-use Rattle.std.proofs.Common.{inr}
+use Rattle.std.proofs.Common.{arith, inr}
 use Rattle.peer_intake.proofs.ReadingLemmas.{takes_then}
 use Rattle.peer_intake.proofs.ChunkLemmas.{holds_grown}
 use Rattle.peer_intake.proofs.intake.Intake.read_chunked_body.Goals as goal
@@ -29,5 +29,6 @@ returns-in-Err-read_trailer-clause-stopped g c =
       c.in-Ok.found.1,
       c.in-Ok.found.0.items,
       holds_grown c.read_chunks.new.self c.read_trailer.new.self taken.0 c.args.start c.in-Ok.found.1 c.in-Ok.found.0.items taken.1 c.in-Ok.ensures.chunks,
+      omega (arith, c.in-Ok.ensures.short, c.in-Ok.found.0.ok.0),
       c.in-Err-read_trailer.ensures.stopped,
     )

@@ -1,4 +1,4 @@
-use Rattle.std.proofs.Common.{◌≡◌, ◌≤◌, ◌-◌, length}
+use Rattle.std.proofs.Common.{◌≡◌, ◌+◌, ◌≤◌, ◌-◌, max, length}
 use Rattle.peer_intake.specs.Reading.{Takes}
 use Rattle.peer_intake.proofs.intake.Intake.read_request_head.Given as goal
 
@@ -6,6 +6,7 @@ abbrev pub invariant-parses : goal.invariant-parses
 invariant-parses g l = record {
   taken : Takes (g.R.Read.remaining l.fn.reader) (g.R.Read.remaining l.reader) l.fn.self l.self;
   start : l.start ≤ length l.self;
+  few : length l.self ≤ max (length l.fn.self) (l.start + 20480);
   room : length l.headers ≡ 64;
 }
 

@@ -1,4 +1,4 @@
-use Rattle.std.proofs.Common.{◌≡◌, Err, ap, subst}
+use Rattle.std.proofs.Common.{◌≡◌, Err, length, drop, ap, ◌∙◌, subst, arith, length-take, length-drop}
 use Rattle.fetch_messages.specs.declared.fault.FetchFault.TheVariants.{HeadTooLong}
 use Rattle.peer_intake.specs.Heads.{IsLongResponse}
 use Rattle.peer_intake.proofs.ReadingLemmas.{takes_then}
@@ -13,3 +13,24 @@ pub returns-in-Err-read_until_due-clause-taken : goal.returns-in-Err-read_until_
 returns-in-Err-read_until_due-clause-taken g c =
     takes_then (g.R.Read.remaining c.args.reader.now) (g.R.Read.remaining c.parses.reader) (g.R.Read.remaining c.read_until_due.new.reader)
     c.args.self.now c.parses.self c.read_until_due.new.self c.parses.invariant.taken c.in-Err-read_until_due.ensures.taken
+
+pub parses-preserved : goal.parses-preserved
+parses-preserved g c =
+    let partial = rw c.in-Ok-Partial.field-0-is at c.in-Ok-Partial.ensures in
+    let size = ap length c.window-in-parses.ensures.value ∙ length-take 16384 (drop c.args.start c.parses.self) in
+    let behind = length-drop c.args.start c.parses.self in
+    let more = c.in-Ok.ensures in
+    record {
+      taken = takes_then (g.R.Read.remaining c.args.reader.now) (g.R.Read.remaining c.parses.reader) (g.R.Read.remaining c.read_until_due.new.reader)
+          c.args.self.now c.parses.self c.read_until_due.new.self c.parses.invariant.taken more.taken;
+      start = omega (arith, more.grown, c.parses.invariant.start);
+      few = omega (arith, size, behind, partial.unfinished.2, more.no_more);
+      room = c.judge_response.auto.headers ∙ c.parses.invariant.room;
+    }
+
+pub returns-in-Err-read_until_due-clause-no_more : goal.returns-in-Err-read_until_due-clause-no_more
+returns-in-Err-read_until_due-clause-no_more g c =
+    let partial = rw c.in-Ok-Partial.field-0-is at c.in-Ok-Partial.ensures in
+    let size = ap length c.window-in-parses.ensures.value ∙ length-take 16384 (drop c.args.start c.parses.self) in
+    let behind = length-drop c.args.start c.parses.self in
+    omega (arith, size, behind, partial.unfinished.2, c.in-Err-read_until_due.ensures.no_more)

@@ -1,5 +1,5 @@
 use Rattle.std.proofs.Common.{map, take}
-use Rattle.run_network.specs.Held.{datagram_from}
+use Rattle.world_rules.specs.World.{datagram_from}
 use Rattle.run_network.proofs.Clears.{Held}
 use Rattle.run_network.proofs.letters.Letters.send_all.Given as goal
 

@@ -1,0 +1,291 @@
+-- No step leaves more than 1,024 asks waiting.
+use Rattle.std.proofs.Common.{◌≡◌, ℕ, ◌+◌, ◌<◌, ◌≤◌, Bool, true, false, cond, not, ◌&&◌, ◌||◌, List, [], ◌∷◌, length, Option, Some, None, Result, Ok, Err, refl, sym, subst, nat_le, nat_lt, nat_eq, arith, length-append, leb-false}
+use Rattle.std.proofs.lemmas.List.{length-map}
+use Rattle.icp_wire.specs.declared.message.IcpOp.{IcpOp}
+use Rattle.icp_wire.specs.declared.message.IcpOp.TheVariants as op
+use Rattle.icp_wire.specs.declared.message.Icp.{Icp}
+use Rattle.htcp_wire.specs.declared.fault.HtcpFault.{HtcpFault}
+use Rattle.htcp_wire.specs.declared.message.Content.{Content}
+use Rattle.htcp_wire.specs.declared.message.Content.TheVariants as content
+use Rattle.fetch_messages.specs.declared.ask.Ask.{Ask}
+use Rattle.fetch_messages.specs.Answer.{AnswerText}
+use Rattle.object_store.specs.declared.copy.WebCopy.{WebCopy}
+use Rattle.floor_rules.specs.Floors.{floor, seen}
+use Rattle.roster_tables.specs.Ranges.{is_foreign_id}
+use Rattle.roster_tables.specs.declared.plain.Address.{Address}
+use Rattle.roster_tables.specs.declared.plain.Peer.{Peer}
+use Rattle.roster_tables.specs.declared.plain.Udp.{Udp}
+use Rattle.roster_tables.specs.declared.plain.Udp.TheVariants as udp
+use Rattle.roster.specs.Lookups.{is_master}
+use Rattle.peer_chooser.specs.declared.said.Said.{Said}
+use Rattle.peer_chooser.specs.declared.said.Source.{Source}
+use Rattle.peer_chooser.specs.declared.said.Source.TheVariants as source
+use Rattle.peer_chooser.specs.Round.{RoundText, has_told, answered, ended}
+use Rattle.node_rules.specs.declared.message.Message.{Message}
+use Rattle.node_rules.specs.declared.message.Message.TheVariants as message
+use Rattle.node_rules.specs.declared.state.Fetch.{Fetch}
+use Rattle.node_rules.specs.declared.state.Fetch.TheVariants.{Nowhere, AtPeer, AtOrigin}
+use Rattle.node_rules.specs.declared.state.Pending.{Pending}
+use Rattle.node_rules.specs.declared.state.NodeState.{NodeState}
+use Rattle.node_rules.specs.declared.event.Event.{Event}
+use Rattle.node_rules.specs.declared.event.Event.TheVariants as event
+use Rattle.node_rules.specs.declared.reply.Reply.{Reply}
+use Rattle.node_rules.specs.declared.reply.StepFault.{StepFault}
+use Rattle.node_rules.specs.Known.{has_origin, is_known}
+use Rattle.node_rules.specs.State.{Setting, Stepped, adding, changing, ending, is_idle, is_of_block}
+use Rattle.node_rules.specs.Fetching.{fetching, ask_peer, begin_read, read_origin, go_to, go_on}
+use Rattle.node_rules.specs.Asks.{new_ask, is_cached_only, is_busy, takes_block, begin_round, ask_around, begin_ask, not_held, by_copy, ask_comes}
+use Rattle.node_rules.specs.Arrivals.{with_round, use_answer, try_on, is_gateway_fault, peer_gave, origin_gave, from_peer, peer_answer_to, peer_answer, foreign_answer, from_origin, origin_answer_to, origin_answer, fails, failure_of, fetch_failed, round_moves, expires, expiry_of, round_expired}
+use Rattle.node_rules.specs.Datagrams.{is_full, purged, if_desired, icp_query, htcp_tst, hears, told_by, told_to, icp_told, htcp_told, purge, numbered_clr, dropped, plain_clr, clr_by_line, htcp_clr, icp_comes, tst_refused, htcp_comes, datagram}
+use Rattle.node_rules.specs.Step.{open_step, step_if, step}
+use Rattle.node_rules.specs.Relation.{Steps, ClosesOn, purge_in}
+use Rattle.node_rules.proofs.Cases.{branches}
+use Rattle.node_rules.proofs.Stores.{length_filter}
+use Rattle.node_rules.proofs.Stepping.{steps_case}
+
+-- at most 1,024 asks wait
+pub record FewWait {X : Type 0} (s : NodeState X) : Type 0 where
+  pub most : length s.pending ≤ 1024
+
+changed_few : {X : Type 0} (s : NodeState X) (p : Pending X) → FewWait s → FewWait (changing s p)
+changed_few {X} s p h = record { most = subst (λ (n : ℕ). n ≤ 1024) (sym (length-map s.pending (λ (q : Pending X). cond (is_of_block p.block q) p q))) h.most }
+
+ended_few : {X : Type 0} (s : NodeState X) (block : ℕ) → FewWait s → FewWait (ending s block)
+ended_few {X} s block h = record { most = omega (arith, length_filter (λ (q : Pending X). not (is_of_block block q)) s.pending, h.most) }
+
+added_few : {X : Type 0} (s : NodeState X) (p : Pending X) → length s.pending < 1024 → FewWait (adding s p)
+added_few s p room = record { most = omega (arith, length-append s.pending (p ∷ []), room) }
+
+neither : (a b : Bool) → (a || b) ≡ false → a ≡ false
+neither true b h = h
+neither false b h = refl
+
+-- a node that is not busy has room for one ask more
+room_of : {X : Type 0} (s : NodeState X) → is_busy s ≡ false → length s.pending < 1024
+room_of s h = leb-false 1024 (length s.pending) (neither (nat_le 1024 (length s.pending)) (nat_lt 134217727 s.next) h)
+
+module _ {X : Type 0} (g : Setting) (s : NodeState X) (mark : X) (few : FewWait s) where
+  abbrev pub Few : Stepped X → Type 0
+  Few r = FewWait r.state
+
+  -- Going on
+
+  read_origin_few : (t : NodeState X) → FewWait t → (p : Pending X) (waiter : Option ℕ) (now : ℕ) → Few (read_origin g t p waiter now mark)
+  unfolding read_origin begin_read
+  read_origin_few t h p waiter now =
+      branches Few (nat_le 3 p.reads) _ _ (λ _. ended_few t p.block h)
+      (λ _. branches Few (has_origin g.roster p.ask.key) _ _ (λ _. changed_few t (fetching p (p.reads + 1) (AtOrigin (seen t.floors) now mark)) h) (λ _. ended_few t p.block h))
+
+  go_to_few : (p : Pending X) (now : ℕ) (to : Source) → Few (go_to g s p now mark to)
+  unfolding go_to ask_peer
+  go_to_few p now source.Wait = changed_few s p few
+  go_to_few p now (source.Peer peer cached) = changed_few s (fetching p p.reads (AtPeer peer now)) few
+  go_to_few p now source.Origin = read_origin_few s few p (Some p.block) now
+
+  go_on_few : (p : Pending X) (now : ℕ) → Few (go_on g s p now mark)
+  unfolding go_on
+  go_on_few p now = go_to_few p now _
+
+  -- Asks
+
+  ask_around_few : length s.pending < 1024 → (asker : Option ℕ) (ask : Ask) (block now : ℕ) (round : RoundText) (peers : List Peer) → Few (ask_around g (takes_block s) asker ask block now mark round peers)
+  unfolding ask_around begin_round
+  ask_around_few room asker ask block now round [] =
+      let p : Pending X = new_ask block asker ask None in
+      read_origin_few (adding (takes_block s) p) (added_few (takes_block s) p room) p None now
+  ask_around_few room asker ask block now round (peer ∷ peers) = added_few (takes_block s) (new_ask block asker ask (Some round)) room
+
+  not_held_few : (asker : Option ℕ) (ask : Ask) (now : ℕ) → Few (not_held g s asker ask now mark)
+  unfolding not_held begin_ask
+  not_held_few asker ask now =
+      branches Few (is_cached_only g asker ask) _ _ (λ _. few)
+      (λ _. branches Few (is_busy s) _ _ (λ _. few) (λ free. ask_around_few (room_of s free) asker ask s.next now _ _))
+
+  by_copy_few : (asker : Option ℕ) (ask : Ask) (now : ℕ) (o : Option (WebCopy X)) → Few (by_copy g s asker ask now mark o)
+  unfolding by_copy
+  by_copy_few asker ask now None = not_held_few asker ask now
+  by_copy_few asker ask now (Some c) = record { most = few.most }
+
+  ask_comes_few : (asker : Option ℕ) (ask : Ask) (now : ℕ) → Few (ask_comes g s asker ask now mark)
+  unfolding ask_comes
+  ask_comes_few asker ask now = by_copy_few asker ask now _
+
+  -- Arrivals
+
+  use_answer_few : (p : Pending X) (stamp asked : ℕ) (answer : AnswerText) (tag : X) (now : ℕ) → Few (use_answer g s p stamp asked answer tag now)
+  unfolding use_answer
+  use_answer_few p stamp asked answer tag now = record { most = (ended_few s p.block few).most }
+
+  peer_gave_few : (p : Pending X) (peer asked stamp : ℕ) (answer : AnswerText) (tag : X) (now : ℕ) → Few (peer_gave g s p peer asked stamp answer tag now mark)
+  unfolding peer_gave try_on
+  peer_gave_few p peer asked stamp answer tag now =
+      branches Few (nat_le (floor s.floors p.ask.key) stamp && not (is_gateway_fault answer.status)) _ _
+      (λ _. use_answer_few p stamp asked answer tag now) (λ _. go_on_few _ now)
+
+  origin_gave_few : (p : Pending X) (stamp asked : ℕ) (read_mark : X) (answer : AnswerText) (now : ℕ) → Few (origin_gave g s p stamp asked read_mark answer now mark)
+  unfolding origin_gave
+  origin_gave_few p stamp asked read_mark answer now =
+      branches Few (nat_le (floor s.floors p.ask.key) stamp) _ _
+      (λ _. use_answer_few p stamp asked answer read_mark now) (λ _. go_on_few _ now)
+
+  from_peer_few : (p : Pending X) (peer stamp : ℕ) (answer : AnswerText) (tag : X) (now : ℕ) (fetch : Fetch X) → Few (from_peer g s p peer stamp answer tag now mark fetch)
+  unfolding from_peer
+  from_peer_few p peer stamp answer tag now (AtPeer at_peer asked) =
+      branches Few (nat_eq at_peer peer) _ _ (λ _. peer_gave_few p peer asked stamp answer tag now) (λ _. few)
+  from_peer_few p peer stamp answer tag now (AtOrigin read asked read_mark) = few
+  from_peer_few p peer stamp answer tag now Nowhere = few
+
+  peer_answer_to_few : (peer stamp : ℕ) (answer : AnswerText) (tag : X) (now : ℕ) (o : Option (Pending X)) → Few (peer_answer_to g s peer stamp answer tag now mark o)
+  unfolding peer_answer_to
+  peer_answer_to_few peer stamp answer tag now None = few
+  peer_answer_to_few peer stamp answer tag now (Some p) = from_peer_few p peer stamp answer tag now p.fetch
+
+  from_origin_few : (p : Pending X) (answer : AnswerText) (now : ℕ) (fetch : Fetch X) → Few (from_origin g s p answer now mark fetch)
+  unfolding from_origin
+  from_origin_few p answer now (AtOrigin stamp asked read_mark) = origin_gave_few p stamp asked read_mark answer now
+  from_origin_few p answer now (AtPeer peer asked) = few
+  from_origin_few p answer now Nowhere = few
+
+  origin_answer_to_few : (answer : AnswerText) (now : ℕ) (o : Option (Pending X)) → Few (origin_answer_to g s answer now mark o)
+  unfolding origin_answer_to
+  origin_answer_to_few answer now None = few
+  origin_answer_to_few answer now (Some p) = from_origin_few p answer now p.fetch
+
+  fails_few : (p : Pending X) (now : ℕ) (fetch : Fetch X) → Few (fails g s p now mark fetch)
+  unfolding fails try_on
+  fails_few p now (AtPeer peer asked) = go_on_few _ now
+  fails_few p now (AtOrigin stamp asked read_mark) = ended_few s p.block few
+  fails_few p now Nowhere = few
+
+  failure_of_few : (now : ℕ) (o : Option (Pending X)) → Few (failure_of g s now mark o)
+  unfolding failure_of
+  failure_of_few now None = few
+  failure_of_few now (Some p) = fails_few p now p.fetch
+
+  round_moves_few : (p : Pending X) (now : ℕ) → Few (round_moves g s p now mark)
+  unfolding round_moves
+  round_moves_few p now = branches Few (is_idle p.fetch) _ _ (λ _. go_on_few p now) (λ _. changed_few s p few)
+
+  expires_few : (p : Pending X) (now : ℕ) (o : Option RoundText) → Few (expires g s p now mark o)
+  unfolding expires
+  expires_few p now None = few
+  expires_few p now (Some r) = round_moves_few (with_round p (ended r)) now
+
+  expiry_of_few : (now : ℕ) (o : Option (Pending X)) → Few (expiry_of g s now mark o)
+  unfolding expiry_of
+  expiry_of_few now None = few
+  expiry_of_few now (Some p) = expires_few p now p.round
+
+  -- Datagrams
+
+  if_desired_few : (t : NodeState X) → FewWait t → (desired : Bool) (from : Address) (m : Message) → Few (if_desired t desired from m)
+  if_desired_few t h true from m = h
+  if_desired_few t h false from m = h
+
+  hears_few : (p : Pending X) (peer : Peer) (said : Said) (now : ℕ) (o : Option RoundText) → Few (hears g s p peer said now mark o)
+  unfolding hears
+  hears_few p peer said now None = few
+  hears_few p peer said now (Some r) =
+      branches Few (has_told r.told peer.id) _ _ (λ _. few) (λ _. round_moves_few (with_round p (answered r peer.id said)) now)
+
+  told_by_few : (p : Pending X) (said : Peer → Said) (now : ℕ) (o : Option Peer) → Few (told_by g s p said now mark o)
+  unfolding told_by
+  told_by_few p said now None = few
+  told_by_few p said now (Some peer) = hears_few p peer (said peer) now p.round
+
+  told_to_few : (by : Udp) (from : Address) (said : Peer → Said) (now : ℕ) (o : Option (Pending X)) → Few (told_to g s by from said now mark o)
+  unfolding told_to
+  told_to_few by from said now None = few
+  told_to_few by from said now (Some p) = told_by_few p said now _
+
+  htcp_told_few : (from : Address) (trans : ℕ) (said : Peer → Said) (now : ℕ) → Few (htcp_told g s from trans said now mark)
+  unfolding htcp_told
+  htcp_told_few from trans said now = told_to_few _ from said now _
+
+  purge_few : (from : Address) (trans : ℕ) (desired : Bool) (key : List ℕ) (n : ℕ) → Few (purge s from trans desired key n)
+  unfolding purge
+  purge_few from trans desired key n =
+      branches Few (is_full s.floors key) _ _ (λ _. if_desired_few s few desired from _) (λ _. if_desired_few (purged s key n) (record { most = few.most }) desired from _)
+
+  numbered_clr_few : (from : Address) (trans : ℕ) (desired : Bool) (o : Option (List ℕ × ℕ)) → Few (numbered_clr s from trans desired o)
+  unfolding numbered_clr
+  numbered_clr_few from trans desired None = if_desired_few s few desired from _
+  numbered_clr_few from trans desired (Some x) = purge_few from trans desired x.0 x.1
+
+  dropped_few : (key : Option (List ℕ)) → FewWait (dropped s key)
+  dropped_few None = few
+  dropped_few (Some key) = record { most = few.most }
+
+  plain_clr_few : (from : Address) (trans : ℕ) (desired : Bool) (key : Option (List ℕ)) → Few (plain_clr g s from trans desired key)
+  unfolding plain_clr
+  plain_clr_few from trans desired key =
+      branches Few (is_known g.roster g.id udp.Htcp from || is_master g.roster from) _ _
+      (λ _. if_desired_few (dropped s key) (dropped_few key) desired from _) (λ _. if_desired_few s few desired from _)
+
+  clr_by_line_few : (from : Address) (trans : ℕ) (desired : Bool) (key : Option (List ℕ)) (line : Result (Option ℕ) HtcpFault) → Few (clr_by_line g s from trans desired key line)
+  unfolding clr_by_line
+  clr_by_line_few from trans desired key (Ok None) = plain_clr_few from trans desired key
+  clr_by_line_few from trans desired key (Ok (Some n)) = numbered_clr_few from trans desired _
+  clr_by_line_few from trans desired key (Err fault) = if_desired_few s few desired from _
+
+  icp_comes_few : (from : Address) (m : Icp) (now : ℕ) (o : IcpOp) → Few (icp_comes g s from m now mark o)
+  unfolding icp_comes icp_query icp_told
+  icp_comes_few from m now op.Query = few
+  icp_comes_few from m now _ = told_to_few _ from _ now _
+
+  tst_refused_few : (from : Address) (trans opcode now : ℕ) → Few (tst_refused g s from trans opcode now mark)
+  unfolding tst_refused
+  tst_refused_few from trans opcode now = branches Few (nat_eq opcode 1) _ _ (λ _. htcp_told_few from trans _ now) (λ _. few)
+
+  htcp_comes_few : (from : Address) (trans now : ℕ) (c : Content) → Few (htcp_comes g s from trans now mark c)
+  unfolding htcp_comes htcp_tst htcp_clr
+  htcp_comes_few from trans now (content.NopAsk desired) = if_desired_few s few desired from _
+  htcp_comes_few from trans now content.NopAnswer = few
+  htcp_comes_few from trans now (content.TstAsk desired spec) = if_desired_few s few desired from _
+  htcp_comes_few from trans now (content.TstHit detail) = htcp_told_few from trans _ now
+  htcp_comes_few from trans now (content.TstMiss cache) = htcp_told_few from trans _ now
+  htcp_comes_few from trans now (content.ClrAsk desired reason spec) = clr_by_line_few from trans desired _ _
+  htcp_comes_few from trans now (content.ClrAnswer code) = few
+  htcp_comes_few from trans now (content.Other opcode desired) = if_desired_few s few desired from _
+  htcp_comes_few from trans now (content.Overall opcode code) = tst_refused_few from trans opcode now
+  htcp_comes_few from trans now (content.OtherAnswer opcode code) = tst_refused_few from trans opcode now
+
+  datagram_few : (from : Address) (now : ℕ) (m : Message) → Few (datagram g s from now mark m)
+  unfolding datagram
+  datagram_few from now (message.Icp m) = icp_comes_few from m now m.op
+  datagram_few from now (message.Htcp m) = htcp_comes_few from m.trans now m.content
+
+  -- The whole step
+
+  open_step_few : (e : Event X) → Few (open_step g s mark e)
+  unfolding open_step peer_answer foreign_answer origin_answer fetch_failed round_expired
+  open_step_few (event.Client ask now) = ask_comes_few None ask now
+  open_step_few (event.Datagram from m now) = datagram_few from now m
+  open_step_few (event.PeerAsk asker ask now) = ask_comes_few (Some asker) ask now
+  open_step_few (event.PeerAnswer serial peer key answer tag now) =
+      branches Few (is_foreign_id peer) _ _ (λ _. few) (λ _. peer_answer_to_few peer _ answer tag now _)
+  open_step_few (event.OriginAnswer serial key answer now) = origin_answer_to_few answer now _
+  open_step_few (event.ForeignAnswer serial peer key answer tag now) =
+      branches Few (is_foreign_id peer) _ _ (λ _. peer_answer_to_few peer 0 answer tag now _) (λ _. few)
+  open_step_few (event.FetchFailed serial now) = failure_of_few now _
+  open_step_few (event.Expired serial now) = expiry_of_few now _
+
+  step_if_few : (e : Event X) (closed : Bool) → Few (step_if g s e mark closed)
+  unfolding step_if
+  step_if_few e true = few
+  step_if_few e false = open_step_few e
+
+  step_few : (e : Event X) → Few (step g s e mark)
+  unfolding step
+  step_few e = step_if_few e s.closed
+
+-- none waits at a node that has closed
+closed_few : {X : Type 0} (s : NodeState X) (o : Option (List ℕ × ℕ)) (next : NodeState X) → ClosesOn s o next → FewWait next
+closed_few s None next h = absurd h
+closed_few {X} s (Some x) next h = record { most = subst (λ (asks : List (Pending X)). length asks ≤ 1024) (sym h.pending) (omega arith) }
+
+pub asks_stay_few : {X : Type 0} (g : Setting) (s : NodeState X) (e : Event X) (mark : X) (outcome : Result (Reply X) StepFault) (next : NodeState X) → length s.pending ≤ 1024 → Steps g s e mark outcome next → length next.pending ≤ 1024
+asks_stay_few g s e mark outcome next h steps =
+    let few : FewWait s = record { most = h } in
+    let after : FewWait next = steps_case g s e mark (λ r. FewWait r.state) (step_few g s mark few e) few (λ n f closes. closed_few s (purge_in g e) n closes.1) outcome next steps in
+    after.most
