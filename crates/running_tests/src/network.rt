@@ -158,12 +158,17 @@ pub(crate) fn steps_in(records: &[Record]) -> usize {
         .fold(0, |sum, steps| usize::saturating_add(sum, steps))
 }
 
-/// Stops a node: how many steps its records have.
-pub(crate) fn stopped<R: Threads + Wait>(rt: &R, workers: Workers) -> Result<usize, Fail> {
+/// Stops a node: the records of its steps.
+pub(crate) fn records_of<R: Threads + Wait>(rt: &R, workers: Workers) -> Result<Vec<Record>, Fail> {
     match workers.stop(rt) {
-        Ok(records) => Ok(steps_in(records.as_slice())),
+        Ok(records) => Ok(records),
         Err(fault) => Err(fault.name().into()),
     }
+}
+
+/// Stops a node: how many steps its records have.
+pub(crate) fn stopped<R: Threads + Wait>(rt: &R, workers: Workers) -> Result<usize, Fail> {
+    Ok(steps_in(records_of(rt, workers)?.as_slice()))
 }
 
 /// A client that has sent its ask to a port.

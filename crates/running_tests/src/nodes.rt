@@ -1,12 +1,14 @@
 //! A node that runs, and its clients.
-use crate::network::{CACHED, PLAIN, QUERY, answer_to, running, stopped, told};
+use crate::network::{CACHED, PLAIN, QUERY, answer_to, records_of, running, stopped, told};
+use node_book::Record;
 use node_workers::{Gate, NoGate};
 use std::alloc::Global;
 use std::net::{Net, TcpStream};
 use std::sync::atomic::{AtomicU64, Ordering};
 use std::sync::{Arc, Wait};
 use std::test::Fail;
-use std::time::Clock;
+use std::thread;
+use std::time::{Clock, Duration, Instant};
 
 /// One member, with an origin that nobody serves.
 const ONE: &str = "default_lifetime = 60
@@ -123,5 +125,101 @@ fn datagrams_are_answered(rt: HostRuntime) -> Result<(), Fail> {
         "a stranger is denied, and a purge is acknowledged"
     );
     assert_eq!(rt; steps, 2);
+    Ok(())
+}
+
+/// For how many milliseconds nothing comes before a purge, so that each worker waits.
+const PAUSE: u64 = 3;
+
+/// Within how many milliseconds a worker has done a job, once it is woken for it: half of what the loop waits where nothing comes.
+const SOON: u128 = 5;
+
+/// How often that is tried, since other threads may hold up a worker too.
+const MOST_TRIES: u32 = 30;
+
+/// A purge comes while each worker waits: within how many milliseconds it is acknowledged.
+fn time_of_purge<R: Net<Stream = TcpStream> + Clock>(rt: &R, alloc: Global) -> Result<u128, Fail> {
+    thread::sleep(rt, Duration::from_millis(PAUSE));
+    let begun = Instant::now(rt)?;
+    let purged = told(rt, alloc, 21509, 21502, PURGE)?;
+    if purged.as_slice() != NOT_HELD {
+        return Err("another answer".into());
+    }
+    Ok(
+        Instant::now(rt)?
+            .saturating_duration_since(begun)
+            .as_millis(),
+    )
+}
+
+/// Whether one of some purges is acknowledged soon.
+fn is_once_soon<R: Net<Stream = TcpStream> + Clock>(rt: &R, alloc: Global) -> Result<bool, Fail> {
+    for _ in 0..MOST_TRIES {
+        if time_of_purge(rt, alloc)? < SOON {
+            return Ok(true);
+        }
+    }
+    Ok(false)
+}
+
+#[test]
+fn a_worker_is_woken_as_its_job_comes(rt: HostRuntime) -> Result<(), Fail> {
+    let gate = Arc::new(rt.alloc(), NoGate)?;
+    let workers = running(rt, rt.alloc(), ONE, 1, gate)?;
+    let is_soon = is_once_soon(&rt, rt.alloc())?;
+    let _steps = stopped(&rt, workers)?;
+    assert!(rt; is_soon);
+    Ok(())
+}
+
+/// The threads of a node that take steps.
+#[derive(Clone, Copy, Debug, PartialEq, Eq)]
+enum Taker {
+    Worker,
+    Fetcher,
+    AtSockets,
+}
+
+/// Whose a seat of a node with two workers is.
+fn taker_at(seat: u8) -> Taker {
+    match seat {
+        0 | 1 => Taker::Worker,
+        2 | 3 => Taker::Fetcher,
+        _ => Taker::AtSockets,
+    }
+}
+
+/// Whether the steps of the first record were taken from seats of these threads, in this order.
+fn are_taken_by(records: &[Record], takers: &[Taker]) -> bool {
+    let Some(record) = records.first() else {
+        return false;
+    };
+    let entries = record.entries.as_slice();
+    entries.len() == takers.len()
+        && entries
+            .iter()
+            .zip(takers)
+            .all(|(entry, taker)| taker_at(entry.seat) == *taker)
+}
+
+#[test]
+fn each_thread_steps_from_its_seat(rt: HostRuntime) -> Result<(), Fail> {
+    let gate = Arc::new(rt.alloc(), NoGate)?;
+    let workers = running(rt, rt.alloc(), ONE, 1, gate)?;
+    let answered = [
+        datagrams_come(&rt, rt.alloc())?,
+        clients_ask(&rt, rt.alloc())?,
+    ];
+    let records = records_of(&rt, workers)?;
+    assert!(rt; answered == [[true, true], [true, true]]);
+    // (a stranger's question, a purge, an ask for what is cached, one that begins a read, and how the read failed)
+    let takers = [
+        Taker::AtSockets,
+        Taker::Worker,
+        Taker::Worker,
+        Taker::Worker,
+        Taker::Fetcher,
+    ];
+    assert!(rt; are_taken_by(records.as_slice(), &takers));
     Ok(())
 }
