@@ -12,7 +12,7 @@ use std::net::{Ipv4Addr, Net, Shutdown, SocketAddr};
 use std::sync::Wait;
 use std::test::Fail;
 use std::time::{Clock, Duration, Instant};
-use udp_loop::{LoopFault, Never, NodeLoop, Senders};
+use udp_loop::{AtOnce, LoopFault, Never, NodeLoop, Senders};
 
 /// What clients do, and the loop.
 #[derive(Clone, Copy)]
@@ -512,5 +512,92 @@ fn told_apart<R: Net + Wait + Clock>(rt: &R, alloc: Global, port: u16) -> Result
 fn addresses_are_told_apart(rt: HostRuntime) -> Result<(), Fail> {
     let jobs = told_apart(&rt, rt.alloc(), 21230)?;
     assert_eq!(rt; jobs.as_str(), "icp 3 from 127.0.0.3; ");
+    Ok(())
+}
+
+/// Deals with each datagram, and counts.
+#[derive(Clone, Copy, Debug, PartialEq, Eq)]
+struct Counting {
+    /// How many datagrams it has dealt with.
+    dealt: u32,
+    /// How often it was told that a turn has read them.
+    finished: u32,
+    /// How many it had dealt with when it was told the last time.
+    before: u32,
+}
+
+impl AtOnce for Counting {
+    fn deals_with<R: Wait + Clock>(
+        &mut self,
+        _rt: &R,
+        _udp: Udp,
+        _from: Address,
+        _octets: &[u8],
+    ) -> bool {
+        self.dealt = self.dealt.saturating_add(1);
+        true
+    }
+
+    fn finish(&mut self) {
+        self.finished = self.finished.saturating_add(1);
+        self.before = self.dealt;
+    }
+}
+
+/// Datagrams of both protocols.
+const MIXED: [Act; 5] = [
+    Act::Datagram(Udp::Icp, b"a"),
+    Act::Datagram(Udp::Icp, b"b"),
+    Act::Datagram(Udp::Htcp, b"c"),
+    Act::Datagram(Udp::Icp, b"d"),
+    Act::Datagram(Udp::Htcp, b"e"),
+];
+
+/// What was counted after a turn that these datagrams are ready for, and after one more.
+fn counted<Q: QueueName, R: Net + Wait + Clock>(
+    rt: &R,
+    new: NewJobs,
+    held: &mut Held,
+) -> Result<[Counting; 2], Fail>
+    requires { new ≡ Q.table }
+{
+    let (jobs, pass) = new.name::<Q>();
+    for act in &MIXED {
+        held.clients.act(rt, *act)?;
+    }
+    let mut counting = Counting {
+        dealt: 0,
+        finished: 0,
+        before: 0,
+    };
+    let (pass, turned) = held.turner.turn(rt, &jobs, pass, &mut counting);
+    turned?;
+    let first = counting;
+    let (_, turned) = held.turner.turn(rt, &jobs, pass, &mut counting);
+    turned?;
+    Ok([first, counting])
+}
+
+/// What was counted, with a queue of its own.
+fn counted_at<R: Net + Wait + Clock>(
+    rt: &R,
+    alloc: Global,
+    held: &mut Held,
+) -> Result<[Counting; 2], Fail> {
+    let new = NewJobs::new(alloc)?;
+    counted::<Brand, R>(rt, new, held)
+}
+
+/// A turn deals with all that is ready of both protocols before it says so, and says so once, also where nothing was ready.
+#[test]
+fn a_turn_is_finished_once(rt: HostRuntime) -> Result<(), Fail> {
+    let mut held = held_at(&rt, rt.alloc(), FIRST, 21240)?;
+    let counted = counted_at(&rt, rt.alloc(), &mut held)?;
+    let after = |finished: u32| Counting {
+        dealt: 5,
+        finished,
+        before: 5,
+    };
+    assert_eq!(rt; counted, [after(1), after(2)]);
     Ok(())
 }

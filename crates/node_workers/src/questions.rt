@@ -13,18 +13,56 @@ use udp_loop::AtOnce;
 /// The opcode of an ICP QUERY (RFC 2186) and that of an HTCP TST (RFC 2756).
 const QUESTION: u8 = 1;
 
+/// How many answers are held at most, so that the first waits for no more steps than these.
+const MOST_HELD: usize = 32;
+
 /// Answers the questions whether the node has a copy as they come: ICP QUERY and HTCP TST. A step with one begins nothing and serves nobody, so no fetch and no client is waited for, and no worker is woken.
+///
+/// Answers to questions that came together are sent together: the first one that is sent wakes who waits for it, which costs more than the sending, and the others find it awake.
 #[derive(Drop)]
 pub(crate) struct Questions<'a, N: Stepper + Drop, G: Gate + Drop> {
     pub(crate) station: &'a Station<G>,
-    pub(crate) node: N,
+    node: N,
+    held: Vec<Turn>,
+}
+
+impl<'a, N: Stepper + Drop, G: Gate + Drop> Questions<'a, N, G> {
+    /// Questions to a node, of which none is held.
+    pub(crate) fn new(station: &'a Station<G>, node: N) -> Questions<'a, N, G> {
+        Questions {
+            station,
+            node,
+            held: Vec::new(station.alloc),
+        }
+    }
 }
 
 impl<N: Stepper + Drop, G: Gate + Drop> Questions<'_, N, G> {
-    /// Sends what a step says. What is not a question's, a fetcher does, since it would have to be waited for.
-    fn carry_out<R: Wait>(&self, rt: &R, turn: Turn) {
-        if turn.serve.is_none() && turn.begin.is_none() {
+    /// Sends the answers that are held, in the order of their questions.
+    fn send_held(&mut self) {
+        for turn in self.held.as_slice() {
             self.station.send_all(turn.send.as_slice());
+        }
+        self.held.clear();
+    }
+
+    /// Holds an answer until the loop has read what is ready, or 32 are held. Where there is no memory to hold it, it is sent now, behind those that are held.
+    fn hold(&mut self, turn: Turn) {
+        if self.held.len() >= MOST_HELD {
+            self.send_held();
+        }
+        if self.held.reserve(1).is_ok() {
+            self.held.push_reserved(turn);
+        } else {
+            self.send_held();
+            self.station.send_all(turn.send.as_slice());
+        }
+    }
+
+    /// Has what a step says sent. What is not a question's, a fetcher does, since it would have to be waited for.
+    fn carry_out<R: Wait>(&mut self, rt: &R, turn: Turn) {
+        if turn.serve.is_none() && turn.begin.is_none() {
+            self.hold(turn);
         } else {
             // (where there is no memory for that it is lost, as a reply is for which there is none)
             let _ = self.station.errands.put(rt, turn);
@@ -64,6 +102,12 @@ impl<N: Stepper + Drop, G: Gate + Drop> AtOnce for Questions<'_, N, G> {
             }
             // (a worker tries it again, and tells those who wait if the node has closed)
             Err(_) => false,
+        }
+    }
+
+    fn finish(&mut self) {
+        if !self.held.is_empty() {
+            self.send_held();
         }
     }
 }

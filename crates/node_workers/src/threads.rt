@@ -219,11 +219,8 @@ fn turn_until_stopped<
     R: Wait + Clock,
 >(shared: &Shared<'_, Q, S, L, G, R>, turner: &mut NodeLoop, mut pass: Pass<Q>) {
     let (rt, station, jobs) = (shared.rt, shared.station, shared.jobs);
-    let mut questions = Questions {
-        station,
-        // (the last seat is that of no worker and of no fetcher)
-        node: AtSeat::new(rt, shared.node, u8::MAX),
-    };
+    // (the last seat is that of no worker and of no fetcher)
+    let mut questions = Questions::new(station, AtSeat::new(rt, shared.node, u8::MAX));
     let mut owed = None;
     for _ in rt.forever() {
         if station.is_stopped() {

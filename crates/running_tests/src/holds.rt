@@ -4,9 +4,10 @@ use crate::network::{
     PLAIN, QUERY, answer_of, asking, received, running, siblings, socket_at, steps_in, stopped,
     told,
 };
+use crate::nodes::DENIED;
 use mio::net::UdpSocket;
 use node_workers::{NoGate, StopFault, Workers};
-use std::alloc::Global;
+use std::alloc::{AllocError, Global};
 use std::io::ErrorKind;
 use std::net::{Net, TcpStream};
 use std::sync::atomic::Ordering;
@@ -84,6 +85,71 @@ fn no_step_is_taken_while_held(rt: HostRuntime) -> Result<(), Fail> {
     assert!(rt; seen.is_silent, "nothing is answered before it goes on");
     assert!(rt; seen.is_answered);
     assert_eq!(rt; last, 1);
+    Ok(())
+}
+
+/// How many questions come together: more than three times those whose answers are sent together.
+const MANY: u8 = 100;
+
+/// An ICP message with this number (RFC 2186).
+fn numbered(alloc: Global, message: &[u8], number: u8) -> Result<Vec<u8>, AllocError> {
+    let mut octets = Vec::with_capacity(alloc, message.len())?;
+    octets.extend_from_slice(message)?;
+    if let Some(last) = octets.get_mut(7) {
+        *last = number;
+    }
+    Ok(octets)
+}
+
+/// Queries of all numbers up to a hundred.
+fn ask_many(alloc: Global, socket: &UdpSocket, to: u16) -> Result<(), Fail> {
+    for number in 0..MANY {
+        let query = numbered(alloc, QUERY, number)?;
+        socket.send_to(query.as_slice(), socket_at(to))?;
+    }
+    Ok(())
+}
+
+/// How many of the answers to them come in their order, each as it should be.
+fn answers_in_order<C: Clock>(clock: &C, alloc: Global, socket: &UdpSocket) -> Result<u8, Fail> {
+    let mut buffer = [0; 2048];
+    let mut right = 0u8;
+    for number in 0..MANY {
+        let length = received(clock, socket, &mut buffer)?;
+        let wanted = numbered(alloc, DENIED, number)?;
+        let came = buffer.get(..length).unwrap_or_default();
+        right = right.saturating_add(u8::from(came == wanted.as_slice()));
+    }
+    Ok(right)
+}
+
+/// Many questions come while a node is held: how many are answered in their order when it goes on, and whether no other answer comes.
+fn many_at_once<R: Net + Wait + Clock>(
+    rt: &R,
+    alloc: Global,
+    workers: &Workers,
+) -> Result<(u8, bool), Fail> {
+    let socket = UdpSocket::bind(rt, socket_at(21397))?;
+    workers.hold(rt);
+    ask_many(alloc, &socket, 21401)?;
+    workers.resume(rt);
+    let right = answers_in_order(rt, alloc, &socket)?;
+    thread::sleep(rt, Duration::from_millis(PAUSE));
+    let mut buffer = [0; 2048];
+    Ok((right, is_silent(&socket, &mut buffer)))
+}
+
+/// Questions that come together are each answered once, in their order.
+#[test]
+fn questions_that_come_together_are_answered(rt: HostRuntime) -> Result<(), Fail> {
+    let text = siblings(rt.alloc(), 21390)?;
+    let gate = Arc::new(rt.alloc(), NoGate)?;
+    let workers = running(rt, rt.alloc(), text.as_str(), 1, gate)?;
+    let (right, is_all) = many_at_once(&rt, rt.alloc(), &workers)?;
+    let steps = stopped(&rt, workers)?;
+    assert_eq!(rt; right, MANY);
+    assert!(rt; is_all, "none is answered twice");
+    assert_eq!(rt; steps, 100);
     Ok(())
 }
 

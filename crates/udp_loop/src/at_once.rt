@@ -14,6 +14,10 @@ pub trait AtOnce {
         from: Address,
         octets: &[u8],
     ) -> bool;
+
+    /// A turn has read the datagrams that were ready: what was held back since the last call, as answers that are to be sent together, is done now. It is called once in each turn, and waits no more than
+    /// `deals_with` does.
+    fn finish(&mut self);
 }
 
 /// Deals with no datagram.
@@ -30,4 +34,6 @@ impl AtOnce for Never {
     ) -> bool {
         false
     }
+
+    fn finish(&mut self) {}
 }

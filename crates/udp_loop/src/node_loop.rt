@@ -113,6 +113,7 @@ impl NodeLoop {
         let waited = self.wait_for_sockets();
         let (pass, icp) = self.datagrams.put_ready(rt, jobs, pass, Udp::Icp, at_once);
         let (pass, htcp) = self.datagrams.put_ready(rt, jobs, pass, Udp::Htcp, at_once);
+        at_once.finish();
         let (pass, streams) = self.put_streams(rt, jobs, pass);
         self.has_more = icp == Ok(true) || htcp == Ok(true) || streams == Ok(true);
         (
