@@ -146,7 +146,7 @@ class Cluster:
         start = time.perf_counter()
         number = self.line(f"purge {url}").split()[1]
         while self.line(f"status {number}") != f"done {number}":
-            pass
+            time.sleep(5e-5)  # (a run reads a bounded number of lines)
         return time.perf_counter() - start
 
 
