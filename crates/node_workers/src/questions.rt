@@ -18,7 +18,7 @@ const MOST_HELD: usize = 32;
 
 /// Answers the questions whether the node has a copy as they come: ICP QUERY and HTCP TST. A step with one begins nothing and serves nobody, so no fetch and no client is waited for, and no worker is woken.
 ///
-/// Answers to questions that came together are sent together: the first one that is sent wakes who waits for it, which costs more than the sending, and the others find it awake.
+/// Answers to questions that came together are sent together: the first one that is sent wakes who sleeps until it comes, and the others mostly find it awake.
 #[derive(Drop)]
 pub(crate) struct Questions<'a, N: Stepper + Drop, G: Gate + Drop> {
     pub(crate) station: &'a Station<G>,
