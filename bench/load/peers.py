@@ -10,16 +10,11 @@ import time
 
 HERE = os.path.dirname(os.path.dirname(os.path.dirname(os.path.abspath(__file__))))
 LOAD = os.path.join(HERE, "bench", "load")
-PROGRAM = os.environ.get("PROGRAM", f"{HERE}/crates/cache_program/out/cache_program")
+PROGRAM = os.environ.get("PROGRAM") or subprocess.run([f"{HERE}/release/program"], stdout=subprocess.PIPE, check=True, text=True).stdout.strip()
 NODES, SQUIDS, LOADER = ("127.0.0.1", "127.0.0.2"), ("127.0.0.11", "127.0.0.12"), "127.0.0.9"
 started = []
-
-
-def built():
-    """Builds the program of this tree, unless another is named."""
-    if "PROGRAM" not in os.environ:
-        subprocess.run([f"{HERE}/cache", "--help"], stdout=subprocess.DEVNULL, check=True)
-    os.environ["PATH"] += ":/usr/sbin"  # (where Debian has its servers)
+# Where Debian has its servers.
+os.environ["PATH"] += ":/usr/sbin"
 
 
 def ports(count):
