@@ -1,16 +1,34 @@
-//! The verdicts on runs of certain shapes.
-use crate::made::{opened, record, roster_of};
-use crate::rosters::TWO;
-use node_book::{NodeEntry, Record};
+//! The verdicts on runs that are made by hand.
+use crate::causes::CAUSES;
+use crate::events::{A, Met, roster_of};
+use crate::made::{Call, Said, Shift, calls_of, records_of};
+use crate::places::PLACES;
+use crate::restarts::RESTARTS;
+use crate::sent::SENT;
+use node_book::Record;
 use purge_master::MasterEntry;
 use run_check::check_run;
 use run_rules::{Cause, Verdict};
 use std::hash::RandomState;
 use std::test::Fail;
 
-pub(crate) fn no(place: u64, cause: Cause) -> Verdict {
-    Verdict::No { place, cause }
-}
+/// A client asks for a copy.
+pub(crate) const ASK: Met = Met::Cached(A);
+
+/// What a node that has no copy serves then.
+pub(crate) const NO_COPY: Said = Said::Status(504);
+
+/// What it never serves then.
+pub(crate) const WRONG: Said = Said::Status(502);
+
+/// A run: its name, its roster, its records, the calls of its master, and its first flaw, if it is none of the world.
+pub(crate) type Run = (
+    &'static str,
+    &'static str,
+    &'static [Shift],
+    &'static [Call],
+    Option<(u64, Cause)>,
+);
 
 /// The verdict on what is kept of a run.
 pub(crate) fn verdict(
@@ -19,27 +37,43 @@ pub(crate) fn verdict(
     records: &[Record],
     entries: &[MasterEntry],
 ) -> Result<Verdict, Fail> {
-    let roster = roster_of(rt, roster)?;
+    let roster = roster_of(rt.alloc(), roster)?;
     let keys = RandomState::new(rt)?;
     Ok(check_run(rt.alloc(), keys, &roster, records, entries)?)
 }
 
-/// The verdict on one record of node 1, which opens new and closes with this floor, with these entries.
-pub(crate) fn of_entries(
-    rt: &HostRuntime,
-    floor: u32,
-    entries: Vec<NodeEntry>,
-) -> Result<Verdict, Fail> {
-    let records = vec![in rt.alloc(); record(1, opened(rt, 0)?, entries, opened(rt, floor)?)]?;
-    verdict(rt, TWO, records.as_slice(), &[])
+/// The verdict on a run.
+fn verdict_on(rt: &HostRuntime, run: &Run) -> Result<Verdict, Fail> {
+    let (_, roster, shifts, calls, _) = *run;
+    let records = records_of(rt.alloc(), shifts)?;
+    let entries = calls_of(rt.alloc(), calls)?;
+    verdict(rt, roster, records.as_slice(), entries.as_slice())
 }
 
-/// The verdict on two entries of node 1, which closes with this floor.
-pub(crate) fn of_two(
-    rt: &HostRuntime,
-    floor: u32,
-    first: NodeEntry,
-    second: NodeEntry,
-) -> Result<Verdict, Fail> {
-    of_entries(rt, floor, vec![in rt.alloc(); first, second]?)
+/// The verdict that a run is to have.
+fn wanted(run: &Run) -> Verdict {
+    match run.4 {
+        Some((place, cause)) => Verdict::No { place, cause },
+        None => Verdict::Yes,
+    }
+}
+
+/// The first of these runs that has another verdict than it is to have, and that verdict.
+fn first_other(rt: &HostRuntime, runs: &[Run]) -> Result<Option<(&'static str, Verdict)>, Fail> {
+    for run in runs {
+        let verdict = verdict_on(rt, run)?;
+        if verdict != wanted(run) {
+            return Ok(Some((run.0, verdict)));
+        }
+    }
+    Ok(None)
+}
+
+#[test]
+fn runs_have_their_verdicts(rt: HostRuntime) -> Result<(), Fail> {
+    for runs in [PLACES, CAUSES, RESTARTS, SENT] {
+        let other = first_other(&rt, runs)?;
+        assert!(rt; other.is_none(), "{other:?}");
+    }
+    Ok(())
 }

@@ -1,265 +1,183 @@
 //! What is kept of a run, made by hand.
-use fetch_messages::{Answer, Ask, Body, Fields};
+use crate::events::{A, Called, MASTER, Met, Url, call_of, event_of, key_of};
 use floor_rules::Floors;
 use htcp_wire::{Content, Htcp};
-use icp_wire::{Icp, IcpOp};
 use node_book::{NodeEntry, Record};
-use node_rules::{
-    Event, Message, NodeState, Outgoing, Received, Reply, Sent, Serve, Served, StepFault,
-    can_be_answered, fits,
-};
-use purge_rules::clear;
-use roster::{Address, Listed, Roster};
+use node_rules::{Message, NodeState, Outgoing, Reply, Sent, Serve, Served, StepFault, fits};
+use purge_master::MasterEntry;
+use purge_rules::{MasterAnswer, MasterFault, Status};
+use roster::Listed;
+use std::alloc::Global;
 use std::test::Fail;
-use url_key::Key;
-use wire_octets::Octets;
 
-/// 127.0.0.1.
-const HOST: u32 = 2130706433;
-
-/// Where the master is.
-pub(crate) const MASTER: Address = Address {
-    ip: HOST,
-    port: 4800,
-};
-
-/// Where node 2 answers ICP.
-const SECOND: Address = Address {
-    ip: HOST,
-    port: 3102,
-};
-
-/// A roster of this text.
-pub(crate) fn roster_of(rt: &HostRuntime, text: &str) -> Result<Roster, Fail> {
-    match Roster::read(rt.alloc(), text) {
-        Ok(roster) => Ok(roster),
-        Err(error) => Err(error.fault.name().into()),
-    }
+/// What a step led to.
+#[derive(Clone, Copy)]
+pub(crate) enum Said {
+    /// Nothing is served, sent or begun.
+    Nothing,
+    /// A bare status is served to the client that asks.
+    Status(u16),
+    /// A bare status is served to this member, which asks.
+    StatusTo(u8, u16),
+    /// The CLR of purge 1 is answered: no copy was held.
+    Acknowledged,
+    /// The step has this fault.
+    Fault(StepFault),
 }
 
-/// The URL of all these runs.
-pub(crate) fn key(rt: &HostRuntime) -> Result<Key, Fail> {
-    Ok(Key::read(rt.alloc(), b"http://o/a")?)
+/// What the master answered.
+#[derive(Clone, Copy)]
+pub(crate) enum Told {
+    /// The purge that was issued has this number.
+    Issued(u32),
+    /// This purge is done by it.
+    Done(u32),
+    /// There was no such purge.
+    Unknown,
+    /// The call has this fault.
+    Fault(MasterFault),
 }
+
+/// A step of a node: its place, what the node met, and what that led to.
+pub(crate) type Step = (u64, Met, Said);
+
+/// A call of the master: its place, the call, and its answer.
+pub(crate) type Call = (u64, Called, Told);
+
+/// A record: of this node, which opens with this floor, has these steps, and closes with this floor, or shuts.
+#[derive(Clone, Copy)]
+pub(crate) struct Shift(pub u8, pub u32, pub &'static [Step], pub Option<u32>);
 
 /// Floors in which the URL has this number, or none where it is 0.
-fn floors(rt: &HostRuntime, number: u32) -> Result<Floors, Fail> {
-    let mut floors = Floors::new(rt.alloc());
+pub(crate) fn floors_of(alloc: Global, url: Url, number: u32) -> Result<Floors, Fail> {
+    let key = key_of(alloc, url)?;
+    let mut floors = Floors::new(alloc);
     if number >= 1 {
-        floors.raise(rt.alloc(), &key(rt)?, number)?;
+        floors.raise(alloc, &key, number)?;
     }
     Ok(floors)
 }
 
 /// The state of a node that has nothing but these floors, and has taken no block of serials.
-pub(crate) fn opened(rt: &HostRuntime, number: u32) -> Result<NodeState<()>, Fail> {
-    Ok(NodeState {
-        floors: floors(rt, number)?,
-        copies: Listed::new(Vec::new(rt.alloc())),
-        pending: Listed::new(Vec::new(rt.alloc())),
+pub(crate) fn state_of(alloc: Global, floors: Floors, closed: bool) -> NodeState<()> {
+    NodeState {
+        floors,
+        copies: Listed::new(Vec::new(alloc)),
+        pending: Listed::new(Vec::new(alloc)),
         next: 1,
-        closed: false,
-    })
+        closed,
+    }
 }
 
-/// The state of a node that has closed.
-pub(crate) fn shut(rt: &HostRuntime, number: u32) -> Result<NodeState<()>, Fail> {
-    let mut state = opened(rt, number)?;
-    state.closed = true;
-    Ok(state)
+/// The state of a node that is open with this floor, or has shut.
+fn standing(alloc: Global, floor: Option<u32>) -> Result<NodeState<()>, Fail> {
+    let floors = floors_of(alloc, A, floor.unwrap_or(0))?;
+    Ok(state_of(alloc, floors, floor.is_none()))
 }
 
-/// Nothing is served, sent or begun.
-pub(crate) fn quiet(rt: &HostRuntime) -> Reply<()> {
+fn reply_of(serve: Option<Serve<()>>, send: Vec<Outgoing>) -> Reply<()> {
     Reply {
-        serve: None,
-        send: Listed::new(Vec::new(rt.alloc())),
+        serve,
+        send: Listed::new(send),
         begin: None,
     }
 }
 
-/// A bare status is served to the client that asks.
-pub(crate) fn status(rt: &HostRuntime, status: u16) -> Reply<()> {
-    Reply {
-        serve: Some(Serve {
-            waiter: None,
-            asker: None,
-            served: Served::Status(status),
-        }),
-        send: Listed::new(Vec::new(rt.alloc())),
-        begin: None,
-    }
-}
-
-/// What a client asks, or a member: for a copy that the node has, if it has one.
-fn ask(rt: &HostRuntime, member: Option<u8>) -> Result<Ask, Fail> {
-    Ok(Ask {
-        key: key(rt)?,
-        only_if_cached: true,
-        no_cache: false,
-        member,
-    })
-}
-
-/// A client asks.
-fn client(rt: &HostRuntime) -> Result<Event<()>, Fail> {
-    Ok(Event::Client {
-        ask: ask(rt, None)?,
-        now: 0,
-    })
-}
-
-/// An answer of the status 200.
-fn answer(rt: &HostRuntime) -> Result<Answer, Fail> {
-    let Ok(fields) = Fields::new(rt.alloc(), Vec::new(rt.alloc())) else {
-        return Err("the fields".into());
+/// A bare status is served to this member, or else to the client that asks.
+fn status_of(alloc: Global, asker: Option<u8>, status: u16) -> Reply<()> {
+    let serve = Serve {
+        waiter: None,
+        asker,
+        served: Served::Status(status),
     };
-    let body = Body::from_slice(rt.alloc(), b"page")?;
-    match Answer::new(200, fields, None, None, body) {
-        Some(answer) => Ok(answer),
-        None => Err("the answer".into()),
-    }
+    reply_of(Some(serve), Vec::new(alloc))
 }
 
-/// Node 2 says by ICP that it holds a copy (RFC 2186).
-fn hit(rt: &HostRuntime) -> Result<Event<()>, Fail> {
-    let message = Message::Icp(Icp {
-        op: IcpOp::Hit,
-        number: 32,
-        url: Octets::from_slice(rt.alloc(), b"http://o/a")?,
-        object: Octets::new(rt.alloc()),
-    });
-    Ok(Event::Datagram {
-        from: SECOND,
-        message: received(message)?,
-        now: 0,
-    })
-}
-
-fn received(message: Message) -> Result<Received, Fail> {
-    if can_be_answered(&message) {
-        Ok(Received::new(message))
-    } else {
-        Err("the message".into())
-    }
-}
-
-fn sent(message: Message) -> Result<Sent, Fail> {
-    if fits(&message) {
-        Ok(Sent::new(message))
-    } else {
-        Err("the message".into())
-    }
-}
-
-/// An entry of seat 1.
-fn entry(place: u64, event: Event<()>, outcome: Result<Reply<()>, StepFault>) -> NodeEntry {
-    NodeEntry {
-        seat: 1,
-        place,
-        event,
-        outcome,
-    }
-}
-
-/// A client asks a node that has no copy, and this status is served; 504 is the node's own.
-pub(crate) fn asked(rt: &HostRuntime, place: u64, code: u16) -> Result<NodeEntry, Fail> {
-    Ok(entry(place, client(rt)?, Ok(status(rt, code))))
-}
-
-/// A client asks, and there is no memory for the step.
-pub(crate) fn unasked(rt: &HostRuntime, place: u64) -> Result<NodeEntry, Fail> {
-    Ok(entry(place, client(rt)?, Err(StepFault::NoMemory)))
-}
-
-/// A fetch fails that there was not.
-pub(crate) fn unfetched(place: u64) -> NodeEntry {
-    let event = Event::FetchFailed { serial: 34, now: 0 };
-    entry(place, event, Err(StepFault::UnknownSerial))
-}
-
-/// Node 2 asks, which it did not begin, and is told that there is no copy.
-pub(crate) fn peer_asked(rt: &HostRuntime, place: u64) -> Result<NodeEntry, Fail> {
-    let event = Event::PeerAsk {
-        asker: 2,
-        ask: ask(rt, Some(2))?,
-        now: 0,
-    };
-    let mut reply = status(rt, 504);
-    if let Some(serve) = &mut reply.serve {
-        serve.asker = Some(2);
-    }
-    Ok(entry(place, event, Ok(reply)))
-}
-
-/// Node 2 answers a fetch, which nobody asked for.
-pub(crate) fn peer_gave(rt: &HostRuntime, place: u64) -> Result<NodeEntry, Fail> {
-    let event = Event::PeerAnswer {
-        serial: 33,
-        peer: 2,
-        key: key(rt)?,
-        answer: answer(rt)?,
-        tag: (),
-        now: 0,
-    };
-    Ok(entry(place, event, Err(StepFault::UnknownSerial)))
-}
-
-/// Node 2 says by ICP that it holds a copy, which nobody asked for, and the reply is this. A node's own is nothing.
-pub(crate) fn told(rt: &HostRuntime, place: u64, reply: Reply<()>) -> Result<NodeEntry, Fail> {
-    Ok(entry(place, hit(rt)?, Ok(reply)))
-}
-
-/// The CLR of purge 1 comes from the master.
-fn cleared(rt: &HostRuntime) -> Result<Event<()>, Fail> {
-    Ok(Event::Datagram {
-        from: MASTER,
-        message: received(Message::Htcp(clear(rt.alloc(), 1, &key(rt)?)?))?,
-        now: 0,
-    })
-}
-
-/// The CLR of purge 1 comes from the master, and the step has this fault.
-pub(crate) fn failed(rt: &HostRuntime, place: u64, fault: StepFault) -> Result<NodeEntry, Fail> {
-    Ok(entry(place, cleared(rt)?, Err(fault)))
-}
-
-/// The CLR of purge 1 comes from the master, and is answered: no copy was held.
-pub(crate) fn purged(rt: &HostRuntime, place: u64) -> Result<NodeEntry, Fail> {
-    let answer = Message::Htcp(Htcp {
+/// The CLR of purge 1 is answered: no copy was held.
+fn acknowledged(alloc: Global) -> Result<Reply<()>, Fail> {
+    let message = Message::Htcp(Htcp {
         minor: 0,
         trans: 1,
         content: Content::ClrAnswer { code: 2 },
     });
-    let mut send = Vec::new(rt.alloc());
-    send.push(Outgoing {
+    if !fits(&message) {
+        return Err("the message".into());
+    }
+    let sent = Outgoing {
         to: MASTER,
-        message: sent(answer)?,
-    })?;
-    let reply = Reply {
-        serve: None,
-        send: Listed::new(send),
-        begin: None,
+        message: Sent::new(message),
     };
-    Ok(entry(place, cleared(rt)?, Ok(reply)))
+    Ok(reply_of(None, vec![in alloc; sent]?))
 }
 
-/// A record of a node.
-pub(crate) fn record(
-    node: u8,
-    opening: NodeState<()>,
-    entries: Vec<NodeEntry>,
-    closing: NodeState<()>,
-) -> Record {
-    Record {
+fn outcome_of(alloc: Global, said: Said) -> Result<Result<Reply<()>, StepFault>, Fail> {
+    Ok(match said {
+        Said::Nothing => Ok(reply_of(None, Vec::new(alloc))),
+        Said::Status(status) => Ok(status_of(alloc, None, status)),
+        Said::StatusTo(member, status) => Ok(status_of(alloc, Some(member), status)),
+        Said::Acknowledged => Ok(acknowledged(alloc)?),
+        Said::Fault(fault) => Err(fault),
+    })
+}
+
+/// The entry of a step, by seat 1.
+fn entry_of(alloc: Global, step: &Step) -> Result<NodeEntry, Fail> {
+    let (place, met, said) = *step;
+    let event = event_of(alloc, met)?;
+    Ok(NodeEntry {
+        seat: 1,
+        place,
+        event,
+        outcome: outcome_of(alloc, said)?,
+    })
+}
+
+fn entries_of(alloc: Global, steps: &[Step]) -> Result<Vec<NodeEntry>, Fail> {
+    let mut entries = Vec::new(alloc);
+    for step in steps {
+        entries.push(entry_of(alloc, step)?)?;
+    }
+    Ok(entries)
+}
+
+fn record_of(alloc: Global, shift: &Shift) -> Result<Record, Fail> {
+    let Shift(node, opens, steps, closes) = *shift;
+    let opening = standing(alloc, Some(opens))?;
+    let closing = standing(alloc, closes)?;
+    Ok(Record {
         node,
         opening,
-        entries: Listed::new(entries),
+        entries: Listed::new(entries_of(alloc, steps)?),
         closing,
+    })
+}
+
+pub(crate) fn records_of(alloc: Global, shifts: &[Shift]) -> Result<Vec<Record>, Fail> {
+    let mut records = Vec::new(alloc);
+    for shift in shifts {
+        records.push(record_of(alloc, shift)?)?;
+    }
+    Ok(records)
+}
+
+fn answer_of(told: Told) -> Result<MasterAnswer, MasterFault> {
+    match told {
+        Told::Issued(number) => Ok(MasterAnswer::Issue(number)),
+        Told::Done(number) => Ok(MasterAnswer::Acknowledge(Some(number))),
+        Told::Unknown => Ok(MasterAnswer::Status(Status::Unknown)),
+        Told::Fault(fault) => Err(fault),
     }
 }
 
-/// A record of a node that opens new and closes so.
-pub(crate) fn still(rt: &HostRuntime, node: u8, entries: Vec<NodeEntry>) -> Result<Record, Fail> {
-    Ok(record(node, opened(rt, 0)?, entries, opened(rt, 0)?))
+pub(crate) fn calls_of(alloc: Global, calls: &[Call]) -> Result<Vec<MasterEntry>, Fail> {
+    let mut entries = Vec::new(alloc);
+    for (place, called, told) in calls {
+        let call = call_of(alloc, *called)?;
+        entries.push(MasterEntry {
+            place: *place,
+            call,
+            answer: answer_of(*told),
+        })?;
+    }
+    Ok(entries)
 }

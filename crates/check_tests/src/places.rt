@@ -1,75 +1,137 @@
-//! Places that come twice, and places that fall.
-use crate::calls::status_told;
-use crate::judged::{no, of_entries, verdict};
-use crate::made::{asked, still};
+//! Runs of asks alone: places that come twice, places that fall, and what the asks are answered.
+use crate::events::Called;
+use crate::judged::{ASK, NO_COPY, Run, WRONG};
+use crate::made::{Shift, Told};
 use crate::rosters::TWO;
-use node_book::NodeEntry;
-use run_rules::{Cause, Verdict};
-use std::test::Fail;
+use run_rules::Cause;
 
-/// Asks at these places.
-fn asks(rt: &HostRuntime, places: &[u64]) -> Result<Vec<NodeEntry>, Fail> {
-    let mut entries = Vec::new(rt.alloc());
-    for place in places {
-        entries.push(asked(rt, *place, 504)?)?;
-    }
-    Ok(entries)
-}
-
-/// The verdict on asks at these places of node 1 and of node 2.
-fn of_nodes(rt: &HostRuntime, first: &[u64], second: &[u64]) -> Result<Verdict, Fail> {
-    let first = still(rt, 1, asks(rt, first)?)?;
-    let second = still(rt, 2, asks(rt, second)?)?;
-    let records = vec![in rt.alloc(); first, second]?;
-    verdict(rt, TWO, records.as_slice(), &[])
-}
-
-/// The verdict on asks at these places of node 1, and calls at these of the master.
-fn of_master(rt: &HostRuntime, node: &[u64], master: &[u64]) -> Result<Verdict, Fail> {
-    let records = vec![in rt.alloc(); still(rt, 1, asks(rt, node)?)?]?;
-    let mut calls = Vec::new(rt.alloc());
-    for place in master {
-        calls.push(status_told(*place))?;
-    }
-    verdict(rt, TWO, records.as_slice(), calls.as_slice())
-}
-
-#[test]
-fn places_of_two(rt: HostRuntime) -> Result<(), Fail> {
-    let rt = &rt;
-    let yes = Verdict::Yes;
-    assert_eq!(rt; of_nodes(rt, &[1, 3], &[2, 4])?, yes, "four places");
-    let third = no(3, Cause::DoublePlace);
-    assert_eq!(rt; of_nodes(rt, &[1, 3], &[2, 3])?, third, "at two nodes");
-    assert_eq!(rt; of_master(rt, &[1, 3], &[2, 4])?, yes, "with the master");
-    assert_eq!(rt;
-        of_master(rt, &[1, 3], &[2, 3])?,
-        third,
-        "at a node and the master"
-    );
-    let second = no(2, Cause::DoublePlace);
-    assert_eq!(rt; of_master(rt, &[1], &[4, 2])?, second, "it falls");
-    assert_eq!(rt; of_master(rt, &[1], &[2, 2])?, second, "it stays");
-    Ok(())
-}
-
-/// The verdict on three asks of node 1 at the places 2, 4 and 3, the first of which is answered so, and the second so.
-fn of_a_fall(rt: &HostRuntime, first: u16, second: u16) -> Result<Verdict, Fail> {
-    let entries = vec![in rt.alloc();
-        asked(rt, 2, first)?,
-        asked(rt, 4, second)?,
-        asked(rt, 3, 504)?,
-    ]?;
-    of_entries(rt, 0, entries)
-}
-
-#[test]
-fn a_flaw_and_a_fall(rt: HostRuntime) -> Result<(), Fail> {
-    let rt = &rt;
-    let fall = no(3, Cause::DoublePlace);
-    assert_eq!(rt; of_a_fall(rt, 504, 504)?, fall, "no other flaw");
-    assert_eq!(rt; of_a_fall(rt, 504, 502)?, fall, "a flaw above it");
-    let flaw = no(2, Cause::OtherReply);
-    assert_eq!(rt; of_a_fall(rt, 502, 504)?, flaw, "a flaw below it");
-    Ok(())
-}
+pub(crate) const PLACES: &[Run] = &[
+    // One record of one node.
+    (
+        "two asks",
+        TWO,
+        &[Shift(1, 0, &[(1, ASK, NO_COPY), (2, ASK, NO_COPY)], Some(0))],
+        &[],
+        None,
+    ),
+    (
+        "a place twice",
+        TWO,
+        &[Shift(1, 0, &[(1, ASK, NO_COPY), (1, ASK, NO_COPY)], Some(0))],
+        &[],
+        Some((1, Cause::DoublePlace)),
+    ),
+    (
+        "another status",
+        TWO,
+        &[Shift(1, 0, &[(1, ASK, NO_COPY), (2, ASK, WRONG)], Some(0))],
+        &[],
+        Some((2, Cause::OtherReply)),
+    ),
+    (
+        "a floor more",
+        TWO,
+        &[Shift(1, 0, &[(1, ASK, NO_COPY), (2, ASK, NO_COPY)], Some(1))],
+        &[],
+        Some((2, Cause::OtherState)),
+    ),
+    // Two nodes.
+    (
+        "four places of two nodes",
+        TWO,
+        &[
+            Shift(1, 0, &[(1, ASK, NO_COPY), (3, ASK, NO_COPY)], Some(0)),
+            Shift(2, 0, &[(2, ASK, NO_COPY), (4, ASK, NO_COPY)], Some(0)),
+        ],
+        &[],
+        None,
+    ),
+    (
+        "a place at two nodes",
+        TWO,
+        &[
+            Shift(1, 0, &[(1, ASK, NO_COPY), (3, ASK, NO_COPY)], Some(0)),
+            Shift(2, 0, &[(2, ASK, NO_COPY), (3, ASK, NO_COPY)], Some(0)),
+        ],
+        &[],
+        Some((3, Cause::DoublePlace)),
+    ),
+    // A node and the master.
+    (
+        "four places with the master",
+        TWO,
+        &[Shift(1, 0, &[(1, ASK, NO_COPY), (3, ASK, NO_COPY)], Some(0))],
+        &[
+            (2, Called::Status(1), Told::Unknown),
+            (4, Called::Status(1), Told::Unknown),
+        ],
+        None,
+    ),
+    (
+        "a place at a node and the master",
+        TWO,
+        &[Shift(1, 0, &[(1, ASK, NO_COPY), (3, ASK, NO_COPY)], Some(0))],
+        &[
+            (2, Called::Status(1), Told::Unknown),
+            (3, Called::Status(1), Told::Unknown),
+        ],
+        Some((3, Cause::DoublePlace)),
+    ),
+    (
+        "the master's place falls",
+        TWO,
+        &[Shift(1, 0, &[(1, ASK, NO_COPY)], Some(0))],
+        &[
+            (4, Called::Status(1), Told::Unknown),
+            (2, Called::Status(1), Told::Unknown),
+        ],
+        Some((2, Cause::DoublePlace)),
+    ),
+    (
+        "the master's place stays",
+        TWO,
+        &[Shift(1, 0, &[(1, ASK, NO_COPY)], Some(0))],
+        &[
+            (2, Called::Status(1), Told::Unknown),
+            (2, Called::Status(1), Told::Unknown),
+        ],
+        Some((2, Cause::DoublePlace)),
+    ),
+    // The node's place falls.
+    (
+        "a fall, and no other flaw",
+        TWO,
+        &[Shift(
+            1,
+            0,
+            &[(2, ASK, NO_COPY), (4, ASK, NO_COPY), (3, ASK, NO_COPY)],
+            Some(0),
+        )],
+        &[],
+        Some((3, Cause::DoublePlace)),
+    ),
+    (
+        "a fall, and a flaw above it",
+        TWO,
+        &[Shift(
+            1,
+            0,
+            &[(2, ASK, NO_COPY), (4, ASK, WRONG), (3, ASK, NO_COPY)],
+            Some(0),
+        )],
+        &[],
+        Some((3, Cause::DoublePlace)),
+    ),
+    (
+        "a fall, and a flaw below it",
+        TWO,
+        &[Shift(
+            1,
+            0,
+            &[(2, ASK, WRONG), (4, ASK, NO_COPY), (3, ASK, NO_COPY)],
+            Some(0),
+        )],
+        &[],
+        Some((2, Cause::OtherReply)),
+    ),
+];

@@ -1,68 +1,107 @@
-//! What nobody sent.
-use crate::calls::{acknowledged, issued};
-use crate::judged::{no, of_two, verdict};
-use crate::made::{asked, opened, peer_asked, peer_gave, purged, quiet, record, status, told};
-use crate::rosters::ONE;
-use node_book::NodeEntry;
-use purge_master::MasterEntry;
-use run_rules::{Cause, Verdict};
-use std::test::Fail;
+//! Runs in which something comes that nobody sent.
+use crate::events::{A, Called, Met};
+use crate::judged::{ASK, NO_COPY, Run};
+use crate::made::{Call, Said, Shift, Told};
+use crate::rosters::{ONE, TWO};
+use icp_wire::IcpOp;
+use node_rules::StepFault;
+use run_rules::Cause;
 
-/// The verdict on an ask at place 1, and this behind it.
-fn of_one(rt: &HostRuntime, entry: NodeEntry) -> Result<Verdict, Fail> {
-    of_two(rt, 0, asked(rt, 1, 504)?, entry)
-}
+/// Node 2 says by ICP that it holds a copy, which nobody asked for.
+pub(crate) const HIT: Met = Met::Icp(3102, IcpOp::Hit, 32, A);
 
-#[test]
-fn what_no_member_sent(rt: HostRuntime) -> Result<(), Fail> {
-    let rt = &rt;
-    let unsent = no(2, Cause::NotSent);
-    let hit = told(rt, 2, quiet(rt))?;
-    assert_eq!(rt; of_one(rt, hit)?, unsent, "a hit");
-    let ask = peer_asked(rt, 2)?;
-    assert_eq!(rt; of_one(rt, ask)?, unsent, "an ask");
-    let answer = peer_gave(rt, 2)?;
-    assert_eq!(rt; of_one(rt, answer)?, unsent, "an answer");
-    let clear = purged(rt, 2)?;
-    assert_eq!(rt; of_one(rt, clear)?, unsent, "a CLR");
-    let other = told(rt, 2, status(rt, 504))?;
-    assert_eq!(rt; of_one(rt, other)?, unsent, "a hit with another reply");
-    Ok(())
-}
+/// Node 2 answers a fetch, which nobody asked for.
+const ANSWER: Met = Met::PeerAnswer(2, 33, None, A);
 
-/// The verdict where the only node takes the CLR of purge 1 at place 2, and the master has these calls.
-fn of_calls(rt: &HostRuntime, calls: Vec<MasterEntry>) -> Result<Verdict, Fail> {
-    let entries = vec![in rt.alloc(); purged(rt, 2)?]?;
-    let records = vec![in rt.alloc(); record(1, opened(rt, 0)?, entries, opened(rt, 1)?)]?;
-    verdict(rt, ONE, records.as_slice(), calls.as_slice())
-}
+/// The only node takes the CLR of purge 1 at place 2.
+const CLEARED: &[Shift] = &[Shift(1, 0, &[(2, Met::Clear(1, A), Said::Acknowledged)], Some(1))];
 
-/// The verdict where it is issued at place 1, and acknowledged at place 3 with this code; the node's answer has 2.
-fn of_code(rt: &HostRuntime, code: u8) -> Result<Verdict, Fail> {
-    of_calls(
-        rt,
-        vec![in rt.alloc(); issued(rt, 1)?, acknowledged(3, code)]?,
-    )
-}
+/// Purge 1 is issued at place 1.
+const ISSUED: Call = (1, Called::Issue(A), Told::Issued(1));
 
-/// The verdict where it is issued and acknowledged, and no node takes it.
-fn of_nobody(rt: &HostRuntime) -> Result<Verdict, Fail> {
-    let calls = vec![in rt.alloc(); issued(rt, 1)?, acknowledged(2, 2)]?;
-    verdict(rt, ONE, &[], calls.as_slice())
-}
-
-/// The verdict where it is issued behind its CLR.
-fn of_late_issue(rt: &HostRuntime) -> Result<Verdict, Fail> {
-    of_calls(rt, vec![in rt.alloc(); issued(rt, 3)?]?)
-}
-
-#[test]
-fn what_the_master_was_sent(rt: HostRuntime) -> Result<(), Fail> {
-    let rt = &rt;
-    assert_eq!(rt; of_code(rt, 2)?, Verdict::Yes, "the node's answer");
-    assert_eq!(rt; of_code(rt, 0)?, no(3, Cause::NotSent), "another code");
-    let unsent = no(2, Cause::NotSent);
-    assert_eq!(rt; of_nobody(rt)?, unsent, "an answer of nobody");
-    assert_eq!(rt; of_late_issue(rt)?, unsent, "a CLR before its issue");
-    Ok(())
-}
+pub(crate) const SENT: &[Run] = &[
+    (
+        "a hit that no member sent",
+        TWO,
+        &[Shift(1, 0, &[(1, ASK, NO_COPY), (2, HIT, Said::Nothing)], Some(0))],
+        &[],
+        Some((2, Cause::NotSent)),
+    ),
+    (
+        "an ask that no member sent",
+        TWO,
+        &[Shift(
+            1,
+            0,
+            &[
+                (1, ASK, NO_COPY),
+                (2, Met::PeerAsk(2, A), Said::StatusTo(2, 504)),
+            ],
+            Some(0),
+        )],
+        &[],
+        Some((2, Cause::NotSent)),
+    ),
+    (
+        "an answer that no member sent",
+        TWO,
+        &[Shift(
+            1,
+            0,
+            &[
+                (1, ASK, NO_COPY),
+                (2, ANSWER, Said::Fault(StepFault::UnknownSerial)),
+            ],
+            Some(0),
+        )],
+        &[],
+        Some((2, Cause::NotSent)),
+    ),
+    (
+        "a CLR that the master did not send",
+        TWO,
+        &[Shift(
+            1,
+            0,
+            &[(1, ASK, NO_COPY), (2, Met::Clear(1, A), Said::Acknowledged)],
+            Some(0),
+        )],
+        &[],
+        Some((2, Cause::NotSent)),
+    ),
+    (
+        "a hit that no member sent, with another reply",
+        TWO,
+        &[Shift(1, 0, &[(1, ASK, NO_COPY), (2, HIT, NO_COPY)], Some(0))],
+        &[],
+        Some((2, Cause::NotSent)),
+    ),
+    (
+        "the node's answer comes to the master",
+        ONE,
+        CLEARED,
+        &[ISSUED, (3, Called::Acknowledge(1, 2), Told::Done(1))],
+        None,
+    ),
+    (
+        "another code comes to the master",
+        ONE,
+        CLEARED,
+        &[ISSUED, (3, Called::Acknowledge(1, 0), Told::Done(1))],
+        Some((3, Cause::NotSent)),
+    ),
+    (
+        "an answer of nobody",
+        ONE,
+        &[],
+        &[ISSUED, (2, Called::Acknowledge(1, 2), Told::Done(1))],
+        Some((2, Cause::NotSent)),
+    ),
+    (
+        "a CLR before its issue",
+        ONE,
+        CLEARED,
+        &[(3, Called::Issue(A), Told::Issued(1))],
+        Some((2, Cause::NotSent)),
+    ),
+];

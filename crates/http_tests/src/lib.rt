@@ -8,6 +8,8 @@ mod fields;
 #[cfg(test)]
 mod intake;
 #[cfg(test)]
+mod made;
+#[cfg(test)]
 mod reading;
 #[cfg(test)]
 mod texts;

@@ -1,56 +1,30 @@
-use std::io::{self, Write};
-use std::test::Fail;
+use crate::made::Narrow;
+use std::alloc::Global;
 use text_writer::{WriteFailed, write_text};
 
-/// A writer that takes one octet a call, as long as it has room.
-#[derive(Drop)]
-struct Narrow {
-    taken: Vec<u8>,
-    room: usize,
+/// A writer's room, and what comes of a text of three octets: the result, and what is written.
+const ROOMS: [(usize, Result<(), WriteFailed>, &[u8]); 3] = [
+    (3, Ok(()), b"one"),
+    (2, Err(WriteFailed), b"on"),
+    (0, Err(WriteFailed), b""),
+];
+
+fn is_written(alloc: Global, room: usize, wanted: Result<(), WriteFailed>, written: &[u8]) -> bool {
+    let mut writer = Narrow::new(alloc, room);
+    write_text(&mut writer, b"one") == wanted && writer.taken.as_slice() == written
 }
 
-impl Write for Narrow {
-    fn write(&mut self, buffer: &[u8]) -> io::Result<usize> {
-        match buffer.first() {
-            Some(octet) if self.room > 0 => {
-                self.taken.push(*octet)?;
-                self.room = self.room.saturating_sub(1);
-                Ok(1)
-            }
-            _ => Ok(0),
-        }
-    }
-
-    fn flush(&mut self) -> io::Result<()> {
-        Ok(())
+#[test]
+fn a_text_is_written_in_pieces(rt: HostRuntime) {
+    for (room, wanted, written) in &ROOMS {
+        let holds = is_written(rt.alloc(), *room, *wanted, written);
+        assert!(&rt; holds, "with room for {room}");
     }
 }
 
 #[test]
-fn a_text_is_written_in_pieces(rt: HostRuntime) -> Result<(), Fail> {
-    for (room, want, written) in [
-        (3, Ok(()), b"one".as_slice()),
-        (2, Err(WriteFailed), b"on".as_slice()),
-        (0, Err(WriteFailed), b"".as_slice()),
-    ] {
-        let mut writer = Narrow {
-            taken: Vec::new(rt.alloc()),
-            room,
-        };
-        assert_eq!(&rt;
-            write_text(&mut writer, b"one"),
-            want,
-            "with room for {room}"
-        );
-        assert_eq!(&rt; writer.taken.as_slice(), written, "with room for {room}");
-    }
-    Ok(())
-}
-
-#[test]
-fn an_empty_text_is_written(rt: HostRuntime) -> Result<(), Fail> {
+fn an_empty_text_is_written(rt: HostRuntime) {
     let mut writer = Vec::new(rt.alloc());
-    assert_eq!(&rt; write_text(&mut writer, b""), Ok(()));
-    assert!(&rt; writer.is_empty());
-    Ok(())
+    let outcome = write_text(&mut writer, b"");
+    assert!(&rt; outcome == Ok(()) && writer.is_empty());
 }

@@ -4,11 +4,10 @@ ghost use Rattle.std.specs.Prelude.{◌≡◌};
 use job_queue::{Job, Jobs, NewJobs, Pass, QueueName};
 use mio::net::{TcpStream, UdpSocket};
 use roster_tables::{Address, Cache, Listed, Udp};
-use std::alloc::Global;
-use std::fmt::Write;
+use std::alloc::{AllocError, Global};
 use std::io::{self, ErrorKind, Read};
 use std::marker::Brand;
-use std::net::{Ipv4Addr, Net, Shutdown, SocketAddr};
+use std::net::{Ipv4Addr, Shutdown, SocketAddr};
 use std::sync::Wait;
 use std::test::Fail;
 use std::time::{Clock, Duration, Instant};
@@ -38,18 +37,22 @@ const SECOND: u32 = 0x7f00_0002;
 
 const THIRD: u32 = 0x7f00_0003;
 
+/// An address at a port behind another.
+fn address_at(ip: u32, port: u16, behind: u16) -> Address {
+    Address {
+        ip,
+        port: u16::saturating_add(port, behind),
+    }
+}
+
 /// The addresses of a node, at ports from this one on.
 fn cache_at(alloc: Global, ip: u32, port: u16) -> Cache {
-    let at = |offset: u16| Address {
-        ip,
-        port: u16::saturating_add(port, offset),
-    };
     Cache {
         id: 1,
         name: Listed::new(Vec::new(alloc)),
-        http: at(0),
-        icp: at(1),
-        htcp: at(2),
+        http: address_at(ip, port, 0),
+        icp: address_at(ip, port, 1),
+        htcp: address_at(ip, port, 2),
     }
 }
 
@@ -68,10 +71,10 @@ struct Clients {
 }
 
 impl Clients {
-    fn of<N: Net>(net: &N, alloc: Global, port: u16) -> io::Result<Clients> {
+    fn of(rt: &HostRuntime, port: u16) -> io::Result<Clients> {
         Ok(Clients {
-            udp: UdpSocket::bind(net, socket_at(0))?,
-            streams: Vec::new(alloc),
+            udp: UdpSocket::bind(rt, socket_at(0))?,
+            streams: Vec::new(rt.alloc()),
             flooded: 0,
             port,
         })
@@ -86,9 +89,9 @@ impl Clients {
         Ok(())
     }
 
-    fn connect<N: Net>(&mut self, net: &N, count: u32) -> io::Result<()> {
+    fn connect(&mut self, rt: &HostRuntime, count: u32) -> io::Result<()> {
         for _ in 0..count {
-            let stream = TcpStream::connect(net, socket_at(self.port))?;
+            let stream = TcpStream::connect(rt, socket_at(self.port))?;
             self.streams.push(stream)?;
         }
         Ok(())
@@ -101,8 +104,14 @@ impl Clients {
         }
     }
 
+    /// How many octets the client of this number reads next: none where its stream is closed.
+    fn read(&mut self, number: usize) -> io::Result<usize> {
+        let mut buffer = [0; 16];
+        self.client(number)?.read(&mut buffer)
+    }
+
     /// Does what clients do.
-    fn act<N: Net>(&mut self, net: &N, act: Act) -> io::Result<()> {
+    fn act(&mut self, rt: &HostRuntime, act: Act) -> io::Result<()> {
         match act {
             Act::Datagram(by, octets) => {
                 let offset = if by == Udp::Icp { 1 } else { 2 };
@@ -110,7 +119,7 @@ impl Clients {
                 self.udp.send_to(octets, to)?;
             }
             Act::Flood(count) => self.flood(count)?,
-            Act::Connect(count) => self.connect(net, count)?,
+            Act::Connect(count) => self.connect(rt, count)?,
             Act::Send(number, octets) => {
                 io::Write::write(self.client(number)?, octets)?;
             }
@@ -121,25 +130,25 @@ impl Clients {
     }
 }
 
-/// A datagram in words, with its sender's address where that is not the first one.
-fn show_datagram(text: &mut String, udp: Udp, from: Address, length: usize) -> Result<(), Fail> {
-    let by = if udp == Udp::Icp { "icp" } else { "htcp" };
-    write!(text, "{by} {length}")?;
-    if from.ip != FIRST {
-        write!(text, " from {}", Ipv4Addr::from(from.ip))?;
-    }
-    write!(text, "; ")?;
-    Ok(())
+/// What is told here of a job.
+#[derive(Clone, Copy, PartialEq, Eq)]
+enum Seen {
+    /// A datagram by this protocol, from this address, of so many octets.
+    Datagram(Udp, u32, usize),
+    /// The stream of the client of this number, with so many octets that were read of it.
+    Stream(u64, usize),
+    /// The time of a round is over.
+    Timer(u32),
 }
 
-/// A job in words.
-fn show(text: &mut String, job: &Job) -> Result<(), Fail> {
-    match job {
-        Job::Datagram { udp, from, octets } => show_datagram(text, *udp, *from, octets.len())?,
-        Job::Stream { number, octets, .. } => write!(text, "stream {number}: {}; ", octets.len())?,
-        Job::Timer { serial } => write!(text, "timer {serial}; ")?,
+impl Seen {
+    fn of(job: &Job) -> Seen {
+        match job {
+            Job::Datagram { udp, from, octets } => Seen::Datagram(*udp, from.ip, octets.len()),
+            Job::Stream { number, octets, .. } => Seen::Stream(*number, octets.len()),
+            Job::Timer { serial } => Seen::Timer(*serial),
+        }
     }
-    Ok(())
 }
 
 /// A loop and its clients.
@@ -151,19 +160,14 @@ struct Held {
 }
 
 /// The sockets of a node at ports from this one on.
-fn opened<R: Net + Clock>(
-    rt: &R,
-    alloc: Global,
-    ip: u32,
-    port: u16,
-) -> Result<(NodeLoop, Senders), LoopFault> {
-    let cache = cache_at(alloc, ip, port);
-    NodeLoop::open(rt, alloc, &cache)
+fn opened(rt: &HostRuntime, ip: u32, port: u16) -> Result<(NodeLoop, Senders), LoopFault> {
+    let cache = cache_at(rt.alloc(), ip, port);
+    NodeLoop::open(rt, rt.alloc(), &cache)
 }
 
-fn held_at<R: Net + Clock>(rt: &R, alloc: Global, ip: u32, port: u16) -> Result<Held, Fail> {
-    let clients = Clients::of(rt, alloc, port)?;
-    let (mut turner, senders) = opened(rt, alloc, ip, port)?;
+fn held_at(rt: &HostRuntime, ip: u32, port: u16) -> Result<Held, Fail> {
+    let clients = Clients::of(rt, port)?;
+    let (mut turner, senders) = opened(rt, ip, port)?;
     turner.set_wait(Duration::from_millis(5));
     Ok(Held {
         turner,
@@ -189,69 +193,71 @@ fn turn<Q: QueueName, R: Wait + Clock>(
     (pass, ended)
 }
 
-/// The jobs in the queue, in words.
-fn taken<Q: QueueName, R: Wait>(
+/// Takes the jobs of the queue, as they are told here.
+fn take<Q: QueueName, R: Wait>(
     rt: &R,
-    alloc: Global,
     jobs: &Jobs<Q>,
     mut pass: Pass<Q>,
-) -> Result<String, Fail> {
-    let mut text = String::new(alloc);
+    into: &mut Vec<Seen>,
+) -> Result<(), AllocError> {
     for _ in 0..300 {
         let (after, job) = jobs.take(rt, pass);
         pass = after;
         match job {
-            Some(job) => show(&mut text, &job)?,
+            Some(job) => into.push(Seen::of(&job))?,
             None => break,
         }
     }
-    Ok(text)
+    Ok(())
 }
 
-/// Plays the acts. The jobs that are in the queue then.
-fn played<Q: QueueName, R: Net + Wait + Clock>(
-    rt: &R,
-    alloc: Global,
+/// Plays the acts with a queue, and takes the jobs that are in it then.
+fn played<Q: QueueName, R: Wait + Clock>(
+    rt: &HostRuntime,
+    wait: &R,
     new: NewJobs,
     held: &mut Held,
     acts: &[Act],
-) -> Result<String, Fail>
+    into: &mut Vec<Seen>,
+) -> Result<(), Fail>
     requires { new ≡ Q.table }
 {
     let (jobs, mut pass) = new.name::<Q>();
     for act in acts {
         match act {
             Act::Turns(count) => {
-                let (after, turned) = turn(rt, &mut held.turner, &jobs, pass, *count);
+                let (after, turned) = turn(wait, &mut held.turner, &jobs, pass, *count);
                 pass = after;
                 turned?;
             }
             act => held.clients.act(rt, *act)?,
         }
     }
-    taken(rt, alloc, &jobs, pass)
+    Ok(take(wait, &jobs, pass, into)?)
 }
 
-/// Plays the acts with a queue of its own.
-fn run_at<R: Net + Wait + Clock>(
-    rt: &R,
-    alloc: Global,
+/// Plays the acts with a queue of its own, and takes the jobs that are in it then.
+fn run_at<R: Wait + Clock>(
+    rt: &HostRuntime,
+    wait: &R,
     held: &mut Held,
     acts: &[Act],
-) -> Result<String, Fail> {
-    let new = NewJobs::new(alloc)?;
-    played::<Brand, R>(rt, alloc, new, held, acts)
+    into: &mut Vec<Seen>,
+) -> Result<(), Fail> {
+    let new = NewJobs::new(rt.alloc())?;
+    played::<Brand, R>(rt, wait, new, held, acts, into)
 }
 
-/// Plays the acts at a node of its own.
-fn run<R: Net + Wait + Clock>(
-    rt: &R,
-    alloc: Global,
+/// Plays the acts at a node of its own, and takes the jobs that are in its queue then.
+fn run<R: Wait + Clock>(
+    rt: &HostRuntime,
+    wait: &R,
     port: u16,
     acts: &[Act],
-) -> Result<String, Fail> {
-    let mut held = held_at(rt, alloc, FIRST, port)?;
-    run_at(rt, alloc, &mut held, acts)
+    into: &mut Vec<Seen>,
+) -> Result<(), Fail> {
+    let mut held = held_at(rt, FIRST, port)?;
+    run_at(rt, wait, &mut held, acts, into)
 }
 
 /// The front of a request's head, and its end.
@@ -283,16 +289,6 @@ const COME: [Act; 13] = [
     Act::Turns(3),
 ];
 
-#[test]
-fn what_comes_is_put(rt: HostRuntime) -> Result<(), Fail> {
-    let jobs = run(&rt, rt.alloc(), 21100, &COME)?;
-    assert_eq!(rt;
-        jobs.as_str(),
-        "icp 3; htcp 4; htcp 20000; icp 2; stream 0: 31; "
-    );
-    Ok(())
-}
-
 /// Of one client the last octet of a head comes alone, by CRLF, and of another one by LF; of a third all of a head by LF.
 const CUT: [Act; 10] = [
     Act::Connect(3),
@@ -306,14 +302,6 @@ const CUT: [Act; 10] = [
     Act::Send(1, b"\n"),
     Act::Turns(20),
 ];
-
-/// Each head is a job as soon as its last octet is there.
-#[test]
-fn heads_come_at_their_ends(rt: HostRuntime) -> Result<(), Fail> {
-    let jobs = run(&rt, rt.alloc(), 21220, &CUT)?;
-    assert_eq!(rt; jobs.as_str(), "stream 2: 16; stream 0: 27; stream 1: 16; ");
-    Ok(())
-}
 
 /// Two clients send octet by octet, and 200 send nothing.
 const SLOW: [Act; 11] = [
@@ -330,13 +318,6 @@ const SLOW: [Act; 11] = [
     Act::Turns(2),
 ];
 
-#[test]
-fn slow_clients_wait_in_the_loop(rt: HostRuntime) -> Result<(), Fail> {
-    let jobs = run(&rt, rt.alloc(), 21110, &SLOW)?;
-    assert_eq!(rt; jobs.as_str(), "icp 3; stream 202: 27; ");
-    Ok(())
-}
-
 /// One client ends in the midst of a head; one before it, who asks nothing; a third sends more than a head has.
 const ENDS: [Act; 9] = [
     Act::Connect(3),
@@ -350,10 +331,59 @@ const ENDS: [Act; 9] = [
     Act::Turns(3),
 ];
 
+/// What clients do at a node, and the jobs that are in its queue then.
+struct Play {
+    name: &'static str,
+    port: u16,
+    acts: &'static [Act],
+    jobs: &'static [Seen],
+}
+
+const PLAYS: [Play; 4] = [
+    Play {
+        name: "what comes is put",
+        port: 21100,
+        acts: &COME,
+        jobs: &[
+            Seen::Datagram(Udp::Icp, FIRST, 3),
+            Seen::Datagram(Udp::Htcp, FIRST, 4),
+            Seen::Datagram(Udp::Htcp, FIRST, 20_000),
+            Seen::Datagram(Udp::Icp, FIRST, 2),
+            Seen::Stream(0, 31),
+        ],
+    },
+    Play {
+        name: "each head is a job as soon as its last octet is there",
+        port: 21220,
+        acts: &CUT,
+        jobs: &[
+            Seen::Stream(2, 16),
+            Seen::Stream(0, 27),
+            Seen::Stream(1, 16),
+        ],
+    },
+    Play {
+        name: "slow clients wait in the loop",
+        port: 21110,
+        acts: &SLOW,
+        jobs: &[Seen::Datagram(Udp::Icp, FIRST, 3), Seen::Stream(202, 27)],
+    },
+    Play {
+        name: "ends and limits are seen",
+        port: 21120,
+        acts: &ENDS,
+        jobs: &[Seen::Stream(0, 2), Seen::Stream(2, 16_384)],
+    },
+];
+
 #[test]
-fn ends_and_limits_are_seen(rt: HostRuntime) -> Result<(), Fail> {
-    let jobs = run(&rt, rt.alloc(), 21120, &ENDS)?;
-    assert_eq!(rt; jobs.as_str(), "stream 0: 2; stream 2: 16384; ");
+fn what_comes_is_put(rt: HostRuntime) -> Result<(), Fail> {
+    let mut jobs = Vec::new(rt.alloc());
+    for play in &PLAYS {
+        jobs.clear();
+        run(&rt, &rt, play.port, play.acts, &mut jobs)?;
+        assert!(rt; jobs.as_slice() == play.jobs, "{}", play.name);
+    }
     Ok(())
 }
 
@@ -368,27 +398,33 @@ const EARLY: [Act; 4] = [
 /// More than five seconds are over.
 const LATE: [Act; 1] = [Act::Turns(800)];
 
-/// The jobs in the queue early and late, whether none came before its time, and how many octets the second client reads then: none, as its stream is closed.
-fn unfinished<R: Net + Wait + Clock>(
-    rt: &R,
-    alloc: Global,
-    port: u16,
-) -> Result<(String, bool, usize), Fail> {
-    let mut held = held_at(rt, alloc, FIRST, port)?;
+/// Takes the jobs in the queue early and late: whether none came before its time.
+fn wait_out<R: Wait + Clock>(
+    rt: &HostRuntime,
+    wait: &R,
+    held: &mut Held,
+    into: &mut Vec<Seen>,
+) -> Result<bool, Fail> {
     let begun = Instant::now(rt)?;
-    let mut jobs = run_at(rt, alloc, &mut held, &EARLY)?;
-    let is_patient = jobs.is_empty() || begun.elapsed(rt)?.as_secs() >= 5;
-    jobs.push_str(run_at(rt, alloc, &mut held, &LATE)?.as_str())?;
-    let mut buffer = [0; 16];
-    let read = held.clients.client(1)?.read(&mut buffer)?;
-    Ok((jobs, is_patient, read))
+    run_at(rt, wait, held, &EARLY, into)?;
+    let is_patient = into.is_empty();
+    let seconds = begun.elapsed(rt)?.as_secs();
+    run_at(rt, wait, held, &LATE, into)?;
+    Ok(is_patient || seconds >= 5)
 }
 
 #[test]
 fn a_head_has_five_seconds(rt: HostRuntime) -> Result<(), Fail> {
-    let (jobs, is_patient, read) = unfinished(&rt, rt.alloc(), 21130)?;
-    assert_eq!(rt; jobs.as_str(), "stream 0: 3; ");
-    assert!(rt; is_patient && read == 0);
+    let mut jobs = Vec::new(rt.alloc());
+    let mut held = held_at(&rt, FIRST, 21130)?;
+    let is_patient = wait_out(&rt, &rt, &mut held, &mut jobs);
+    let read = held.clients.read(1);
+    assert!(rt;
+        jobs.as_slice() == [Seen::Stream(0, 3)].as_slice(),
+        "the job"
+    );
+    assert!(rt; is_patient?, "none came before its time");
+    assert!(rt; read? == 0, "the stream of the second client is closed");
     Ok(())
 }
 
@@ -408,10 +444,10 @@ const DRIP: [Act; 10] = [
 
 #[test]
 fn octets_that_drip_gain_no_time(rt: HostRuntime) -> Result<(), Fail> {
-    let jobs = run(&rt, rt.alloc(), 21190, &DRIP)?;
+    let mut jobs = Vec::new(rt.alloc());
+    run(&rt, &rt, 21190, &DRIP, &mut jobs)?;
     // (on a busy machine the last octet may come behind the five seconds)
-    let jobs = jobs.as_str();
-    assert!(rt; jobs == "stream 0: 4; " || jobs == "stream 0: 3; ");
+    assert!(rt; matches!(jobs.as_slice(), [Seen::Stream(0, 3 | 4)]));
     Ok(())
 }
 
@@ -429,47 +465,29 @@ const FLOOD: [Act; 10] = [
     Act::Turns(3),
 ];
 
-/// The jobs in the queue after a flood, and how many octets the client reads then: none, as its stream is closed.
-fn flooded<R: Net + Wait + Clock>(
-    rt: &R,
-    alloc: Global,
-    port: u16,
-) -> Result<(String, usize), Fail> {
-    let mut held = held_at(rt, alloc, FIRST, port)?;
-    let jobs = run_at(rt, alloc, &mut held, &FLOOD)?;
-    let mut buffer = [0; 16];
-    let read = held.clients.client(0)?.read(&mut buffer)?;
-    Ok((jobs, read))
-}
-
 /// The first 256 datagrams of a flood.
-fn first_of_flood(alloc: Global) -> Result<String, Fail> {
-    let mut text = String::new(alloc);
-    for length in 1..257 {
-        write!(text, "icp {length}; ")?;
+fn first_of_flood() -> [Seen; 256] {
+    let mut flood = [Seen::Datagram(Udp::Icp, FIRST, 0); 256];
+    for (place, seen) in flood.iter_mut().enumerate() {
+        *seen = Seen::Datagram(Udp::Icp, FIRST, usize::saturating_add(place, 1));
     }
-    Ok(text)
+    flood
 }
 
 #[test]
 fn a_full_queue_takes_no_more(rt: HostRuntime) -> Result<(), Fail> {
-    let (jobs, read) = flooded(&rt, rt.alloc(), 21140)?;
-    assert_eq!(rt; jobs.as_str(), first_of_flood(rt.alloc())?.as_str());
-    assert_eq!(rt; read, 0);
+    let mut jobs = Vec::new(rt.alloc());
+    let mut held = held_at(&rt, FIRST, 21140)?;
+    run_at(&rt, &rt, &mut held, &FLOOD, &mut jobs)?;
+    let read = held.clients.read(0);
+    assert!(rt; jobs.as_slice() == first_of_flood().as_slice(), "the jobs");
+    assert!(rt; read? == 0, "the client's stream is closed");
     Ok(())
 }
 
-/// What the clients' socket gets when the node sends to it, and from which port.
-fn sent(rt: &HostRuntime, port: u16) -> Result<(usize, u16), Fail> {
-    let held = held_at(rt, rt.alloc(), FIRST, port)?;
-    answered(&held)
-}
-
-fn answered(held: &Held) -> Result<(usize, u16), Fail> {
-    let to = Address {
-        ip: 0x7f00_0001,
-        port: held.clients.udp.local_addr()?.port(),
-    };
+/// How long the datagram is that the clients' socket gets when the node sends to it, and from which port it comes.
+fn sent(held: &Held) -> Result<(usize, u16), Fail> {
+    let to = address_at(FIRST, held.clients.udp.local_addr()?.port(), 0);
     held.senders.try_clone()?.send(Udp::Htcp, to, b"xyz")?;
     let mut buffer = [0; 8];
     let (length, from) = held.clients.udp.recv_from(&mut buffer)?;
@@ -478,45 +496,39 @@ fn answered(held: &Held) -> Result<(usize, u16), Fail> {
 
 #[test]
 fn senders_send_from_the_node(rt: HostRuntime) -> Result<(), Fail> {
-    assert_eq!(rt; sent(&rt, 21150)?, (3, 21152));
+    let held = held_at(&rt, FIRST, 21150)?;
+    assert!(rt; sent(&held)? == (3, 21152));
     Ok(())
 }
 
-/// Why sockets at the same ports are not opened once more.
-fn refused_twice(rt: &HostRuntime, port: u16) -> Result<Option<LoopFault>, Fail> {
-    let _held = held_at(rt, rt.alloc(), FIRST, port)?;
-    Ok(opened(rt, rt.alloc(), FIRST, port).err())
-}
-
+/// Sockets at the same ports are not opened once more.
 #[test]
 fn ports_in_use_are_refused(rt: HostRuntime) -> Result<(), Fail> {
-    let fault = refused_twice(&rt, 21160)?;
-    assert!(rt; fault == Some(LoopFault::Io));
-    assert_eq!(rt; LoopFault::NoMemory.name(), "NoMemory");
+    let _held = held_at(&rt, FIRST, 21160)?;
+    let fault = opened(&rt, FIRST, 21160).err();
+    assert!(rt; fault == Some(LoopFault::Io), "the fault");
+    assert!(rt; LoopFault::NoMemory.name() == "NoMemory", "its name");
     Ok(())
 }
 
-/// The jobs of a node to which one at the same ports of another address sends.
-fn told_apart<R: Net + Wait + Clock>(rt: &R, alloc: Global, port: u16) -> Result<String, Fail> {
-    let mut held = held_at(rt, alloc, SECOND, port)?;
-    let (_turner, senders) = opened(rt, alloc, THIRD, port)?;
-    let to = Address {
-        ip: SECOND,
-        port: u16::saturating_add(port, 1),
-    };
-    senders.send(Udp::Icp, to, b"abc")?;
-    run_at(rt, alloc, &mut held, &[Act::Turns(20)])
+/// A node at the same ports of another address sends a datagram to this address.
+fn send_from_third(rt: &HostRuntime, to: Address) -> Result<(), Fail> {
+    let third = held_at(rt, THIRD, 21230)?;
+    Ok(third.senders.send(Udp::Icp, to, b"abc")?)
 }
 
 #[test]
 fn addresses_are_told_apart(rt: HostRuntime) -> Result<(), Fail> {
-    let jobs = told_apart(&rt, rt.alloc(), 21230)?;
-    assert_eq!(rt; jobs.as_str(), "icp 3 from 127.0.0.3; ");
+    let mut jobs = Vec::new(rt.alloc());
+    let mut held = held_at(&rt, SECOND, 21230)?;
+    send_from_third(&rt, address_at(SECOND, 21230, 1))?;
+    run_at(&rt, &rt, &mut held, &[Act::Turns(20)], &mut jobs)?;
+    assert!(rt; jobs.as_slice() == [Seen::Datagram(Udp::Icp, THIRD, 3)].as_slice());
     Ok(())
 }
 
 /// Deals with each datagram, and counts.
-#[derive(Clone, Copy, Debug, PartialEq, Eq)]
+#[derive(Clone, Copy, PartialEq, Eq)]
 struct Counting {
     /// How many datagrams it has dealt with.
     dealt: u32,
@@ -553,51 +565,55 @@ const MIXED: [Act; 5] = [
     Act::Datagram(Udp::Htcp, b"e"),
 ];
 
-/// What was counted after a turn that these datagrams are ready for, and after one more.
-fn counted<Q: QueueName, R: Net + Wait + Clock>(
+/// What was counted after a turn that datagrams are ready for, and after one more.
+fn counted<Q: QueueName, R: Wait + Clock>(
     rt: &R,
     new: NewJobs,
-    held: &mut Held,
-) -> Result<[Counting; 2], Fail>
+    turner: &mut NodeLoop,
+) -> ([Counting; 2], Result<(), LoopFault>)
     requires { new ≡ Q.table }
 {
     let (jobs, pass) = new.name::<Q>();
-    for act in &MIXED {
-        held.clients.act(rt, *act)?;
-    }
     let mut counting = Counting {
         dealt: 0,
         finished: 0,
         before: 0,
     };
-    let (pass, turned) = held.turner.turn(rt, &jobs, pass, &mut counting);
-    turned?;
+    let (pass, turned) = turner.turn(rt, &jobs, pass, &mut counting);
     let first = counting;
-    let (_, turned) = held.turner.turn(rt, &jobs, pass, &mut counting);
-    turned?;
-    Ok([first, counting])
+    let (_pass, again) = turner.turn(rt, &jobs, pass, &mut counting);
+    ([first, counting], turned.and(again))
 }
 
-/// What was counted, with a queue of its own.
-fn counted_at<R: Net + Wait + Clock>(
-    rt: &R,
-    alloc: Global,
+/// What was counted, with a queue of its own, where these datagrams are ready.
+fn counted_at<R: Wait + Clock>(
+    rt: &HostRuntime,
+    wait: &R,
     held: &mut Held,
 ) -> Result<[Counting; 2], Fail> {
-    let new = NewJobs::new(alloc)?;
-    counted::<Brand, R>(rt, new, held)
+    for act in &MIXED {
+        held.clients.act(rt, *act)?;
+    }
+    let new = NewJobs::new(rt.alloc())?;
+    let (counted, turned) = counted::<Brand, R>(wait, new, &mut held.turner);
+    turned?;
+    Ok(counted)
+}
+
+/// What is counted where five datagrams were dealt with before each turn was finished.
+const fn after(finished: u32) -> Counting {
+    Counting {
+        dealt: 5,
+        finished,
+        before: 5,
+    }
 }
 
 /// A turn deals with all that is ready of both protocols before it says so, and says so once, also where nothing was ready.
 #[test]
 fn a_turn_is_finished_once(rt: HostRuntime) -> Result<(), Fail> {
-    let mut held = held_at(&rt, rt.alloc(), FIRST, 21240)?;
-    let counted = counted_at(&rt, rt.alloc(), &mut held)?;
-    let after = |finished: u32| Counting {
-        dealt: 5,
-        finished,
-        before: 5,
-    };
-    assert_eq!(rt; counted, [after(1), after(2)]);
+    let mut held = held_at(&rt, FIRST, 21240)?;
+    let counted = counted_at(&rt, &rt, &mut held)?;
+    assert!(rt; counted == [after(1), after(2)]);
     Ok(())
 }

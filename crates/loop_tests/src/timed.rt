@@ -2,9 +2,9 @@
 use mio::net::{TcpListener, TcpStream};
 use std::alloc::{AllocError, Global};
 use std::io::{self, Error, ErrorKind, Read, Write};
-use std::net::{Ipv4Addr, Net, SocketAddr};
+use std::net::{Ipv4Addr, SocketAddr};
 use std::test::Fail;
-use std::time::{Clock, Duration, Instant};
+use std::time::{Duration, Instant};
 use timed_streams::{Timed, Waiter};
 
 /// A stream, its other end, and what a thread waits on.
@@ -27,41 +27,33 @@ fn accepted(listener: &TcpListener) -> io::Result<TcpStream> {
     Err(Error::from(ErrorKind::TimedOut))
 }
 
-fn connected<N: Net>(net: &N, alloc: Global, port: u16) -> io::Result<Pair> {
+fn connected(rt: &HostRuntime, port: u16) -> io::Result<Pair> {
     let at = SocketAddr::from((Ipv4Addr::LOCALHOST, port));
-    let listener = TcpListener::bind(net, at)?;
-    let near = TcpStream::connect(net, at)?;
+    let listener = TcpListener::bind(rt, at)?;
+    let near = TcpStream::connect(rt, at)?;
     let far = accepted(&listener)?;
     Ok(Pair {
         near,
         far,
-        waiter: Waiter::new(net, alloc)?,
+        waiter: Waiter::new(rt, rt.alloc())?,
     })
 }
 
 /// Reads once, within so many milliseconds. How many octets there are, or the kind of error.
-fn read_within<C: Clock>(clock: &C, pair: &mut Pair, most: u64) -> io::Result<usize> {
+fn read_within(rt: &HostRuntime, pair: &mut Pair, most: u64) -> io::Result<usize> {
     let mut buffer = [0; 16];
     let most = Duration::from_millis(most);
-    Timed::new(clock, &mut pair.waiter, &mut pair.near, most)?.read(&mut buffer)
+    Timed::new(rt, &mut pair.waiter, &mut pair.near, most)?.read(&mut buffer)
 }
 
-/// What comes is read, and a time that is over is told.
-fn read_and_refused<R: Net + Clock>(
-    rt: &R,
-    alloc: Global,
-    port: u16,
-) -> io::Result<(usize, ErrorKind, bool)> {
-    let mut pair = connected(rt, alloc, port)?;
-    pair.far.write(b"abc")?;
-    let count = read_within(rt, &mut pair, 5000)?;
+/// A read for which nothing comes: the kind of its error, and how many milliseconds it took.
+fn refused(rt: &HostRuntime, pair: &mut Pair) -> io::Result<(ErrorKind, u128)> {
     let begun = Instant::now(rt)?;
-    let refused = match read_within(rt, &mut pair, 200) {
+    let kind = match read_within(rt, pair, 200) {
         Ok(_) => ErrorKind::Other,
         Err(error) => error.kind(),
     };
-    let waited = begun.elapsed(rt)?.as_millis();
-    Ok((count, refused, 200 <= waited && waited < 3000))
+    Ok((kind, begun.elapsed(rt)?.as_millis()))
 }
 
 /// So many octets, of which those that stand 251 apart are the same.
@@ -73,65 +65,108 @@ fn octets_of(alloc: Global, length: usize) -> Result<Vec<u8>, AllocError> {
     Ok(octets)
 }
 
-/// Writes a head and a body at once each, within five seconds, and reads so many octets at the other end.
-fn carried<C: Clock>(
-    clock: &C,
-    alloc: Global,
-    pair: &mut Pair,
+/// Writes a head and a body at once each, within five seconds.
+fn write_both(
+    rt: &HostRuntime,
+    waiter: &mut Waiter,
+    stream: &mut TcpStream,
     head: &[u8],
     body: &[u8],
-) -> io::Result<Vec<u8>> {
-    let most = Duration::from_secs(5);
-    let mut writer = Timed::new(clock, &mut pair.waiter, &mut pair.near, most)?;
+) -> io::Result<()> {
+    let mut writer = Timed::new(rt, waiter, stream, Duration::from_secs(5))?;
     writer.write_all(head)?;
     writer.write_all(body)?;
-    writer.flush()?;
-    let mut octets = vec![in alloc; 0; head.len().saturating_add(body.len())]?;
-    Timed::new(clock, &mut pair.waiter, &mut pair.far, most)?.read_exact(octets.as_mut_slice())?;
-    Ok(octets)
+    writer.flush()
+}
+
+/// Whether the next octets of a stream are these, within five seconds.
+fn are_read(
+    rt: &HostRuntime,
+    waiter: &mut Waiter,
+    stream: &mut TcpStream,
+    wanted: &[u8],
+) -> io::Result<bool> {
+    let mut octets = vec![in rt.alloc(); 0; wanted.len()]?;
+    Timed::new(rt, waiter, stream, Duration::from_secs(5))?.read_exact(octets.as_mut_slice())?;
+    Ok(octets.as_slice() == wanted)
+}
+
+/// Writes octets at one end, as a head of such a length and a body: whether they come at the other end.
+fn are_carried(rt: &HostRuntime, pair: &mut Pair, octets: &[u8], head: usize) -> io::Result<bool> {
+    let (head, body) = octets.split_at(head.min(octets.len()));
+    write_both(rt, &mut pair.waiter, &mut pair.near, head, body)?;
+    are_read(rt, &mut pair.waiter, &mut pair.far, octets)
 }
 
 /// Lengths of a head and of a body, which together are more than the 16,384 octets that are kept.
-const MESSAGES: [(usize, usize); 5] = [
-    (40, 65_536),
-    (40, 16_345),
-    (16_384, 1),
-    (16_384, 65_536),
-    (16_385, 16_384),
+struct Message {
+    name: &'static str,
+    head: usize,
+    body: usize,
+}
+
+const MESSAGES: [Message; 5] = [
+    Message {
+        name: "a long body",
+        head: 40,
+        body: 65_536,
+    },
+    Message {
+        name: "an octet too many in the body",
+        head: 40,
+        body: 16_345,
+    },
+    Message {
+        name: "an octet behind a head that fills all",
+        head: 16_384,
+        body: 1,
+    },
+    Message {
+        name: "a long body behind a head that fills all",
+        head: 16_384,
+        body: 65_536,
+    },
+    Message {
+        name: "an octet too many in the head",
+        head: 16_385,
+        body: 16_384,
+    },
 ];
+
+/// Whether a message of these lengths comes whole.
+fn is_whole(rt: &HostRuntime, pair: &mut Pair, message: &Message) -> io::Result<bool> {
+    let octets = octets_of(rt.alloc(), message.head.saturating_add(message.body))?;
+    are_carried(rt, pair, octets.as_slice(), message.head)
+}
 
 #[test]
 fn long_messages_come_whole(rt: HostRuntime) -> Result<(), Fail> {
-    let alloc = rt.alloc();
-    let mut pair = connected(&rt, alloc, 21200)?;
-    for (head, body) in MESSAGES {
-        let octets = octets_of(alloc, head.saturating_add(body))?;
-        let (head, body) = octets.as_slice().split_at(head.min(octets.len()));
-        let come = carried(&rt, alloc, &mut pair, head, body)?;
-        assert!(rt;
-            come.as_slice() == octets.as_slice(),
-            "{} and {}",
-            head.len(),
-            body.len()
-        );
+    let mut pair = connected(&rt, 21200)?;
+    for message in &MESSAGES {
+        assert!(rt; is_whole(&rt, &mut pair, message)?, "{}", message.name);
     }
     Ok(())
 }
 
+/// What comes is read, and a time that is over is told.
 #[test]
 fn a_stream_waits_for_its_time(rt: HostRuntime) -> Result<(), Fail> {
-    let (count, refused, waited) = read_and_refused(&rt, rt.alloc(), 21170)?;
-    assert!(rt; count == 3 && refused == ErrorKind::TimedOut && waited);
+    let mut pair = connected(&rt, 21170)?;
+    pair.far.write(b"abc")?;
+    assert!(rt; read_within(&rt, &mut pair, 5000)? == 3, "what comes");
+    let (kind, waited) = refused(&rt, &mut pair)?;
+    assert!(rt; kind == ErrorKind::TimedOut, "the error");
+    assert!(rt; 200 <= waited && waited < 3000, "the time");
     Ok(())
 }
 
 /// The end of the other side is the end of what is read.
-fn ended<R: Net + Clock>(rt: &R, alloc: Global, port: u16) -> io::Result<usize> {
+fn ended(rt: &HostRuntime, port: u16) -> io::Result<usize> {
     let Pair {
         mut near,
         far,
         mut waiter,
-    } = connected(rt, alloc, port)?;
+    } = connected(rt, port)?;
     drop(far);
     let mut buffer = [0; 16];
     Timed::new(rt, &mut waiter, &mut near, Duration::from_secs(5))?.read(&mut buffer)
@@ -139,15 +174,15 @@ fn ended<R: Net + Clock>(rt: &R, alloc: Global, port: u16) -> io::Result<usize> 
 
 #[test]
 fn a_stream_ends_with_its_peer(rt: HostRuntime) -> Result<(), Fail> {
-    assert_eq!(rt; ended(&rt, rt.alloc(), 21180)?, 0);
+    assert!(rt; ended(&rt, 21180)? == 0);
     Ok(())
 }
 
 /// A port that nobody listens at refuses, as the first octets are sent at the latest, and long before the time is over.
-fn unheard<R: Net + Clock>(rt: &R, alloc: Global, port: u16) -> io::Result<ErrorKind> {
+fn unheard(rt: &HostRuntime, port: u16) -> io::Result<ErrorKind> {
     let at = SocketAddr::from((Ipv4Addr::LOCALHOST, port));
     let mut stream = TcpStream::connect(rt, at)?;
-    let mut waiter = Waiter::new(rt, alloc)?;
+    let mut waiter = Waiter::new(rt, rt.alloc())?;
     let mut timed = Timed::new(rt, &mut waiter, &mut stream, Duration::from_secs(5))?;
     timed.write_all(b"abc")?;
     match timed.flush() {
@@ -158,7 +193,6 @@ fn unheard<R: Net + Clock>(rt: &R, alloc: Global, port: u16) -> io::Result<Error
 
 #[test]
 fn a_closed_port_refuses(rt: HostRuntime) -> Result<(), Fail> {
-    let kind = unheard(&rt, rt.alloc(), 21190)?;
-    assert!(rt; kind == ErrorKind::ConnectionRefused);
+    assert!(rt; unheard(&rt, 21190)? == ErrorKind::ConnectionRefused);
     Ok(())
 }

@@ -106,26 +106,36 @@ fn known_by_one(roster: &Roster, by: Udp, from: Address) -> bool {
     }
 }
 
-/// By member 1: the other members by each protocol at its own address, and the foreign cache that its entry names.
+/// Who is known by member 1: the other members by each protocol at its own address, and the foreign cache that its entry names.
+const SENDERS: [(u16, Udp, bool); 10] = [
+    (3002, Udp::Icp, true),
+    (3003, Udp::Icp, true),
+    (4002, Udp::Htcp, true),
+    (3101, Udp::Icp, true),
+    (4101, Udp::Htcp, true),
+    (3002, Udp::Htcp, false),
+    (4002, Udp::Icp, false),
+    (3001, Udp::Icp, false),
+    (3102, Udp::Icp, false),
+    (4827, Udp::Htcp, false),
+];
+
+/// The first port, and its protocol, that is known otherwise.
+fn wrongly_known(roster: &Roster) -> Option<(u16, Udp)> {
+    for (port, by, expected) in SENDERS {
+        if known_by_one(roster, by, at(port)) != expected {
+            return Some((port, by));
+        }
+    }
+    None
+}
+
 #[test]
 fn known_senders(rt: HostRuntime) -> Result<(), Fail> {
     let roster = roster_of(&rt)?;
-    let table = [
-        (3002, Udp::Icp, true),
-        (3003, Udp::Icp, true),
-        (4002, Udp::Htcp, true),
-        (3101, Udp::Icp, true),
-        (4101, Udp::Htcp, true),
-        (3002, Udp::Htcp, false),
-        (4002, Udp::Icp, false),
-        (3001, Udp::Icp, false),
-        (3102, Udp::Icp, false),
-        (4827, Udp::Htcp, false),
-    ];
-    for (port, by, expected) in table {
-        assert!(rt; known_by_one(&roster, by, at(port)) == expected, "{port}");
-    }
-    assert!(rt; !known_by_one(&roster, Udp::Icp, Address { ip: 1, port: 3002 }));
+    let elsewhere = Address { ip: 1, port: 3002 };
+    assert_eq!(rt; wrongly_known(&roster), None);
+    assert!(rt; !known_by_one(&roster, Udp::Icp, elsewhere));
     Ok(())
 }
 
@@ -136,43 +146,66 @@ fn round_of_one(roster: &Roster) -> Option<Round> {
     }
 }
 
+/// The peers of a round of member 1, by their ports; no peer has the last three.
+const PEERS: [(u16, Udp, Option<u8>); 6] = [
+    (3002, Udp::Icp, Some(2)),
+    (4003, Udp::Htcp, Some(3)),
+    (3101, Udp::Icp, Some(101)),
+    (4002, Udp::Htcp, None),
+    (3003, Udp::Icp, None),
+    (3102, Udp::Icp, None),
+];
+
+/// The first port at which another peer is found.
+fn wrong_peer(roster: &Roster, round: &Round) -> Option<u16> {
+    for (port, by, expected) in PEERS {
+        if peer_at(roster, by, at(port), round).map(|peer| peer.id) != expected {
+            return Some(port);
+        }
+    }
+    None
+}
+
+/// Whether the round expires only now.
+fn expires(round: &mut Round) -> bool {
+    let had_expired = round.has_expired();
+    round.expire();
+    !had_expired && round.has_expired()
+}
+
 #[test]
 fn peers_of_a_round(rt: HostRuntime) -> Result<(), Fail> {
     let roster = roster_of(&rt)?;
-    let mut round = round_of_one(&roster).ok_or("member")?;
-    assert!(rt; !round.has_expired());
-    round.expire();
-    assert!(rt; round.has_expired());
-    let table = [
-        (3002, Udp::Icp, Some(2)),
-        (4003, Udp::Htcp, Some(3)),
-        (3101, Udp::Icp, Some(101)),
-        (4002, Udp::Htcp, None),
-        (3003, Udp::Icp, None),
-        (3102, Udp::Icp, None),
-    ];
-    for (port, by, expected) in table {
-        let found = peer_at(&roster, by, at(port), &round);
-        assert!(rt; found.map(|peer| peer.id) == expected, "{port}");
-    }
+    let Some(mut round) = round_of_one(&roster) else {
+        return Err("member".into());
+    };
+    assert!(rt; expires(&mut round));
+    assert_eq!(rt; wrong_peer(&roster, &round), None);
     Ok(())
+}
+
+/// URLs, and whether the roster has their origin.
+const ORIGINS: [(&str, bool); 3] = [
+    ("http://o/a", true),
+    ("http://o:81/a", false),
+    ("http://p/a", false),
+];
+
+/// The first URL whose origin is found otherwise.
+fn wrong_origin(rt: &HostRuntime, roster: &Roster) -> Result<Option<&'static str>, Fail> {
+    for (text, expected) in ORIGINS {
+        if has_origin(roster, &key_of(rt, text.as_bytes())?) != expected {
+            return Ok(Some(text));
+        }
+    }
+    Ok(None)
 }
 
 #[test]
 fn origins_by_host_and_port(rt: HostRuntime) -> Result<(), Fail> {
-    let roster = roster_of(&rt)?;
-    let table: [(&[u8], bool); 3] = [
-        (b"http://o/a", true),
-        (b"http://o:81/a", false),
-        (b"http://p/a", false),
-    ];
-    for (text, expected) in table {
-        assert!(rt;
-            has_origin(&roster, &key_of(&rt, text)?) == expected,
-            "{text:?}"
-        );
-    }
     assert!(rt; is_foreign(101) && is_foreign(108) && !is_foreign(100) && !is_foreign(109));
+    let roster = roster_of(&rt)?;
+    assert_eq!(rt; wrong_origin(&rt, &roster)?, None);
     Ok(())
 }
 
@@ -183,51 +216,78 @@ fn questions(rt: &HostRuntime, roster: &Roster) -> Result<Listed<Outgoing>, Fail
     Ok(queries(rt.alloc(), roster, 7, &key, round.asked())?)
 }
 
+/// Whether these octets are sent to this port.
+fn is_sent(rt: &HostRuntime, sent: &Outgoing, port: u16, expected: &[u8]) -> Result<bool, Fail> {
+    let octets = octets_of(rt, sent)?;
+    Ok(sent.to == at(port) && octets.as_slice() == expected)
+}
+
 /// An ICP query (RFC 2186) and a TST (RFC 2756) under the number 7, each to its peer's address.
+const SENT: [(u16, &[u8]); 3] = [
+    (
+        3002,
+        b"\x01\x02\x00\x23\x00\x00\x00\x07\0\0\0\0\0\0\0\0\0\0\0\0\0\0\0\0http://o/a\0",
+    ),
+    (
+        4003,
+        b"\x00\x2b\x00\x00\x00\x25\x10\x02\x00\x00\x00\x07\x00\x03GET\x00\x0ahttp://o/a\x00\x08HTTP/1.1\x00\x00\x00\x02",
+    ),
+    (
+        3101,
+        b"\x01\x02\x00\x23\x00\x00\x00\x07\0\0\0\0\0\0\0\0\0\0\0\0\0\0\0\0http://o/a\0",
+    ),
+];
+
+/// The port of the first of them that is not sent so.
+fn wrong_question(rt: &HostRuntime, sent: &[Outgoing]) -> Result<Option<u16>, Fail> {
+    for (question, (port, expected)) in sent.iter().zip(SENT) {
+        if !is_sent(rt, question, port, expected)? {
+            return Ok(Some(port));
+        }
+    }
+    Ok(None)
+}
+
 #[test]
 fn questions_of_a_round(rt: HostRuntime) -> Result<(), Fail> {
     let sent = questions(&rt, &roster_of(&rt)?)?;
-    let icp: &[u8] =
-        b"\x01\x02\x00\x23\x00\x00\x00\x07\0\0\0\0\0\0\0\0\0\0\0\0\0\0\0\0http://o/a\0";
-    let htcp: &[u8] =
-        b"\x00\x2b\x00\x00\x00\x25\x10\x02\x00\x00\x00\x07\x00\x03GET\x00\x0ahttp://o/a\x00\x08HTTP/1.1\x00\x00\x00\x02";
-    let table = [(3002, icp), (4003, htcp), (3101, icp)];
-    assert!(rt; sent.as_slice().len() == table.len());
-    for (question, (port, expected)) in sent.as_slice().iter().zip(table) {
-        assert!(rt; question.to == at(port), "{port}");
-        assert!(rt; octets_of(&rt, question)?.as_slice() == expected, "{port}");
-    }
+    assert_eq!(rt; sent.as_slice().len(), SENT.len());
+    assert_eq!(rt; wrong_question(&rt, sent.as_slice())?, None);
     Ok(())
 }
 
-/// Whether these octets are sent to port 1.
-fn is_sent(rt: &HostRuntime, sent: &Outgoing, expected: &[u8]) -> Result<bool, Fail> {
-    let octets = octets_of(rt, sent)?;
-    Ok(sent.to == at(1) && octets.as_slice() == expected)
+/// The answers to a TST under TRANS-ID 7 (RFC 2756), by the stamp of the copy.
+const ANSWERS: [(Option<u32>, &[u8]); 3] = [
+    (
+        None,
+        b"\x00\x10\x00\x00\x00\x0a\x11\x01\x00\x00\x00\x07\x00\x00\x00\x02",
+    ),
+    (
+        Some(3),
+        b"\x00\x26\x00\x00\x00\x20\x10\x01\x00\x00\x00\x07\x00\x00\x00\x00\x00\x12X-Purge-Stamp: 3\r\n\x00\x02",
+    ),
+    (
+        Some(u32::MAX),
+        b"\x00\x2f\x00\x00\x00\x29\x10\x01\x00\x00\x00\x07\x00\x00\x00\x00\x00\x1bX-Purge-Stamp: 4294967295\r\n\x00\x02",
+    ),
+];
+
+fn is_tst_answer(rt: &HostRuntime, stamp: Option<u32>, expected: &[u8]) -> Result<bool, Fail> {
+    let sent = tst_answer(rt.alloc(), at(1), 7, stamp)?;
+    is_sent(rt, &sent, 1, expected)
 }
 
-/// The answers to a TST under TRANS-ID 7 (RFC 2756).
 #[test]
 fn answers_to_questions(rt: HostRuntime) -> Result<(), Fail> {
-    let table: [(Option<u32>, &[u8]); 3] = [
-        (
-            None,
-            b"\x00\x10\x00\x00\x00\x0a\x11\x01\x00\x00\x00\x07\x00\x00\x00\x02",
-        ),
-        (
-            Some(3),
-            b"\x00\x26\x00\x00\x00\x20\x10\x01\x00\x00\x00\x07\x00\x00\x00\x00\x00\x12X-Purge-Stamp: 3\r\n\x00\x02",
-        ),
-        (
-            Some(u32::MAX),
-            b"\x00\x2f\x00\x00\x00\x29\x10\x01\x00\x00\x00\x07\x00\x00\x00\x00\x00\x1bX-Purge-Stamp: 4294967295\r\n\x00\x02",
-        ),
-    ];
-    for (stamp, expected) in table {
-        let sent = tst_answer(rt.alloc(), at(1), 7, stamp)?;
-        assert!(rt; is_sent(&rt, &sent, expected)?, "{stamp:?}");
+    for (stamp, expected) in ANSWERS {
+        assert!(rt; is_tst_answer(&rt, stamp, expected)?, "{stamp:?}");
     }
     Ok(())
+}
+
+/// Whether an answer is these octets, and goes to port 1.
+fn is_answer(rt: &HostRuntime, sent: Outgoing, expected: &[u8]) -> Result<bool, Fail> {
+    is_sent(rt, &sent, 1, expected)
 }
 
 /// The short answers under TRANS-ID 7: a header, opcode and code, flags, the TRANS-ID and an empty AUTH (RFC 2756).
@@ -237,25 +297,39 @@ fn short_answers(rt: HostRuntime) -> Result<(), Fail> {
     let overall: &[u8] = b"\x00\x0e\x00\x00\x00\x08\x15\x03\x00\x00\x00\x07\x00\x02";
     let gone: &[u8] = b"\x00\x0e\x00\x00\x00\x08\x40\x01\x00\x00\x00\x07\x00\x02";
     let absent: &[u8] = b"\x00\x0e\x00\x00\x00\x08\x42\x01\x00\x00\x00\x07\x00\x02";
-    assert!(rt; is_sent(&rt, &nop_answer(at(1), 7), nop)?);
-    assert!(rt; is_sent(&rt, &overall_answer(at(1), 7, 1, 5), overall)?);
-    assert!(rt; is_sent(&rt, &clr_answer(at(1), 7, true), gone)?);
-    assert!(rt; is_sent(&rt, &clr_answer(at(1), 7, false), absent)?);
+    assert!(rt; is_answer(&rt, nop_answer(at(1), 7), nop)?);
+    assert!(rt; is_answer(&rt, overall_answer(at(1), 7, 1, 5), overall)?);
+    assert!(rt; is_answer(&rt, clr_answer(at(1), 7, true), gone)?);
+    assert!(rt; is_answer(&rt, clr_answer(at(1), 7, false), absent)?);
     Ok(())
+}
+
+/// A miss for the URL `u` under the number 7.
+fn miss(rt: &HostRuntime) -> Result<Icp, Fail> {
+    Ok(Icp {
+        op: IcpOp::Miss,
+        number: 7,
+        url: Octets::from_slice(rt.alloc(), b"u")?,
+        object: Octets::new(rt.alloc()),
+    })
+}
+
+/// The answer that denies what this message asks for; none where the message does not fit.
+fn denial(rt: &HostRuntime, miss: Icp) -> Option<Outgoing> {
+    if fits(&miss) {
+        Some(icp_answer(rt.alloc(), at(1), IcpOp::Denied, miss.number, miss.url))
+    } else {
+        None
+    }
 }
 
 /// The answer to an ICP query repeats its number and its URL (RFC 2186).
 #[test]
 fn answers_by_icp(rt: HostRuntime) -> Result<(), Fail> {
-    let miss = Icp {
-        op: IcpOp::Miss,
-        number: 7,
-        url: Octets::from_slice(rt.alloc(), b"u")?,
-        object: Octets::new(rt.alloc()),
+    let Some(sent) = denial(&rt, miss(&rt)?) else {
+        return Err("it does not fit".into());
     };
-    assert!(rt; fits(&miss));
-    let sent = icp_answer(rt.alloc(), at(1), IcpOp::Denied, miss.number, miss.url);
     let expected: &[u8] = b"\x16\x02\x00\x16\x00\x00\x00\x07\0\0\0\0\0\0\0\0\0\0\0\0u\0";
-    assert!(rt; is_sent(&rt, &sent, expected)?);
+    assert!(rt; is_sent(&rt, &sent, 1, expected)?);
     Ok(())
 }

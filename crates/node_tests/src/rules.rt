@@ -26,58 +26,106 @@ fn htcp(content: Content) -> Message {
     })
 }
 
+/// What a URL is made of and how many octets it has, and whether a query for it can be answered. A query of 16,384 octets has a URL of 16,359; an answer
+/// has room for 16,363.
+const URLS: [(u8, usize, bool); 5] = [
+    (b'u', 0, true),
+    (b'u', 16_359, true),
+    (b'u', 16_363, true),
+    (b'u', 16_364, false),
+    (0, 1, false),
+];
+
+fn query_is_answered(rt: &HostRuntime, octet: u8, length: usize) -> Result<bool, AllocError> {
+    Ok(can_be_answered(&icp(rt, IcpOp::Query, octet, length)?))
+}
+
 #[test]
 fn answers_to_icp(rt: HostRuntime) -> Result<(), Fail> {
-    // A query of 16,384 octets has a URL of 16,359; an answer has room for 16,363.
-    for (octet, length, expected) in [
-        (b'u', 0, true),
-        (b'u', 16_359, true),
-        (b'u', 16_363, true),
-        (b'u', 16_364, false),
-        (0, 1, false),
-    ] {
-        let message = icp(&rt, IcpOp::Query, octet, length)?;
-        assert!(rt; can_be_answered(&message) == expected, "{octet} {length}");
+    for (octet, length, expected) in &URLS {
+        let answered = query_is_answered(&rt, *octet, *length)?;
+        assert!(rt; answered == *expected, "{octet} {length}");
     }
     Ok(())
 }
 
+fn opcode_is_answered(opcode: u8) -> bool {
+    can_be_answered(&htcp(Content::Other {
+        opcode,
+        desired: true,
+    }))
+}
+
+fn nop_answer_is_answered() -> bool {
+    can_be_answered(&htcp(Content::NopAnswer))
+}
+
 #[test]
-fn answers_to_htcp(rt: HostRuntime) -> Result<(), Fail> {
-    for (opcode, expected) in [(2, true), (15, true), (16, false)] {
-        let message = htcp(Content::Other {
-            opcode,
-            desired: true,
-        });
-        assert!(rt; can_be_answered(&message) == expected, "{opcode}");
-    }
-    assert!(rt; can_be_answered(&htcp(Content::NopAnswer)));
-    Ok(())
+fn answers_to_htcp(rt: HostRuntime) {
+    assert!(rt; opcode_is_answered(2));
+    assert!(rt; opcode_is_answered(15));
+    assert!(rt; !opcode_is_answered(16));
+    assert!(rt; nop_answer_is_answered());
+}
+
+/// Whether an ICP message with a URL of so many octets fits a datagram.
+fn icp_fits(rt: &HostRuntime, op: IcpOp, length: usize) -> Result<bool, AllocError> {
+    Ok(fits(&icp(rt, op, b'u', length)?))
+}
+
+fn clr_answer_fits(code: u8) -> bool {
+    fits(&htcp(Content::ClrAnswer { code }))
 }
 
 #[test]
 fn messages_with_a_text(rt: HostRuntime) -> Result<(), Fail> {
-    assert!(rt; fits(&icp(&rt, IcpOp::Hit, b'u', 16_363)?));
-    assert!(rt; !fits(&icp(&rt, IcpOp::Query, b'u', 16_363)?));
-    assert!(rt; !fits(&icp(&rt, IcpOp::HitObj, b'u', 1)?));
-    assert!(rt; fits(&htcp(Content::ClrAnswer { code: 2 })));
-    assert!(rt; !fits(&htcp(Content::ClrAnswer { code: 3 })));
+    assert!(rt; icp_fits(&rt, IcpOp::Hit, 16_363)?);
+    assert!(rt; !icp_fits(&rt, IcpOp::Query, 16_363)?);
+    assert!(rt; !icp_fits(&rt, IcpOp::HitObj, 1)?);
+    assert!(rt; clr_answer_fits(2));
+    assert!(rt; !clr_answer_fits(3));
     Ok(())
+}
+
+fn is_icp(message: &Message) -> bool {
+    match message {
+        Message::Icp(_) => true,
+        Message::Htcp(_) => false,
+    }
+}
+
+/// A message that came; none where it cannot be answered.
+fn received(message: Message) -> Option<Received> {
+    if can_be_answered(&message) {
+        Some(Received::new(message))
+    } else {
+        None
+    }
+}
+
+/// A message that is sent; none where it does not fit.
+fn sent(message: Message) -> Option<Outgoing> {
+    if fits(&message) {
+        Some(Outgoing {
+            to: Address { ip: 1, port: 2 },
+            message: Sent::new(message),
+        })
+    } else {
+        None
+    }
 }
 
 #[test]
 fn messages_that_come_and_go(rt: HostRuntime) -> Result<(), Fail> {
-    let message = icp(&rt, IcpOp::Query, b'u', 3)?;
-    assert!(rt; can_be_answered(&message));
-    let received = Received::new(message);
-    assert!(rt; matches!(received.message(), Message::Icp(_)));
-    let message = received.into_message();
-    assert!(rt; fits(&message));
-    let sent = Outgoing {
-        to: Address { ip: 1, port: 2 },
-        message: Sent::new(message),
+    let Some(received) = received(icp(&rt, IcpOp::Query, b'u', 3)?) else {
+        return Err("it cannot be answered".into());
     };
-    assert!(rt; matches!(sent.message.message(), Message::Icp(_)));
+    let came = is_icp(received.message());
+    let Some(sent) = sent(received.into_message()) else {
+        return Err("it does not fit".into());
+    };
+    let went = is_icp(sent.message.message());
+    assert!(rt; came && went);
     Ok(())
 }
 

@@ -5,7 +5,9 @@ use htcp_wire::{Content, Htcp, Specifier};
 use http_header::{HeaderName, HeaderValue};
 use icp_wire::{Icp, IcpOp};
 use node_core::{Node, OpenFault, Placed};
-use node_rules::{Begin, Event, Message, Received, Reply, Served, StepFault, can_be_answered};
+use node_rules::{
+    Begin, Event, Message, Received, Reply, Serve, Served, StepFault, can_be_answered,
+};
 use roster::{Address, Roster};
 use std::fmt::Write;
 use std::hash::RandomState;
@@ -78,7 +80,7 @@ pub(crate) struct Held {
 
 /// Fails with these words where something does not hold.
 pub(crate) fn want(holds: bool, what: &'static str) -> Result<(), Fail> {
-    if holds { Ok(()) } else { Err(what)? }
+    if holds { Ok(()) } else { Err(what.into()) }
 }
 
 fn roster_of(rt: &HostRuntime, text: &str) -> Result<Roster, Fail> {
@@ -88,15 +90,18 @@ fn roster_of(rt: &HostRuntime, text: &str) -> Result<Roster, Fail> {
     }
 }
 
-fn opened(rt: &HostRuntime, roster: Roster) -> Result<Held, Fail> {
-    match Node::open(rt.alloc(), roster, 1, MemoryFloors::new(rt.alloc())) {
+fn opened(rt: &HostRuntime, roster: Roster, id: u8) -> Result<Held, OpenFault> {
+    match Node::open(rt.alloc(), roster, id, MemoryFloors::new(rt.alloc())) {
         Ok(node) => Ok(Held { node }),
-        Err(fault) => Err(fault.name().into()),
+        Err(fault) => Err(fault),
     }
 }
 
 pub(crate) fn node_of(rt: &HostRuntime, text: &str) -> Result<Held, Fail> {
-    opened(rt, roster_of(rt, text)?)
+    match opened(rt, roster_of(rt, text)?, 1) {
+        Ok(held) => Ok(held),
+        Err(fault) => Err(fault.name().into()),
+    }
 }
 
 fn opened_with_keys(rt: &HostRuntime, roster: Roster, keys: RandomState) -> Result<Held, Fail> {
@@ -124,6 +129,10 @@ pub(crate) fn key_of(rt: &HostRuntime, url: &str) -> Result<Key, Fail> {
     Ok(Key::read(rt.alloc(), url.as_bytes())?)
 }
 
+fn octets_of(rt: &HostRuntime, text: &str) -> Result<Octets, Fail> {
+    Ok(Octets::from_slice(rt.alloc(), text.as_bytes())?)
+}
+
 pub(crate) fn client(rt: &HostRuntime, url: &str, now: u64) -> Result<Event<u64>, Fail> {
     let ask = Ask {
         key: key_of(rt, url)?,
@@ -134,13 +143,36 @@ pub(crate) fn client(rt: &HostRuntime, url: &str, now: u64) -> Result<Event<u64>
     Ok(Event::Client { ask, now })
 }
 
+/// A header field.
+pub(crate) fn field_of(rt: &HostRuntime, name: &[u8], value: &[u8]) -> Result<Field, Fail> {
+    let name = HeaderName::from_bytes(rt.alloc(), name)?;
+    let value = HeaderValue::from_bytes(rt.alloc(), value)?;
+    Ok(Field { name, value })
+}
+
+/// An answer with this field.
+pub(crate) fn answer_with(
+    rt: &HostRuntime,
+    status: u16,
+    field: Field,
+    stamp: Option<u32>,
+) -> Result<Answer, Fail> {
+    let fields = Fields::new(rt.alloc(), vec![in rt.alloc(); field]?)?;
+    let body = Body::from_slice(rt.alloc(), b"one")?;
+    match Answer::new(status, fields, None, stamp, body) {
+        Some(answer) => Ok(answer),
+        None => Err("writable".into()),
+    }
+}
+
 /// An answer of status 200 with a lifetime of 60 seconds.
 fn answer_of(rt: &HostRuntime, stamp: Option<u32>) -> Result<Answer, Fail> {
-    let name = HeaderName::from_bytes(rt.alloc(), b"cache-control")?;
-    let value = HeaderValue::from_bytes(rt.alloc(), b"max-age=60")?;
-    let fields = Fields::new(rt.alloc(), vec![in rt.alloc(); Field { name, value }]?)?;
-    let body = Body::from_slice(rt.alloc(), b"one")?;
-    Ok(Answer::new(200, fields, None, stamp, body).ok_or("writable")?)
+    answer_with(
+        rt,
+        200,
+        field_of(rt, b"cache-control", b"max-age=60")?,
+        stamp,
+    )
 }
 
 fn origin(rt: &HostRuntime, serial: u32, url: &str, now: u64) -> Result<Event<u64>, Fail> {
@@ -152,54 +184,116 @@ fn origin(rt: &HostRuntime, serial: u32, url: &str, now: u64) -> Result<Event<u6
     })
 }
 
-fn came(message: Message) -> Result<Received, Fail> {
+/// The answer of foreign cache 101 to the fetch 33, with a stamp.
+fn foreign_answer(rt: &HostRuntime, url: &str, stamp: u32) -> Result<Event<u64>, Fail> {
+    Ok(Event::ForeignAnswer {
+        serial: 33,
+        peer: 101,
+        key: key_of(rt, url)?,
+        answer: answer_of(rt, Some(stamp))?,
+        tag: 0,
+        now: 0,
+    })
+}
+
+/// A message that comes from a port of 127.0.0.1.
+fn came(port: u16, message: Message) -> Result<Event<u64>, Fail> {
     if can_be_answered(&message) {
-        Ok(Received::new(message))
+        Ok(Event::Datagram {
+            from: at(port),
+            message: Received::new(message),
+            now: 0,
+        })
     } else {
         Err("no answer has a text".into())
     }
 }
 
+/// The header line that tells a purge's number.
+fn number_line(rt: &HostRuntime, number: u32) -> Result<Octets, Fail> {
+    let line = format!(in rt.alloc(); "X-Purge-Number: {number}\r\n")?;
+    octets_of(rt, line.as_str())
+}
+
+fn specifier(rt: &HostRuntime, url: &str, number: u32) -> Result<Specifier, Fail> {
+    Ok(Specifier {
+        method: octets_of(rt, "GET")?,
+        uri: octets_of(rt, url)?,
+        version: octets_of(rt, "HTTP/1.1")?,
+        request_headers: number_line(rt, number)?,
+    })
+}
+
 /// The master's CLR of a URL under this number (RFC 2756, "CLR").
 fn purge(rt: &HostRuntime, url: &str, number: u32) -> Result<Event<u64>, Fail> {
-    let alloc = rt.alloc();
-    let line = format!(in alloc; "X-Purge-Number: {number}\r\n")?;
-    let spec = Specifier {
-        method: Octets::from_slice(alloc, b"GET")?,
-        uri: Octets::from_slice(alloc, url.as_bytes())?,
-        version: Octets::from_slice(alloc, b"HTTP/1.1")?,
-        request_headers: Octets::from_slice(alloc, line.as_bytes())?,
-    };
     let content = Content::ClrAsk {
         desired: true,
         reason: 0,
-        spec,
+        spec: specifier(rt, url, number)?,
     };
-    let message = came(Message::Htcp(Htcp {
-        minor: 0,
-        trans: number,
-        content,
-    }))?;
-    Ok(Event::Datagram {
-        from: at(4800),
-        message,
-        now: 0,
-    })
+    came(
+        4800,
+        Message::Htcp(Htcp {
+            minor: 0,
+            trans: number,
+            content,
+        }),
+    )
 }
 
 /// An ICP message of this opcode, under this number, for a URL.
 fn icp(rt: &HostRuntime, port: u16, op: IcpOp, number: u32, url: &str) -> Result<Event<u64>, Fail> {
-    let message = came(Message::Icp(Icp {
-        op,
-        number,
-        url: Octets::from_slice(rt.alloc(), url.as_bytes())?,
-        object: Octets::new(rt.alloc()),
-    }))?;
-    Ok(Event::Datagram {
-        from: at(port),
-        message,
-        now: 0,
-    })
+    let url = octets_of(rt, url)?;
+    let object = Octets::new(rt.alloc());
+    came(
+        port,
+        Message::Icp(Icp {
+            op,
+            number,
+            url,
+            object,
+        }),
+    )
+}
+
+/// What happens at a node.
+#[derive(Clone, Copy)]
+enum Happens {
+    /// A client asks for this URL at this second.
+    Ask(&'static str, u64),
+    /// The master's CLR of this URL comes under this number.
+    Purge(&'static str, u32),
+    /// An ICP message of this opcode comes from this port, under this number and for this URL.
+    Icp(u16, IcpOp, u32, &'static str),
+    /// The origin answers the read of this serial, for this URL and at this second.
+    Origin(u32, &'static str, u64),
+    /// Foreign cache 101 answers the fetch 33, for this URL and with this stamp.
+    Foreign(&'static str, u32),
+    /// The fetch of this serial fails.
+    Failure(u32),
+}
+
+fn event_of(rt: &HostRuntime, happens: Happens) -> Result<Event<u64>, Fail> {
+    match happens {
+        Happens::Ask(url, now) => client(rt, url, now),
+        Happens::Purge(url, number) => purge(rt, url, number),
+        Happens::Icp(port, op, number, url) => icp(rt, port, op, number, url),
+        Happens::Origin(serial, url, now) => origin(rt, serial, url, now),
+        Happens::Foreign(url, stamp) => foreign_answer(rt, url, stamp),
+        Happens::Failure(serial) => Ok(Event::FetchFailed { serial, now: 0 }),
+    }
+}
+
+/// What is served says.
+fn show_served(text: &mut String, serve: &Serve<u64>) -> Result<(), Fail> {
+    match &serve.served {
+        Served::Copy { copy, age } => {
+            let (stamp, tag) = (copy.stamp, copy.tag);
+            write!(text, " serve stamp {stamp} tag {tag} age {age}")?
+        }
+        Served::Status(status) => write!(text, " serve {status}")?,
+    }
+    Ok(())
 }
 
 /// What a message that is sent says.
@@ -214,197 +308,243 @@ fn show_sent(text: &mut String, message: &Message) -> Result<(), Fail> {
     Ok(())
 }
 
-/// What a step serves, sends and begins.
-fn show(rt: &HostRuntime, reply: &Reply<u64>) -> Result<String, Fail> {
-    let mut text = String::new(rt.alloc());
-    if let Some(serve) = &reply.serve {
-        match &serve.served {
-            Served::Copy { copy, age } => {
-                write!(
-                    text,
-                    " serve stamp {} tag {} age {age}",
-                    copy.stamp, copy.tag
-                )?
-            }
-            Served::Status(status) => write!(text, " serve {status}")?,
+/// What is begun.
+fn show_begun(text: &mut String, begin: &Begin) -> Result<(), Fail> {
+    match begin {
+        Begin::Round { serial } => write!(text, " round {serial}")?,
+        Begin::Peer { serial, peer, ask } => {
+            let only = if ask.only_if_cached {
+                " only-if-cached"
+            } else {
+                ""
+            };
+            write!(text, " peer {peer} {serial}{only}")?
         }
+        Begin::Read { serial, .. } => write!(text, " read {serial}")?,
+    }
+    Ok(())
+}
+
+/// What a step serves, sends and begins.
+fn show_reply(text: &mut String, reply: &Reply<u64>) -> Result<(), Fail> {
+    if let Some(serve) = &reply.serve {
+        show_served(text, serve)?;
     }
     for sent in reply.send.as_slice() {
-        show_sent(&mut text, sent.message.message())?;
+        show_sent(text, sent.message.message())?;
     }
-    match &reply.begin {
-        Some(Begin::Round { serial }) => write!(text, " round {serial}")?,
-        Some(Begin::Peer { serial, peer, ask }) => {
-            write!(text, " peer {peer} {serial}")?;
-            if ask.only_if_cached {
-                text.push_str(" only-if-cached")?;
-            }
-        }
-        Some(Begin::Read { serial, .. }) => write!(text, " read {serial}")?,
-        None => {}
+    if let Some(begin) = &reply.begin {
+        show_begun(text, begin)?;
     }
+    Ok(())
+}
+
+fn show(rt: &HostRuntime, reply: &Reply<u64>) -> Result<String, Fail> {
+    let mut text = String::new(rt.alloc());
+    show_reply(&mut text, reply)?;
     Ok(text)
 }
 
+fn show_fault(rt: &HostRuntime, fault: StepFault) -> Result<String, Fail> {
+    Ok(format!(in rt.alloc(); " {}", fault.name())?)
+}
+
 /// Takes a step, and shows what it is answered.
-pub(crate) fn step(
+pub(crate) fn step<S: FloorStore>(
     rt: &HostRuntime,
-    node: &mut Tested,
+    node: &mut Node<u64, S>,
     event: Event<u64>,
     mark: u64,
 ) -> Result<String, Fail> {
     match node.step(event, mark) {
         Ok(reply) => show(rt, &reply),
-        Err(fault) => Ok(format!(in rt.alloc(); " {}", fault.name())?),
+        Err(fault) => show_fault(rt, fault),
     }
 }
 
+/// Fails with what is shown of this step, where that is not what is expected.
+fn expect(mark: u64, shown: &str, expected: &str) -> Result<(), Fail> {
+    if shown == expected {
+        Ok(())
+    } else {
+        Err(Fail::new(format_args!("{mark}: {shown}")))
+    }
+}
+
+/// What a step under this mark is answered.
+fn shown_of(
+    rt: &HostRuntime,
+    node: &mut Tested,
+    mark: u64,
+    happens: Happens,
+) -> Result<String, Fail> {
+    let event = event_of(rt, happens)?;
+    step(rt, node, event, mark)
+}
+
+/// A step under this mark is answered as it is expected.
+fn check_step(
+    rt: &HostRuntime,
+    node: &mut Tested,
+    mark: u64,
+    happens: Happens,
+    expected: &str,
+) -> Result<(), Fail> {
+    let shown = shown_of(rt, node, mark, happens)?;
+    expect(mark, shown.as_str(), expected)
+}
+
+/// Each step of a table, under the marks from 1 on, is answered as it is expected.
+fn check(rt: &HostRuntime, node: &mut Tested, table: &[(Happens, &str)]) -> Result<(), Fail> {
+    let mut mark = 0u64;
+    for (happens, expected) in table {
+        mark = u64::saturating_add(mark, 1);
+        check_step(rt, node, mark, *happens, expected)?;
+    }
+    Ok(())
+}
+
+/// How many asks wait at a node and how many copies it has, and its greatest floor.
+fn counts(node: &Tested) -> Result<(usize, usize, u32), Fail> {
+    let state = node.state()?;
+    Ok((
+        state.pending.as_slice().len(),
+        state.copies.as_slice().len(),
+        state.floors.seen(),
+    ))
+}
+
 /// A read that a purge overtakes begins anew, and a copy bears the stamp and the mark of its own read.
+const OVERTAKEN: [(Happens, &str); 9] = [
+    (Happens::Ask("http://o/a", 100), " read 33"),
+    (Happens::Purge("http://o/a", 1), " clr 2"),
+    (Happens::Origin(33, "http://o/a", 101), " read 34"),
+    (Happens::Origin(33, "http://o/a", 101), " UnknownSerial"),
+    (
+        Happens::Origin(34, "http://o/a", 102),
+        " serve stamp 1 tag 3 age 1",
+    ),
+    (Happens::Ask("http://p/", 102), " serve 502"),
+    (Happens::Ask("http://o/b", 102), " read 97"),
+    (
+        Happens::Ask("http://o/a", 103),
+        " serve stamp 1 tag 3 age 2",
+    ),
+    (Happens::Ask("http://o/a", 161), " read 129"),
+];
+
 #[test]
 fn a_purge_overtakes_a_read(rt: HostRuntime) -> Result<(), Fail> {
     let mut held = node_of(&rt, ONE)?;
-    let table = [
-        (client(&rt, "http://o/a", 100)?, " read 33"),
-        (purge(&rt, "http://o/a", 1)?, " clr 2"),
-        (origin(&rt, 33, "http://o/a", 101)?, " read 34"),
-        (origin(&rt, 33, "http://o/a", 101)?, " UnknownSerial"),
-        (
-            origin(&rt, 34, "http://o/a", 102)?,
-            " serve stamp 1 tag 3 age 1",
-        ),
-        (client(&rt, "http://p/", 102)?, " serve 502"),
-        (client(&rt, "http://o/b", 102)?, " read 97"),
-        (
-            client(&rt, "http://o/a", 103)?,
-            " serve stamp 1 tag 3 age 2",
-        ),
-        (client(&rt, "http://o/a", 161)?, " read 129"),
-    ];
-    let mut mark = 0u64;
-    for (event, expected) in table {
-        mark = u64::saturating_add(mark, 1);
-        let shown = step(&rt, &mut held.node, event, mark)?;
-        assert!(rt; shown.as_str() == expected, "{mark}: {shown}");
-    }
+    check(&rt, &mut held.node, &OVERTAKEN)?;
     assert!(rt; !held.node.is_closed());
     Ok(())
 }
 
 /// A foreign sibling is asked only for what it has; its stamp is not trusted, and it is not asked for what was purged.
+const WITH_A_FOREIGN_SIBLING: [(Happens, &str); 10] = [
+    (Happens::Ask("http://o/a", 0), " Query round 32"),
+    (Happens::Icp(3102, IcpOp::Hit, 32, "http://o/a"), ""),
+    (Happens::Icp(3201, IcpOp::Hit, 32, "http://o/b"), ""),
+    (
+        Happens::Icp(3201, IcpOp::Hit, 32, "http://o/a"),
+        " peer 101 33 only-if-cached",
+    ),
+    (
+        Happens::Foreign("http://o/a", 9),
+        " serve stamp 0 tag 0 age 0",
+    ),
+    (Happens::Icp(3201, IcpOp::Query, 9, "HTTP://O/a"), " Hit"),
+    (Happens::Icp(3202, IcpOp::Query, 9, "http://o/a"), " Denied"),
+    (Happens::Purge("http://o/a", 1), " clr 0"),
+    (Happens::Icp(3201, IcpOp::Query, 9, "http://o/a"), " Miss"),
+    (Happens::Ask("http://o/a", 0), " read 65"),
+];
+
 #[test]
 fn a_foreign_sibling(rt: HostRuntime) -> Result<(), Fail> {
     let mut held = node_of(&rt, FOREIGN)?;
-    let given = Event::ForeignAnswer {
-        serial: 33,
-        peer: 101,
-        key: key_of(&rt, "http://o/a")?,
-        answer: answer_of(&rt, Some(9))?,
-        tag: 0,
-        now: 0,
-    };
-    let table = [
-        (client(&rt, "http://o/a", 0)?, " Query round 32"),
-        (icp(&rt, 3102, IcpOp::Hit, 32, "http://o/a")?, ""),
-        (icp(&rt, 3201, IcpOp::Hit, 32, "http://o/b")?, ""),
-        (
-            icp(&rt, 3201, IcpOp::Hit, 32, "http://o/a")?,
-            " peer 101 33 only-if-cached",
-        ),
-        (given, " serve stamp 0 tag 0 age 0"),
-        (icp(&rt, 3201, IcpOp::Query, 9, "HTTP://O/a")?, " Hit"),
-        (icp(&rt, 3202, IcpOp::Query, 9, "http://o/a")?, " Denied"),
-        (purge(&rt, "http://o/a", 1)?, " clr 0"),
-        (icp(&rt, 3201, IcpOp::Query, 9, "http://o/a")?, " Miss"),
-        (client(&rt, "http://o/a", 0)?, " read 65"),
-    ];
-    let mut mark = 0u64;
-    for (event, expected) in table {
-        mark = u64::saturating_add(mark, 1);
-        let shown = step(&rt, &mut held.node, event, mark)?;
-        assert!(rt; shown.as_str() == expected, "{mark}: {shown}");
-    }
-    Ok(())
+    check(&rt, &mut held.node, &WITH_A_FOREIGN_SIBLING)
 }
 
-/// A node of which 1,024 asks are made takes no more, until one ends.
+/// A node of which 1,024 asks are made takes no more; one ends, and ends once.
+const WHEN_FULL: [(Happens, &str); 3] = [
+    (Happens::Ask("http://o/a", 0), " Busy"),
+    (Happens::Failure(33), " serve 502"),
+    (Happens::Failure(33), " UnknownSerial"),
+];
+
 fn fill(rt: &HostRuntime, node: &mut Tested) -> Result<(), Fail> {
     for _ in 0..1024 {
         let event = client(rt, "http://o/a", 0)?;
         want(node.step(event, 0).is_ok(), "an ask")?;
     }
-    let refused = step(rt, node, client(rt, "http://o/a", 0)?, 0)?;
-    want(refused.as_str() == " Busy", "one ask more")?;
-    let ended = step(rt, node, Event::FetchFailed { serial: 33, now: 0 }, 0)?;
-    want(ended.as_str() == " serve 502", "the end of one")?;
-    let again = step(rt, node, Event::FetchFailed { serial: 33, now: 0 }, 0)?;
-    want(again.as_str() == " UnknownSerial", "its end once more")
+    check(rt, node, &WHEN_FULL)
 }
 
 #[test]
 fn at_most_1024_asks_wait(rt: HostRuntime) -> Result<(), Fail> {
     let mut held = node_of(&rt, ONE)?;
     fill(&rt, &mut held.node)?;
-    let state = held.node.state()?;
-    assert!(rt; state.pending.as_slice().len() == 1023);
+    let (pending, _, _) = counts(&held.node)?;
+    assert_eq!(rt; pending, 1023);
     Ok(())
 }
 
-/// Copies that are placed by hand, before and after a purge.
+/// Whether a copy of `http://o/a` that is placed by hand is taken so.
+fn is_placed(
+    rt: &HostRuntime,
+    node: &mut Tested,
+    stamp: Option<u32>,
+    expected: Placed,
+) -> Result<bool, Fail> {
+    Ok(node.place(&key_of(rt, "http://o/a")?, stamp, 1)? == expected)
+}
+
+/// Copies that are placed by hand, before and after a purge: an older one, and one from before the purge, are not taken.
 fn place_copies(rt: &HostRuntime, node: &mut Tested) -> Result<(), Fail> {
-    let key = key_of(rt, "http://o/a")?;
-    want(node.place(&key, Some(3), 1)? == Placed::Stored, "the first")?;
+    want(is_placed(rt, node, Some(3), Placed::Stored)?, "the first")?;
+    want(is_placed(rt, node, Some(2), Placed::Kept)?, "an older one")?;
+    check_step(rt, node, 0, Happens::Purge("http://o/a", 7), " clr 0")?;
     want(
-        node.place(&key, Some(2), 1)? == Placed::Kept,
-        "an older one",
-    )?;
-    let cleared = step(rt, node, purge(rt, "http://o/a", 7)?, 0)?;
-    want(cleared.as_str() == " clr 0", "the purge")?;
-    want(
-        node.place(&key, Some(6), 1)? == Placed::Old,
+        is_placed(rt, node, Some(6), Placed::Old)?,
         "one from before",
     )?;
-    want(
-        node.place(&key, None, 1)? == Placed::Stored,
-        "one from after",
-    )
+    want(is_placed(rt, node, None, Placed::Stored)?, "one from after")
 }
 
 #[test]
 fn copies_placed_by_hand(rt: HostRuntime) -> Result<(), Fail> {
     let mut held = node_of(&rt, ONE)?;
     place_copies(&rt, &mut held.node)?;
-    let state = held.node.state()?;
-    assert!(rt; state.copies.as_slice().len() == 1 && state.floors.seen() == 7);
+    let (_, copies, seen) = counts(&held.node)?;
+    assert_eq!(rt; (copies, seen), (1, 7));
     Ok(())
 }
 
-fn floors_of(held: Held) -> MemoryFloors {
-    held.node.into_floors()
+/// The greatest of the floors that a node gives back.
+fn floor_given_back(rt: &HostRuntime, held: Held) -> Result<u32, Fail> {
+    let mut floors = held.node.into_floors();
+    Ok(floors.load(rt.alloc())?.seen())
 }
 
 #[test]
 fn a_node_gives_its_floors_back(rt: HostRuntime) -> Result<(), Fail> {
     let mut held = node_of(&rt, ONE)?;
-    step(&rt, &mut held.node, purge(&rt, "http://o/a", 7)?, 0)?;
-    let mut floors = floors_of(held);
-    assert!(rt; floors.load(rt.alloc())?.seen() == 7);
+    check_step(
+        &rt,
+        &mut held.node,
+        0,
+        Happens::Purge("http://o/a", 7),
+        " clr 2",
+    )?;
+    assert_eq!(rt; floor_given_back(&rt, held)?, 7);
     Ok(())
-}
-
-/// What is refused where the node of this id is opened.
-fn refused(rt: &HostRuntime, roster: Roster, id: u8) -> Option<OpenFault> {
-    let opened: Result<Tested, OpenFault> = Node::open(
-        rt.alloc(),
-        roster,
-        id,
-        MemoryFloors::new(rt.alloc()),
-    );
-    opened.err()
 }
 
 #[test]
 fn a_node_that_is_no_member(rt: HostRuntime) -> Result<(), Fail> {
-    let fault = refused(&rt, roster_of(&rt, ONE)?, 2);
+    let fault = opened(&rt, roster_of(&rt, ONE)?, 2).err();
     assert!(rt; fault == Some(OpenFault::NoSuchNode));
     assert!(rt; StepFault::Closed.name() == "Closed");
     Ok(())
@@ -413,8 +553,8 @@ fn a_node_that_is_no_member(rt: HostRuntime) -> Result<(), Fail> {
 /// What a node tells of itself, before and after its first read begins and as it is closed.
 fn tell(rt: &HostRuntime, node: &mut Tested) -> Result<(), Fail> {
     want(node.id() == 1 && node.next() == 1, "a new node")?;
-    let began = step(rt, node, client(rt, "http://o/a", 0)?, 0)?;
-    want(began.as_str() == " read 33" && node.next() == 2, "a read")?;
+    check_step(rt, node, 0, Happens::Ask("http://o/a", 0), " read 33")?;
+    want(node.next() == 2, "a read")?;
     want(
         node.fetching(33).is_some() && node.fetching(34).is_none(),
         "what it fetches",

@@ -136,62 +136,76 @@ fn no_ask_is_found_among_none(rt: HostRuntime) {
     );
 }
 
+/// The ask whose round is 128 reads now, and has the block 4.
+fn read_of_round_128(rt: &HostRuntime, waiting: &mut Waiting<u64>) -> bool {
+    let Some(place) = waiting.of_round(128) else {
+        return false;
+    };
+    waiting.change(place, reading(rt));
+    is_reading(waiting.ask(place))
+}
+
+fn is_reading(ask: &Pending<u64>) -> bool {
+    let fetches = matches!(
+        ask.fetch,
+        Fetch::AtOrigin {
+            stamp: 5,
+            asked: 100,
+            mark: 7
+        }
+    );
+    fetches && ask.block == 4 && ask.fetches == 1 && ask.reads == 1
+}
+
+/// The ask whose fetch is 129 has done nothing yet, and had begun one fetch, a read.
+fn begin_anew_from_129(rt: &HostRuntime, waiting: &mut Waiting<u64>) -> bool {
+    let Some(place) = waiting.of_fetch(129) else {
+        return false;
+    };
+    let before = waiting.replace(place, Progress::new(rt.alloc()));
+    before.fetches == 1 && before.reads == 1
+}
+
+/// The places of three asks, of which the second reads.
+const WHILE_ONE_READS: [(u32, Option<usize>, Option<usize>); 5] = [
+    (64, Some(0), Some(0)),
+    (128, Some(1), None),
+    (129, None, Some(1)),
+    (130, None, None),
+    (192, Some(2), Some(2)),
+];
+
 #[test]
 fn one_ask_changes_in_its_place(rt: HostRuntime) -> Result<(), Fail> {
     let mut waiting = filled(&rt, 3)?;
-    let place = waiting.of_round(128).ok_or("block 4")?;
-    waiting.change(place, reading(&rt));
-    let ask = waiting.ask(place);
-    assert_eq!(rt; (ask.block, ask.fetches, ask.reads), (4, 1, 1));
-    assert!(rt;
-        matches!(
-            ask.fetch,
-            Fetch::AtOrigin {
-                stamp: 5,
-                asked: 100,
-                mark: 7
-            }
-        )
-    );
-    check_places(
-        &rt,
-        &waiting,
-        [
-            (64, Some(0), Some(0)),
-            (128, Some(1), None),
-            (129, None, Some(1)),
-            (130, None, None),
-            (192, Some(2), Some(2)),
-        ]
-        .as_slice(),
-    );
-    let place = waiting.of_fetch(129).ok_or("block 4")?;
-    let before = waiting.replace(place, Progress::new(rt.alloc()));
-    assert_eq!(rt; (before.fetches, before.reads), (1, 1));
-    check_places(
-        &rt,
-        &waiting,
-        [(128, Some(1), Some(1)), (129, None, None)].as_slice(),
-    );
+    let is_reading = read_of_round_128(&rt, &mut waiting);
+    assert!(rt; is_reading);
+    check_places(&rt, &waiting, &WHILE_ONE_READS);
+    let had_read = begin_anew_from_129(&rt, &mut waiting);
+    assert!(rt; had_read);
+    check_places(&rt, &waiting, &[(128, Some(1), Some(1)), (129, None, None)]);
     Ok(())
+}
+
+/// The ask whose round is 128 ends: its block.
+fn end_of_round_128(waiting: &mut Waiting<u64>) -> Option<u32> {
+    let place = waiting.of_round(128)?;
+    Some(waiting.end(place).block)
 }
 
 #[test]
 fn one_ask_ends(rt: HostRuntime) -> Result<(), Fail> {
     let mut waiting = filled(&rt, 3)?;
-    let place = waiting.of_round(128).ok_or("block 4")?;
-    let ask = waiting.end(place);
-    assert_eq!(rt; ask.block, 4);
-    assert_eq!(rt; waiting.len(), 2);
+    let block = end_of_round_128(&mut waiting);
+    assert_eq!(rt; (block, waiting.len()), (Some(4), 2));
     check_places(
         &rt,
         &waiting,
-        [
+        &[
             (64, Some(0), Some(0)),
             (128, None, None),
             (192, Some(1), Some(1)),
-        ]
-        .as_slice(),
+        ],
     );
     Ok(())
 }

@@ -9,7 +9,7 @@ use url_key::Key;
 
 /// Fails with these words where something does not hold.
 pub(crate) fn want(holds: bool, what: &'static str) -> Result<(), Fail> {
-    if holds { Ok(()) } else { Err(what)? }
+    if holds { Ok(()) } else { Err(what.into()) }
 }
 
 /// Whether the purge of the number is pending, and the member has not acknowledged it.
@@ -30,19 +30,28 @@ fn may_add(purges: &Purges, number: u32) -> bool
     purges.last() < number && !purges.is_full()
 }
 
-/// Adds a purge of the URL, under a number above the last one, where fewer than 1,024 are pending.
+/// Adds a purge of the key, under a number above the last one, where fewer than 1,024 are pending.
+fn add_key<P: PurgeStore>(
+    store: &mut P,
+    alloc: Global,
+    number: u32,
+    key: &Key,
+) -> Result<Result<(), PurgeFault>, Fail> {
+    match store.load(alloc) {
+        Ok(purges) if may_add(&purges, number) => Ok(store.add(alloc, number, key)),
+        Ok(_) => Err("a number above the last one, and room".into()),
+        Err(fault) => Ok(Err(fault)),
+    }
+}
+
+/// The same of a URL.
 pub(crate) fn add<P: PurgeStore>(
     store: &mut P,
     alloc: Global,
     number: u32,
     url: &str,
 ) -> Result<Result<(), PurgeFault>, Fail> {
-    let key = Key::read(alloc, url.as_bytes())?;
-    match store.load(alloc) {
-        Ok(purges) if may_add(&purges, number) => Ok(store.add(alloc, number, &key)),
-        Ok(_) => Err("a number above the last one, and room")?,
-        Err(fault) => Ok(Err(fault)),
-    }
+    add_key(store, alloc, number, &Key::read(alloc, url.as_bytes())?)
 }
 
 /// Marks a member that has not acknowledged the pending purge.
@@ -53,18 +62,21 @@ pub(crate) fn mark<P: PurgeStore>(
     member: u8,
 ) -> Result<Result<(), PurgeFault>, Fail> {
     if member < 1 || member > 16 {
-        return Err("a member of 1 to 16")?;
+        return Err("a member of 1 to 16".into());
     }
     match store.load(alloc) {
         Ok(purges) if is_missed(&purges, number, member) => Ok(store.mark(alloc, number, member)),
-        Ok(_) => Err("a purge that misses the member")?,
+        Ok(_) => Err("a purge that misses the member".into()),
         Err(fault) => Ok(Err(fault)),
     }
 }
 
 /// What the store holds.
 pub(crate) fn loaded<P: PurgeStore>(store: &mut P, alloc: Global) -> Result<Purges, Fail> {
-    Ok(store.load(alloc).ok().ok_or("purges")?)
+    match store.load(alloc) {
+        Ok(purges) => Ok(purges),
+        Err(fault) => Err(fault.name().into()),
+    }
 }
 
 /// The last number, and how many purges are pending.

@@ -1,6 +1,7 @@
 //! Worked runs of a master, each a table of calls and of what they are answered.
 ghost use Rattle.std.specs.Prelude.{◌≡◌, ◌==◌};
 
+use crate::calls::want;
 use htcp_wire::{Content, HeaderKind, Htcp, number_in};
 use purge_master::{Master, MasterBook};
 use purge_rules::{
@@ -121,12 +122,15 @@ struct Held<S: PurgeStore + Drop> {
     book: MasterBook<S>,
 }
 
+fn roster_of(rt: &HostRuntime) -> Result<Roster, Fail> {
+    match Roster::read(rt.alloc(), TWO) {
+        Ok(roster) => Ok(roster),
+        Err(error) => Err(error.fault.name().into()),
+    }
+}
+
 fn open<S: PurgeStore + Drop>(rt: &HostRuntime, store: S) -> Result<Held<S>, Fail> {
-    let roster = match Roster::read(rt.alloc(), TWO) {
-        Ok(roster) => roster,
-        Err(error) => return Err(error.fault.name().into()),
-    };
-    match Master::open(rt.alloc(), &roster, store) {
+    match Master::open(rt.alloc(), &roster_of(rt)?, store) {
         Ok(master) => Ok(Held {
             book: MasterBook::open(master),
         }),
@@ -160,62 +164,116 @@ fn call_of(rt: &HostRuntime, call: Call) -> Result<MasterCall, Fail> {
     })
 }
 
+/// What is due, in words.
+fn write_due(text: &mut String, pairs: &[(u32, u8)]) -> Result<(), Fail> {
+    write!(text, "due")?;
+    for (number, id) in pairs {
+        write!(text, " {number}:{id}")?;
+    }
+    Ok(())
+}
+
+fn write_status(text: &mut String, status: &Status) -> Result<(), Fail> {
+    match status {
+        Status::Unknown => write!(text, "unknown")?,
+        Status::Pending(missing) => write!(text, "misses {missing}")?,
+        Status::Done => write!(text, "done")?,
+    }
+    Ok(())
+}
+
+fn write_answer(text: &mut String, answer: &MasterAnswer) -> Result<(), Fail> {
+    match answer {
+        MasterAnswer::Issue(number) => write!(text, "issued {number}")?,
+        MasterAnswer::Acknowledge(Some(number)) => write!(text, "done {number}")?,
+        MasterAnswer::Acknowledge(None) => write!(text, "none done")?,
+        MasterAnswer::Due(pairs) => write_due(text, pairs.as_slice())?,
+        MasterAnswer::Status(status) => write_status(text, status)?,
+    }
+    Ok(())
+}
+
 /// What a call is answered, in words.
 fn show(rt: &HostRuntime, answer: &Result<MasterAnswer, MasterFault>) -> Result<String, Fail> {
     let mut text = String::new(rt.alloc());
     match answer {
-        Ok(MasterAnswer::Issue(number)) => write!(text, "issued {number}")?,
-        Ok(MasterAnswer::Acknowledge(Some(number))) => write!(text, "done {number}")?,
-        Ok(MasterAnswer::Acknowledge(None)) => write!(text, "none done")?,
-        Ok(MasterAnswer::Due(pairs)) => {
-            write!(text, "due")?;
-            for (number, id) in pairs.as_slice() {
-                write!(text, " {number}:{id}")?;
-            }
-        }
-        Ok(MasterAnswer::Status(Status::Unknown)) => write!(text, "unknown")?,
-        Ok(MasterAnswer::Status(Status::Pending(missing))) => write!(text, "misses {missing}")?,
-        Ok(MasterAnswer::Status(Status::Done)) => write!(text, "done")?,
-        Err(fault) => write!(text, "{}", fault.name())?,
+        Ok(answer) => write_answer(&mut text, answer)?,
+        Err(fault) => text.push_str(fault.name())?,
     }
     Ok(text)
 }
 
-/// Makes the calls of a table, from place 1 on, and tells the rows whose answer, or whose entry in the book, is another.
-fn wrong_rows<S: PurgeStore>(
+/// Fails with the place and these words where something does not hold.
+fn want_at(holds: bool, place: u64, words: &str) -> Result<(), Fail> {
+    if holds {
+        Ok(())
+    } else {
+        Err(Fail::new(format_args!("{place}: {words}")))
+    }
+}
+
+/// A call is answered as expected.
+fn check_call<S: PurgeStore>(
+    rt: &HostRuntime,
+    book: &mut MasterBook<S>,
+    place: u64,
+    call: Call,
+    expected: &str,
+) -> Result<(), Fail> {
+    let answer = book.call(place, call_of(rt, call)?);
+    let shown = show(rt, &answer)?;
+    want_at(shown.as_str() == expected, place, shown.as_str())
+}
+
+/// The last entry of the book is of this place and this answer.
+fn check_entry<S: PurgeStore>(
+    rt: &HostRuntime,
+    book: &MasterBook<S>,
+    place: u64,
+    expected: &str,
+) -> Result<(), Fail> {
+    let Some(entry) = book.entries().last() else {
+        return Err("an entry".into());
+    };
+    want_at(entry.place == place, place, "the place of its entry")?;
+    let entered = show(rt, &entry.answer)?;
+    want_at(entered.as_str() == expected, place, entered.as_str())
+}
+
+/// Each call of a table, from place 1 on, is answered and entered in the book as expected, and nothing else is entered.
+fn check<S: PurgeStore>(
     rt: &HostRuntime,
     book: &mut MasterBook<S>,
     table: &[(Call, &str)],
-) -> Result<String, Fail> {
+) -> Result<(), Fail> {
     let before = book.entries().len();
-    let mut wrong = String::new(rt.alloc());
     let mut place = 0u64;
     for (call, expected) in table {
         place = u64::saturating_add(place, 1);
-        let answer = book.call(place, call_of(rt, *call)?);
-        let shown = show(rt, &answer)?;
-        let Some(entry) = book.entries().last() else {
-            return Err("an entry".into());
-        };
-        let entered = show(rt, &entry.answer)?;
-        if shown.as_str() != *expected || entered.as_str() != *expected || entry.place != place {
-            write!(wrong, "{place}: {shown}, entered {entered} ")?;
-        }
+        check_call(rt, book, place, *call, expected)?;
+        check_entry(rt, book, place, expected)?;
     }
-    if book.entries().len() != usize::saturating_add(before, table.len()) {
-        write!(wrong, "entries")?;
-    }
-    Ok(wrong)
+    let wanted = usize::saturating_add(before, table.len());
+    want(book.entries().len() == wanted, "as many entries as calls")
 }
 
 /// The TRANS-ID of a message and the number that its header line tells.
-fn told(message: Option<Htcp>) -> Option<(u32, u32)> {
-    let message = message?;
+fn told(message: &Htcp) -> Option<(u32, u32)> {
     let Content::ClrAsk { spec, .. } = &message.content else {
         return None;
     };
-    let number = number_in(spec.request_headers.as_slice(), HeaderKind::PurgeNumber).ok()??;
-    Some((message.trans, number))
+    match number_in(spec.request_headers.as_slice(), HeaderKind::PurgeNumber) {
+        Ok(Some(number)) => Some((message.trans, number)),
+        _ => None,
+    }
+}
+
+/// The same of the message of a pending purge.
+fn sent<S: PurgeStore>(book: &MasterBook<S>, number: u32) -> Result<Option<(u32, u32)>, Fail> {
+    match book.message(number)? {
+        Some(message) => Ok(told(&message)),
+        None => Ok(None),
+    }
 }
 
 /// A purge, from its issue until both members have acknowledged it.
@@ -245,9 +303,9 @@ const TO_DONE: [(Call, &str); 20] = [
 #[test]
 fn a_purge_is_done_once_all_have_acknowledged_it(rt: HostRuntime) -> Result<(), Fail> {
     let mut held = in_memory(&rt)?;
-    assert_eq!(rt; wrong_rows(&rt, &mut held.book, &TO_DONE)?.as_str(), "");
+    check(&rt, &mut held.book, &TO_DONE)?;
     assert_eq!(rt; held.book.entries().len(), 20);
-    assert_eq!(rt; told(held.book.message(1)?), None);
+    assert_eq!(rt; sent(&held.book, 1)?, None);
     Ok(())
 }
 
@@ -269,23 +327,25 @@ const AFTER_RESTART: [(Call, &str); 5] = [
     (Call::Due, "due 3:1 3:2"),
 ];
 
-#[test]
-fn a_restart_keeps_numbers_and_marks(rt: HostRuntime) -> Result<(), Fail> {
-    let mut held = in_memory(&rt)?;
-    assert_eq!(rt;
-        wrong_rows(&rt, &mut held.book, &BEFORE_RESTART)?.as_str(),
-        ""
-    );
+/// Whether a master is closed, how far its second purge is, and the master that is opened over its store again.
+fn opened_again(
+    rt: &HostRuntime,
+    held: Held<MemoryPurges>,
+) -> Result<(bool, Status, Held<MemoryPurges>), Fail> {
     let Held { book } = held;
     let master = book.into_master();
     let (is_closed, status) = (master.is_closed(), master.status(2));
-    let mut held = open(&rt, master.into_store())?;
+    Ok((is_closed, status, open(rt, master.into_store())?))
+}
+
+#[test]
+fn a_restart_keeps_numbers_and_marks(rt: HostRuntime) -> Result<(), Fail> {
+    let mut held = in_memory(&rt)?;
+    check(&rt, &mut held.book, &BEFORE_RESTART)?;
+    let (is_closed, status, mut held) = opened_again(&rt, held)?;
     assert!(rt; !is_closed && status == Status::Pending(1));
-    assert_eq!(rt;
-        wrong_rows(&rt, &mut held.book, &AFTER_RESTART)?.as_str(),
-        ""
-    );
-    assert_eq!(rt; told(held.book.message(3)?), Some((3, 3)));
+    check(&rt, &mut held.book, &AFTER_RESTART)?;
+    assert_eq!(rt; sent(&held.book, 3)?, Some((3, 3)));
     Ok(())
 }
 
@@ -300,15 +360,18 @@ const LAST_NUMBER: [(Call, &str); 7] = [
     (Call::Status(4294967295), "done"),
 ];
 
+/// Purges of which the greatest number is pending.
+fn spent(rt: &HostRuntime) -> Result<MemoryPurges, Fail> {
+    let key = key_of(rt, "http://o/a")?;
+    let mut store = MemoryPurges::new(rt.alloc());
+    store.add(rt.alloc(), 4294967295, &key)?;
+    Ok(store)
+}
+
 #[test]
 fn no_number_follows_the_last(rt: HostRuntime) -> Result<(), Fail> {
-    let key = key_of(&rt, "http://o/a")?;
-    let mut store = MemoryPurges::new(rt.alloc());
-    let added = store.add(rt.alloc(), 4294967295, &key);
-    let mut held = open(&rt, store)?;
-    assert_eq!(rt; added, Ok(()));
-    assert_eq!(rt; wrong_rows(&rt, &mut held.book, &LAST_NUMBER)?.as_str(), "");
-    Ok(())
+    let mut held = open(&rt, spent(&rt)?)?;
+    check(&rt, &mut held.book, &LAST_NUMBER)
 }
 
 /// Calls where 1,024 purges are pending.
@@ -322,15 +385,21 @@ const FULL: [(Call, &str); 7] = [
     (Call::Status(1025), "misses 2"),
 ];
 
+/// Issues 1,024 purges, each of which is answered.
+fn issue_1024<S: PurgeStore>(rt: &HostRuntime, book: &mut MasterBook<S>) -> Result<(), Fail> {
+    for _ in 0..1024 {
+        let call = call_of(rt, Call::Issue("http://o/a"))?;
+        let is_ok = book.call(0, call).is_ok();
+        want(is_ok, "a purge")?;
+    }
+    Ok(())
+}
+
 #[test]
 fn at_most_1024_are_pending(rt: HostRuntime) -> Result<(), Fail> {
     let mut held = in_memory(&rt)?;
-    for _ in 0..1024 {
-        let call = call_of(&rt, Call::Issue("http://o/a"))?;
-        assert!(rt; held.book.call(0, call).is_ok());
-    }
-    assert_eq!(rt; wrong_rows(&rt, &mut held.book, &FULL)?.as_str(), "");
-    Ok(())
+    issue_1024(&rt, &mut held.book)?;
+    check(&rt, &mut held.book, &FULL)
 }
 
 /// Calls over a store that fails at its first write.
@@ -342,18 +411,20 @@ const FAILS_AT_ONCE: [(Call, &str); 5] = [
     (Call::Status(1), "unknown"),
 ];
 
-#[test]
-fn a_fault_of_the_store_closes(rt: HostRuntime) -> Result<(), Fail> {
-    let mut held = failing(&rt, 0)?;
-    assert_eq!(rt;
-        wrong_rows(&rt, &mut held.book, &FAILS_AT_ONCE)?.as_str(),
-        ""
-    );
-    assert_eq!(rt; told(held.book.message(1)?), None);
+/// Whether a master is closed, and how many calls of its store have failed.
+fn ended(held: Held<FailingPurges>) -> (bool, u64) {
     let Held { book } = held;
     let master = book.into_master();
     let is_closed = master.is_closed();
-    assert_eq!(rt; (is_closed, master.into_store().failures()), (true, 1));
+    (is_closed, master.into_store().failures())
+}
+
+#[test]
+fn a_fault_of_the_store_closes(rt: HostRuntime) -> Result<(), Fail> {
+    let mut held = failing(&rt, 0)?;
+    check(&rt, &mut held.book, &FAILS_AT_ONCE)?;
+    assert_eq!(rt; sent(&held.book, 1)?, None);
+    assert_eq!(rt; ended(held), (true, 1));
     Ok(())
 }
 
@@ -370,32 +441,43 @@ const FAILS_LATER: [(Call, &str); 6] = [
 #[test]
 fn a_later_fault_of_the_store_closes(rt: HostRuntime) -> Result<(), Fail> {
     let mut held = failing(&rt, 2)?;
-    assert_eq!(rt; wrong_rows(&rt, &mut held.book, &FAILS_LATER)?.as_str(), "");
-    assert_eq!(rt; told(held.book.message(1)?), Some((1, 1)));
+    check(&rt, &mut held.book, &FAILS_LATER)?;
+    assert_eq!(rt; sent(&held.book, 1)?, Some((1, 1)));
     Ok(())
 }
 
-/// A purge in a new book.
-const FIRST: [(Call, &str); 1] = [(Call::Issue("http://o/a"), "issued 1")];
+/// Makes 4,095 calls more, each of which is answered.
+fn fill<S: PurgeStore>(book: &mut MasterBook<S>) -> Result<(), Fail> {
+    for _ in 0..4095 {
+        let is_ok = book.call(0, MasterCall::Status(1)).is_ok();
+        want(is_ok, "a status")?;
+    }
+    Ok(())
+}
 
-/// A purge after the entries were taken.
-const NEXT: [(Call, &str); 1] = [(Call::Issue("http://o/b"), "issued 2")];
+/// Calls of a full book, each of them refused; the purge of before has its message.
+fn check_full<S: PurgeStore>(rt: &HostRuntime, book: &mut MasterBook<S>) -> Result<(), Fail> {
+    check_call(rt, book, 9, Call::Issue("http://o/a"), "ShiftFull")?;
+    check_call(rt, book, 9, Call::Status(1), "ShiftFull")?;
+    want(book.entries().len() == 4096, "4,096 entries")?;
+    want(sent(book, 1)? == Some((1, 1)), "the message of a purge")
+}
 
 #[test]
 fn a_book_of_4096_entries_is_full(rt: HostRuntime) -> Result<(), Fail> {
     let mut held = in_memory(&rt)?;
-    assert_eq!(rt; wrong_rows(&rt, &mut held.book, &FIRST)?.as_str(), "");
-    for _ in 0..4095 {
-        assert!(rt; held.book.call(0, MasterCall::Status(1)).is_ok());
-    }
-    for call in [Call::Issue("http://o/a"), Call::Status(1)] {
-        let refused = held.book.call(9, call_of(&rt, call)?);
-        assert!(rt; show(&rt, &refused)?.as_str() == "ShiftFull");
-    }
-    assert_eq!(rt; held.book.entries().len(), 4096);
-    assert_eq!(rt; told(held.book.message(1)?), Some((1, 1)));
-    assert_eq!(rt; held.book.take_entries().len(), 4096);
-    assert_eq!(rt; held.book.entries().len(), 0);
-    assert_eq!(rt; wrong_rows(&rt, &mut held.book, &NEXT)?.as_str(), "");
-    Ok(())
+    check(
+        &rt,
+        &mut held.book,
+        &[(Call::Issue("http://o/a"), "issued 1")],
+    )?;
+    fill(&mut held.book)?;
+    check_full(&rt, &mut held.book)?;
+    let taken = held.book.take_entries().len();
+    assert_eq!(rt; (taken, held.book.entries().len()), (4096, 0));
+    check(
+        &rt,
+        &mut held.book,
+        &[(Call::Issue("http://o/b"), "issued 2")],
+    )
 }

@@ -27,11 +27,6 @@ fn in_memory(alloc: Global) -> Result<Held, Fail> {
     opened_over(alloc, Connection::open_in_memory(alloc)?)
 }
 
-fn again(alloc: Global, held: Held) -> Result<Held, Fail> {
-    let Held { store } = held;
-    opened_over(alloc, store.into_connection())
-}
-
 #[test]
 fn a_blank_file_has_no_purges(rt: HostRuntime) -> Result<(), Fail> {
     let mut held = in_memory(rt.alloc())?;
@@ -40,56 +35,98 @@ fn a_blank_file_has_no_purges(rt: HostRuntime) -> Result<(), Fail> {
     Ok(())
 }
 
+/// A call that is answered Ok.
+#[derive(Clone, Copy)]
+enum Call {
+    /// A purge is added under this number, of this URL.
+    Add(u32, &'static str),
+    /// The purge of this number is marked by this member.
+    Mark(u32, u8),
+    /// The purge of this number is finished.
+    Finish(u32),
+}
+
+fn make<P: PurgeStore>(store: &mut P, alloc: Global, call: Call) -> Result<(), Fail> {
+    match call {
+        Call::Add(number, url) => want(add(store, alloc, number, url)? == Ok(()), "added"),
+        Call::Mark(number, member) => want(mark(store, alloc, number, member)? == Ok(()), "marked"),
+        Call::Finish(number) => want(store.finish(alloc, number) == Ok(()), "finished"),
+    }
+}
+
+fn make_all<P: PurgeStore>(store: &mut P, alloc: Global, calls: &[Call]) -> Result<(), Fail> {
+    for call in calls {
+        make(store, alloc, *call)?;
+    }
+    Ok(())
+}
+
+/// A store that is opened again after these calls.
+fn again(alloc: Global, held: Held, calls: &[Call]) -> Result<Held, Fail> {
+    let mut held = held;
+    make_all(&mut held.store, alloc, calls)?;
+    let Held { store } = held;
+    opened_over(alloc, store.into_connection())
+}
+
 #[test]
 fn opened_again_a_file_has_its_purges(rt: HostRuntime) -> Result<(), Fail> {
     let alloc = rt.alloc();
-    let mut held = in_memory(alloc)?;
-    assert_eq!(rt; add(&mut held.store, alloc, 1, "http://a/")?, Ok(()));
-    assert_eq!(rt; mark(&mut held.store, alloc, 1, 1)?, Ok(()));
-    let mut held = again(alloc, held)?;
+    let calls = [Call::Add(1, "http://a/"), Call::Mark(1, 1)];
+    let mut held = again(alloc, in_memory(alloc)?, &calls)?;
     assert_eq!(rt; counts(&mut held.store, alloc)?, (1, 1));
     assert!(rt; is_marked(&mut held.store, alloc, 1, "http://a/", 1, 2)?);
-    assert_eq!(rt; held.store.finish(alloc, 1), Ok(()));
-    let mut held = again(alloc, held)?;
+    let mut held = again(alloc, held, &[Call::Finish(1)])?;
     assert_eq!(rt; counts(&mut held.store, alloc)?, (1, 0));
     Ok(())
 }
 
 /// Three purges of two URLs, marked across one another, the second of them finished.
-fn three_purges(alloc: Global) -> Result<Held, Fail> {
-    let mut held = in_memory(alloc)?;
-    for (number, url) in [(1, "http://a/"), (2, "http://b/"), (7, "http://a/")] {
-        want(add(&mut held.store, alloc, number, url)? == Ok(()), "added")?;
+const THREE_PURGES: [Call; 9] = [
+    Call::Add(1, "http://a/"),
+    Call::Add(2, "http://b/"),
+    Call::Add(7, "http://a/"),
+    Call::Mark(2, 16),
+    Call::Mark(7, 3),
+    Call::Mark(1, 16),
+    Call::Mark(2, 3),
+    Call::Mark(7, 16),
+    Call::Finish(2),
+];
+
+/// Whether a purge is marked by the first member and not by the second.
+const MARKS: [(u32, &str, u8, u8, bool); 4] = [
+    (1, "http://a/", 16, 3, true),
+    (7, "http://a/", 3, 2, true),
+    (7, "http://a/", 16, 1, true),
+    (2, "http://b/", 16, 1, false),
+];
+
+/// The first number and member of which that is not so.
+fn wrong_mark<P: PurgeStore>(store: &mut P, alloc: Global) -> Result<Option<(u32, u8)>, Fail> {
+    for (number, url, by, not_by, expected) in MARKS {
+        if is_marked(store, alloc, number, url, by, not_by)? != expected {
+            return Ok(Some((number, by)));
+        }
     }
-    for (number, member) in [(2, 16), (7, 3), (1, 16), (2, 3), (7, 16)] {
-        want(
-            mark(&mut held.store, alloc, number, member)? == Ok(()),
-            "marked",
-        )?;
-    }
-    want(held.store.finish(alloc, 2) == Ok(()), "finished")?;
-    Ok(held)
+    Ok(None)
 }
 
 #[test]
 fn purges_beside_one_another(rt: HostRuntime) -> Result<(), Fail> {
     let alloc = rt.alloc();
-    let mut held = again(alloc, three_purges(alloc)?)?;
+    let mut held = again(alloc, in_memory(alloc)?, &THREE_PURGES)?;
     assert_eq!(rt; counts(&mut held.store, alloc)?, (7, 2));
-    assert!(rt; is_marked(&mut held.store, alloc, 1, "http://a/", 16, 3)?);
-    assert!(rt; is_marked(&mut held.store, alloc, 7, "http://a/", 3, 2)?);
-    assert!(rt; is_marked(&mut held.store, alloc, 7, "http://a/", 16, 1)?);
-    assert!(rt; !is_marked(&mut held.store, alloc, 2, "http://b/", 16, 1)?);
+    assert_eq!(rt; wrong_mark(&mut held.store, alloc)?, None);
     Ok(())
 }
 
 #[test]
 fn a_purge_that_is_not_there_is_finished(rt: HostRuntime) -> Result<(), Fail> {
     let alloc = rt.alloc();
-    let mut held = three_purges(alloc)?;
-    assert_eq!(rt; held.store.finish(alloc, 2), Ok(()));
-    assert_eq!(rt; held.store.finish(alloc, 8), Ok(()));
-    let mut held = again(alloc, held)?;
+    let mut held = in_memory(alloc)?;
+    make_all(&mut held.store, alloc, &THREE_PURGES)?;
+    let mut held = again(alloc, held, &[Call::Finish(2), Call::Finish(8)])?;
     assert_eq!(rt; counts(&mut held.store, alloc)?, (7, 2));
     assert_eq!(rt; held.store.failures(), 0);
     Ok(())
@@ -240,6 +277,9 @@ const TABLES: [&[&str]; 10] = [
     ],
 ];
 
+/// What an open of a file answers: the last number and how many purges are pending, or why it is refused.
+type Opened = Result<(u32, usize), PurgeFault>;
+
 fn run(conn: &mut Connection<MemStore>, statements: &[&str]) -> Result<(), Fail> {
     for statement in statements {
         conn.execute_batch(statement)?;
@@ -247,12 +287,17 @@ fn run(conn: &mut Connection<MemStore>, statements: &[&str]) -> Result<(), Fail>
     Ok(())
 }
 
-/// Opens a file, and answers the last number and how many purges are pending.
-fn opened(
-    alloc: Global,
-    conn: Connection<MemStore>,
-) -> Result<Result<(u32, usize), PurgeFault>, Fail> {
-    match SqlitePurges::open(alloc, conn) {
+/// A file that these statements made, and then those.
+fn made(alloc: Global, first: &[&str], then: &[&str]) -> Result<Connection<MemStore>, Fail> {
+    let mut conn = Connection::open_in_memory(alloc)?;
+    run(&mut conn, first)?;
+    run(&mut conn, then)?;
+    Ok(conn)
+}
+
+/// Opens such a file.
+fn opened_after(alloc: Global, first: &[&str], then: &[&str]) -> Result<Opened, Fail> {
+    match SqlitePurges::open(alloc, made(alloc, first, then)?) {
         Ok(mut store) => Ok(Ok(counts(&mut store, alloc)?)),
         Err((_, fault)) => Ok(Err(fault)),
     }
@@ -261,10 +306,9 @@ fn opened(
 #[test]
 fn rows_and_how_a_file_with_them_opens(rt: HostRuntime) -> Result<(), Fail> {
     for (statements, wanted) in ROWS {
-        let mut conn = Connection::open_in_memory(rt.alloc())?;
-        run(&mut conn, &[FORM, LAST, PENDING, ACKS, VERSION, NINE])?;
-        run(&mut conn, statements)?;
-        assert_eq!(rt; opened(rt.alloc(), conn)?, wanted);
+        let first = [FORM, LAST, PENDING, ACKS, VERSION, NINE];
+        let answer = opened_after(rt.alloc(), &first, statements)?;
+        assert_eq!(rt; answer, wanted, "{statements:?}");
     }
     Ok(())
 }
@@ -272,36 +316,29 @@ fn rows_and_how_a_file_with_them_opens(rt: HostRuntime) -> Result<(), Fail> {
 #[test]
 fn other_tables_are_refused(rt: HostRuntime) -> Result<(), Fail> {
     for statements in TABLES {
-        let mut conn = Connection::open_in_memory(rt.alloc())?;
-        run(&mut conn, statements)?;
-        assert_eq!(rt; opened(rt.alloc(), conn)?, Err(PurgeFault::BadTable));
+        let answer = opened_after(rt.alloc(), statements, &[])?;
+        assert_eq!(rt; answer, Err(PurgeFault::BadTable), "{statements:?}");
     }
     Ok(())
 }
 
-/// So many purges, with the numbers from 1 on.
-fn many(alloc: Global, statement: &str) -> Result<Result<(u32, usize), PurgeFault>, Fail> {
-    let mut conn = Connection::open_in_memory(alloc)?;
-    run(&mut conn, &[FORM, LAST, PENDING, ACKS, VERSION])?;
-    run(&mut conn, &["INSERT INTO last VALUES (1, 2000)", statement])?;
-    opened(alloc, conn)
-}
+/// A master's file with the last number 2,000 and 1,024 purges, with the numbers from 1 on.
+const MOST: [&str; 7] = [
+    FORM,
+    LAST,
+    PENDING,
+    ACKS,
+    VERSION,
+    "INSERT INTO last VALUES (1, 2000)",
+    "INSERT INTO pending WITH RECURSIVE n(i) AS (SELECT 1 UNION ALL SELECT i + 1 FROM n WHERE i < 1024) SELECT i, 'http://o/' || i FROM n",
+];
 
 #[test]
 fn at_most_1024_purges_are_read(rt: HostRuntime) -> Result<(), Fail> {
-    assert_eq!(rt;
-        many(
-            rt.alloc(),
-            "INSERT INTO pending WITH RECURSIVE n(i) AS (SELECT 1 UNION ALL SELECT i + 1 FROM n WHERE i < 1024) SELECT i, 'http://o/' || i FROM n"
-        )?,
-        Ok((2000, 1024))
-    );
-    assert_eq!(rt;
-        many(
-            rt.alloc(),
-            "INSERT INTO pending WITH RECURSIVE n(i) AS (SELECT 1 UNION ALL SELECT i + 1 FROM n WHERE i < 1025) SELECT i, 'http://o/' || i FROM n"
-        )?,
-        Err(PurgeFault::BadTable)
-    );
+    let most = opened_after(rt.alloc(), &MOST, &[])?;
+    assert_eq!(rt; most, Ok((2000, 1024)));
+    let one_more = ["INSERT INTO pending VALUES (1025, 'http://o/1025')"];
+    let more = opened_after(rt.alloc(), &MOST, &one_more)?;
+    assert_eq!(rt; more, Err(PurgeFault::BadTable));
     Ok(())
 }

@@ -1,6 +1,8 @@
-use roster::{Address, Role, Roster, RosterError, RosterFault, Udp};
-use std::fmt::Write;
-use std::test::Fail;
+use crate::first_wrong;
+use roster::{Address, Peer, Role, Roster, RosterFault, Udp};
+use std::alloc::Global;
+use std::fmt::{self, Write};
+use std::process::Abort;
 
 /// A roster of one node and one origin.
 const ONE: &str = "default_lifetime = 60
@@ -111,61 +113,100 @@ fn local(port: u16) -> Address {
     }
 }
 
-#[test]
-fn one_is_read(rt: HostRuntime) -> Result<(), Fail> {
-    let roster = Roster::read(rt.alloc(), ONE)?;
-    assert_eq!(rt; roster.members().len(), 1);
-    assert_eq!(rt; roster.foreign().len(), 0);
-    assert_eq!(rt; roster.master(), local(4800));
-    assert_eq!(rt; roster.limits().default_lifetime, 60);
-    assert_eq!(rt; roster.limits().copies, 1000);
-    assert_eq!(rt; roster.limits().bytes, 1048576);
-    assert_eq!(rt; roster.limits().query_wait, 2000);
-    assert_eq!(rt; roster.origin(b"o", 80), Some(local(8080)));
-    assert_eq!(rt; roster.origin(b"o", 81), None);
-    assert_eq!(rt; roster.origin(b"p", 80), None);
-    Ok(())
+/// The roster of a text that has one.
+fn read(rt: &(impl Abort + AllocGlobal), text: &str) -> Roster {
+    Roster::read(rt.alloc(), text).expect(rt, "a roster")
+}
+
+/// What is wrong with a roster that the first text gave.
+fn flaw_of_one(roster: &Roster) -> Option<&'static str> {
+    let limits = roster.limits();
+    first_wrong(&[
+        ("one member", roster.members().len() == 1),
+        ("no foreign cache", roster.foreign().len() == 0),
+        ("the master", roster.master() == local(4800)),
+        ("the lifetime", limits.default_lifetime == 60),
+        ("the copies", limits.copies == 1000),
+        ("the octets", limits.bytes == 1048576),
+        ("the wait", limits.query_wait == 2000),
+        ("the origin", roster.origin(b"o", 80) == Some(local(8080))),
+        ("another port", roster.origin(b"o", 81) == None),
+        ("another host", roster.origin(b"p", 80) == None),
+    ])
 }
 
 #[test]
-fn two_are_siblings(rt: HostRuntime) -> Result<(), Fail> {
-    let roster = Roster::read(rt.alloc(), TWO)?;
-    assert_eq!(rt; roster.member_at(local(3102), Udp::Icp), Some(2));
-    assert_eq!(rt; roster.member_at(local(4102), Udp::Htcp), Some(2));
-    assert_eq!(rt; roster.member_at(local(4102), Udp::Icp), None);
-    assert!(rt; roster.names_sibling(1, 2), "node 1 names node 2 a sibling");
-    assert!(rt; !roster.names_sibling(2, 2), "node 2 does not name itself");
-    assert!(rt; !roster.names_sibling(3, 1), "there is no node 3");
-    let members = roster.members();
-    assert_eq!(rt; members.len(), 2);
-    assert_eq!(rt; members[1].cache.name.as_slice(), b"n2".as_slice());
-    Ok(())
+fn one_is_read(rt: HostRuntime) {
+    let roster = read(&rt, ONE);
+    assert_eq!(rt; flaw_of_one(&roster), None);
+}
+
+/// What is wrong with a roster that the second text gave.
+fn flaw_of_two(roster: &Roster) -> Option<&'static str> {
+    let second = match roster.members() {
+        [_, second] => second.cache.name.as_slice(),
+        _ => b"".as_slice(),
+    };
+    first_wrong(&[
+        ("the second of two", second == b"n2".as_slice()),
+        ("by ICP", roster.member_at(local(3102), Udp::Icp) == Some(2)),
+        (
+            "by HTCP",
+            roster.member_at(local(4102), Udp::Htcp) == Some(2),
+        ),
+        (
+            "by ICP at HTCP",
+            roster.member_at(local(4102), Udp::Icp) == None,
+        ),
+        ("node 1 names node 2 a sibling", roster.names_sibling(1, 2)),
+        ("node 2 does not name itself", !roster.names_sibling(2, 2)),
+        ("there is no node 3", !roster.names_sibling(3, 1)),
+    ])
 }
 
 #[test]
-fn peers_are_told(rt: HostRuntime) -> Result<(), Fail> {
-    let roster = Roster::read(rt.alloc(), TWO)?.copy(rt.alloc())?;
-    assert_eq!(rt; roster.members().len(), 2);
-    for member in roster.members() {
-        if member.cache.id == 1 {
-            let peers = member.peers.as_slice();
-            assert_eq!(rt; peers.len(), 1);
-            assert_eq!(rt; peers[0].id, 2);
-            assert_eq!(rt; peers[0].role, Role::Sibling);
-            assert!(rt; peers[0].role.is_sibling(), "it is a sibling");
-            assert!(rt; !peers[0].role.is_parent(), "it is no parent");
-            assert_eq!(rt; peers[0].by, Udp::Icp);
-        }
+fn two_are_siblings(rt: HostRuntime) {
+    let roster = read(&rt, TWO);
+    assert_eq!(rt; flaw_of_two(&roster), None);
+}
+
+/// The peers of the first of two members, which is node 1.
+fn first_peers(roster: &Roster) -> &[Peer] {
+    match roster.members() {
+        [first, _] if first.cache.id == 1 => first.peers.as_slice(),
+        _ => &[],
     }
-    Ok(())
+}
+
+/// What is wrong with a peer that is node 2, a sibling that is asked by ICP.
+fn flaw_of_peer(peer: &Peer) -> Option<&'static str> {
+    first_wrong(&[
+        ("its id", peer.id == 2),
+        ("its role", peer.role == Role::Sibling),
+        ("it is a sibling", peer.role.is_sibling()),
+        ("it is no parent", !peer.role.is_parent()),
+        ("its protocol", peer.by == Udp::Icp),
+    ])
+}
+
+#[test]
+fn peers_are_told(rt: HostRuntime) {
+    let roster = read(&rt, TWO).copy(rt.alloc()).expect(&rt, "memory");
+    let flaw = match first_peers(&roster) {
+        [peer] => flaw_of_peer(peer),
+        _ => Some("one peer"),
+    };
+    assert_eq!(rt; flaw, None);
 }
 
 /// What reading a text answers: a fault, or nothing.
-fn fault_of(rt: &HostRuntime, text: &str) -> Option<RosterFault> {
-    match Roster::read(rt.alloc(), text) {
-        Ok(_) => None,
-        Err(RosterError { fault, place: _ }) => Some(fault),
-    }
+fn fault_of(alloc: Global, text: &str) -> Option<RosterFault> {
+    Some(Roster::read(alloc, text).err()?.fault)
+}
+
+/// The second roster with a text in the place of another.
+fn changed(rt: &(impl Abort + AllocGlobal), old: &str, new: &str) -> String {
+    TWO.replace(rt.alloc(), old, new).expect(rt, "memory")
 }
 
 /// The second roster with a text in the place of another, and the fault of what comes of it.
@@ -289,22 +330,20 @@ const CHANGES: [(&str, &str, RosterFault); 56] = [
 ];
 
 #[test]
-fn changes_and_their_faults(rt: HostRuntime) -> Result<(), Fail> {
+fn changes_and_their_faults(rt: HostRuntime) {
     for (index, (old, new, fault)) in CHANGES.iter().enumerate() {
-        let text = TWO.replace(rt.alloc(), *old, *new)?;
-        let found = fault_of(&rt, text.as_str());
+        let found = fault_of(rt.alloc(), &changed(&rt, old, new));
         assert!(rt; found == Some(*fault), "change {index}: {found:?}");
     }
-    Ok(())
 }
 
 /// A text, with another behind it so many times.
-fn repeated(rt: &HostRuntime, text: &str, more: &str, count: usize) -> Result<String, Fail> {
-    let mut all = String::from_str(rt.alloc(), text)?;
+fn repeated(rt: &(impl Abort + AllocGlobal), text: &str, more: &str, count: usize) -> String {
+    let mut all = String::from_str(rt.alloc(), text).expect(rt, "memory");
     for _ in 0..count {
-        all.push_str(more)?;
+        all.push_str(more).expect(rt, "memory");
     }
-    Ok(all)
+    all
 }
 
 /// A text, a text that stands behind it so many times, and the fault of the whole.
@@ -339,70 +378,73 @@ const REPEATS: [(&str, &str, usize, RosterFault); 12] = [
 ];
 
 #[test]
-fn repeats_and_their_faults(rt: HostRuntime) -> Result<(), Fail> {
+fn repeats_and_their_faults(rt: HostRuntime) {
     for (index, (text, more, count, fault)) in REPEATS.iter().enumerate() {
-        let all = repeated(&rt, *text, *more, *count)?;
-        let found = fault_of(&rt, all.as_str());
+        let found = fault_of(rt.alloc(), &repeated(&rt, text, more, *count));
         assert!(rt; found == Some(*fault), "repeat {index}: {found:?}");
     }
-    Ok(())
 }
 
 /// A roster with so many origins, each of a host of its own.
-fn with_origins(rt: &HostRuntime, count: u32) -> Result<String, Fail> {
-    let mut all = String::from_str(rt.alloc(), TWO)?;
+fn with_origins(rt: &(impl Abort + AllocGlobal), count: u32) -> String {
+    let mut all = String::from_str(rt.alloc(), TWO).expect(rt, "memory");
     for number in 1..count {
-        let origin = format!(in rt.alloc();
+        write!(
+            all,
             "[[origin]]\nhost = \"o{number}\"\nport = 80\naddress = \"127.0.0.1\"\nconnect = 8080\n"
-        )?;
-        all.push_str(origin.as_str())?;
+        )
+        .expect(rt, "memory");
     }
-    Ok(all)
+    all
 }
 
 #[test]
-fn there_are_256_origins_at_most(rt: HostRuntime) -> Result<(), Fail> {
+fn there_are_256_origins_at_most(rt: HostRuntime) {
     for (count, fault) in [(256, None), (257, Some(RosterFault::TooMany))] {
-        let all = with_origins(&rt, count)?;
-        assert_eq!(rt; fault_of(&rt, all.as_str()), fault, "{count} origins");
+        let found = fault_of(rt.alloc(), &with_origins(&rt, count));
+        assert!(rt; found == fault, "{count} origins: {found:?}");
     }
-    Ok(())
+}
+
+/// Three nodes, of which the first has the third for its parent, and the second the first.
+fn three(rt: &(impl Abort + AllocGlobal)) -> String {
+    let turned = changed(rt, "id = 1\nrole", "id = 3\nrole");
+    let parents = turned.replace(rt.alloc(), "sibling", "parent");
+    repeated(rt, &parents.expect(rt, "memory"), THREE, 1)
 }
 
 #[test]
-fn three_parents_in_a_circle(rt: HostRuntime) -> Result<(), Fail> {
-    let turned = TWO.replace(rt.alloc(), "id = 1\nrole", "id = 3\nrole")?;
-    let parents = turned.replace(rt.alloc(), "sibling", "parent")?;
-    let open = repeated(&rt, parents.as_str(), THREE, 1)?;
-    assert_eq!(rt; fault_of(&rt, open.as_str()), None);
-    let closed = repeated(&rt, open.as_str(), PEER, 1)?;
-    assert_eq!(rt;
-        fault_of(&rt, closed.as_str()),
-        Some(RosterFault::ParentLoop)
-    );
-    Ok(())
+fn three_parents_in_a_circle(rt: HostRuntime) {
+    let open = three(&rt);
+    assert_eq!(rt; fault_of(rt.alloc(), &open), None, "node 3 has no parent");
+    let found = fault_of(rt.alloc(), &repeated(&rt, &open, PEER, 1));
+    assert_eq!(rt; found, Some(RosterFault::ParentLoop));
+}
+
+/// What is wrong with a roster of one node and the foreign cache.
+fn flaw_of_foreign(roster: &Roster) -> Option<&'static str> {
+    let icp = Address {
+        ip: 0x7f000002,
+        port: 3101,
+    };
+    let is_read = match roster.foreign() {
+        [cache] => cache.id == 101 && cache.icp == icp,
+        _ => false,
+    };
+    first_wrong(&[
+        ("the cache", is_read),
+        ("it is no member", roster.member_at(icp, Udp::Icp) == None),
+    ])
 }
 
 #[test]
-fn foreign_caches_are_read(rt: HostRuntime) -> Result<(), Fail> {
-    let text = repeated(&rt, ONE, FOREIGN, 1)?;
-    let roster = Roster::read(rt.alloc(), text.as_str())?;
-    let foreign = roster.foreign();
-    assert_eq!(rt; foreign.len(), 1);
-    assert_eq!(rt; foreign[0].id, 101);
-    assert_eq!(rt;
-        foreign[0].icp,
-        Address {
-            ip: 0x7f000002,
-            port: 3101
-        }
-    );
-    assert_eq!(rt; roster.member_at(foreign[0].icp, Udp::Icp), None);
-    Ok(())
+fn foreign_caches_are_read(rt: HostRuntime) {
+    let roster = read(&rt, &repeated(&rt, ONE, FOREIGN, 1));
+    assert_eq!(rt; flaw_of_foreign(&roster), None);
 }
 
 /// Writes a member with 23 peers: 15 other members and 8 foreign caches.
-fn push_member(text: &mut String, id: u32) -> Result<(), Fail> {
+fn push_member(text: &mut String, id: u32) -> fmt::Result {
     write!(
         text,
         "[[node]]\nid = {id}\nname = \"n{id}\"\naddress = \"10.0.0.{id}\"\nhttp = 80\nicp = 1\nhtcp = 2\n"
@@ -424,15 +466,14 @@ fn push_member(text: &mut String, id: u32) -> Result<(), Fail> {
     Ok(())
 }
 
-#[test]
-fn the_largest_is_read(rt: HostRuntime) -> Result<(), Fail> {
-    let mut text = String::new(rt.alloc());
-    text.push_str(
+/// Writes the roster with the most members, foreign caches and origins, and the greatest limits.
+fn push_largest(text: &mut String) -> fmt::Result {
+    text.write_str(
         "default_lifetime = 0\ncopies = 65536\nbytes = 1073741824\nquery_wait = 60000\n",
     )?;
-    text.push_str("[master]\naddress = \"255.255.255.255\"\nhtcp = 65535\n")?;
+    text.write_str("[master]\naddress = \"255.255.255.255\"\nhtcp = 65535\n")?;
     for id in 1..17 {
-        push_member(&mut text, id)?;
+        push_member(text, id)?;
     }
     for id in 101..109 {
         write!(
@@ -446,14 +487,20 @@ fn the_largest_is_read(rt: HostRuntime) -> Result<(), Fail> {
             "[[origin]]\nhost = \"o\"\nport = {port}\naddress = \"10.0.2.1\"\nconnect = 80\n"
         )?;
     }
-    let roster = Roster::read(rt.alloc(), text.as_str())?;
-    assert_eq!(rt; roster.members().len(), 16);
-    assert_eq!(rt; roster.foreign().len(), 8);
-    assert!(rt;
-        roster.origin(b"o", 256).is_some(),
-        "the last origin is there"
-    );
     Ok(())
+}
+
+#[test]
+fn the_largest_is_read(rt: HostRuntime) {
+    let mut text = String::new(rt.alloc());
+    push_largest(&mut text).expect(&rt, "memory");
+    let roster = read(&rt, &text);
+    let flaw = first_wrong(&[
+        ("16 members", roster.members().len() == 16),
+        ("8 foreign caches", roster.foreign().len() == 8),
+        ("the last origin", roster.origin(b"o", 256).is_some()),
+    ]);
+    assert_eq!(rt; flaw, None);
 }
 
 /// A change of the second roster, and the sentence of its fault.
@@ -485,17 +532,22 @@ const SENTENCES: [(&str, &str, &str); 5] = [
     ),
 ];
 
-#[test]
-fn faults_are_sentences(rt: HostRuntime) -> Result<(), Fail> {
-    for (index, (old, new, sentence)) in SENTENCES.iter().enumerate() {
-        let text = TWO.replace(rt.alloc(), *old, *new)?;
-        let shown = match Roster::read(rt.alloc(), text.as_str()) {
-            Ok(_) => String::from_str(rt.alloc(), "a roster")?,
-            Err(error) => format!(in rt.alloc(); "{error}")?,
-        };
-        assert!(rt; shown.as_str() == *sentence, "sentence {index}: {shown}");
+/// Whether the sentence of a text's fault is this.
+fn has_sentence(alloc: Global, text: &str, sentence: &str) -> bool {
+    match Roster::read(alloc, text).err() {
+        Some(error) => {
+            matches!(&format!(in alloc; "{error}"), Ok(shown) if shown.as_str() == sentence)
+        }
+        None => false,
     }
-    Ok(())
+}
+
+#[test]
+fn faults_are_sentences(rt: HostRuntime) {
+    for (old, new, sentence) in &SENTENCES {
+        let holds = has_sentence(rt.alloc(), &changed(&rt, old, new), sentence);
+        assert!(rt; holds, "{sentence}");
+    }
 }
 
 /// Each fault and its name.
@@ -511,7 +563,7 @@ const NAMES: [(RosterFault, &str); 7] = [
 
 #[test]
 fn faults_have_names(rt: HostRuntime) {
-    for (fault, name) in NAMES {
-        assert!(rt; fault.name() == name, "{fault:?}");
+    for (fault, name) in &NAMES {
+        assert!(rt; fault.name() == *name, "{name}");
     }
 }

@@ -1,5 +1,6 @@
-use roster_tables::{Place, TableKind, Tables, TablesFault};
-use std::test::Fail;
+use crate::first_wrong;
+use roster_tables::{Address, Member, Origin, Place, TableKind, Tables, TablesFault};
+use std::process::Abort;
 
 /// The tables of one node and one origin.
 const ONE: &str = "default_lifetime = 60
@@ -30,61 +31,78 @@ address = \"127.0.0.1\"
 connect = 8080
 ";
 
-#[test]
-fn one_is_read(rt: HostRuntime) -> Result<(), Fail> {
-    let tables = Tables::read(rt.alloc(), ONE)?;
-    assert_eq!(rt; tables.master.ip, 0x7f000001);
-    assert_eq!(rt; tables.master.port, 4800);
-    assert_eq!(rt; tables.limits.query_wait, 2000);
+/// Whether a member is the node of the tables, with its one peer.
+fn is_node(member: &Member) -> bool {
+    let icp = Address {
+        ip: 0x0a0000ff,
+        port: 3101,
+    };
+    member.cache.icp == icp && matches!(member.peers.as_slice(), [peer] if peer.id == 108)
+}
+
+fn is_origin(origin: &Origin) -> bool {
+    origin.host.as_slice() == b"a-1.o".as_slice() && origin.connect.port == 8080
+}
+
+/// What is wrong with the tables.
+fn flaw(tables: &Tables) -> Option<&'static str> {
     let members = tables.members.as_slice();
-    assert_eq!(rt; members.len(), 1);
-    assert_eq!(rt; members[0].cache.icp.ip, 0x0a0000ff);
-    assert_eq!(rt; members[0].cache.icp.port, 3101);
-    let peers = members[0].peers.as_slice();
-    assert_eq!(rt; peers.len(), 1);
-    assert_eq!(rt; peers[0].id, 108);
-    Ok(())
+    let origins = tables.origins.as_slice();
+    first_wrong(&[
+        ("the master's address", tables.master.ip == 0x7f000001),
+        ("the master's port", tables.master.port == 4800),
+        ("the wait", tables.limits.query_wait == 2000),
+        ("the node", matches!(members, [member] if is_node(member))),
+        (
+            "the origin",
+            matches!(origins, [origin] if is_origin(origin)),
+        ),
+        ("no foreign cache", tables.foreign.as_slice().is_empty()),
+    ])
 }
 
 #[test]
-fn the_origin_is_read(rt: HostRuntime) -> Result<(), Fail> {
-    let tables = Tables::read(rt.alloc(), ONE)?;
-    let origins = tables.origins.as_slice();
-    assert_eq!(rt; origins.len(), 1);
-    assert_eq!(rt; origins[0].host.as_slice(), b"a-1.o".as_slice());
-    assert_eq!(rt; origins[0].connect.port, 8080);
-    assert_eq!(rt; tables.foreign.as_slice().len(), 0);
-    Ok(())
+fn one_is_read(rt: HostRuntime) {
+    let tables = Tables::read(rt.alloc(), ONE).expect(&rt, "tables");
+    assert_eq!(rt; flaw(&tables), None);
 }
 
 /// The fault of the tables with a text in the place of another.
-fn changed(rt: &HostRuntime, old: &str, new: &str) -> Result<Option<TablesFault>, Fail> {
-    let text = ONE.replace(rt.alloc(), old, new)?;
-    match Tables::read(rt.alloc(), text.as_str()) {
-        Ok(_) => Ok(None),
-        Err(fault) => Ok(Some(fault)),
-    }
+fn fault_of(rt: &(impl Abort + AllocGlobal), old: &str, new: &str) -> Option<TablesFault> {
+    let text = ONE.replace(rt.alloc(), old, new).expect(rt, "memory");
+    Tables::read(rt.alloc(), &text).err()
 }
 
+/// A change of the tables, and the fault of what comes of it.
+const FAULTS: [(&str, &str, TablesFault); 2] = [
+    (
+        "\"htcp\"",
+        "\"http\"",
+        TablesFault::BadField(Place {
+            table: TableKind::Peer,
+            entry: 1,
+            peer: 1,
+            key: "by",
+            line: None,
+        }),
+    ),
+    (
+        "copies = 1000",
+        "x =",
+        TablesFault::BadToml(Place {
+            table: TableKind::Top,
+            entry: 0,
+            peer: 0,
+            key: "",
+            line: Some(2),
+        }),
+    ),
+];
+
 #[test]
-fn faults_have_places(rt: HostRuntime) -> Result<(), Fail> {
-    let mut place = Place {
-        table: TableKind::Peer,
-        entry: 1,
-        peer: 1,
-        key: "by",
-        line: None,
-    };
-    let found = changed(&rt, "\"htcp\"", "\"http\"")?;
-    assert_eq!(rt; found, Some(TablesFault::BadField(place)));
-    place = Place {
-        table: TableKind::Top,
-        entry: 0,
-        peer: 0,
-        key: "",
-        line: Some(2),
-    };
-    let found = changed(&rt, "copies = 1000", "x =")?;
-    assert_eq!(rt; found, Some(TablesFault::BadToml(place)));
-    Ok(())
+fn faults_have_places(rt: HostRuntime) {
+    for (old, new, fault) in &FAULTS {
+        let found = fault_of(&rt, old, new);
+        assert!(rt; found == Some(*fault), "{new}: {found:?}");
+    }
 }

@@ -1,21 +1,25 @@
 //! A node whose store of floors fails.
 ghost use Rattle.std.specs.Prelude.{◌≡◌, ◌==◌};
 
-use crate::network::{PLAIN, answer_to, asking, received, socket_at, started_over, stopped};
+use crate::network::{PLAIN, is_answered_at, socket_at};
 use crate::nodes::PURGE;
-use crate::peers::with_foreign;
-use crate::stops::is_refused;
+use crate::rosters::foreign_text;
+use crate::stops::{clients_that_wait, refused};
+use crate::workers::{started_over, stopped};
 use floor_rules::{FloorFault, FloorStore, Floors};
 use mio::net::UdpSocket;
 use node_workers::NoGate;
 use std::alloc::Global;
-use std::io::ErrorKind;
-use std::net::{Net, TcpStream};
-use std::sync::{Arc, Wait};
+use std::io::{self, ErrorKind};
+use std::net::TcpStream;
+use std::sync::Arc;
 use std::test::Fail;
 use std::thread;
-use std::time::{Clock, Duration};
+use std::time::Duration;
 use url_key::Key;
+
+// (a round of it would wait for a minute)
+const WAITING: &str = foreign_text!(wait 60000, at 2252, 2253, 2254, by "icp");
 
 /// How many milliseconds a datagram that should not come is given.
 const PAUSE: u64 = 200;
@@ -61,59 +65,61 @@ impl FloorStore for FullStore {
 /// What is seen of a node that closes.
 #[derive(Clone, Copy)]
 struct Seen {
-    /// Whether the clients who wait get 503.
-    waiting: [bool; 2],
+    /// How many clients who wait get 503.
+    refused: usize,
     /// Whether a client who comes afterwards gets 503.
     later: bool,
     /// Whether nothing is acknowledged.
     is_silent: bool,
 }
 
-/// Two clients wait at a member whose peer says nothing, and the master purges the page that they wait for: the member's store fails.
-fn purged_in_vain<R: Net<Stream = TcpStream> + Wait + Clock>(
-    rt: &R,
-    alloc: Global,
-) -> Result<Seen, Fail> {
-    let peer = UdpSocket::bind(rt, socket_at(22541))?;
-    let master = UdpSocket::bind(rt, socket_at(22520))?;
-    let clients = [asking(rt, 22530, PLAIN)?, asking(rt, 22530, PLAIN)?];
+/// Whether nothing has come to a socket.
+pub(crate) fn is_silent(socket: &UdpSocket) -> bool {
     let mut buffer = [0; 2048];
-    // (a client waits before its query is sent)
-    for _client in &clients {
-        received(rt, &peer, &mut buffer)?;
-    }
-    master.send_to(PURGE, socket_at(22532))?;
-    let [first, second] = clients;
-    let waiting = [is_refused(alloc, first)?, is_refused(alloc, second)?];
-    let later = answer_to(rt, alloc, 22530, PLAIN)?;
-    thread::sleep(rt, Duration::from_millis(PAUSE));
-    let is_silent = match master.recv_from(&mut buffer) {
+    match socket.recv_from(&mut buffer) {
         Ok(_) => false,
         Err(error) => error.kind() == ErrorKind::WouldBlock,
-    };
+    }
+}
+
+/// The master purges the page that these clients wait for: the member's store fails.
+fn purged_in_vain(
+    rt: &HostRuntime,
+    master: &UdpSocket,
+    clients: &mut [TcpStream],
+) -> io::Result<Seen> {
+    master.send_to(PURGE, socket_at(22532))?;
+    let refused = refused(rt, clients)?;
+    let later = is_answered_at(rt, 22530, PLAIN, b"HTTP/1.1 503 ")?;
+    thread::sleep(rt, Duration::from_millis(PAUSE));
     Ok(Seen {
-        waiting,
-        later: later.as_slice().starts_with(b"HTTP/1.1 503 "),
-        is_silent,
+        refused,
+        later,
+        is_silent: is_silent(master),
     })
+}
+
+/// Two clients wait at a member whose peer says nothing, and the master purges the page that they wait for.
+fn waited_in_vain(rt: &HostRuntime) -> io::Result<Seen> {
+    let peer = UdpSocket::bind(rt, socket_at(22541))?;
+    let master = UdpSocket::bind(rt, socket_at(22520))?;
+    let mut clients = clients_that_wait(rt, &peer, 22530, 2)?;
+    purged_in_vain(rt, &master, clients.as_mut_slice())
 }
 
 #[test]
 fn a_node_whose_store_fails_refuses_all(rt: HostRuntime) -> Result<(), Fail> {
-    // (a round of it would wait for a minute)
-    let text = with_foreign(rt.alloc(), 22520, 60000, "icp")?;
     let gate = Arc::new(rt.alloc(), NoGate)?;
     let floors = FullStore {
         floors: Floors::new(rt.alloc()),
         failures: 0,
     };
-    let Ok(workers) = started_over(rt, rt.alloc(), text.as_str(), 1, gate, floors)? else {
-        return Err("it did not start".into());
-    };
-    let seen = purged_in_vain(&rt, rt.alloc())?;
-    let _steps = stopped(&rt, workers)?;
-    assert!(rt; seen.waiting == [true, true]);
-    assert!(rt; seen.later);
+    let workers = started_over(rt, rt.alloc(), WAITING, 1, gate, floors)??;
+    let seen = waited_in_vain(&rt);
+    stopped(&rt, workers)?;
+    let seen = seen?;
+    assert!(rt; seen.refused == 2, "those who wait");
+    assert!(rt; seen.later, "who comes afterwards");
     assert!(rt;
         seen.is_silent,
         "a purge is acknowledged only once it is stored"

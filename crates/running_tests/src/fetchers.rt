@@ -1,133 +1,119 @@
 //! Fetches that hold up nobody but those who wait for them.
-use crate::network::{CACHED, QUERY, answer_to, running, siblings, socket_at, stopped, told};
-use crate::origins::{clients_for, fill, give_page, is_page, pages_got};
-use node_workers::{Gate, NoGate};
-use std::alloc::Global;
-use std::net::{Net, TcpListener, TcpStream};
-use std::sync::atomic::{AtomicBool, AtomicU64, Ordering};
-use std::sync::{Arc, Wait};
+use crate::network::{CACHED, opcode_told, socket_at};
+use crate::origins::{ASK_A, ask_text, asks_page, clients_for, fill, give_pages, pages_got};
+use crate::peers::{both, ended};
+use crate::rosters::siblings_text;
+use crate::turnstile::{Turnstile, new_turnstile};
+use crate::workers::{running, stopped};
+use std::io;
+use std::net::{TcpListener, TcpStream};
+use std::sync::Arc;
 use std::test::Fail;
-use std::thread;
-use std::time::{Clock, Duration, Instant};
-
-/// For how many turns of a millisecond is waited at most.
-const MOST_TURNS: u32 = 10_000;
-
-/// Counts the reads that are about to begin, and holds them up while it is closed.
-#[derive(Drop)]
-pub(crate) struct Turnstile {
-    pub(crate) is_open: AtomicBool,
-    come: AtomicU64,
-}
-
-impl Turnstile {
-    /// An open one.
-    pub(crate) fn new() -> Turnstile {
-        Turnstile {
-            is_open: AtomicBool::new(true),
-            come: AtomicU64::new(0),
-        }
-    }
-
-    /// Waits until so many reads have come.
-    pub(crate) fn wait_for<C: Clock>(&self, clock: &C, reads: u64) -> Result<(), Fail> {
-        for _ in 0..MOST_TURNS {
-            if self.come.load(Ordering::SeqCst) >= reads {
-                return Ok(());
-            }
-            thread::sleep(clock, Duration::from_millis(1));
-        }
-        Err("no read came".into())
-    }
-}
-
-impl Gate for Turnstile {
-    fn before_read<R: Wait + Clock>(&self, rt: &R, _serial: u32) {
-        self.come.fetch_add(1, Ordering::SeqCst);
-        for _ in 0..MOST_TURNS {
-            if self.is_open.load(Ordering::SeqCst) {
-                return;
-            }
-            thread::sleep(rt, Duration::from_millis(1));
-        }
-    }
-}
+use std::time::Instant;
 
 /// Pages that are asked for while the turnstile is closed: more than there are workers and fetchers together.
-const HELD: [&str; 5] = ["b", "c", "d", "e", "f"];
+const HELD: [&str; 5] = [
+    ask_text!("b"),
+    ask_text!("c"),
+    ask_text!("d"),
+    ask_text!("e"),
+    ask_text!("f"),
+];
 
-/// A sibling asks for what is cached, and so does a client: whether the one is told of a hit, and the other gets the page.
-fn hits<R: Net<Stream = TcpStream> + Clock>(rt: &R, alloc: Global) -> Result<[bool; 2], Fail> {
-    let hit = told(rt, alloc, 21551, 21541, QUERY)?;
-    let page = answer_to(rt, alloc, 21540, CACHED)?;
-    Ok([hit.as_slice().first() == Some(&2), is_page(page.as_slice())])
+/// What is seen while reads are held up, and afterwards.
+#[derive(Clone, Copy)]
+struct Seen {
+    /// Whether a sibling is told of a hit.
+    hit: bool,
+    /// Whether a client gets the page that is cached.
+    page: bool,
+    /// How many clients get their pages afterwards.
+    pages: usize,
 }
 
-/// The page is asked for by a sibling and by a client while reads of other pages are held up: what they are answered, and how many clients get those pages afterwards.
-fn asked_while_held<R: Net<Listener = TcpListener, Stream = TcpStream> + Clock>(
-    rt: &R,
-    alloc: Global,
+/// A page is asked for by a sibling and by a client while reads of other pages, which clients wait for, are held up.
+fn asked_while_held(
+    rt: &HostRuntime,
     gate: &Turnstile,
-) -> Result<([bool; 2], usize), Fail> {
-    fill(rt, alloc, 21540, 21535, &["a"])?;
-    gate.is_open.store(false, Ordering::SeqCst);
-    let listener = TcpListener::bind(rt, socket_at(21535))?;
-    let clients = clients_for(rt, alloc, 21540, &HELD)?;
+    listener: &TcpListener,
+    clients: &mut [TcpStream],
+) -> io::Result<Seen> {
     // (one read was let through, and each of the two fetchers is at the next)
     gate.wait_for(rt, 3)?;
-    let answered = hits(rt, alloc)?;
-    gate.is_open.store(true, Ordering::SeqCst);
-    for _page in &HELD {
-        give_page(alloc, &listener)?;
-    }
-    Ok((answered, pages_got(alloc, clients)?))
+    let hit = opcode_told(rt, 21551, 21541)? == 2;
+    let page = asks_page(rt, 21540, CACHED)?;
+    gate.set_open(true);
+    give_pages(rt, listener, HELD.len())?;
+    Ok(Seen {
+        hit,
+        page,
+        pages: pages_got(rt, clients)?,
+    })
+}
+
+/// A member has read a page; then the turnstile is closed, and clients ask for other pages.
+fn held_up(rt: &HostRuntime, gate: &Turnstile) -> io::Result<Seen> {
+    fill(rt, 21540, 21535, &[ASK_A])?;
+    gate.set_open(false);
+    let listener = TcpListener::bind(rt, socket_at(21535))?;
+    let mut clients = clients_for(rt, 21540, &HELD)?;
+    asked_while_held(rt, gate, &listener, clients.as_mut_slice())
 }
 
 #[test]
 fn hits_wait_for_no_fetch(rt: HostRuntime) -> Result<(), Fail> {
-    let gate = Arc::new(rt.alloc(), Turnstile::new())?;
-    let text = siblings(rt.alloc(), 21530)?;
-    let workers = running(rt, rt.alloc(), text.as_str(), 1, Arc::try_clone(&gate)?)?;
-    let (answered, pages) = asked_while_held(&rt, rt.alloc(), &gate)?;
-    let _steps = stopped(&rt, workers)?;
-    assert!(rt; answered == [true, true], "a hit, and the page");
-    assert_eq!(rt; pages, 5);
+    let text = siblings_text!(at 2153, 2154, 2155);
+    let gate = new_turnstile(rt.alloc(), true)?;
+    let workers = running(rt, rt.alloc(), text, 1, Arc::try_clone(&gate)?)?;
+    let seen = held_up(&rt, &gate);
+    gate.set_open(true);
+    stopped(&rt, workers)?;
+    let seen = seen?;
+    assert!(rt; seen.hit, "a hit");
+    assert!(rt; seen.page, "the page");
+    assert!(rt; seen.pages == 5, "the pages that were held up");
     Ok(())
 }
 
 /// What only the first of two siblings has, and what only the second has.
-const FIRST: [&str; 4] = ["a1", "a2", "a3", "a4"];
+const FIRST: [&str; 4] = [
+    ask_text!("a1"),
+    ask_text!("a2"),
+    ask_text!("a3"),
+    ask_text!("a4"),
+];
 
-const SECOND: [&str; 4] = ["b1", "b2", "b3", "b4"];
+const SECOND: [&str; 4] = [
+    ask_text!("b1"),
+    ask_text!("b2"),
+    ask_text!("b3"),
+    ask_text!("b4"),
+];
 
-/// Two siblings that are asked at once for what only the other one has: how many pages are got, and within how many milliseconds.
-fn asked_crosswise<R: Net<Listener = TcpListener, Stream = TcpStream> + Clock>(
-    rt: &R,
-    alloc: Global,
-) -> Result<(usize, u128), Fail> {
-    fill(rt, alloc, 21340, 21335, &FIRST)?;
-    fill(rt, alloc, 21350, 21335, &SECOND)?;
+/// Two siblings are asked at once for what only the other one has: how many pages are got.
+fn asked_crosswise(rt: &HostRuntime) -> io::Result<usize> {
+    let mut first = clients_for(rt, 21340, &SECOND)?;
+    let mut second = clients_for(rt, 21350, &FIRST)?;
+    let pages = pages_got(rt, first.as_mut_slice())?;
+    Ok(usize::saturating_add(pages, pages_got(rt, second.as_mut_slice())?))
+}
+
+/// Each of two siblings reads its pages, and both are asked for the other one's: how many are got, and within how many milliseconds.
+fn filled_and_asked(rt: &HostRuntime) -> io::Result<(usize, u128)> {
+    fill(rt, 21340, 21335, &FIRST)?;
+    fill(rt, 21350, 21335, &SECOND)?;
     let begun = Instant::now(rt)?;
-    let first = clients_for(rt, alloc, 21340, &SECOND)?;
-    let second = clients_for(rt, alloc, 21350, &FIRST)?;
-    let pages = usize::saturating_add(pages_got(alloc, first)?, pages_got(alloc, second)?);
-    let time = Instant::now(rt)?
-        .saturating_duration_since(begun)
-        .as_millis();
-    Ok((pages, time))
+    let pages = asked_crosswise(rt)?;
+    Ok((pages, begun.elapsed(rt)?.as_millis()))
 }
 
 #[test]
 fn siblings_do_not_hold_each_other_up(rt: HostRuntime) -> Result<(), Fail> {
-    let gate = Arc::new(rt.alloc(), NoGate)?;
-    let text = siblings(rt.alloc(), 21330)?;
-    let one = running(rt, rt.alloc(), text.as_str(), 1, Arc::try_clone(&gate)?)?;
-    let other = running(rt, rt.alloc(), text.as_str(), 2, gate)?;
-    let (pages, time) = asked_crosswise(&rt, rt.alloc())?;
-    one.begin_stop(&rt);
-    other.begin_stop(&rt);
-    let _steps = [stopped(&rt, one)?, stopped(&rt, other)?];
-    assert_eq!(rt; pages, 8);
-    assert!(rt; time < 4000);
+    let pair = both(rt, rt.alloc(), siblings_text!(at 2133, 2134, 2135))?;
+    let got = filled_and_asked(&rt);
+    ended(&rt, pair)?;
+    let (pages, time) = got?;
+    assert!(rt; pages == 8, "the pages");
+    assert!(rt; time < 4000, "the time");
     Ok(())
 }

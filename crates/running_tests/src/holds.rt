@@ -1,29 +1,29 @@
 //! A node that is held.
-use crate::fetchers::Turnstile;
-use crate::network::{
-    PLAIN, QUERY, answer_of, asking, received, running, siblings, socket_at, steps_in, stopped,
-    told,
-};
+use crate::closings::is_silent;
+use crate::network::{PLAIN, QUERY, asking, is_answered, is_told, received, socket_at};
 use crate::nodes::DENIED;
+use crate::rosters::siblings_text;
+use crate::turnstile::{Turnstile, new_turnstile};
+use crate::workers::{running, steps_in, stopped};
 use mio::net::UdpSocket;
 use node_workers::{NoGate, StopFault, Workers};
 use std::alloc::{AllocError, Global};
-use std::io::ErrorKind;
-use std::net::{Net, TcpStream};
-use std::sync::atomic::Ordering;
 use std::sync::{Arc, Wait};
 use std::test::Fail;
-use std::thread;
-use std::time::{Clock, Duration};
+use std::time::Duration;
+use std::{io, thread};
 
 /// For how many milliseconds a node that is held is given time to answer.
 const PAUSE: u64 = 100;
 
+/// How many steps the records have that are handed out; none where there is no history.
+type Steps = Result<Option<usize>, StopFault>;
+
 /// What is seen of a node that is held and goes on.
-#[derive(Drop)]
+#[derive(Clone, Copy)]
 struct Seen {
-    /// How many steps the records have that are handed out, the first time and the second.
-    steps: [Option<usize>; 2],
+    /// The records that are handed out, the first time and the second.
+    steps: [Steps; 2],
     /// Whether nothing is answered while it is held.
     is_silent: bool,
     /// Whether the same is answered when it goes on.
@@ -31,60 +31,57 @@ struct Seen {
 }
 
 /// How many steps the records have that are handed out.
-fn steps_out<R: Wait>(rt: &R, workers: &Workers) -> Result<Option<usize>, Fail> {
-    match workers.records(rt) {
-        Ok(Some(records)) => Ok(Some(steps_in(records.as_slice()))),
-        Ok(None) => Ok(None),
-        Err(fault) => Err(fault.name().into()),
+fn steps_out<W: Wait>(wait: &W, workers: &Workers) -> Steps {
+    match workers.records(wait)? {
+        Some(records) => Ok(Some(steps_in(records.as_slice()))),
+        None => Ok(None),
     }
 }
 
-/// Whether nothing has come to a socket.
-fn is_silent(socket: &UdpSocket, buffer: &mut [u8]) -> bool {
-    match socket.recv_from(buffer) {
-        Ok(_) => false,
-        Err(error) => error.kind() == ErrorKind::WouldBlock,
-    }
-}
-
-/// A stranger asks a node once before it is held, and once while it is held.
-fn held_and_resumed<R: Net + Wait + Clock>(
-    rt: &R,
-    alloc: Global,
+/// A stranger asks a node that is held, and that goes on then.
+fn held_and_resumed<W: Wait>(
+    rt: &HostRuntime,
+    wait: &W,
     workers: &Workers,
-) -> Result<Seen, Fail> {
-    let _denied = told(rt, alloc, 21367, 21371, QUERY)?;
-    workers.hold(rt);
-    let socket = UdpSocket::bind(rt, socket_at(21367))?;
+    socket: &UdpSocket,
+) -> io::Result<Seen> {
     socket.send_to(QUERY, socket_at(21371))?;
-    let steps = [steps_out(rt, workers)?, steps_out(rt, workers)?];
+    let steps = [steps_out(wait, workers), steps_out(wait, workers)];
     thread::sleep(rt, Duration::from_millis(PAUSE));
+    let is_silent = is_silent(socket);
+    workers.resume(wait);
     let mut buffer = [0; 2048];
-    let is_silent = is_silent(&socket, &mut buffer);
-    workers.resume(rt);
-    let is_answered = received(rt, &socket, &mut buffer)? > 0;
     Ok(Seen {
         steps,
         is_silent,
-        is_answered,
+        is_answered: received(rt, socket, &mut buffer)? > 0,
     })
+}
+
+/// A stranger asks a node once before it is held, and once while it is held.
+fn asked_twice<W: Wait>(rt: &HostRuntime, wait: &W, workers: &Workers) -> io::Result<Seen> {
+    is_told(rt, 21367, 21371, QUERY, DENIED)?;
+    workers.hold(wait);
+    let socket = UdpSocket::bind(rt, socket_at(21367))?;
+    held_and_resumed(rt, wait, workers, &socket)
 }
 
 #[test]
 fn no_step_is_taken_while_held(rt: HostRuntime) -> Result<(), Fail> {
-    let text = siblings(rt.alloc(), 21360)?;
     let gate = Arc::new(rt.alloc(), NoGate)?;
-    let workers = running(rt, rt.alloc(), text.as_str(), 1, gate)?;
-    let seen = held_and_resumed(&rt, rt.alloc(), &workers)?;
+    let text = siblings_text!(at 2136, 2137, 2138);
+    let workers = running(rt, rt.alloc(), text, 1, gate)?;
+    let seen = asked_twice(&rt, &rt, &workers);
     workers.hold(&rt);
-    let last = stopped(&rt, workers)?;
+    let last = stopped(&rt, workers);
+    let seen = seen?;
     assert!(rt;
-        seen.steps == [Some(1), Some(0)],
+        seen.steps == [Ok(Some(1)), Ok(Some(0))],
         "the records are handed out once"
     );
     assert!(rt; seen.is_silent, "nothing is answered before it goes on");
-    assert!(rt; seen.is_answered);
-    assert_eq!(rt; last, 1);
+    assert!(rt; seen.is_answered, "it goes on");
+    assert!(rt; last == Ok(1), "the last step");
     Ok(())
 }
 
@@ -93,8 +90,7 @@ const MANY: u8 = 100;
 
 /// An ICP message with this number (RFC 2186).
 fn numbered(alloc: Global, message: &[u8], number: u8) -> Result<Vec<u8>, AllocError> {
-    let mut octets = Vec::with_capacity(alloc, message.len())?;
-    octets.extend_from_slice(message)?;
+    let mut octets = Vec::from_slice(alloc, message)?;
     if let Some(last) = octets.get_mut(7) {
         *last = number;
     }
@@ -102,7 +98,7 @@ fn numbered(alloc: Global, message: &[u8], number: u8) -> Result<Vec<u8>, AllocE
 }
 
 /// Queries of all numbers up to a hundred.
-fn ask_many(alloc: Global, socket: &UdpSocket, to: u16) -> Result<(), Fail> {
+fn ask_many(alloc: Global, socket: &UdpSocket, to: u16) -> io::Result<()> {
     for number in 0..MANY {
         let query = numbered(alloc, QUERY, number)?;
         socket.send_to(query.as_slice(), socket_at(to))?;
@@ -111,124 +107,119 @@ fn ask_many(alloc: Global, socket: &UdpSocket, to: u16) -> Result<(), Fail> {
 }
 
 /// How many of the answers to them come in their order, each as it should be.
-fn answers_in_order<C: Clock>(clock: &C, alloc: Global, socket: &UdpSocket) -> Result<u8, Fail> {
+fn answers_in_order(rt: &HostRuntime, socket: &UdpSocket) -> io::Result<u8> {
     let mut buffer = [0; 2048];
     let mut right = 0u8;
     for number in 0..MANY {
-        let length = received(clock, socket, &mut buffer)?;
-        let wanted = numbered(alloc, DENIED, number)?;
-        let came = buffer.get(..length).unwrap_or_default();
-        right = right.saturating_add(u8::from(came == wanted.as_slice()));
+        let length = received(rt, socket, &mut buffer)?;
+        let wanted = numbered(rt.alloc(), DENIED, number)?;
+        let is_right = buffer.get(..length) == Some(wanted.as_slice());
+        right = right.saturating_add(u8::from(is_right));
     }
     Ok(right)
 }
 
 /// Many questions come while a node is held: how many are answered in their order when it goes on, and whether no other answer comes.
-fn many_at_once<R: Net + Wait + Clock>(
-    rt: &R,
-    alloc: Global,
-    workers: &Workers,
-) -> Result<(u8, bool), Fail> {
+fn many_at_once<W: Wait>(rt: &HostRuntime, wait: &W, workers: &Workers) -> io::Result<(u8, bool)> {
     let socket = UdpSocket::bind(rt, socket_at(21397))?;
-    workers.hold(rt);
-    ask_many(alloc, &socket, 21401)?;
-    workers.resume(rt);
-    let right = answers_in_order(rt, alloc, &socket)?;
+    workers.hold(wait);
+    ask_many(rt.alloc(), &socket, 21401)?;
+    workers.resume(wait);
+    let right = answers_in_order(rt, &socket)?;
     thread::sleep(rt, Duration::from_millis(PAUSE));
-    let mut buffer = [0; 2048];
-    Ok((right, is_silent(&socket, &mut buffer)))
+    Ok((right, is_silent(&socket)))
 }
 
 /// Questions that come together are each answered once, in their order.
 #[test]
 fn questions_that_come_together_are_answered(rt: HostRuntime) -> Result<(), Fail> {
-    let text = siblings(rt.alloc(), 21390)?;
     let gate = Arc::new(rt.alloc(), NoGate)?;
-    let workers = running(rt, rt.alloc(), text.as_str(), 1, gate)?;
-    let (right, is_all) = many_at_once(&rt, rt.alloc(), &workers)?;
-    let steps = stopped(&rt, workers)?;
-    assert_eq!(rt; right, MANY);
+    let text = siblings_text!(at 2139, 2140, 2141);
+    let workers = running(rt, rt.alloc(), text, 1, gate)?;
+    let answered = many_at_once(&rt, &rt, &workers);
+    let steps = stopped(&rt, workers);
+    let (right, is_all) = answered?;
+    assert!(rt; right == MANY, "those in their order");
     assert!(rt; is_all, "none is answered twice");
-    assert_eq!(rt; steps, 100);
+    assert!(rt; steps == Ok(100), "a step each");
     Ok(())
 }
 
 /// What is seen of a read of the origin that goes on while its node is held.
-#[derive(Drop)]
+#[derive(Clone, Copy)]
 struct SeenOfRead {
     /// How many steps there were before the node was held, and how many while it was.
-    steps: [Option<usize>; 2],
-    /// What the client is answered when the node goes on.
-    answer: Vec<u8>,
+    steps: [Steps; 2],
+    /// Whether the client gets 502 when the node goes on.
+    is_answered: bool,
 }
 
 /// A client's read of an origin that nobody serves is held up, and goes on while the node is held.
-fn read_while_held<R: Net<Stream = TcpStream> + Wait + Clock>(
-    rt: &R,
-    alloc: Global,
+fn read_while_held<W: Wait>(
+    rt: &HostRuntime,
+    wait: &W,
     workers: &Workers,
     gate: &Turnstile,
-) -> Result<SeenOfRead, Fail> {
-    gate.is_open.store(false, Ordering::SeqCst);
-    let client = asking(rt, 22410, PLAIN)?;
+) -> io::Result<SeenOfRead> {
+    let mut client = asking(rt, 22410, PLAIN)?;
     gate.wait_for(rt, 1)?;
-    workers.hold(rt);
-    let before = steps_out(rt, workers)?;
-    gate.is_open.store(true, Ordering::SeqCst);
+    workers.hold(wait);
+    let before = steps_out(wait, workers);
+    gate.set_open(true);
     thread::sleep(rt, Duration::from_millis(PAUSE));
-    let held = steps_out(rt, workers)?;
-    workers.resume(rt);
-    Ok(SeenOfRead {
-        steps: [before, held],
-        answer: answer_of(alloc, client)?,
-    })
+    let steps = [before, steps_out(wait, workers)];
+    workers.resume(wait);
+    let is_answered = is_answered(rt, &mut client, b"HTTP/1.1 502 ")?;
+    Ok(SeenOfRead { steps, is_answered })
 }
 
 #[test]
 fn a_read_ends_after_the_hold(rt: HostRuntime) -> Result<(), Fail> {
-    let text = siblings(rt.alloc(), 22400)?;
-    let gate = Arc::new(rt.alloc(), Turnstile::new())?;
-    let workers = running(rt, rt.alloc(), text.as_str(), 1, Arc::try_clone(&gate)?)?;
-    let seen = read_while_held(&rt, rt.alloc(), &workers, &gate)?;
-    let last = stopped(&rt, workers)?;
+    let text = siblings_text!(at 2240, 2241, 2242);
+    let gate = new_turnstile(rt.alloc(), false)?;
+    let workers = running(rt, rt.alloc(), text, 1, Arc::try_clone(&gate)?)?;
+    let seen = read_while_held(&rt, &rt, &workers, &gate);
+    gate.set_open(true);
+    let last = stopped(&rt, workers);
+    let seen = seen?;
     assert!(rt;
-        seen.steps == [Some(2), Some(0)],
+        seen.steps == [Ok(Some(2)), Ok(Some(0))],
         "an ask and a round's end, and then nothing until it goes on"
     );
-    assert!(rt; seen.answer.as_slice().starts_with(b"HTTP/1.1 502 "));
-    assert_eq!(rt; last, 1);
+    assert!(rt; seen.is_answered, "502");
+    assert!(rt; last == Ok(1), "the last step");
     Ok(())
 }
 
-/// The records of a node are asked for without a hold, and once more when it was told to stop: how many steps the first ones have, and whether the others are refused.
-fn asked_for_records<R: Net + Wait + Clock>(
-    rt: &R,
-    alloc: Global,
+/// The records of a node are asked for without a hold, and once more when it was told to stop: the first ones, and the others.
+fn asked_for_records<W: Wait>(
+    rt: &HostRuntime,
+    wait: &W,
     workers: &Workers,
-) -> Result<(Option<usize>, bool), Fail> {
-    let _denied = told(rt, alloc, 22437, 22441, QUERY)?;
-    let steps = steps_out(rt, workers)?;
-    workers.resume(rt);
-    let _denied = told(rt, alloc, 22437, 22441, QUERY)?;
+) -> io::Result<[Steps; 2]> {
+    is_told(rt, 22437, 22441, QUERY, DENIED)?;
+    let steps = steps_out(wait, workers);
+    workers.resume(wait);
+    is_told(rt, 22437, 22441, QUERY, DENIED)?;
     // (from here its thread goes to its end, and takes no other hold before)
-    workers.hold(rt);
-    workers.begin_stop(rt);
-    let is_refused = matches!(workers.records(rt), Err(StopFault::SeatMissing));
-    Ok((steps, is_refused))
+    workers.hold(wait);
+    workers.begin_stop(wait);
+    Ok([steps, steps_out(wait, workers)])
 }
 
 #[test]
 fn records_are_refused_once_it_ends(rt: HostRuntime) -> Result<(), Fail> {
-    let text = siblings(rt.alloc(), 22430)?;
     let gate = Arc::new(rt.alloc(), NoGate)?;
-    let workers = running(rt, rt.alloc(), text.as_str(), 1, gate)?;
-    let (steps, is_refused) = asked_for_records(&rt, rt.alloc(), &workers)?;
-    let last = stopped(&rt, workers)?;
+    let text = siblings_text!(at 2243, 2244, 2245);
+    let workers = running(rt, rt.alloc(), text, 1, gate)?;
+    let records = asked_for_records(&rt, &rt, &workers);
+    let last = stopped(&rt, workers);
+    let [held, ended] = records?;
     assert!(rt;
-        steps == Some(1),
+        held == Ok(Some(1)),
         "a node is held where its records are asked for"
     );
-    assert!(rt; is_refused);
-    assert_eq!(rt; last, 1);
+    assert!(rt; ended == Err(StopFault::SeatMissing), "they are refused");
+    assert!(rt; last == Ok(1), "the last step");
     Ok(())
 }

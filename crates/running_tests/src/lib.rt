@@ -20,6 +20,12 @@ mod origins;
 #[cfg(test)]
 mod peers;
 #[cfg(test)]
+mod rosters;
+#[cfg(test)]
 mod starts;
 #[cfg(test)]
 mod stops;
+#[cfg(test)]
+mod turnstile;
+#[cfg(test)]
+mod workers;

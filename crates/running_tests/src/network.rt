@@ -1,20 +1,9 @@
 //! What a node's clients and peers do, over sockets.
-use floor_rules::{FloorStore, MemoryFloors};
 use mio::net::UdpSocket;
-use node_book::Record;
-use node_seats::Places;
-use node_shifts::History;
-use node_workers::{Gate, Ground, StartFault, Workers};
-use roster::Roster;
-use std::alloc::Global;
-use std::hash::RandomState;
-use std::io::{ErrorKind, Read, Write};
-use std::net::{Ipv4Addr, Net, SocketAddr, TcpListener, TcpStream};
-use std::random::RandomSource;
-use std::sync::{Arc, Wait};
-use std::test::Fail;
-use std::thread::{self, Threads};
-use std::time::{Clock, Duration};
+use std::io::{self, Error, ErrorKind, Read, Write};
+use std::net::{Ipv4Addr, SocketAddr, TcpStream};
+use std::thread;
+use std::time::Duration;
 
 /// An ask for what only the node itself may hold.
 pub(crate) const CACHED: &[u8] =
@@ -30,205 +19,93 @@ pub(crate) const QUERY: &[u8] =
 /// For how many turns of a millisecond a datagram is waited for.
 const MOST_TURNS: u32 = 5000;
 
-/// A roster, or the name of its fault.
-pub(crate) fn roster_of(alloc: Global, text: &str) -> Result<Roster, Fail> {
-    match Roster::read(alloc, text) {
-        Ok(roster) => Ok(roster),
-        Err(error) => Err(error.fault.name().into()),
-    }
-}
-
-/// A roster of two members that are siblings, and an origin: the master is at this port, the origin at the fifth after it, and each member at the ports from the tenth and the twentieth after it on.
-pub(crate) fn siblings(alloc: Global, port: u16) -> Result<String, Fail> {
-    let mut text = format!(in alloc;
-        "default_lifetime = 60\ncopies = 1000\nbytes = 1048576\nquery_wait = 50\n\n[master]\naddress = \"127.0.0.1\"\nhtcp = {port}\n"
-    )?;
-    for id in 1..=2u16 {
-        let peer = 3 - id;
-        let http = u16::saturating_add(port, 10 * id);
-        let icp = u16::saturating_add(http, 1);
-        let htcp = u16::saturating_add(http, 2);
-        let node = format!(in alloc;
-            "\n[[node]]\nid = {id}\nname = \"n{id}\"\naddress = \"127.0.0.1\"\nhttp = {http}\nicp = {icp}\nhtcp = {htcp}\n[[node.peer]]\nid = {peer}\nrole = \"sibling\"\nby = \"icp\"\n"
-        )?;
-        text.push_str(node.as_str())?;
-    }
-    let connect = u16::saturating_add(port, 5);
-    let origin = format!(in alloc;
-        "\n[[origin]]\nhost = \"o\"\nport = 80\naddress = \"127.0.0.1\"\nconnect = {connect}\n"
-    )?;
-    text.push_str(origin.as_str())?;
-    Ok(text)
-}
-
 /// The address of a port of this machine.
 pub(crate) fn socket_at(port: u16) -> SocketAddr {
     SocketAddr::from((Ipv4Addr::LOCALHOST, port))
 }
 
-/// What a node starts on: these floors.
-fn ground<S: FloorStore + Drop, R: RandomSource>(
-    rt: &R,
-    alloc: Global,
-    floors: S,
-) -> Result<Ground<S>, Fail> {
-    Ok(Ground {
-        floors,
-        places: Places::new(alloc)?,
-        history: History::UpTo(16),
-        keys: RandomState::new(rt)?,
-    })
-}
-
-/// A node of a roster with two workers, over these floors.
-pub(crate) fn started_over<
-    S: FloorStore + Drop + Send + 'static,
-    G: Gate + Drop + Send + Sync + 'static,
-    R: Threads
-        + Wait
-        + Clock
-        + RandomSource
-        + Net<Listener = TcpListener, Stream = TcpStream>
-        + Copy
-        + Drop
-        + Send
-        + Sync
-        + 'static,
->(
-    rt: R,
-    alloc: Global,
-    text: &str,
-    id: u8,
-    gate: Arc<G, Global>,
-    floors: S,
-) -> Result<Result<Workers, StartFault>, Fail> {
-    let roster = roster_of(alloc, text)?;
-    let ground = ground(&rt, alloc, floors)?;
-    Ok(Workers::start(rt, alloc, &roster, id, 2, ground, gate))
-}
-
-/// A node of a roster with two workers, over floors in memory.
-pub(crate) fn started<
-    G: Gate + Drop + Send + Sync + 'static,
-    R: Threads
-        + Wait
-        + Clock
-        + RandomSource
-        + Net<Listener = TcpListener, Stream = TcpStream>
-        + Copy
-        + Drop
-        + Send
-        + Sync
-        + 'static,
->(
-    rt: R,
-    alloc: Global,
-    text: &str,
-    id: u8,
-    gate: Arc<G, Global>,
-) -> Result<Result<Workers, StartFault>, Fail> {
-    started_over(rt, alloc, text, id, gate, MemoryFloors::new(alloc))
-}
-
-/// A node of a roster with two workers, which runs.
-pub(crate) fn running<
-    G: Gate + Drop + Send + Sync + 'static,
-    R: Threads
-        + Wait
-        + Clock
-        + RandomSource
-        + Net<Listener = TcpListener, Stream = TcpStream>
-        + Copy
-        + Drop
-        + Send
-        + Sync
-        + 'static,
->(rt: R, alloc: Global, text: &str, id: u8, gate: Arc<G, Global>) -> Result<Workers, Fail> {
-    match started(rt, alloc, text, id, gate)? {
-        Ok(workers) => Ok(workers),
-        Err(fault) => Err(fault.name().into()),
-    }
-}
-
-/// How many steps the records have.
-pub(crate) fn steps_in(records: &[Record]) -> usize {
-    records
-        .iter()
-        .map(|record| record.entries.as_slice().len())
-        .fold(0, |sum, steps| usize::saturating_add(sum, steps))
-}
-
-/// Stops a node: the records of its steps.
-pub(crate) fn records_of<R: Threads + Wait>(rt: &R, workers: Workers) -> Result<Vec<Record>, Fail> {
-    match workers.stop(rt) {
-        Ok(records) => Ok(records),
-        Err(fault) => Err(fault.name().into()),
-    }
-}
-
-/// Stops a node: how many steps its records have.
-pub(crate) fn stopped<R: Threads + Wait>(rt: &R, workers: Workers) -> Result<usize, Fail> {
-    Ok(steps_in(records_of(rt, workers)?.as_slice()))
+/// A port behind another.
+pub(crate) fn port_at(port: u16, behind: u16) -> u16 {
+    u16::saturating_add(port, behind)
 }
 
 /// A client that has sent its ask to a port.
-pub(crate) fn asking<N: Net<Stream = TcpStream>>(
-    net: &N,
-    port: u16,
-    ask: &[u8],
-) -> Result<TcpStream, Fail> {
-    let mut stream = TcpStream::connect(net, socket_at(port))?;
+pub(crate) fn asking(rt: &HostRuntime, port: u16, ask: &[u8]) -> io::Result<TcpStream> {
+    let mut stream = TcpStream::connect(rt, socket_at(port))?;
     stream.write_all(ask)?;
     Ok(stream)
 }
 
 /// All that a client is answered.
-pub(crate) fn answer_of(alloc: Global, mut stream: TcpStream) -> Result<Vec<u8>, Fail> {
-    let mut answer = Vec::new(alloc);
+pub(crate) fn answer_of(rt: &HostRuntime, stream: &mut TcpStream) -> io::Result<Vec<u8>> {
+    let mut answer = Vec::new(rt.alloc());
     stream.read_to_end(&mut answer)?;
     Ok(answer)
 }
 
-/// All that a client of a port is answered.
-pub(crate) fn answer_to<N: Net<Stream = TcpStream>>(
-    net: &N,
-    alloc: Global,
-    port: u16,
-    ask: &[u8],
-) -> Result<Vec<u8>, Fail> {
-    answer_of(alloc, asking(net, port, ask)?)
+/// Whether what a client is answered begins so.
+pub(crate) fn is_answered(
+    rt: &HostRuntime,
+    stream: &mut TcpStream,
+    front: &[u8],
+) -> io::Result<bool> {
+    Ok(answer_of(rt, stream)?.as_slice().starts_with(front))
 }
 
-/// The datagram that comes next to a socket, within five seconds.
-pub(crate) fn received<C: Clock>(
-    clock: &C,
-    socket: &UdpSocket,
-    into: &mut [u8],
-) -> Result<usize, Fail> {
+/// Whether what a client of a port is answered begins so.
+pub(crate) fn is_answered_at(
+    rt: &HostRuntime,
+    port: u16,
+    ask: &[u8],
+    front: &[u8],
+) -> io::Result<bool> {
+    let mut stream = asking(rt, port, ask)?;
+    is_answered(rt, &mut stream, front)
+}
+
+/// The length of the datagram that comes next to a socket, within five seconds.
+pub(crate) fn received(rt: &HostRuntime, socket: &UdpSocket, into: &mut [u8]) -> io::Result<usize> {
     for _ in 0..MOST_TURNS {
         match socket.recv_from(into) {
             Ok((length, _)) => return Ok(length),
             Err(error) if error.kind() == ErrorKind::WouldBlock => {
-                thread::sleep(clock, Duration::from_millis(1));
+                thread::sleep(rt, Duration::from_millis(1));
             }
-            Err(_) => return Err("a read".into()),
+            Err(error) => return Err(error),
         }
     }
-    Err("no datagram came".into())
+    Err(Error::from(ErrorKind::TimedOut))
 }
 
-/// What is answered to a datagram from one port to another.
-pub(crate) fn told<R: Net + Clock>(
-    rt: &R,
-    alloc: Global,
+/// The length of what is answered to a datagram from one port to another.
+pub(crate) fn told(
+    rt: &HostRuntime,
     from: u16,
     to: u16,
     datagram: &[u8],
-) -> Result<Vec<u8>, Fail> {
+    into: &mut [u8],
+) -> io::Result<usize> {
     let socket = UdpSocket::bind(rt, socket_at(from))?;
     socket.send_to(datagram, socket_at(to))?;
-    let mut answer = vec![in alloc; 0; 2048]?;
-    let length = received(rt, &socket, answer.as_mut_slice())?;
-    answer.truncate(length);
-    Ok(answer)
+    received(rt, &socket, into)
+}
+
+/// Whether this is what is answered to a datagram from one port to another.
+pub(crate) fn is_told(
+    rt: &HostRuntime,
+    from: u16,
+    to: u16,
+    datagram: &[u8],
+    wanted: &[u8],
+) -> io::Result<bool> {
+    let mut buffer = [0; 2048];
+    let length = told(rt, from, to, datagram, &mut buffer)?;
+    Ok(buffer.get(..length) == Some(wanted))
+}
+
+/// The opcode of what is answered to the query from one port to another (RFC 2186).
+pub(crate) fn opcode_told(rt: &HostRuntime, from: u16, to: u16) -> io::Result<u8> {
+    let mut buffer = [0; 2048];
+    told(rt, from, to, QUERY, &mut buffer)?;
+    Ok(buffer[0])
 }

@@ -1,14 +1,14 @@
 //! A node that runs, and its clients.
-use crate::network::{CACHED, PLAIN, QUERY, answer_to, records_of, running, stopped, told};
+use crate::network::{CACHED, PLAIN, QUERY, is_answered_at, is_told};
+use crate::turnstile::new_turnstile;
+use crate::workers::{running, stopped};
 use node_book::Record;
-use node_workers::{Gate, NoGate};
-use std::alloc::Global;
-use std::net::{Net, TcpStream};
-use std::sync::atomic::{AtomicU64, Ordering};
+use node_workers::{NoGate, StopFault, Workers};
+use std::io::{self, Error, ErrorKind};
 use std::sync::{Arc, Wait};
 use std::test::Fail;
-use std::thread;
-use std::time::{Clock, Duration, Instant};
+use std::thread::{self, Threads};
+use std::time::{Duration, Instant};
 
 /// One member, with an origin that nobody serves.
 const ONE: &str = "default_lifetime = 60
@@ -35,47 +35,11 @@ address = \"127.0.0.1\"
 connect = 21508
 ";
 
-/// Counts the reads that were about to begin.
-#[derive(Drop)]
-pub(crate) struct Counted {
-    reads: AtomicU64,
-}
-
-impl Counted {
-    /// How many there were.
-    pub(crate) fn reads(&self) -> u64 {
-        self.reads.load(Ordering::SeqCst)
-    }
-}
-
-impl Gate for Counted {
-    fn before_read<R: Wait + Clock>(&self, _rt: &R, _serial: u32) {
-        self.reads.fetch_add(1, Ordering::SeqCst);
-    }
-}
-
-/// A gate that has counted none.
-pub(crate) fn counting_gate(alloc: Global) -> Result<Arc<Counted, Global>, Fail> {
-    Ok(Arc::new(
-        alloc,
-        Counted {
-            reads: AtomicU64::new(0),
-        },
-    )?)
-}
-
-/// Whether a text begins so.
-fn begins(text: &[u8], front: &[u8]) -> bool {
-    text.get(..front.len()).is_some_and(|begin| begin == front)
-}
-
-/// Asks the node for what only it may hold, and for what an origin has: whether it answers as it should.
-fn clients_ask<R: Net<Stream = TcpStream>>(rt: &R, alloc: Global) -> Result<[bool; 2], Fail> {
-    let cached = answer_to(rt, alloc, 21500, CACHED)?;
-    let plain = answer_to(rt, alloc, 21500, PLAIN)?;
+/// Asks the node for what only it may hold, and for what an origin has: whether it answers 504 where it is not cached, and 502 where nobody serves the origin.
+fn clients_ask(rt: &HostRuntime) -> io::Result<[bool; 2]> {
     Ok([
-        begins(cached.as_slice(), b"HTTP/1.1 504 "),
-        begins(plain.as_slice(), b"HTTP/1.1 502 "),
+        is_answered_at(rt, 21500, CACHED, b"HTTP/1.1 504 ")?,
+        is_answered_at(rt, 21500, PLAIN, b"HTTP/1.1 502 ")?,
     ])
 }
 
@@ -89,28 +53,28 @@ pub(crate) const PURGE: &[u8] =
 /// That the entity was not held.
 const NOT_HELD: &[u8] = b"\x00\x0e\0\0\x00\x08\x42\x01\0\0\0\x07\x00\x02";
 
-/// A stranger asks by ICP, and the master purges: whether the node answers as it should.
-fn datagrams_come<R: Net<Stream = TcpStream> + Clock>(
-    rt: &R,
-    alloc: Global,
-) -> Result<[bool; 2], Fail> {
-    let denied = told(rt, alloc, 21507, 21501, QUERY)?;
-    let purged = told(rt, alloc, 21509, 21502, PURGE)?;
-    Ok([denied.as_slice() == DENIED, purged.as_slice() == NOT_HELD])
+/// A stranger asks by ICP, and the master purges: whether the one is denied, and the other is acknowledged.
+fn datagrams_come(rt: &HostRuntime) -> io::Result<[bool; 2]> {
+    Ok([
+        is_told(rt, 21507, 21501, QUERY, DENIED)?,
+        is_told(rt, 21509, 21502, PURGE, NOT_HELD)?,
+    ])
 }
 
 #[test]
 fn clients_are_answered(rt: HostRuntime) -> Result<(), Fail> {
-    let gate = counting_gate(rt.alloc())?;
+    let gate = new_turnstile(rt.alloc(), true)?;
     let workers = running(rt, rt.alloc(), ONE, 1, Arc::try_clone(&gate)?)?;
-    let answered = clients_ask(&rt, rt.alloc())?;
-    let steps = stopped(&rt, workers)?;
+    let answered = clients_ask(&rt);
+    let steps = stopped(&rt, workers);
     assert!(rt;
-        answered == [true, true],
+        steps == Ok(3) && gate.reads() == 1,
+        "three steps, one read"
+    );
+    assert!(rt;
+        answered? == [true, true],
         "504 where it is not cached, 502 where nobody serves the origin"
     );
-    assert_eq!(rt; gate.reads(), 1);
-    assert_eq!(rt; steps, 3);
     Ok(())
 }
 
@@ -118,13 +82,13 @@ fn clients_are_answered(rt: HostRuntime) -> Result<(), Fail> {
 fn datagrams_are_answered(rt: HostRuntime) -> Result<(), Fail> {
     let gate = Arc::new(rt.alloc(), NoGate)?;
     let workers = running(rt, rt.alloc(), ONE, 1, gate)?;
-    let answered = datagrams_come(&rt, rt.alloc())?;
-    let steps = stopped(&rt, workers)?;
+    let answered = datagrams_come(&rt);
+    let steps = stopped(&rt, workers);
+    assert!(rt; steps == Ok(2), "two steps");
     assert!(rt;
-        answered == [true, true],
+        answered? == [true, true],
         "a stranger is denied, and a purge is acknowledged"
     );
-    assert_eq!(rt; steps, 2);
     Ok(())
 }
 
@@ -138,24 +102,19 @@ const SOON: u128 = 5;
 const MOST_TRIES: u32 = 30;
 
 /// A purge comes while each worker waits: within how many milliseconds it is acknowledged.
-fn time_of_purge<R: Net<Stream = TcpStream> + Clock>(rt: &R, alloc: Global) -> Result<u128, Fail> {
+fn time_of_purge(rt: &HostRuntime) -> io::Result<u128> {
     thread::sleep(rt, Duration::from_millis(PAUSE));
     let begun = Instant::now(rt)?;
-    let purged = told(rt, alloc, 21509, 21502, PURGE)?;
-    if purged.as_slice() != NOT_HELD {
-        return Err("another answer".into());
+    if !is_told(rt, 21509, 21502, PURGE, NOT_HELD)? {
+        return Err(Error::from(ErrorKind::InvalidData));
     }
-    Ok(
-        Instant::now(rt)?
-            .saturating_duration_since(begun)
-            .as_millis(),
-    )
+    Ok(begun.elapsed(rt)?.as_millis())
 }
 
 /// Whether one of some purges is acknowledged soon.
-fn is_once_soon<R: Net<Stream = TcpStream> + Clock>(rt: &R, alloc: Global) -> Result<bool, Fail> {
+fn is_once_soon(rt: &HostRuntime) -> io::Result<bool> {
     for _ in 0..MOST_TRIES {
-        if time_of_purge(rt, alloc)? < SOON {
+        if time_of_purge(rt)? < SOON {
             return Ok(true);
         }
     }
@@ -166,14 +125,14 @@ fn is_once_soon<R: Net<Stream = TcpStream> + Clock>(rt: &R, alloc: Global) -> Re
 fn a_worker_is_woken_as_its_job_comes(rt: HostRuntime) -> Result<(), Fail> {
     let gate = Arc::new(rt.alloc(), NoGate)?;
     let workers = running(rt, rt.alloc(), ONE, 1, gate)?;
-    let is_soon = is_once_soon(&rt, rt.alloc())?;
-    let _steps = stopped(&rt, workers)?;
-    assert!(rt; is_soon);
+    let is_soon = is_once_soon(&rt);
+    stopped(&rt, workers)?;
+    assert!(rt; is_soon?);
     Ok(())
 }
 
 /// The threads of a node that take steps.
-#[derive(Clone, Copy, Debug, PartialEq, Eq)]
+#[derive(Clone, Copy, PartialEq, Eq)]
 enum Taker {
     Worker,
     Fetcher,
@@ -189,37 +148,47 @@ fn taker_at(seat: u8) -> Taker {
     }
 }
 
-/// Whether the steps of the first record were taken from seats of these threads, in this order.
-fn are_taken_by(records: &[Record], takers: &[Taker]) -> bool {
-    let Some(record) = records.first() else {
-        return false;
-    };
+/// A stranger's question, a purge, an ask for what is cached, one that begins a read, and how the read failed.
+const TAKERS: [Taker; 5] = [
+    Taker::AtSockets,
+    Taker::Worker,
+    Taker::Worker,
+    Taker::Worker,
+    Taker::Fetcher,
+];
+
+/// Whether the steps of a record were taken from seats of these threads, in this order.
+fn are_taken_by(record: &Record, takers: &[Taker]) -> bool {
     let entries = record.entries.as_slice();
+    for (entry, taker) in entries.iter().zip(takers) {
+        if taker_at(entry.seat) != *taker {
+            return false;
+        }
+    }
     entries.len() == takers.len()
-        && entries
-            .iter()
-            .zip(takers)
-            .all(|(entry, taker)| taker_at(entry.seat) == *taker)
+}
+
+/// Stops a node: whether the steps of its first record were taken from seats of these threads, in this order.
+fn stopped_by<R: Threads + Wait>(
+    rt: &R,
+    workers: Workers,
+    takers: &[Taker],
+) -> Result<bool, StopFault> {
+    Ok(match workers.stop(rt)?.as_slice() {
+        [record, ..] => are_taken_by(record, takers),
+        [] => false,
+    })
 }
 
 #[test]
 fn each_thread_steps_from_its_seat(rt: HostRuntime) -> Result<(), Fail> {
     let gate = Arc::new(rt.alloc(), NoGate)?;
     let workers = running(rt, rt.alloc(), ONE, 1, gate)?;
-    let answered = [
-        datagrams_come(&rt, rt.alloc())?,
-        clients_ask(&rt, rt.alloc())?,
-    ];
-    let records = records_of(&rt, workers)?;
-    assert!(rt; answered == [[true, true], [true, true]]);
-    // (a stranger's question, a purge, an ask for what is cached, one that begins a read, and how the read failed)
-    let takers = [
-        Taker::AtSockets,
-        Taker::Worker,
-        Taker::Worker,
-        Taker::Worker,
-        Taker::Fetcher,
-    ];
-    assert!(rt; are_taken_by(records.as_slice(), &takers));
+    let told = datagrams_come(&rt);
+    let answered = clients_ask(&rt);
+    let are_taken = stopped_by(&rt, workers, &TAKERS);
+    assert!(rt; are_taken == Ok(true), "each from its seat");
+    assert!(rt; told? == [true, true], "datagrams");
+    assert!(rt; answered? == [true, true], "clients");
     Ok(())
 }

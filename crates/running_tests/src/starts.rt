@@ -1,5 +1,6 @@
 //! Nodes that do not start.
-use crate::network::{socket_at, started};
+use crate::network::socket_at;
+use crate::workers::started;
 use node_core::OpenFault;
 use node_workers::{NoGate, StartFault, StopFault};
 use std::net::TcpListener;

@@ -1,53 +1,59 @@
 //! Nodes that are stopped while clients wait.
-use crate::network::{PLAIN, answer_of, asking, received, running, socket_at, stopped};
-use crate::peers::with_foreign;
+use crate::network::{PLAIN, asking, is_answered, received, socket_at};
+use crate::rosters::foreign_text;
+use crate::workers::{running, stopped};
 use mio::net::UdpSocket;
 use node_workers::{NoGate, Workers};
-use std::alloc::Global;
-use std::net::{Net, TcpStream};
+use std::io;
+use std::net::TcpStream;
 use std::sync::{Arc, Wait};
 use std::test::Fail;
-use std::time::Clock;
 
-/// Whether a client gets 503.
-pub(crate) fn is_refused(alloc: Global, client: TcpStream) -> Result<bool, Fail> {
-    let answer = answer_of(alloc, client)?;
-    Ok(answer.as_slice().starts_with(b"HTTP/1.1 503 "))
-}
+const WAITING: &str = foreign_text!(wait 60000, at 2249, 2250, 2251, by "icp");
 
-/// Three clients wait at a member whose peer says nothing, and the member is told to stop: whether each of them gets 503.
-fn waited_to_the_end<R: Net<Stream = TcpStream> + Wait + Clock>(
-    rt: &R,
-    alloc: Global,
-    workers: &Workers,
-) -> Result<[bool; 3], Fail> {
-    let peer = UdpSocket::bind(rt, socket_at(22511))?;
-    let clients = [
-        asking(rt, 22500, PLAIN)?,
-        asking(rt, 22500, PLAIN)?,
-        asking(rt, 22500, PLAIN)?,
-    ];
+/// So many clients ask a member, whose peer hears of each at this socket and says nothing, so that they wait.
+pub(crate) fn clients_that_wait(
+    rt: &HostRuntime,
+    peer: &UdpSocket,
+    port: u16,
+    count: usize,
+) -> io::Result<Vec<TcpStream>> {
+    let mut clients = Vec::with_capacity(rt.alloc(), count)?;
+    for _ in 0..count {
+        clients.push(asking(rt, port, PLAIN)?)?;
+    }
     let mut buffer = [0; 2048];
     // (a client waits before its query is sent)
-    for _client in &clients {
-        received(rt, &peer, &mut buffer)?;
+    for _ in 0..count {
+        received(rt, peer, &mut buffer)?;
     }
-    workers.begin_stop(rt);
-    let [first, second, third] = clients;
-    Ok([
-        is_refused(alloc, first)?,
-        is_refused(alloc, second)?,
-        is_refused(alloc, third)?,
-    ])
+    Ok(clients)
+}
+
+/// How many of these clients get 503.
+pub(crate) fn refused(rt: &HostRuntime, clients: &mut [TcpStream]) -> io::Result<usize> {
+    let mut count: usize = 0;
+    for client in clients {
+        let is_refused = is_answered(rt, client, b"HTTP/1.1 503 ")?;
+        count = count.saturating_add(usize::from(is_refused));
+    }
+    Ok(count)
+}
+
+/// Three clients wait at a member whose peer says nothing, and the member is told to stop: how many of them get 503.
+fn waited_to_the_end<W: Wait>(rt: &HostRuntime, wait: &W, workers: &Workers) -> io::Result<usize> {
+    let peer = UdpSocket::bind(rt, socket_at(22511))?;
+    let mut clients = clients_that_wait(rt, &peer, 22500, 3)?;
+    workers.begin_stop(wait);
+    refused(rt, clients.as_mut_slice())
 }
 
 #[test]
 fn clients_that_wait_are_refused_at_the_end(rt: HostRuntime) -> Result<(), Fail> {
-    let text = with_foreign(rt.alloc(), 22490, 60000, "icp")?;
     let gate = Arc::new(rt.alloc(), NoGate)?;
-    let workers = running(rt, rt.alloc(), text.as_str(), 1, gate)?;
-    let refused = waited_to_the_end(&rt, rt.alloc(), &workers)?;
-    let _steps = stopped(&rt, workers)?;
-    assert!(rt; refused == [true, true, true]);
+    let workers = running(rt, rt.alloc(), WAITING, 1, gate)?;
+    let refused = waited_to_the_end(&rt, &rt, &workers);
+    stopped(&rt, workers)?;
+    assert!(rt; refused? == 3);
     Ok(())
 }

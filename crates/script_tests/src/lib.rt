@@ -1,7 +1,9 @@
-//! Tests of the scripts of `cache answer` and `cache wire`, and of scripts up to a last line, by their public calls: whole inputs, and what is written for them.
+//! Tests of the scripts of `cache answer` and `cache wire` by their lines, and of the lines of any script.
 #![tactic(auto)]
 
 #[cfg(test)]
+mod lines;
+#[cfg(test)]
 mod rows;
 #[cfg(test)]
-mod until;
+mod words;

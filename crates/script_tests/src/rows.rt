@@ -1,6 +1,6 @@
 //! Worked rows: whole inputs and what must be written for them.
 use answer_script::run_answer;
-use script_lines::RunFault;
+use std::alloc::{AllocError, Global};
 use std::test::Fail;
 use wire_script::{Codec, run_wire};
 
@@ -12,18 +12,11 @@ const Z16: &str = "00000000000000000000000000000000";
 /// `http://o/a` in hex.
 const U: &str = "687474703a2f2f6f2f61";
 
-/// What `cache answer` writes for an input.
-fn answers(rt: &HostRuntime, input: &str) -> Result<String, Fail> {
-    let mut written = Vec::new(rt.alloc());
-    run_answer(rt.alloc(), &mut input.as_bytes(), &mut written)?;
-    Ok(String::from_utf8(written)?)
-}
-
-/// What `cache wire` writes for an input.
-fn shown(rt: &HostRuntime, codec: Codec, input: &str) -> Result<String, Fail> {
-    let mut written = Vec::new(rt.alloc());
-    run_wire(rt.alloc(), codec, &mut input.as_bytes(), &mut written)?;
-    Ok(String::from_utf8(written)?)
+/// Which script answers the lines of a row: that of `cache answer`, or that of `cache wire` with a codec.
+#[derive(Clone, Copy)]
+enum Told {
+    Answer,
+    Wire(Codec),
 }
 
 /// The names that rows have for datagrams and their parts, in hex. What stands further down may stand in what is above it.
@@ -62,17 +55,56 @@ const NAMES: &[(&str, &str)] = &[
     ("<number>", "582d50757267652d4e756d6265723a20"),
     ("<stamp>", "582d50757267652d5374616d703a20"),
     ("<url>", U),
+    ("<z16384>", "<z4096><z4096><z4096><z4096>"),
+    ("<z4096>", "<z1024><z1024><z1024><z1024>"),
+    ("<z1024>", "<z256><z256><z256><z256>"),
+    ("<z256>", "<z64><z64><z64><z64>"),
+    ("<z64>", "<z16><z16><z16><z16>"),
     ("<z12>", Z12),
     ("<z16>", Z16),
 ];
 
 /// A text with hex in the place of each name.
-fn spelled(rt: &HostRuntime, text: &str) -> Result<String, Fail> {
-    let mut text = format!(in rt.alloc(); "{text}")?;
+fn spelled(alloc: Global, text: &str) -> Result<String, AllocError> {
+    let mut text = String::from_str(alloc, text)?;
     for (name, octets) in NAMES {
-        text = text.as_str().replace(rt.alloc(), name, octets)?;
+        text = text.as_str().replace(alloc, name, octets)?;
     }
     Ok(text)
+}
+
+/// What is written for an input, and behind it the fault that stops the run, if one does.
+fn written(alloc: Global, told: Told, mut input: &[u8]) -> Result<Vec<u8>, AllocError> {
+    let mut written = Vec::new(alloc);
+    let done = match told {
+        Told::Answer => run_answer(alloc, &mut input, &mut written),
+        Told::Wire(codec) => run_wire(alloc, codec, &mut input, &mut written),
+    };
+    if let Err(fault) = done {
+        written.extend_from_slice(fault.name().as_bytes())?;
+    }
+    Ok(written)
+}
+
+/// What is written for an input whose octets are not yet spelled out.
+fn told_of(alloc: Global, told: Told, input: &str) -> Result<Vec<u8>, AllocError> {
+    let input = spelled(alloc, input)?;
+    written(alloc, told, input.as_bytes())
+}
+
+/// What is written for an input in place of what is expected, if it is something else.
+fn other(
+    alloc: Global,
+    told: Told,
+    input: &str,
+    expected: &str,
+) -> Result<Option<String>, AllocError> {
+    let written = told_of(alloc, told, input)?;
+    if spelled(alloc, expected)?.as_bytes() == written.as_slice() {
+        Ok(None)
+    } else {
+        Ok(Some(String::from_utf8_lossy(alloc, written.as_slice())?))
+    }
 }
 
 /// Lines of `cache answer`, each row from a new start, and what is answered.
@@ -200,60 +232,23 @@ const ANSWERS: &[(&str, &str)] = &[
     ("store http://\n", "NotUri\n"),
     ("store \u{e9}\n", "NotVisibleAscii\n"),
     ("\u{e9}\n", "bad line\n"),
+    // Datagrams that spell no message of ICP, or are no hex. A datagram has at most 16,384 octets.
+    ("icp 00000000000000000000000000000000000000\n", "Short\n"),
+    ("icp 0103002400000007<z16><url>00\n", "BadVersion\n"),
+    ("icp 0102002400000007<z16><url>00\n", "BadLength\n"),
+    ("icp 0a02001400000007<z12>\n", "BadOpcode\n"),
+    ("icp 0102001800000007<z16>\n", "NoZero\n"),
+    ("icp 0202001700000007<z12>610062\n", "Trailing\n"),
+    ("icp 1702001900000007<z12>6100000278\n", "BadObject\n"),
+    ("icp 0g\n", "bad hex\n"),
+    ("icp 012\n", "bad hex\n"),
+    ("icp <z16384>00\n", "TooLong\n"),
+    // A line that is too long stops the run.
+    (
+        "store http://o/\n<z16384><z16384><z16384><z16384><z4096><z256><z64><z16><z16><z16>0\nstore http://o/\n",
+        "stored\nLineTooLong",
+    ),
 ];
-
-#[test]
-fn lines_are_answered(rt: HostRuntime) -> Result<(), Fail> {
-    for (input, expected) in ANSWERS {
-        let input = spelled(&rt, input)?;
-        let expected = spelled(&rt, expected)?;
-        let answered = answers(&rt, input.as_str())?;
-        assert_eq!(rt; answered.as_str(), expected.as_str(), "{input:?}");
-    }
-    Ok(())
-}
-
-/// Datagrams in hex that spell no message of ICP, or are no hex, and what `cache answer` and `cache wire icp` say of each.
-const FAULTS: &[(&str, &str)] = &[
-    ("00000000000000000000000000000000000000", "Short"),
-    ("0103002400000007<z16><url>00", "BadVersion"),
-    ("0102002400000007<z16><url>00", "BadLength"),
-    ("0a02001400000007<z12>", "BadOpcode"),
-    ("0102001800000007<z16>", "NoZero"),
-    ("0202001700000007<z12>610062", "Trailing"),
-    ("1702001900000007<z12>6100000278", "BadObject"),
-    ("0g", "bad hex"),
-    ("012", "bad hex"),
-];
-
-/// What `cache answer` and `cache wire icp` say of a datagram in hex.
-fn told(rt: &HostRuntime, hex: &str) -> Result<(String, String), Fail> {
-    let line = format!(in rt.alloc(); "icp {hex}\n")?;
-    let answered = answers(rt, line.as_str())?;
-    let line = format!(in rt.alloc(); "{hex}\n")?;
-    Ok((answered, shown(rt, Codec::Icp, line.as_str())?))
-}
-
-#[test]
-fn faults_of_datagrams(rt: HostRuntime) -> Result<(), Fail> {
-    for (hex, fault) in FAULTS {
-        let hex = spelled(&rt, hex)?;
-        let (answered, shown) = told(&rt, hex.as_str())?;
-        let expected = format!(in rt.alloc(); "{fault}\n")?;
-        assert_eq!(rt; answered.as_str(), expected.as_str(), "{hex}");
-        assert_eq!(rt; shown.as_str(), answered.as_str(), "{hex}");
-    }
-    Ok(())
-}
-
-#[test]
-fn a_datagram_may_be_too_long(rt: HostRuntime) -> Result<(), Fail> {
-    let hex = "00".repeat(rt.alloc(), 16_385)?;
-    let (answered, shown) = told(&rt, hex.as_str())?;
-    assert_eq!(rt; answered.as_str(), "TooLong\n");
-    assert_eq!(rt; shown.as_str(), "TooLong\n");
-    Ok(())
-}
 
 /// Lines of `cache wire`, by their codec, and what is shown for them.
 const SHOWN: &[(Codec, &str, &str)] = &[
@@ -359,26 +354,41 @@ const SHOWN: &[(Codec, &str, &str)] = &[
     (Codec::Htcp, "000e000000070002000000070002\n", "BadData\n"),
     (Codec::Htcp, "000e000000081002000000070002\n", "BadString\n"),
     (Codec::Htcp, "000e000000080002000000070001\n", "BadAuth\n"),
+    // Datagrams that spell no message of ICP, or are no hex. A datagram has at most 16,384 octets.
+    (
+        Codec::Icp,
+        "00000000000000000000000000000000000000\n",
+        "Short\n",
+    ),
+    (Codec::Icp, "0103002400000007<z16><url>00\n", "BadVersion\n"),
+    (Codec::Icp, "0102002400000007<z16><url>00\n", "BadLength\n"),
+    (Codec::Icp, "0a02001400000007<z12>\n", "BadOpcode\n"),
+    (Codec::Icp, "0102001800000007<z16>\n", "NoZero\n"),
+    (Codec::Icp, "0202001700000007<z12>610062\n", "Trailing\n"),
+    (
+        Codec::Icp,
+        "1702001900000007<z12>6100000278\n",
+        "BadObject\n",
+    ),
+    (Codec::Icp, "0g\n", "bad hex\n"),
+    (Codec::Icp, "012\n", "bad hex\n"),
+    (Codec::Icp, "<z16384>00\n", "TooLong\n"),
 ];
 
 #[test]
-fn datagrams_are_shown(rt: HostRuntime) -> Result<(), Fail> {
-    for (codec, input, expected) in SHOWN {
-        let input = spelled(&rt, input)?;
-        let expected = spelled(&rt, expected)?;
-        let shown = shown(&rt, *codec, input.as_str())?;
-        assert_eq!(rt; shown.as_str(), expected.as_str(), "{input:?}");
+fn lines_are_answered(rt: HostRuntime) -> Result<(), Fail> {
+    for (input, expected) in ANSWERS {
+        let other = other(rt.alloc(), Told::Answer, input, expected)?;
+        assert!(rt; other.is_none(), "{input:?}: {other:?}");
     }
     Ok(())
 }
 
 #[test]
-fn what_stops_a_run(rt: HostRuntime) -> Result<(), Fail> {
-    let longer = "a".repeat(rt.alloc(), 140_001)?;
-    let input = format!(in rt.alloc(); "store http://o/\n{longer}\nstore http://o/\n")?;
-    let mut written = Vec::new(rt.alloc());
-    let done = run_answer(rt.alloc(), &mut input.as_bytes(), &mut written);
-    assert!(rt; done == Err(RunFault::LineTooLong));
-    assert_eq!(rt; written.as_slice(), b"stored\n".as_slice());
+fn datagrams_are_shown(rt: HostRuntime) -> Result<(), Fail> {
+    for (codec, input, expected) in SHOWN {
+        let other = other(rt.alloc(), Told::Wire(*codec), input, expected)?;
+        assert!(rt; other.is_none(), "{input:?}: {other:?}");
+    }
     Ok(())
 }

@@ -1,5 +1,7 @@
+use crate::made::{first_wrong, key};
+use std::alloc::Global;
 use std::hash::{BuildHasher, BuildHasherDefault, FoldHasher};
-use std::test::Fail;
+use std::process::Abort;
 use url_key::{Key, KeyFault};
 
 /// Each text, and the text of its key or the name of its fault.
@@ -43,78 +45,106 @@ const TEXTS: [(&[u8], &[u8]); 34] = [
     (b"http://[::1]x/", b"BadPort"),
 ];
 
-#[test]
-fn texts_and_their_keys(rt: HostRuntime) {
-    for (text, expected) in TEXTS {
-        match Key::read(rt.alloc(), text) {
-            Ok(key) => assert!(rt; key.text() == expected, "key of {text:?}: {key:?}"),
-            Err(fault) => {
-                let name = fault.name();
-                assert!(rt; name.as_bytes() == expected, "{name} of {text:?}");
-            }
-        }
+/// Whether the text of a text's key is this, or the name of its fault.
+fn is_read_as(alloc: Global, text: &[u8], expected: &[u8]) -> bool {
+    match &Key::read(alloc, text) {
+        Ok(key) => key.text() == expected,
+        Err(fault) => fault.name().as_bytes() == expected,
     }
-}
-
-/// A text of `http://o/` and as many letters as make it so long.
-fn text_of_length(rt: &HostRuntime, length: usize) -> Result<Vec<u8>, Fail> {
-    let mut text = b"http://o/".to_vec(rt.alloc())?;
-    for _ in 9..length {
-        text.push(b'x')?;
-    }
-    Ok(text)
 }
 
 #[test]
-fn lengths(rt: HostRuntime) -> Result<(), Fail> {
-    let longest = text_of_length(&rt, 1024)?;
-    let key = Key::read(rt.alloc(), &longest)?;
-    assert!(rt; key.text() == longest.as_slice());
-    let longer = text_of_length(&rt, 1025)?;
-    assert!(rt; matches!(Key::read(rt.alloc(), &longer), Err(KeyFault::TooLong)));
+fn texts_and_their_keys(rt: HostRuntime) {
+    for (text, expected) in &TEXTS {
+        assert!(rt; is_read_as(rt.alloc(), text, expected), "{text:?}");
+    }
+}
+
+/// How a text begins, the letters that make it so long, and whether it is its own key or too long for one.
+const LENGTHS: [(&[u8], u8, usize, bool); 3] = [
+    (b"http://o/", b'x', 1024, true),
+    (b"http://o/", b'x', 1025, false),
     // A key that is longer than its text: the empty path becomes a slash.
-    let mut host = b"http://".to_vec(rt.alloc())?;
-    for _ in 7..1024 {
-        host.push(b'o')?;
+    (b"http://", b'o', 1024, false),
+];
+
+fn is_of_length(rt: &(impl Abort + AllocGlobal), row: &(&[u8], u8, usize, bool)) -> bool {
+    let (head, letter, length, fit) = row;
+    let mut text = head.to_vec(rt.alloc()).expect(rt, "memory");
+    text.resize(*length, *letter).expect(rt, "memory");
+    match &Key::read(rt.alloc(), &text) {
+        Ok(key) => *fit && key.text() == text.as_slice(),
+        Err(fault) => !fit && *fault == KeyFault::TooLong,
     }
-    assert!(rt; matches!(Key::read(rt.alloc(), &host), Err(KeyFault::TooLong)));
-    Ok(())
 }
 
 #[test]
-fn parts_of_a_key(rt: HostRuntime) -> Result<(), Fail> {
-    let table: [(&[u8], &[u8], u16, &[u8], &[u8]); 4] = [
-        (b"http://O", b"o", 80, b"o", b"/"),
-        (b"http://O:8080/a?b", b"o", 8080, b"o:8080", b"/a?b"),
-        (
-            b"http://[FE80::1]:81/x",
-            b"[fe80::1]",
-            81,
-            b"[fe80::1]:81",
-            b"/x",
-        ),
-        (b"http://o.p:080?q=/r", b"o.p", 80, b"o.p", b"/?q=/r"),
-    ];
-    for (text, host, port, authority, path) in table {
-        let key = Key::read(rt.alloc(), text)?;
-        assert!(rt; key.host() == host, "host of {text:?}");
-        assert!(rt; key.port() == port, "port of {text:?}");
-        assert!(rt; key.authority() == authority, "authority of {text:?}");
-        assert!(rt; key.path_and_query() == path, "path of {text:?}");
+fn lengths(rt: HostRuntime) {
+    for (at, row) in LENGTHS.iter().enumerate() {
+        assert!(rt; is_of_length(&rt, row), "row {at}");
     }
-    Ok(())
+}
+
+/// A text, and the host, the port, the authority and the path with the query of its key.
+type Parts = (
+    &'static [u8],
+    &'static [u8],
+    u16,
+    &'static [u8],
+    &'static [u8],
+);
+
+const PARTS: [Parts; 4] = [
+    (b"http://O", b"o", 80, b"o", b"/"),
+    (b"http://O:8080/a?b", b"o", 8080, b"o:8080", b"/a?b"),
+    (
+        b"http://[FE80::1]:81/x",
+        b"[fe80::1]",
+        81,
+        b"[fe80::1]:81",
+        b"/x",
+    ),
+    (b"http://o.p:080?q=/r", b"o.p", 80, b"o.p", b"/?q=/r"),
+];
+
+/// What is wrong with the parts of a key.
+fn wrong_part(rt: &(impl Abort + AllocGlobal), row: &Parts) -> Option<&'static str> {
+    let (text, host, port, authority, path) = row;
+    let read = key(rt, text);
+    first_wrong(&[
+        ("the host", read.host() == *host),
+        ("the port", read.port() == *port),
+        ("the authority", read.authority() == *authority),
+        ("the path", read.path_and_query() == *path),
+    ])
 }
 
 #[test]
-fn keys_are_compared_by_their_texts(rt: HostRuntime) -> Result<(), Fail> {
-    let first = Key::read(rt.alloc(), b"HTTP://O:80/a")?;
-    let again = first.copy(rt.alloc())?;
-    let other = Key::read(rt.alloc(), b"http://o/b")?;
-    assert!(rt; again.text() == b"http://o/a".as_slice());
-    assert!(rt; first == again);
-    assert!(rt; first != other);
-    assert!(rt; first < other);
+fn parts_of_a_key(rt: HostRuntime) {
+    for row in &PARTS {
+        assert_eq!(rt; wrong_part(&rt, row), None, "{:?}", row.0);
+    }
+}
+
+/// What is wrong with a key of `http://o/a`, one more of it, and one of `http://o/b`.
+fn flaw(first: &Key, again: &Key, other: &Key) -> Option<&'static str> {
     let hasher = BuildHasherDefault::<FoldHasher>::default();
-    assert!(rt; hasher.hash_one(&first) == hasher.hash_one(&again));
-    Ok(())
+    first_wrong(&[
+        ("the text", again.text() == b"http://o/a".as_slice()),
+        ("equal texts", first == again),
+        ("other texts", first != other),
+        ("their order", first < other),
+        (
+            "their hashes",
+            hasher.hash_one(first) == hasher.hash_one(again),
+        ),
+    ])
+}
+
+#[test]
+fn keys_are_compared_by_their_texts(rt: HostRuntime) {
+    let first = key(&rt, b"HTTP://O:80/a");
+    let again = first.copy(rt.alloc()).expect(&rt, "memory");
+    let other = key(&rt, b"http://o/b");
+    assert_eq!(rt; flaw(&first, &again, &other), None);
 }

@@ -8,4 +8,6 @@ mod copies;
 #[cfg(test)]
 mod keys;
 #[cfg(test)]
+mod made;
+#[cfg(test)]
 mod reuse;

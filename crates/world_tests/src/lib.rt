@@ -4,7 +4,7 @@
 #[cfg(test)]
 mod events;
 #[cfg(test)]
-mod lines;
+mod rosters;
 #[cfg(test)]
 mod scripts;
 #[cfg(test)]

@@ -1,116 +1,10 @@
 //! Worked scripts: each line, and what is told of it behind its number.
+use crate::rosters::{ONE, THREE, TWO, roster_of};
 use roster::Roster;
-use script_lines::RunFault;
+use std::alloc::{AllocError, Global};
 use std::fmt::Write;
 use std::test::Fail;
 use world_script::run_world;
-
-/// One member, and the origin of `http://o/`.
-const ONE: &str = "default_lifetime = 60
-copies = 1000
-bytes = 1048576
-query_wait = 2000
-[master]
-address = \"127.0.0.1\"
-htcp = 4800
-[[node]]
-id = 1
-name = \"n1\"
-address = \"127.0.0.1\"
-http = 8101
-icp = 3101
-htcp = 4101
-[[origin]]
-host = \"o\"
-port = 80
-address = \"127.0.0.1\"
-connect = 8080
-";
-
-/// Two members that are siblings.
-const TWO: &str = "default_lifetime = 60
-copies = 1000
-bytes = 1048576
-query_wait = 2000
-[master]
-address = \"127.0.0.1\"
-htcp = 4800
-[[node]]
-id = 1
-name = \"n1\"
-address = \"127.0.0.1\"
-http = 8101
-icp = 3101
-htcp = 4101
-[[node.peer]]
-id = 2
-role = \"sibling\"
-by = \"icp\"
-[[node]]
-id = 2
-name = \"n2\"
-address = \"127.0.0.1\"
-http = 8102
-icp = 3102
-htcp = 4102
-[[node.peer]]
-id = 1
-role = \"sibling\"
-by = \"icp\"
-[[origin]]
-host = \"o\"
-port = 80
-address = \"127.0.0.1\"
-connect = 8080
-";
-
-/// Three members. The first asks the second, a sibling, by HTCP, and the third, a parent, by ICP.
-const THREE: &str = "default_lifetime = 60
-copies = 1000
-bytes = 1048576
-query_wait = 2000
-[master]
-address = \"127.0.0.1\"
-htcp = 4800
-[[node]]
-id = 1
-name = \"n1\"
-address = \"127.0.0.1\"
-http = 8101
-icp = 3101
-htcp = 4101
-[[node.peer]]
-id = 2
-role = \"sibling\"
-by = \"htcp\"
-[[node.peer]]
-id = 3
-role = \"parent\"
-by = \"icp\"
-[[node]]
-id = 2
-name = \"n2\"
-address = \"127.0.0.1\"
-http = 8102
-icp = 3102
-htcp = 4102
-[[node.peer]]
-id = 1
-role = \"sibling\"
-by = \"htcp\"
-[[node]]
-id = 3
-name = \"n3\"
-address = \"127.0.0.1\"
-http = 8103
-icp = 3103
-htcp = 4103
-[[origin]]
-host = \"o\"
-port = 80
-address = \"127.0.0.1\"
-connect = 8080
-";
 
 /// A parent's miss waits for the sibling; the sibling's hit is asked first, then the parent, then the origin. A stamp below the floor is passed over, and a
 /// copy that is below it is not used.
@@ -285,79 +179,97 @@ const BAD: &str = "
     other => bad line
     client 1 http://o/a => read 33";
 
-/// The script of a table, and what is told of it.
-fn script_of(rt: &HostRuntime, table: &str) -> Result<(String, String), Fail> {
-    let mut script = String::new(rt.alloc());
-    let mut told = String::new(rt.alloc());
+/// The script of a table: what stands before each arrow.
+fn script_of(alloc: Global, table: &str) -> Result<String, Fail> {
+    let mut script = String::new(alloc);
+    for row in table.lines() {
+        if let Some((line, _)) = row.trim().split_once("=>") {
+            writeln!(script, "{}", line.trim_end())?;
+        }
+    }
+    Ok(script)
+}
+
+/// What is told of the script of a table: what stands behind each arrow, behind its number.
+fn told_of(alloc: Global, table: &str) -> Result<String, Fail> {
+    let mut told = String::new(alloc);
     let mut number = 0u64;
     for row in table.lines() {
-        if let Some((line, answer)) = row.trim().split_once("=>") {
+        if let Some((_, answer)) = row.split_once("=>") {
             number = number.saturating_add(1);
-            writeln!(script, "{}", line.trim_end())?;
             writeln!(told, "{number}{answer}")?;
         }
     }
-    Ok((script, told))
+    Ok(told)
 }
 
-/// What is written for a script.
-fn told(rt: &HostRuntime, roster: &str, script: &str) -> Result<String, Fail> {
-    let roster = match Roster::read(rt.alloc(), roster) {
-        Ok(roster) => roster,
-        Err(error) => return Err(error.fault.name().into()),
-    };
-    let mut written = Vec::new(rt.alloc());
-    run_world(rt.alloc(), &roster, &mut script.as_bytes(), &mut written)?;
-    Ok(String::from_utf8(written)?)
+/// What is written for a script, and behind it the fault that stops the run, if one does.
+fn told(alloc: Global, roster: &Roster, mut script: &[u8]) -> Result<Vec<u8>, AllocError> {
+    let mut written = Vec::new(alloc);
+    if let Err(fault) = run_world(alloc, roster, &mut script, &mut written) {
+        written.extend_from_slice(fault.name().as_bytes())?;
+    }
+    Ok(written)
 }
+
+/// What is told of a script in a world of this roster in place of what is wanted, if it is something else.
+fn other(alloc: Global, roster: &str, script: &str, wanted: &str) -> Result<Option<String>, Fail> {
+    let roster = roster_of(alloc, roster)?;
+    let told = told(alloc, &roster, script.as_bytes())?;
+    if told.as_slice() == wanted.as_bytes() {
+        return Ok(None);
+    }
+    Ok(Some(String::from_utf8(told)?))
+}
+
+/// The same of the script of a table.
+fn other_of(alloc: Global, roster: &str, table: &str) -> Result<Option<String>, Fail> {
+    let script = script_of(alloc, table)?;
+    let wanted = told_of(alloc, table)?;
+    other(alloc, roster, script.as_str(), wanted.as_str())
+}
+
+/// What is told in place of what is wanted where the second line is too long.
+fn other_of_long(alloc: Global) -> Result<Option<String>, Fail> {
+    let long = "a".repeat(alloc, 140_001)?;
+    let script = format!(in alloc; "clock 1\n{long}\nclock 2\n")?;
+    other(alloc, ONE, script.as_str(), "1 -\nLineTooLong")
+}
+
+/// The tables, each with its name and the roster of its world.
+const TABLES: &[(&str, &str, &str)] = &[
+    ("two siblings", TWO, TWO_SIBLINGS),
+    ("overtaken", ONE, OVERTAKEN),
+    ("sources", THREE, SOURCES),
+    ("floors", ONE, FLOORS),
+    ("refused", ONE, REFUSED),
+    ("late", TWO, LATE),
+    ("bad", ONE, BAD),
+];
+
+/// Lines that are bad: words are parted by one space alone, and a line has no other end than LF.
+const SPACES: &[&str] = &[
+    "client  1 http://o/a",
+    "client 1  http://o/a",
+    " clock 1",
+    "clock 1 ",
+    "clock\t1",
+    "issue ",
+    "origin 1 33 200 ",
+    "resend\r",
+];
 
 #[test]
 fn scripts_are_told(rt: HostRuntime) -> Result<(), Fail> {
-    for (roster, table) in [
-        (TWO, TWO_SIBLINGS),
-        (ONE, OVERTAKEN),
-        (THREE, SOURCES),
-        (ONE, FLOORS),
-        (ONE, REFUSED),
-        (TWO, LATE),
-        (ONE, BAD),
-    ] {
-        let (script, expected) = script_of(&rt, table)?;
-        let shown = told(&rt, roster, script.as_str())?;
-        assert_eq!(rt; shown.as_str(), expected.as_str());
+    for (name, roster, table) in TABLES {
+        let other = other_of(rt.alloc(), roster, table)?;
+        assert!(rt; other.is_none(), "{name}: {other:?}");
     }
-    Ok(())
-}
-
-/// Words are parted by one space alone, and a line has no other end than LF.
-#[test]
-fn spaces(rt: HostRuntime) -> Result<(), Fail> {
-    for line in [
-        "client  1 http://o/a",
-        "client 1  http://o/a",
-        " clock 1",
-        "clock 1 ",
-        "clock\t1",
-        "issue ",
-        "origin 1 33 200 ",
-        "resend\r",
-    ] {
-        let shown = told(&rt, ONE, line)?;
-        assert_eq!(rt; shown.as_str(), "1 bad line\n", "{line:?}");
+    for line in SPACES {
+        let other = other(rt.alloc(), ONE, line, "1 bad line\n")?;
+        assert!(rt; other.is_none(), "{line:?}: {other:?}");
     }
-    Ok(())
-}
-
-#[test]
-fn a_run_that_stops(rt: HostRuntime) -> Result<(), Fail> {
-    let Ok(roster) = Roster::read(rt.alloc(), ONE) else {
-        return Err("the roster".into());
-    };
-    let long = "a".repeat(rt.alloc(), 140_001)?;
-    let script = format!(in rt.alloc(); "clock 1\n{long}\nclock 2\n")?;
-    let mut written = Vec::new(rt.alloc());
-    let done = run_world(rt.alloc(), &roster, &mut script.as_bytes(), &mut written);
-    assert!(rt; done == Err(RunFault::LineTooLong));
-    assert_eq!(rt; written.as_slice(), b"1 -\n".as_slice());
+    let other = other_of_long(rt.alloc())?;
+    assert!(rt; other.is_none(), "a line too long: {other:?}");
     Ok(())
 }

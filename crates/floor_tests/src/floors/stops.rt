@@ -1,15 +1,15 @@
 //! Raises over files that stop after so many calls.
-use super::{floor, loaded, raise};
+//!
+//! What is done with a store is written for any store below it, and what opens and closes files for any disk: a proof then speaks of none in particular.
+use super::{floor, loaded, raise, want};
 use floor_rules::{FloorFault, FloorStore};
 use purge_numbers::SqliteFloors;
-use sqlite::{Connection, FileStore, Files, Options};
+use sqlite::{Alter, Connection, FileStore, Files, Options};
 use sqlite_disk::{Crash, Disk, Fuse, Memory};
 use std::alloc::Global;
 use std::test::Fail;
 
 type Disks = Fuse<Memory>;
-
-type Stored = SqliteFloors<FileStore<Disks>>;
 
 fn files(log: Memory, db: Memory, log_calls: u64, db_calls: u64) -> Files<Disks> {
     Files {
@@ -18,16 +18,11 @@ fn files(log: Memory, db: Memory, log_calls: u64, db_calls: u64) -> Files<Disks>
     }
 }
 
-/// The files as a close leaves them, whatever they answer.
-fn files_of(conn: Connection<FileStore<Disks>>) -> Files<Disks> {
-    conn.into_store().close()
-}
-
 /// A connection to the files, or what is left of them.
-fn connected(
+fn connected<D: Disk + Drop>(
     alloc: Global,
-    files: Files<Disks>,
-) -> Result<Connection<FileStore<Disks>>, Files<Disks>> {
+    files: Files<D>,
+) -> Result<Connection<FileStore<D>>, Files<D>> {
     if !files.may_be_used() {
         return Err(files);
     }
@@ -37,28 +32,42 @@ fn connected(
     }
 }
 
-/// Opens the store of a connection, or hands back what is left of its files.
-fn stored(alloc: Global, conn: Connection<FileStore<Disks>>) -> Result<Stored, Files<Disks>> {
+/// The floors of a connection, or what is left below it.
+fn stored<S: Alter + Drop>(alloc: Global, conn: Connection<S>) -> Result<SqliteFloors<S>, S> {
     match SqliteFloors::open(alloc, conn) {
         Ok(store) => Ok(store),
-        Err((conn, _)) => Err(files_of(conn)),
+        Err((conn, _)) => Err(conn.into_store()),
     }
 }
 
-/// Opens the files, or hands back what is left of them.
-fn open(alloc: Global, files: Files<Disks>) -> Result<Stored, Files<Disks>> {
-    stored(alloc, connected(alloc, files)?)
+/// The files of a connection that is closed.
+fn closed<D: Disk + Drop>(conn: Connection<FileStore<D>>) -> Result<Files<D>, Fail> {
+    match conn.close_files().ok() {
+        Some(files) => Ok(files),
+        None => Err("close".into()),
+    }
 }
 
-/// The files of a store that is closed.
-fn closed(store: Stored) -> Result<Files<Disks>, Fail> {
-    Ok(store.into_connection().close_files().ok().ok_or("close")?)
+/// The connection of a store that opens.
+fn opened<S: Alter + Drop>(alloc: Global, conn: Connection<S>) -> Result<Connection<S>, Fail> {
+    match stored(alloc, conn) {
+        Ok(store) => Ok(store.into_connection()),
+        Err(_) => Err("first open".into()),
+    }
+}
+
+/// The files of a store that is opened and closed.
+fn made<D: Disk + Drop>(alloc: Global, files: Files<D>) -> Result<Files<D>, Fail> {
+    match connected(alloc, files) {
+        Ok(conn) => closed(opened(alloc, conn)?),
+        Err(_) => Err("first files".into()),
+    }
 }
 
 /// A file with its tables and no floor.
 fn first_files(alloc: Global) -> Result<Files<Disks>, Fail> {
     let new = files(Memory::new(alloc), Memory::new(alloc), u64::MAX, u64::MAX);
-    closed(open(alloc, new).ok().ok_or("first open")?)
+    made(alloc, new)
 }
 
 fn copy(alloc: Global, disk: &Disks) -> Result<Memory, Fail> {
@@ -74,10 +83,6 @@ fn crashed(alloc: Global, left: Files<Disks>) -> Result<Files<Disks>, Fail> {
     log.crash();
     db.crash();
     Ok(files(copy(alloc, &log)?, copy(alloc, &db)?, u64::MAX, u64::MAX))
-}
-
-fn want(holds: bool, what: &'static str) -> Result<(), Fail> {
-    if holds { Ok(()) } else { Err(what)? }
 }
 
 /// Raises `http://a/` to 3, and answers whether that was answered Ok. A store that failed fails from then on.
@@ -106,35 +111,53 @@ fn stopping(
     Ok(files(log, db, log_calls, db_calls))
 }
 
-/// Raises, and answers whether that was answered Ok and what is left of the files.
-fn raised_once(alloc: Global, mut store: Stored) -> Result<(bool, Files<Disks>), Fail> {
+/// Raises, and answers whether that was answered Ok and what is left below the store.
+fn raised_once<S: Alter + Drop>(
+    alloc: Global,
+    mut store: SqliteFloors<S>,
+) -> Result<(bool, S), Fail> {
     let went = raised(&mut store, alloc)?;
-    Ok((went, files_of(store.into_connection())))
+    Ok((went, store.into_connection().into_store()))
 }
 
-/// The same over files that may not open.
-fn tried(alloc: Global, files: Files<Disks>) -> Result<(bool, Files<Disks>), Fail> {
-    match open(alloc, files) {
+/// The same over a connection whose store may not open.
+fn raised_over<S: Alter + Drop>(alloc: Global, conn: Connection<S>) -> Result<(bool, S), Fail> {
+    match stored(alloc, conn) {
         Ok(store) => raised_once(alloc, store),
         Err(left) => Ok((false, left)),
     }
 }
 
-/// The store that a crash leaves, opened again.
-fn reopened(alloc: Global, files: Files<Disks>) -> Result<Stored, Fail> {
-    Ok(open(alloc, files).ok().ok_or("open after the crash")?)
+/// The same over files that may not open: what is left of them, whatever they answer.
+fn tried<D: Disk + Drop>(alloc: Global, files: Files<D>) -> Result<(bool, Files<D>), Fail> {
+    match connected(alloc, files) {
+        Ok(conn) => {
+            let (went, left) = raised_over(alloc, conn)?;
+            Ok((went, left.close()))
+        }
+        Err(left) => Ok((false, left)),
+    }
 }
 
 /// The floor that a store holds.
-fn floor_of<F: FloorStore>(store: &mut F, alloc: Global) -> Result<u32, Fail> {
-    let floors = loaded(store, alloc)?;
-    floor(&floors, alloc, "http://a/")
+fn floor_of<S: Alter + Drop>(alloc: Global, mut store: SqliteFloors<S>) -> Result<u32, Fail> {
+    floor(&loaded(&mut store, alloc)?, alloc, "http://a/")
 }
 
-/// The floor that files hold.
-fn floor_in(alloc: Global, files: Files<Disks>) -> Result<u32, Fail> {
-    let mut store = reopened(alloc, files)?;
-    floor_of(&mut store, alloc)
+/// The same over a connection.
+fn floor_over<S: Alter + Drop>(alloc: Global, conn: Connection<S>) -> Result<u32, Fail> {
+    match stored(alloc, conn) {
+        Ok(store) => floor_of(alloc, store),
+        Err(_) => Err("the store after the crash".into()),
+    }
+}
+
+/// The floor that the files hold which a crash leaves.
+fn floor_in<D: Disk + Drop>(alloc: Global, files: Files<D>) -> Result<u32, Fail> {
+    match connected(alloc, files) {
+        Ok(conn) => floor_over(alloc, conn),
+        Err(_) => Err("the files after the crash".into()),
+    }
 }
 
 /// Raises over a copy of the files that stops, and answers whether that was answered Ok and the floor after a crash.

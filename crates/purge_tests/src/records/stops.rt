@@ -1,21 +1,15 @@
 //! Calls over files that stop after so many calls of the disk.
+//!
+//! What is done with a store is written for any store below it, and what opens and closes files for any disk: a proof then speaks of none in particular.
 use crate::calls::{add, loaded, mark, want};
 use purge_records::SqlitePurges;
 use purge_rules::{PurgeFault, PurgeStore};
-use sqlite::{Connection, FileStore, Files, Options};
+use sqlite::{Alter, Connection, FileStore, Files, Options};
 use sqlite_disk::{Crash, Disk, Fuse, Memory};
 use std::alloc::Global;
 use std::test::Fail;
 
 type Disks = Fuse<Memory>;
-
-type Stored = SqlitePurges<FileStore<Disks>>;
-
-/// A store that is dropped as one value.
-#[derive(Drop)]
-struct Held {
-    store: Stored,
-}
 
 /// The call that is stopped.
 #[derive(Clone, Copy)]
@@ -43,16 +37,11 @@ fn files(log: Memory, db: Memory, log_calls: u64, db_calls: u64) -> Files<Disks>
     }
 }
 
-/// The files as a close leaves them, whatever they answer.
-fn files_of(conn: Connection<FileStore<Disks>>) -> Files<Disks> {
-    conn.into_store().close()
-}
-
 /// A connection to the files, or what is left of them.
-fn connected(
+fn connected<D: Disk + Drop>(
     alloc: Global,
-    files: Files<Disks>,
-) -> Result<Connection<FileStore<Disks>>, Files<Disks>> {
+    files: Files<D>,
+) -> Result<Connection<FileStore<D>>, Files<D>> {
     if !files.may_be_used() {
         return Err(files);
     }
@@ -62,22 +51,20 @@ fn connected(
     }
 }
 
-/// Opens the store of a connection, or hands back what is left of its files.
-fn stored(alloc: Global, conn: Connection<FileStore<Disks>>) -> Result<Stored, Files<Disks>> {
+/// The purges of a connection, or what is left below it.
+fn stored<S: Alter + Drop>(alloc: Global, conn: Connection<S>) -> Result<SqlitePurges<S>, S> {
     match SqlitePurges::open(alloc, conn) {
         Ok(store) => Ok(store),
-        Err((conn, _)) => Err(files_of(conn)),
+        Err((conn, _)) => Err(conn.into_store()),
     }
 }
 
-/// Opens the files, or hands back what is left of them.
-fn open(alloc: Global, files: Files<Disks>) -> Result<Stored, Files<Disks>> {
-    stored(alloc, connected(alloc, files)?)
-}
-
-/// The files of a store that is closed.
-fn closed(store: Stored) -> Result<Files<Disks>, Fail> {
-    Ok(store.into_connection().close_files().ok().ok_or("close")?)
+/// The files of a connection that is closed.
+fn closed<D: Disk + Drop>(conn: Connection<FileStore<D>>) -> Result<Files<D>, Fail> {
+    match conn.close_files().ok() {
+        Some(files) => Ok(files),
+        None => Err("close".into()),
+    }
 }
 
 /// Adds the purges 1, which one member acknowledges, and 2.
@@ -87,14 +74,35 @@ fn fill<P: PurgeStore>(store: &mut P, alloc: Global) -> Result<(), Fail> {
     want(mark(store, alloc, 1, 5)? == Ok(()), "marked")
 }
 
+/// The connection of a store to which these purges were added.
+fn filled<S: Alter + Drop>(
+    alloc: Global,
+    mut store: SqlitePurges<S>,
+) -> Result<Connection<S>, Fail> {
+    fill(&mut store, alloc)?;
+    Ok(store.into_connection())
+}
+
+/// The same over a connection.
+fn filled_over<S: Alter + Drop>(alloc: Global, conn: Connection<S>) -> Result<Connection<S>, Fail> {
+    match stored(alloc, conn) {
+        Ok(store) => filled(alloc, store),
+        Err(_) => Err("first open".into()),
+    }
+}
+
+/// The files of a store with these purges that is closed.
+fn made<D: Disk + Drop>(alloc: Global, files: Files<D>) -> Result<Files<D>, Fail> {
+    match connected(alloc, files) {
+        Ok(conn) => closed(filled_over(alloc, conn)?),
+        Err(_) => Err("first files".into()),
+    }
+}
+
 /// A file with these purges.
 fn first_files(alloc: Global) -> Result<Files<Disks>, Fail> {
     let new = files(Memory::new(alloc), Memory::new(alloc), u64::MAX, u64::MAX);
-    let store = open(alloc, new).ok().ok_or("first open")?;
-    let mut held = Held { store };
-    fill(&mut held.store, alloc)?;
-    let Held { store } = held;
-    closed(store)
+    made(alloc, new)
 }
 
 fn copy(alloc: Global, disk: &Disks) -> Result<Memory, Fail> {
@@ -173,31 +181,62 @@ fn stopping(
     Ok(files(log, db, log_calls, db_calls))
 }
 
-/// Makes the call, and answers how it ended and what is left of the files.
-fn called_once(alloc: Global, store: Stored, step: Step) -> Result<(End, Files<Disks>), Fail> {
-    let mut held = Held { store };
-    let end = called(&mut held.store, alloc, step)?;
-    let Held { store } = held;
-    Ok((end, files_of(store.into_connection())))
+/// Makes the call, and answers how it ended and what is left below the store.
+fn called_once<S: Alter + Drop>(
+    alloc: Global,
+    mut store: SqlitePurges<S>,
+    step: Step,
+) -> Result<(End, S), Fail> {
+    let end = called(&mut store, alloc, step)?;
+    Ok((end, store.into_connection().into_store()))
 }
 
-/// The same over files that may not open.
-fn tried(alloc: Global, files: Files<Disks>, step: Step) -> Result<(End, Files<Disks>), Fail> {
-    match open(alloc, files) {
+/// The same over a connection whose store may not open.
+fn called_over<S: Alter + Drop>(
+    alloc: Global,
+    conn: Connection<S>,
+    step: Step,
+) -> Result<(End, S), Fail> {
+    match stored(alloc, conn) {
         Ok(store) => called_once(alloc, store, step),
         Err(left) => Ok((End::Unopened, left)),
     }
 }
 
-/// The store that a crash leaves, opened again.
-fn reopened(alloc: Global, files: Files<Disks>) -> Result<Stored, Fail> {
-    Ok(open(alloc, files).ok().ok_or("open after the crash")?)
+/// The same over files that may not open: what is left of them, whatever they answer.
+fn tried<D: Disk + Drop>(
+    alloc: Global,
+    files: Files<D>,
+    step: Step,
+) -> Result<(End, Files<D>), Fail> {
+    match connected(alloc, files) {
+        Ok(conn) => {
+            let (end, left) = called_over(alloc, conn, step)?;
+            Ok((end, left.close()))
+        }
+        Err(left) => Ok((End::Unopened, left)),
+    }
 }
 
-/// What is seen of the purges that files hold.
-fn seen_in(alloc: Global, files: Files<Disks>) -> Result<Seen, Fail> {
-    let mut store = reopened(alloc, files)?;
+/// What is seen of the purges that a store holds.
+fn seen_of<S: Alter + Drop>(alloc: Global, mut store: SqlitePurges<S>) -> Result<Seen, Fail> {
     seen(&mut store, alloc)
+}
+
+/// The same over a connection.
+fn seen_over<S: Alter + Drop>(alloc: Global, conn: Connection<S>) -> Result<Seen, Fail> {
+    match stored(alloc, conn) {
+        Ok(store) => seen_of(alloc, store),
+        Err(_) => Err("the store after the crash".into()),
+    }
+}
+
+/// What is seen of the purges that the files hold which a crash leaves.
+fn seen_in<D: Disk + Drop>(alloc: Global, files: Files<D>) -> Result<Seen, Fail> {
+    match connected(alloc, files) {
+        Ok(conn) => seen_over(alloc, conn),
+        Err(_) => Err("the files after the crash".into()),
+    }
 }
 
 /// Makes the call over a copy of the files that stops, and answers how it ended and what a crash leaves.
@@ -281,17 +320,20 @@ fn a_finish_whose_main_file_stops(rt: HostRuntime) -> Result<(), Fail> {
     stops_of(rt.alloc(), Step::Finish, true, 4)
 }
 
+/// Whether the main file stops and not the log, and after how many calls.
+const OPENS: [(bool, u64); 6] = [
+    (false, 0),
+    (false, 9),
+    (false, 18),
+    (true, 0),
+    (true, 9),
+    (true, 18),
+];
+
 #[test]
 fn opens_that_stop(rt: HostRuntime) -> Result<(), Fail> {
     let first = first_files(rt.alloc())?;
-    for (main_file, calls) in [
-        (false, 0),
-        (false, 9),
-        (false, 18),
-        (true, 0),
-        (true, 9),
-        (true, 18),
-    ] {
+    for (main_file, calls) in OPENS {
         let end = stop_at(rt.alloc(), &first, Step::Finish, main_file, calls)?;
         assert!(rt; end == End::Unopened);
     }

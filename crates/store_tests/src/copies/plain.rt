@@ -1,6 +1,7 @@
 //! A store as a plain list of copies, the most recent first, which each call goes over.
 use object_store::{Put, WebCopy, size};
-use std::alloc::{AllocError, Global};
+use std::alloc::Global;
+use std::process::Abort;
 use url_key::Key;
 
 #[derive(Drop)]
@@ -32,7 +33,12 @@ impl Plain {
     }
 
     pub fn peek(&self, key: &Key) -> Option<&WebCopy<u32>> {
-        self.copies.iter().find(|copy| copy.key == *key)
+        for copy in &self.copies {
+            if copy.key == *key {
+                return Some(copy);
+            }
+        }
+        None
     }
 
     fn take_out(&mut self, key: &Key) -> Option<WebCopy<u32>> {
@@ -44,30 +50,46 @@ impl Plain {
         None
     }
 
-    pub fn refresh(&mut self, key: &Key) -> Result<(), AllocError> {
-        if let Some(copy) = self.take_out(key) {
-            self.copies.insert(0, copy)?;
-        }
-        Ok(())
+    fn push_front(&mut self, rt: &(impl Abort + AllocGlobal), copy: WebCopy<u32>) {
+        self.copies.insert(0, copy).expect(rt, "memory");
     }
 
-    pub fn put(&mut self, copy: WebCopy<u32>) -> Result<Put, AllocError> {
-        if size(&copy) > self.limit_bytes {
-            return Ok(Put::TooLarge);
+    pub fn refresh(&mut self, rt: &(impl Abort + AllocGlobal), key: &Key) {
+        if let Some(copy) = self.take_out(key) {
+            self.push_front(rt, copy);
         }
-        if let Some(held) = self.peek(&copy.key) {
-            if copy.stamp < held.stamp {
-                return Ok(Put::Kept);
-            }
-        }
+    }
+
+    /// Whether a newer copy of the key is held.
+    fn outdoes(&self, key: &Key, stamp: u32) -> bool {
+        matches!(self.peek(key), Some(held) if stamp < held.stamp)
+    }
+
+    fn is_over(&self) -> bool {
+        self.copies.len() > self.limit_count || self.bytes() > self.limit_bytes
+    }
+
+    fn put_in(&mut self, rt: &(impl Abort + AllocGlobal), copy: WebCopy<u32>) {
         self.take_out(&copy.key);
-        self.copies.insert(0, copy)?;
+        self.push_front(rt, copy);
         for _ in 0..self.copies.len() {
-            if self.copies.len() > self.limit_count || self.bytes() > self.limit_bytes {
+            if self.is_over() {
                 self.copies.pop();
             }
         }
-        Ok(Put::Stored)
+    }
+
+    pub fn put(&mut self, rt: &(impl Abort + AllocGlobal), copy: WebCopy<u32>) -> Put {
+        let is_too_large = size(&copy) > self.limit_bytes;
+        let is_outdone = self.outdoes(&copy.key, copy.stamp);
+        if is_too_large {
+            Put::TooLarge
+        } else if is_outdone {
+            Put::Kept
+        } else {
+            self.put_in(rt, copy);
+            Put::Stored
+        }
     }
 
     pub fn remove(&mut self, key: &Key) -> bool {

@@ -1,0 +1,121 @@
+//! Nodes that begin and end.
+use floor_rules::{FloorStore, MemoryFloors};
+use node_book::Record;
+use node_seats::Places;
+use node_shifts::History;
+use node_workers::{Gate, Ground, StartFault, StopFault, Workers};
+use roster::Roster;
+use std::alloc::Global;
+use std::hash::RandomState;
+use std::net::{Net, TcpListener, TcpStream};
+use std::random::RandomSource;
+use std::sync::{Arc, Wait};
+use std::test::Fail;
+use std::thread::Threads;
+use std::time::Clock;
+
+/// A roster, or the name of its fault.
+fn roster_of(alloc: Global, text: &str) -> Result<Roster, Fail> {
+    match Roster::read(alloc, text) {
+        Ok(roster) => Ok(roster),
+        Err(error) => Err(error.fault.name().into()),
+    }
+}
+
+/// What a node starts on: these floors.
+fn ground<S: FloorStore + Drop, R: RandomSource>(
+    rt: &R,
+    alloc: Global,
+    floors: S,
+) -> Result<Ground<S>, Fail> {
+    Ok(Ground {
+        floors,
+        places: Places::new(alloc)?,
+        history: History::UpTo(16),
+        keys: RandomState::new(rt)?,
+    })
+}
+
+/// A node of a roster with two workers, over these floors.
+pub(crate) fn started_over<
+    S: FloorStore + Drop + Send + 'static,
+    G: Gate + Drop + Send + Sync + 'static,
+    R: Threads
+        + Wait
+        + Clock
+        + RandomSource
+        + Net<Listener = TcpListener, Stream = TcpStream>
+        + Copy
+        + Drop
+        + Send
+        + Sync
+        + 'static,
+>(
+    rt: R,
+    alloc: Global,
+    text: &str,
+    id: u8,
+    gate: Arc<G, Global>,
+    floors: S,
+) -> Result<Result<Workers, StartFault>, Fail> {
+    let roster = roster_of(alloc, text)?;
+    let ground = ground(&rt, alloc, floors)?;
+    Ok(Workers::start(rt, alloc, &roster, id, 2, ground, gate))
+}
+
+/// A node of a roster with two workers, over floors in memory.
+pub(crate) fn started<
+    G: Gate + Drop + Send + Sync + 'static,
+    R: Threads
+        + Wait
+        + Clock
+        + RandomSource
+        + Net<Listener = TcpListener, Stream = TcpStream>
+        + Copy
+        + Drop
+        + Send
+        + Sync
+        + 'static,
+>(
+    rt: R,
+    alloc: Global,
+    text: &str,
+    id: u8,
+    gate: Arc<G, Global>,
+) -> Result<Result<Workers, StartFault>, Fail> {
+    started_over(rt, alloc, text, id, gate, MemoryFloors::new(alloc))
+}
+
+/// A node of a roster with two workers, which runs.
+pub(crate) fn running<
+    G: Gate + Drop + Send + Sync + 'static,
+    R: Threads
+        + Wait
+        + Clock
+        + RandomSource
+        + Net<Listener = TcpListener, Stream = TcpStream>
+        + Copy
+        + Drop
+        + Send
+        + Sync
+        + 'static,
+>(rt: R, alloc: Global, text: &str, id: u8, gate: Arc<G, Global>) -> Result<Workers, Fail> {
+    match started(rt, alloc, text, id, gate)? {
+        Ok(workers) => Ok(workers),
+        Err(fault) => Err(fault.name().into()),
+    }
+}
+
+/// How many steps the records have.
+pub(crate) fn steps_in(records: &[Record]) -> usize {
+    let mut steps: usize = 0;
+    for record in records {
+        steps = steps.saturating_add(record.entries.as_slice().len());
+    }
+    steps
+}
+
+/// Stops a node: how many steps its records have.
+pub(crate) fn stopped<R: Threads + Wait>(rt: &R, workers: Workers) -> Result<usize, StopFault> {
+    Ok(steps_in(workers.stop(rt)?.as_slice()))
+}

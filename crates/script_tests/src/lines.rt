@@ -1,0 +1,328 @@
+//! Scripts over readers and writers of all kinds.
+use script_lines::{RunFault, Script, play, play_until};
+use std::alloc::{AllocError, Global};
+use std::io::{self, Error, ErrorKind, Read, Write};
+use std::test::Fail;
+
+/// A script that answers each line by itself.
+#[derive(Drop)]
+struct Echo;
+
+impl Script for Echo {
+    ghost use Rattle.std.specs.Prelude.{◌≡◌};
+
+    ghost answers = { λ _ line answer _. answer ≡ line };
+
+    fn answer(
+        &mut self,
+        _alloc: Global,
+        line: &[u8],
+        text: &mut Vec<u8>,
+    ) -> Result<(), AllocError> {
+        text.extend_from_slice(line)
+    }
+}
+
+/// Hands out pieces, one a read, and fails once they are spent; or hands out its first piece without an end.
+#[derive(Drop)]
+struct Pieces<'a> {
+    pieces: &'a [&'a [u8]],
+    next: usize,
+    is_endless: bool,
+}
+
+impl Read for Pieces<'_> {
+    fn read(&mut self, buffer: &mut [u8]) -> io::Result<usize> {
+        let Some(piece) = self.pieces.get(self.next) else {
+            return Err(Error::from(ErrorKind::Other));
+        };
+        let count = piece.len().min(buffer.len());
+        buffer[..count].copy_from_slice(&piece[..count]);
+        if !self.is_endless {
+            self.next = self.next.saturating_add(1);
+        }
+        Ok(count)
+    }
+}
+
+/// These pieces, one after another.
+fn pieces_of<'a>(pieces: &'a [&'a [u8]]) -> Pieces<'a> {
+    Pieces {
+        pieces,
+        next: 0,
+        is_endless: false,
+    }
+}
+
+/// A writer that takes so many octets, one a call, and then fails.
+#[derive(Drop)]
+struct Narrow {
+    taken: Vec<u8>,
+    room: usize,
+}
+
+impl Write for Narrow {
+    fn write(&mut self, buffer: &[u8]) -> io::Result<usize> {
+        match buffer.first() {
+            Some(octet) if self.room > 0 => {
+                self.taken.push(*octet)?;
+                self.room = self.room.saturating_sub(1);
+                Ok(1)
+            }
+            Some(_) => Err(Error::from(ErrorKind::Other)),
+            None => Ok(0),
+        }
+    }
+
+    fn flush(&mut self) -> io::Result<()> {
+        Ok(())
+    }
+}
+
+/// Whether the pieces of an input are answered so, by a script that ends before its last line, where one is named, into a writer with so much room.
+fn is_played(
+    alloc: Global,
+    pieces: &[&[u8]],
+    last: Option<&[u8]>,
+    room: usize,
+    wanted: &[u8],
+    outcome: Result<(), RunFault>,
+) -> bool {
+    let mut reader = pieces_of(pieces);
+    let mut writer = Narrow {
+        taken: Vec::new(alloc),
+        room,
+    };
+    let done = match last {
+        Some(last) => play_until(alloc, &mut Echo, last, &mut reader, &mut writer),
+        None => play(alloc, &mut Echo, &mut reader, &mut writer),
+    };
+    done == outcome && writer.taken.as_slice() == wanted
+}
+
+/// More room than any answer takes.
+const ROOM: usize = 1_000_000;
+
+/// What is answered to the pieces of an input, up to its last line, where one is named; behind its last piece its reader fails. An empty piece is the input's end, which is asked for once more
+/// behind a last line without its end.
+const INPUTS: &[(
+    &str,
+    &[&[u8]],
+    Option<&[u8]>,
+    usize,
+    &[u8],
+    Result<(), RunFault>,
+)] = &[
+    ("nothing", &[b""], None, ROOM, b"", Ok(())),
+    (
+        "a last line without its end",
+        &[b"a", b"", b""],
+        None,
+        ROOM,
+        b"a\n",
+        Ok(()),
+    ),
+    ("a line", &[b"a\n", b""], None, ROOM, b"a\n", Ok(())),
+    (
+        "empty lines",
+        &[b"\n\na b\n", b""],
+        None,
+        ROOM,
+        b"\n\na b\n",
+        Ok(()),
+    ),
+    (
+        "CR is no end of a line",
+        &[b"a\r\n\nb", b"", b""],
+        None,
+        ROOM,
+        b"a\r\n\nb\n",
+        Ok(()),
+    ),
+    (
+        "the reader fails in a line",
+        &[b"o", b"n", b"e", b"\n", b"t", b"w", b"o"],
+        None,
+        ROOM,
+        b"one\n",
+        Err(RunFault::Io),
+    ),
+    (
+        "nothing is read behind the last line",
+        &[b"one\n", b"two\nquit\n"],
+        Some(b"quit"),
+        ROOM,
+        b"one\ntwo\n",
+        Ok(()),
+    ),
+    (
+        "what was read behind it is not answered",
+        &[b"quit\nthree\n"],
+        Some(b"quit"),
+        ROOM,
+        b"",
+        Ok(()),
+    ),
+    (
+        "it comes in two pieces",
+        &[b"one\nqui", b"t\nthree\n"],
+        Some(b"quit"),
+        ROOM,
+        b"one\n",
+        Ok(()),
+    ),
+    (
+        "it may be the input's end",
+        &[b"one\nquit", b""],
+        Some(b"quit"),
+        ROOM,
+        b"one\n",
+        Ok(()),
+    ),
+    (
+        "others begin as it does",
+        &[b"quits\nqui\nquit \n", b""],
+        Some(b"quit"),
+        ROOM,
+        b"quits\nqui\nquit \n",
+        Ok(()),
+    ),
+    (
+        "it never comes",
+        &[b"one\ntwo", b"", b""],
+        Some(b"quit"),
+        ROOM,
+        b"one\ntwo\n",
+        Ok(()),
+    ),
+    (
+        "the reader fails before it",
+        &[b"one\nquit"],
+        Some(b"quit"),
+        ROOM,
+        b"one\n",
+        Err(RunFault::Io),
+    ),
+    (
+        "no room",
+        &[b"one\nicp\n", b""],
+        None,
+        0,
+        b"",
+        Err(RunFault::Io),
+    ),
+    (
+        "room for 1",
+        &[b"one\nicp\n", b""],
+        None,
+        1,
+        b"o",
+        Err(RunFault::Io),
+    ),
+    (
+        "room for 2",
+        &[b"one\nicp\n", b""],
+        None,
+        2,
+        b"on",
+        Err(RunFault::Io),
+    ),
+    (
+        "room for 3",
+        &[b"one\nicp\n", b""],
+        None,
+        3,
+        b"one",
+        Err(RunFault::Io),
+    ),
+    (
+        "room for 4",
+        &[b"one\nicp\n", b""],
+        None,
+        4,
+        b"one\n",
+        Err(RunFault::Io),
+    ),
+    (
+        "room for 5",
+        &[b"one\nicp\n", b""],
+        None,
+        5,
+        b"one\ni",
+        Err(RunFault::Io),
+    ),
+    (
+        "room for 6",
+        &[b"one\nicp\n", b""],
+        None,
+        6,
+        b"one\nic",
+        Err(RunFault::Io),
+    ),
+    (
+        "room for 7",
+        &[b"one\nicp\n", b""],
+        None,
+        7,
+        b"one\nicp",
+        Err(RunFault::Io),
+    ),
+];
+
+#[test]
+fn inputs_are_played(rt: HostRuntime) -> Result<(), Fail> {
+    for (what, pieces, last, room, wanted, outcome) in INPUTS {
+        assert!(rt;
+            is_played(rt.alloc(), pieces, *last, *room, wanted, *outcome),
+            "{what}"
+        );
+    }
+    Ok(())
+}
+
+/// How many octets are answered to an input, and how its run ends.
+fn counted(alloc: Global, mut reader: Pieces<'_>) -> (usize, Result<(), RunFault>) {
+    let mut written = Vec::new(alloc);
+    let done = play(alloc, &mut Echo, &mut reader, &mut written);
+    (written.len(), done)
+}
+
+/// Whether a line is too long that has these octets four times and one more, and ends so.
+fn is_too_long(alloc: Global, part: &[u8], end: &[u8]) -> bool {
+    let pieces: &[&[u8]] = &[b"one\n", part, part, part, part, b"a", end];
+    is_played(
+        alloc,
+        pieces,
+        None,
+        ROOM,
+        b"one\n",
+        Err(RunFault::LineTooLong),
+    )
+}
+
+/// A line has at most 140,000 octets, which four of these parts make.
+#[test]
+fn long_lines(rt: HostRuntime) -> Result<(), Fail> {
+    let alloc = rt.alloc();
+    let part = "a".repeat(alloc, 35_000)?;
+    let part = part.as_bytes();
+    let longest: &[&[u8]] = &[part, part, part, part, b"", b""];
+    assert_eq!(rt; counted(alloc, pieces_of(longest)), (140_001, Ok(())));
+    // One octet more is too many, also where the line's end never comes.
+    for end in [b"\nb\n".as_slice(), b"".as_slice()] {
+        assert!(rt; is_too_long(alloc, part, end), "{end:?}");
+    }
+    Ok(())
+}
+
+#[test]
+fn an_input_without_an_end(rt: HostRuntime) -> Result<(), Fail> {
+    let endless = Pieces {
+        pieces: &[b"\n"],
+        next: 0,
+        is_endless: true,
+    };
+    let stopped = (70_000, Err(RunFault::TooManyTurns));
+    assert_eq!(rt; counted(rt.alloc(), endless), stopped);
+    Ok(())
+}
