@@ -6,7 +6,8 @@ use floor_rules::{FloorStore, MemoryFloors};
 use node_core::Node;
 use node_rules::{Begin, Event, Reply, StepFault};
 use purge_numbers::SqliteFloors;
-use sqlite::Connection;
+use roster::Roster;
+use sqlite::{Connection, MemStore};
 use std::alloc::Global;
 use std::test::Fail;
 
@@ -16,16 +17,27 @@ struct Held<S: FloorStore + Drop> {
     node: Node<(), S>,
 }
 
-/// Node 1, over this store.
-fn opened<S: FloorStore + Drop>(alloc: Global, store: S) -> Result<Held<S>, Fail> {
-    match Node::open(alloc, roster_of(alloc)?, 1, store) {
+fn over<S: FloorStore + Drop>(alloc: Global, roster: Roster, store: S) -> Result<Held<S>, Fail> {
+    match Node::open(alloc, roster, 1, store) {
         Ok(node) => Ok(Held { node }),
         Err(fault) => Err(fault.name().into()),
     }
 }
 
-fn store_of<S: FloorStore + Drop>(held: Held<S>) -> S {
-    held.node.into_floors()
+/// Node 1, over this store.
+fn opened<S: FloorStore + Drop>(alloc: Global, store: S) -> Result<Held<S>, Fail> {
+    over(alloc, roster_of(alloc)?, store)
+}
+
+/// Node 1, over this file.
+fn opened_over(
+    alloc: Global,
+    conn: Connection<MemStore>,
+) -> Result<Held<SqliteFloors<MemStore>>, Fail> {
+    match SqliteFloors::open(alloc, conn) {
+        Ok(store) => opened(alloc, store),
+        Err((_, fault)) => Err(fault.name().into()),
+    }
 }
 
 fn client(alloc: Global, url: &str) -> Result<Event<()>, Fail> {
@@ -39,78 +51,140 @@ fn client(alloc: Global, url: &str) -> Result<Event<()>, Fail> {
 }
 
 /// What the master's CLR of a URL under this number is answered.
-fn cleared<S: FloorStore + Drop>(
+fn cleared<S: FloorStore>(
     alloc: Global,
-    held: &mut Held<S>,
+    node: &mut Node<(), S>,
     url: &str,
     number: u32,
 ) -> Result<Result<Cleared, StepFault>, Fail> {
-    Ok(match held.node.step(purge(alloc, url, number)?, ()) {
+    Ok(match node.step(purge(alloc, url, number)?, ()) {
         Ok(reply) => Ok(cleared_by(&reply)),
         Err(fault) => Err(fault),
     })
 }
 
 /// The node's floor of a URL, its greatest floor, and how many there are.
-fn floors_of<S: FloorStore + Drop>(
+fn floors_of<S: FloorStore>(
     alloc: Global,
-    held: &Held<S>,
+    node: &Node<(), S>,
     url: &str,
 ) -> Result<(u32, u32, usize), Fail> {
-    let state = held.node.state()?;
-    let floor = state.floors.floor(&key_of(alloc, url)?);
-    Ok((floor, state.floors.seen(), state.floors.rows()))
+    let key = key_of(alloc, url)?;
+    let state = node.state()?;
+    Ok((
+        state.floors.floor(&key),
+        state.floors.seen(),
+        state.floors.rows(),
+    ))
 }
 
-/// The stamp with which a read begins for a client's ask.
+/// Whether a step begins the read of this serial.
+fn begins_read<S: FloorStore>(node: &mut Node<(), S>, event: Event<()>, wanted: u32) -> bool {
+    match node.step(event, ()) {
+        Ok(reply) => is_read(&reply, wanted),
+        Err(_) => false,
+    }
+}
+
 fn is_read(reply: &Reply<()>, wanted: u32) -> bool {
     matches!(&reply.begin, Some(Begin::Read { serial, .. }) if *serial == wanted)
+}
+
+/// Whether a step is refused since the node is closed.
+fn is_refused<S: FloorStore>(node: &mut Node<(), S>, event: Event<()>) -> bool {
+    matches!(node.step(event, ()), Err(StepFault::Closed))
+}
+
+/// A node over a file, opened again after a purge.
+fn opened_again(alloc: Global) -> Result<Held<SqliteFloors<MemStore>>, Fail> {
+    let mut held = opened_over(alloc, Connection::open_in_memory(alloc)?)?;
+    match cleared(alloc, &mut held.node, "http://o/a", 7)? {
+        Ok(Cleared::Code(2)) => opened_over(alloc, held.node.into_floors().into_connection()),
+        _ => Err("cleared".into()),
+    }
 }
 
 #[test]
 fn a_node_over_tables_is_opened_again(rt: HostRuntime) -> Result<(), Fail> {
     let alloc = rt.alloc();
-    let conn = Connection::open_in_memory(alloc)?;
-    let store = SqliteFloors::open(alloc, conn).ok().ok_or("opened")?;
-    let mut held = opened(alloc, store)?;
-    let first = cleared(alloc, &mut held, "http://o/a", 7)?;
-    assert!(rt; first == Ok(Cleared::Code(2)));
-    let conn = store_of(held).into_connection();
-    let store = SqliteFloors::open(alloc, conn).ok().ok_or("opened again")?;
-    let held = opened(alloc, store)?;
-    assert!(rt; floors_of(alloc, &held, "http://o/a")? == (7, 7, 1));
-    assert!(rt; floors_of(alloc, &held, "http://o/b")? == (0, 7, 1));
+    let held = opened_again(alloc)?;
+    assert_eq!(rt; floors_of(alloc, &held.node, "http://o/a")?, (7, 7, 1));
+    assert_eq!(rt; floors_of(alloc, &held.node, "http://o/b")?, (0, 7, 1));
     Ok(())
+}
+
+/// What is wrong with a node whose store fails at its first raise: it is closed from then on.
+fn flaw<S: FloorStore>(
+    alloc: Global,
+    node: &mut Node<(), S>,
+) -> Result<Option<&'static str>, Fail> {
+    if !begins_read(node, client(alloc, "http://o/a")?, 33) || node.is_closed() {
+        return Ok(Some("a read"));
+    }
+    let fault = cleared(alloc, node, "http://o/a", 1)?;
+    if fault != Err(StepFault::StoreFault) || !node.is_closed() {
+        return Ok(Some("a fault of the store"));
+    }
+    if cleared(alloc, node, "http://o/a", 1)? != Err(StepFault::Closed) {
+        return Ok(Some("a purge when closed"));
+    }
+    if !is_refused(node, client(alloc, "http://o/a")?) {
+        return Ok(Some("an ask when closed"));
+    }
+    if !is_refused(node, Event::FetchFailed { serial: 33, now: 0 }) {
+        return Ok(Some("a fetch when closed"));
+    }
+    Ok(None)
+}
+
+fn failures_of(held: Held<FailingFloors>) -> u64 {
+    held.node.into_floors().failures()
 }
 
 #[test]
 fn a_fault_of_the_store_closes_a_node(rt: HostRuntime) -> Result<(), Fail> {
     let alloc = rt.alloc();
     let mut held = opened(alloc, FailingFloors::new(alloc, 0))?;
-    let began = held.node.step(client(alloc, "http://o/a")?, ())?;
-    assert!(rt; is_read(&began, 33) && !held.node.is_closed());
-    let fault = cleared(alloc, &mut held, "http://o/a", 1)?;
-    assert!(rt; fault == Err(StepFault::StoreFault) && held.node.is_closed());
-    let again = cleared(alloc, &mut held, "http://o/a", 1)?;
-    assert!(rt; again == Err(StepFault::Closed));
-    let asked = held.node.step(client(alloc, "http://o/a")?, ());
-    assert!(rt; matches!(asked, Err(StepFault::Closed)));
-    let late = Event::FetchFailed { serial: 33, now: 0 };
-    assert!(rt; matches!(held.node.step(late, ()), Err(StepFault::Closed)));
-    assert!(rt; store_of(held).failures() == 1);
+    assert_eq!(rt; flaw(alloc, &mut held.node)?, None);
+    assert_eq!(rt; failures_of(held), 1);
     Ok(())
+}
+
+/// Whether a purge under this number is answered with code 2.
+fn is_cleared<S: FloorStore>(
+    alloc: Global,
+    node: &mut Node<(), S>,
+    number: u32,
+) -> Result<bool, Fail> {
+    Ok(cleared(alloc, node, "http://o/a", number)? == Ok(Cleared::Code(2)))
+}
+
+/// Whether a purge of another URL meets a fault of the store, which closes the node.
+fn is_closed_by_fault<S: FloorStore>(
+    alloc: Global,
+    node: &mut Node<(), S>,
+    number: u32,
+) -> Result<bool, Fail> {
+    let fault = cleared(alloc, node, "http://o/b", number)?;
+    Ok(fault == Err(StepFault::StoreFault) && node.is_closed())
 }
 
 #[test]
 fn a_later_fault_of_the_store_keeps_what_was_answered(rt: HostRuntime) -> Result<(), Fail> {
     let alloc = rt.alloc();
     let mut held = opened(alloc, FailingFloors::new(alloc, 2))?;
-    for number in [1, 2] {
-        let code = cleared(alloc, &mut held, "http://o/a", number)?;
-        assert!(rt; code == Ok(Cleared::Code(2)));
+    assert!(rt; is_cleared(alloc, &mut held.node, 1)?);
+    assert!(rt; is_cleared(alloc, &mut held.node, 2)?);
+    assert!(rt; is_closed_by_fault(alloc, &mut held.node, 3)?);
+    Ok(())
+}
+
+fn raise(alloc: Global, store: &mut MemoryFloors, number: u32) -> Result<(), Fail> {
+    let url = format!(in alloc; "http://o/{number}")?;
+    let key = key_of(alloc, &url)?;
+    if number == 0 || store.raise(alloc, &key, number).is_err() {
+        return Err("a raise".into());
     }
-    let fault = cleared(alloc, &mut held, "http://o/b", 3)?;
-    assert!(rt; fault == Err(StepFault::StoreFault) && held.node.is_closed());
     Ok(())
 }
 
@@ -118,23 +192,36 @@ fn a_later_fault_of_the_store_keeps_what_was_answered(rt: HostRuntime) -> Result
 fn full(alloc: Global) -> Result<MemoryFloors, Fail> {
     let mut store = MemoryFloors::new(alloc);
     for number in 1..65537u32 {
-        let url = format!(in alloc; "http://o/{number}")?;
-        if number == 0 || store.raise(alloc, &key_of(alloc, &url)?, number).is_err() {
-            return Err("a raise".into());
-        }
+        raise(alloc, &mut store, number)?;
     }
     Ok(store)
+}
+
+/// What is wrong with a node whose floors are full: it refuses a new key, and clears one that it has.
+fn flaw_when_full<S: FloorStore>(
+    alloc: Global,
+    node: &mut Node<(), S>,
+) -> Result<Option<&'static str>, Fail> {
+    let refused = cleared(alloc, node, "http://o/a", 70_000)?;
+    if refused != Ok(Cleared::Refused(5)) || node.is_closed() {
+        return Ok(Some("a new key"));
+    }
+    if floors_of(alloc, node, "http://o/a")? != (0, 65536, 65536) {
+        return Ok(Some("the floors before"));
+    }
+    if cleared(alloc, node, "http://o/3", 70_001)? != Ok(Cleared::Code(2)) {
+        return Ok(Some("a key that it has"));
+    }
+    if floors_of(alloc, node, "http://o/3")? != (70_001, 70_001, 65536) {
+        return Ok(Some("the floors after"));
+    }
+    Ok(None)
 }
 
 #[test]
 fn a_node_whose_floors_are_full_refuses_a_new_key(rt: HostRuntime) -> Result<(), Fail> {
     let alloc = rt.alloc();
     let mut held = opened(alloc, full(alloc)?)?;
-    let refused = cleared(alloc, &mut held, "http://o/a", 70_000)?;
-    assert!(rt; refused == Ok(Cleared::Refused(5)) && !held.node.is_closed());
-    assert!(rt; floors_of(alloc, &held, "http://o/a")? == (0, 65536, 65536));
-    let known = cleared(alloc, &mut held, "http://o/3", 70_001)?;
-    assert!(rt; known == Ok(Cleared::Code(2)));
-    assert!(rt; floors_of(alloc, &held, "http://o/3")? == (70_001, 70_001, 65536));
+    assert_eq!(rt; flaw_when_full(alloc, &mut held.node)?, None);
     Ok(())
 }

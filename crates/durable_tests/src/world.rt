@@ -47,35 +47,53 @@ pub(crate) fn key_of(alloc: Global, url: &str) -> Result<Key, Fail> {
     Ok(Key::read(alloc, url.as_bytes())?)
 }
 
+fn octets_of(alloc: Global, text: &str) -> Result<Octets, Fail> {
+    Ok(Octets::from_slice(alloc, text.as_bytes())?)
+}
+
+/// The header line that tells a purge's number.
+fn number_line(alloc: Global, number: u32) -> Result<Octets, Fail> {
+    let line = format!(in alloc; "X-Purge-Number: {number}\r\n")?;
+    octets_of(alloc, line.as_str())
+}
+
+fn specifier(alloc: Global, url: &str, number: u32) -> Result<Specifier, Fail> {
+    Ok(Specifier {
+        method: octets_of(alloc, "GET")?,
+        uri: octets_of(alloc, url)?,
+        version: octets_of(alloc, "HTTP/1.1")?,
+        request_headers: number_line(alloc, number)?,
+    })
+}
+
+/// A message that comes from the master.
+fn came(message: Message) -> Result<Event<()>, Fail> {
+    if can_be_answered(&message) {
+        Ok(Event::Datagram {
+            from: Address {
+                ip: 0x7f00_0001,
+                port: 4800,
+            },
+            message: Received::new(message),
+            now: 0,
+        })
+    } else {
+        Err("no answer has a text".into())
+    }
+}
+
 /// The master's CLR of a URL under this number (RFC 2756, "CLR").
 pub(crate) fn purge(alloc: Global, url: &str, number: u32) -> Result<Event<()>, Fail> {
-    let line = format!(in alloc; "X-Purge-Number: {number}\r\n")?;
-    let spec = Specifier {
-        method: Octets::from_slice(alloc, b"GET")?,
-        uri: Octets::from_slice(alloc, url.as_bytes())?,
-        version: Octets::from_slice(alloc, b"HTTP/1.1")?,
-        request_headers: Octets::from_slice(alloc, line.as_bytes())?,
+    let content = Content::ClrAsk {
+        desired: true,
+        reason: 0,
+        spec: specifier(alloc, url, number)?,
     };
-    let message = Message::Htcp(Htcp {
+    came(Message::Htcp(Htcp {
         minor: 0,
         trans: number,
-        content: Content::ClrAsk {
-            desired: true,
-            reason: 0,
-            spec,
-        },
-    });
-    if !can_be_answered(&message) {
-        return Err("no answer has a text".into());
-    }
-    Ok(Event::Datagram {
-        from: Address {
-            ip: 0x7f00_0001,
-            port: 4800,
-        },
-        message: Received::new(message),
-        now: 0,
-    })
+        content,
+    }))
 }
 
 /// What a node answers to a CLR: the code of its answer, or that of an overall refusal, whose opcode is that of CLR.
@@ -86,21 +104,24 @@ pub(crate) enum Cleared {
     Otherwise,
 }
 
+fn cleared_by_message(message: &Message) -> Cleared {
+    match message {
+        Message::Htcp(message) => match message.content {
+            Content::ClrAnswer { code } => Cleared::Code(code),
+            Content::Overall { opcode: 4, code } => Cleared::Refused(code),
+            _ => Cleared::Otherwise,
+        },
+        Message::Icp(_) => Cleared::Otherwise,
+    }
+}
+
 /// The one datagram of a reply, if it has nothing else.
 pub(crate) fn cleared_by(reply: &Reply<()>) -> Cleared {
-    let sent = reply.send.as_slice();
-    if reply.serve.is_some() || reply.begin.is_some() || sent.len() != 1 {
+    if reply.serve.is_some() || reply.begin.is_some() {
         return Cleared::Otherwise;
     }
-    match sent.first() {
-        Some(only) => match only.message.message() {
-            Message::Htcp(message) => match message.content {
-                Content::ClrAnswer { code } => Cleared::Code(code),
-                Content::Overall { opcode: 4, code } => Cleared::Refused(code),
-                _ => Cleared::Otherwise,
-            },
-            Message::Icp(_) => Cleared::Otherwise,
-        },
-        None => Cleared::Otherwise,
+    match reply.send.as_slice() {
+        [sent] => cleared_by_message(sent.message.message()),
+        _ => Cleared::Otherwise,
     }
 }
