@@ -12,6 +12,8 @@ mod made;
 #[cfg(test)]
 mod reading;
 #[cfg(test)]
+mod slow_heads;
+#[cfg(test)]
 mod texts;
 #[cfg(test)]
 mod values;

@@ -10,8 +10,6 @@ mod choosing;
 mod laws;
 mod round;
 mod said;
-#[cfg(test)]
-mod tests;
 
 pub use laws::choices_follow_answers;
 pub use round::Round;

@@ -11,7 +11,7 @@ pub(crate) const LONGEST_HEAD: usize = 16384;
 /// window is full. So a head of n octets that comes one octet a read costs at most 3n octets parsed: 1, 2, 4 and so on,
 /// at most 2n together, and n at its end. Other pieces add at most n, where empty lines and a start line come in one.
 #[derive(Drop)]
-pub(crate) struct HeadWatch {
+pub struct HeadWatch {
     /// How many octets were parsed last.
     parsed: usize,
     /// How many octets were looked at.
@@ -23,8 +23,8 @@ pub(crate) struct HeadWatch {
 }
 
 impl HeadWatch {
-    /// For a head of which this many octets were parsed.
-    pub(crate) fn new(parsed: usize, may_begin_blank: bool) -> HeadWatch {
+    /// For a head of which this many octets were parsed, and which empty lines may stand before (RFC 9112, section 2.2): so it is with each head, and not with a trailer.
+    pub fn new(parsed: usize, may_begin_blank: bool) -> HeadWatch {
         HeadWatch {
             parsed,
             seen: parsed,
@@ -35,7 +35,7 @@ impl HeadWatch {
 
     /// Whether the octets are to be parsed now: they are those of the call before and at least one more. Where it says
     /// so, they count as parsed.
-    pub(crate) fn is_due(&mut self, window: &[u8]) -> bool
+    pub fn is_due(&mut self, window: &[u8]) -> bool
         ensures { length window.now ≡ 16384 → IsTrue result }
     {
         let unparsed = window.len().saturating_sub(self.parsed);

@@ -16,8 +16,7 @@ mod head_watch;
 mod heads;
 mod intake;
 mod piece;
-#[cfg(test)]
-mod tests;
 mod trailer;
 
+pub use head_watch::HeadWatch;
 pub use intake::Intake;

@@ -1,8 +1,10 @@
-//! Tests of rosters by their public calls: their text as tables, and who takes part.
+//! Tests of rosters by their public calls: their text as tables, who takes part, and rounds of questions among them.
 #![tactic(auto)]
 
 #[cfg(test)]
 mod rosters;
+#[cfg(test)]
+mod rounds;
 #[cfg(test)]
 mod tables;
 

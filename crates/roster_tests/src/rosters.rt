@@ -114,7 +114,7 @@ fn local(port: u16) -> Address {
 }
 
 /// The roster of a text that has one.
-fn read(rt: &(impl Abort + AllocGlobal), text: &str) -> Roster {
+pub(crate) fn read(rt: &(impl Abort + AllocGlobal), text: &str) -> Roster {
     Roster::read(rt.alloc(), text).expect(rt, "a roster")
 }
 
@@ -490,11 +490,16 @@ fn push_largest(text: &mut String) -> fmt::Result {
     Ok(())
 }
 
+/// The text of that roster.
+pub(crate) fn largest(rt: &(impl Abort + AllocGlobal)) -> String {
+    let mut text = String::new(rt.alloc());
+    push_largest(&mut text).expect(rt, "memory");
+    text
+}
+
 #[test]
 fn the_largest_is_read(rt: HostRuntime) {
-    let mut text = String::new(rt.alloc());
-    push_largest(&mut text).expect(&rt, "memory");
-    let roster = read(&rt, &text);
+    let roster = read(&rt, &largest(&rt));
     let flaw = first_wrong(&[
         ("16 members", roster.members().len() == 16),
         ("8 foreign caches", roster.foreign().len() == 8),

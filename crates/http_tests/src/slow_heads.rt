@@ -1,4 +1,5 @@
-use crate::head_watch::HeadWatch;
+//! When the octets of a head that comes in pieces are parsed.
+use peer_intake::HeadWatch;
 use std::alloc::AllocError;
 use std::test::Fail;
 
