@@ -1,9 +1,13 @@
-//! Tests of the scripts of `cache answer` and `cache wire` by their lines, and of the lines of any script.
+//! Tests of scripts by their readers and writers, and of the world of nodes, master and network by its public calls.
 #![tactic(auto)]
 
 #[cfg(test)]
+mod events;
+#[cfg(test)]
 mod lines;
 #[cfg(test)]
-mod rows;
+mod rosters;
 #[cfg(test)]
 mod words;
+#[cfg(test)]
+mod worlds;

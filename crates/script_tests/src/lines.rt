@@ -23,12 +23,11 @@ impl Script for Echo {
     }
 }
 
-/// Hands out pieces, one a read, and fails once they are spent; or hands out its first piece without an end.
+/// Hands out pieces, one a read, and fails once they are spent.
 #[derive(Drop)]
 struct Pieces<'a> {
     pieces: &'a [&'a [u8]],
     next: usize,
-    is_endless: bool,
 }
 
 impl Read for Pieces<'_> {
@@ -38,20 +37,14 @@ impl Read for Pieces<'_> {
         };
         let count = piece.len().min(buffer.len());
         buffer[..count].copy_from_slice(&piece[..count]);
-        if !self.is_endless {
-            self.next = self.next.saturating_add(1);
-        }
+        self.next = self.next.saturating_add(1);
         Ok(count)
     }
 }
 
 /// These pieces, one after another.
 fn pieces_of<'a>(pieces: &'a [&'a [u8]]) -> Pieces<'a> {
-    Pieces {
-        pieces,
-        next: 0,
-        is_endless: false,
-    }
+    Pieces { pieces, next: 0 }
 }
 
 /// A writer that takes so many octets, one a call, and then fails.
@@ -277,52 +270,5 @@ fn inputs_are_played(rt: HostRuntime) -> Result<(), Fail> {
             "{what}"
         );
     }
-    Ok(())
-}
-
-/// How many octets are answered to an input, and how its run ends.
-fn counted(alloc: Global, mut reader: Pieces<'_>) -> (usize, Result<(), RunFault>) {
-    let mut written = Vec::new(alloc);
-    let done = play(alloc, &mut Echo, &mut reader, &mut written);
-    (written.len(), done)
-}
-
-/// Whether a line is too long that has these octets four times and one more, and ends so.
-fn is_too_long(alloc: Global, part: &[u8], end: &[u8]) -> bool {
-    let pieces: &[&[u8]] = &[b"one\n", part, part, part, part, b"a", end];
-    is_played(
-        alloc,
-        pieces,
-        None,
-        ROOM,
-        b"one\n",
-        Err(RunFault::LineTooLong),
-    )
-}
-
-/// A line has at most 140,000 octets, which four of these parts make.
-#[test]
-fn long_lines(rt: HostRuntime) -> Result<(), Fail> {
-    let alloc = rt.alloc();
-    let part = "a".repeat(alloc, 35_000)?;
-    let part = part.as_bytes();
-    let longest: &[&[u8]] = &[part, part, part, part, b"", b""];
-    assert_eq!(rt; counted(alloc, pieces_of(longest)), (140_001, Ok(())));
-    // One octet more is too many, also where the line's end never comes.
-    for end in [b"\nb\n".as_slice(), b"".as_slice()] {
-        assert!(rt; is_too_long(alloc, part, end), "{end:?}");
-    }
-    Ok(())
-}
-
-#[test]
-fn an_input_without_an_end(rt: HostRuntime) -> Result<(), Fail> {
-    let endless = Pieces {
-        pieces: &[b"\n"],
-        next: 0,
-        is_endless: true,
-    };
-    let stopped = (70_000, Err(RunFault::TooManyTurns));
-    assert_eq!(rt; counted(rt.alloc(), endless), stopped);
     Ok(())
 }

@@ -1,4 +1,4 @@
-//! The words and the numbers of lines, and the names of what stops a run.
+//! The words and the numbers of lines, and the name of the fault that never stops a run.
 use script_lines::{
     RunFault, decimal_u8, decimal_u16, decimal_u32, decimal_u64, is_word, split_word,
 };
@@ -66,7 +66,6 @@ fn words_and_numbers(rt: HostRuntime) -> Result<(), Fail> {
             && decimal_u64(text) == *of_64;
         assert!(rt; is_read, "{text:?}");
     }
-    assert_eq!(rt; RunFault::TooManyTurns.name(), "TooManyTurns");
     assert_eq!(rt; RunFault::NoFirstNode.name(), "NoFirstNode");
     Ok(())
 }
