@@ -17,21 +17,14 @@
 #![tactic(auto)]
 
 mod fault;
-mod fetcher;
-mod gate;
 mod halt;
 mod node;
-mod questions;
 mod report;
-mod seated;
-mod station;
-mod telling;
+mod signals;
 mod threads;
-mod tools;
-mod worker;
 mod workers;
 
 pub use fault::{StartFault, StopFault};
-pub use gate::{Gate, NoGate};
+pub use node_service::{Gate, NoGate};
 pub use udp_loop::LoopFault;
 pub use workers::{Ground, Workers};

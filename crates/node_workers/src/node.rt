@@ -2,15 +2,13 @@
 ghost use Rattle.std.specs.Prelude.{◌≡◌, ◌≤◌, ◌<◌, ◌+◌, [], IfOk};
 
 use crate::fault::{StartFault, StopFault};
-use crate::gate::Gate;
-use crate::station::Station;
-use crate::telling::refuse_all;
+use crate::signals::Signals;
 use crate::threads::{FetchKit, Kit, Kits, Shared, run_threads};
-use crate::tools::Tools;
 use floor_rules::FloorStore;
 use job_queue::{Jobs, NewJobs, Pass, QueueName};
 use node_book::{NodeBook, Record};
 use node_seats::{Calls, Places};
+use node_service::{Gate, Station, Tools, refuse_all};
 use node_shifts::{History, Shifts};
 use std::alloc::{AllocError, Global};
 use std::marker::Brand;
@@ -26,6 +24,7 @@ use udp_loop::NodeLoop;
 #[derive(Drop)]
 pub(crate) struct Edge<G: Drop> {
     pub(crate) station: Station<G>,
+    pub(crate) signals: Signals,
     pub(crate) turner: NodeLoop,
     pub(crate) working: Vec<Tools>,
     pub(crate) fetching: Vec<Tools>,
@@ -132,6 +131,7 @@ fn run_edge<
     let shared = Shared {
         rt,
         station: &edge.station,
+        signals: &edge.signals,
         jobs,
         node,
     };

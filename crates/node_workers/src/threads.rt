@@ -2,18 +2,13 @@
 ghost use Rattle.std.specs.Thread.{IsSend};
 
 use crate::fault::{StopFault, Unready};
-use crate::fetcher::Fetcher;
-use crate::gate::Gate;
 use crate::halt::{Halt, Taken};
-use crate::questions::Questions;
-use crate::seated::Seated;
-use crate::station::{Station, milliseconds};
-use crate::tools::Tools;
-use crate::worker::Worker;
+use crate::signals::Signals;
 use floor_rules::FloorStore;
 use job_queue::{Job, Jobs, Pass, QueueName};
 use node_bytes::Stepper;
 use node_seats::Calls;
+use node_service::{Fetcher, Gate, Questions, Seated, Station, Tools, Worker, milliseconds};
 use node_shifts::{AtSeat, Shifts};
 use std::net::{Net, TcpListener, TcpStream};
 use std::sync::{Mutex, Wait};
@@ -51,6 +46,7 @@ pub(crate) struct Kits<Q: QueueName> {
 pub(crate) struct Shared<'a, Q: QueueName, S: FloorStore + Drop, L: Calls, G: Gate + Drop, R> {
     pub(crate) rt: &'a R,
     pub(crate) station: &'a Station<G>,
+    pub(crate) signals: &'a Signals,
     pub(crate) jobs: &'a Jobs<Q>,
     pub(crate) node: &'a Mutex<Shifts<S, L>>,
 }
@@ -219,6 +215,7 @@ fn turn_until_stopped<
     R: Wait + Clock,
 >(shared: &Shared<'_, Q, S, L, G, R>, turner: &mut NodeLoop, mut pass: Pass<Q>) {
     let (rt, station, jobs) = (shared.rt, shared.station, shared.jobs);
+    let halt = &shared.signals.halt;
     // (the last seat is that of no worker and of no fetcher)
     let mut questions = Questions::new(station, AtSeat::new(rt, shared.node, u8::MAX));
     let mut owed = None;
@@ -226,8 +223,8 @@ fn turn_until_stopped<
         if station.is_stopped() {
             break;
         }
-        if station.halt.is_wanted(rt) {
-            hold(rt, &station.halt, shared.node);
+        if halt.is_wanted(rt) {
+            hold(rt, halt, shared.node);
         }
         // (timers come first, so that they find places also where more comes over the sockets than the queue holds)
         let (after, is_due) = put_due(rt, station, jobs, pass, &mut owed);
@@ -251,6 +248,7 @@ pub(crate) fn run_threads<
     R: Threads + Wait + Clock + Net<Listener = TcpListener, Stream = TcpStream> + Sync,
 >(shared: &Shared<'_, Q, S, L, G, R>, kits: Kits<Q>, turner: &mut NodeLoop, pass: Pass<Q>) {
     let (rt, station) = (shared.rt, shared.station);
+    let report = &shared.signals.report;
     thread::scope(
         thread::scope_env(),
         rt,
@@ -259,10 +257,10 @@ pub(crate) fn run_threads<
         {
             let Kits { workers, fetchers } = kits;
             if start_workers(scope, shared, workers) && start_fetchers(scope, shared, fetchers) {
-                station.report.tell(rt, Ok(()));
+                report.tell(rt, Ok(()));
                 turn_until_stopped(shared, turner, pass);
             } else {
-                station.report.tell(rt, Err(Unready::NoThread));
+                report.tell(rt, Err(Unready::NoThread));
             }
             station.bell.end(rt);
             station.errands.end(rt);

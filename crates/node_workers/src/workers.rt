@@ -6,19 +6,17 @@ ghost use Rattle.node_core.specs.declared.opening.OpenFault.TheVariants as openi
 ghost use Rattle.node_workers.specs.declared.fault.StartFault.TheVariants as starting;
 
 use crate::fault::{StartFault, StopFault, Unready};
-use crate::gate::Gate;
 use crate::halt::Halt;
 use crate::node::{Edge, Prepared, Start, run_node};
-use crate::report::Report;
-use crate::station::Station;
-use crate::tools::Tools;
+use crate::signals::Signals;
 use floor_rules::FloorStore;
 use node_book::{NodeBook, Record};
 use node_core::{Node, OpenFault};
 use node_seats::Places;
+use node_service::{Gate, Station, Tools};
 use node_shifts::History;
 use roster::Roster;
-use std::alloc::{AllocError, Global};
+use std::alloc::Global;
 use std::hash::RandomState;
 use std::net::{Net, TcpListener, TcpStream};
 use std::sync::atomic::{AtomicBool, Ordering};
@@ -26,7 +24,6 @@ use std::sync::{Arc, Wait};
 use std::thread::{self, JoinHandle, Threads};
 use std::time::{Clock, Duration};
 use udp_loop::{LoopFault, NodeLoop, Senders};
-use worker_tables::{Bell, Errands, Tables};
 
 /// For how many milliseconds the loop waits at most before it looks for rounds whose time is over.
 const WAIT: u64 = 10;
@@ -118,42 +115,6 @@ fn all_tools<N: Net>(net: &N, alloc: Global, count: u8) -> Result<Vec<Tools>, Un
     Ok(row)
 }
 
-/// What passes between a node's thread and the one that started it: whether it is to be stopped, how its start went, and whether the node is held.
-#[derive(Drop)]
-struct Signals {
-    is_stopped: Arc<AtomicBool, Global>,
-    report: Arc<Report, Global>,
-    halt: Arc<Halt, Global>,
-}
-
-impl Signals {
-    fn new(alloc: Global) -> Result<Signals, Unready> {
-        let Ok(is_stopped) = Arc::new(alloc, AtomicBool::new(false)) else {
-            return Err(Unready::NoMemory);
-        };
-        let Ok(report) = Arc::new(alloc, Report::new()) else {
-            return Err(Unready::NoMemory);
-        };
-        let Ok(halt) = Arc::new(alloc, Halt::new()) else {
-            return Err(Unready::NoMemory);
-        };
-        Ok(Signals {
-            is_stopped,
-            report,
-            halt,
-        })
-    }
-
-    /// The same for the other thread.
-    fn try_clone(&self) -> Result<Signals, AllocError> {
-        Ok(Signals {
-            is_stopped: Arc::try_clone(&self.is_stopped)?,
-            report: Arc::try_clone(&self.report)?,
-            halt: Arc::try_clone(&self.halt)?,
-        })
-    }
-}
-
 /// What the threads of a node share beside the node.
 fn station<G: Gate + Drop>(
     alloc: Global,
@@ -161,25 +122,13 @@ fn station<G: Gate + Drop>(
     id: u8,
     senders: Senders,
     gate: Arc<G, Global>,
-    signals: Signals,
+    signals: &Signals,
 ) -> Result<Station<G>, Unready>
     requires { is_member roster.now id ≡ true }
 {
+    let is_stopped = Arc::try_clone(&signals.is_stopped)?;
     match roster.copy(alloc) {
-        Ok(roster) => Ok(Station {
-            alloc,
-            roster,
-            id,
-            senders,
-            tables: Tables::new(alloc),
-            bell: Bell::new(),
-            errands: Errands::new(alloc),
-            is_closed: AtomicBool::new(false),
-            is_stopped: signals.is_stopped,
-            report: signals.report,
-            halt: signals.halt,
-            gate,
-        }),
+        Ok(roster) => Ok(Station::new(alloc, roster, id, senders, is_stopped, gate)),
         Err(_) => Err(Unready::NoMemory),
     }
 }
@@ -219,7 +168,7 @@ fn edge_of<G: Gate + Drop, R: Net + Clock>(
     requires { is_member roster.now id ≡ true }
 {
     let (turner, senders) = sockets(rt, alloc, roster, id)?;
-    let station = station(alloc, roster, id, senders, gate, signals)?;
+    let station = station(alloc, roster, id, senders, gate, &signals)?;
     match tools_for(rt, alloc, count) {
         Ok(
             ToolsOfAll {
@@ -229,6 +178,7 @@ fn edge_of<G: Gate + Drop, R: Net + Clock>(
             },
         ) => Ok(Edge {
             station,
+            signals,
             turner,
             working,
             fetching,
@@ -321,9 +271,7 @@ fn run_and_tell<
     R: Threads + Wait + Clock + Net<Listener = TcpListener, Stream = TcpStream> + Sync,
 >(rt: &R, start: Start<S, G>, signals: &Signals) -> Result<Vec<Record>, StopFault> {
     let ended = run_node(rt, start);
-    // (nothing was told before only where there was no memory to begin with)
-    signals.report.tell(rt, Err(Unready::NoMemory));
-    signals.halt.end(rt);
+    signals.end(rt);
     ended
 }
 

@@ -15,13 +15,13 @@ use std::time::Clock;
 
 /// One who asks peers and origins.
 #[derive(Drop)]
-pub(crate) struct Fetcher<'a, N: Stepper + Drop, G: Gate + Drop, R> {
-    pub(crate) seated: Seated<'a, N, G, R>,
+pub struct Fetcher<'a, N: Stepper + Drop, G: Gate + Drop, R> {
+    pub seated: Seated<'a, N, G, R>,
 }
 
 impl<N: Stepper + Drop, G: Gate + Drop, R: Net + Wait + Clock> Fetcher<'_, N, G, R> {
     /// Does an errand, and what the steps at the end of its fetches begin.
-    pub(crate) fn do_errand(&mut self, errand: Turn) {
+    pub fn do_errand(&mut self, errand: Turn) {
         let mut next = Some(errand);
         for _ in 0..MOST_FURTHER_STEPS {
             let Some(turn) = next else {

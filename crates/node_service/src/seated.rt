@@ -15,11 +15,11 @@ pub(crate) const MOST_FURTHER_STEPS: u32 = 31;
 
 /// One who takes the steps of a node by a seat of its own, with what it needs to do what they say.
 #[derive(Drop)]
-pub(crate) struct Seated<'a, N: Stepper + Drop, G: Gate + Drop, R> {
-    pub(crate) rt: &'a R,
-    pub(crate) station: &'a Station<G>,
-    pub(crate) node: N,
-    pub(crate) tools: Tools,
+pub struct Seated<'a, N: Stepper + Drop, G: Gate + Drop, R> {
+    pub rt: &'a R,
+    pub station: &'a Station<G>,
+    pub node: N,
+    pub tools: Tools,
 }
 
 impl<N: Stepper + Drop, G: Gate + Drop, R: Wait + Clock> Seated<'_, N, G, R> {

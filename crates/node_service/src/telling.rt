@@ -49,7 +49,7 @@ pub(crate) fn tell<G: Gate + Drop, C: Clock>(
 }
 
 /// Answers 503 to all who wait.
-pub(crate) fn refuse_all<G: Gate + Drop, R: Wait + Clock>(
+pub fn refuse_all<G: Gate + Drop, R: Wait + Clock>(
     rt: &R,
     station: &Station<G>,
     tools: &mut Tools,

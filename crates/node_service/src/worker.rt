@@ -22,8 +22,8 @@ use timed_streams::{Timed, Waiter};
 
 /// One who takes jobs from the queue.
 #[derive(Drop)]
-pub(crate) struct Worker<'a, N: Stepper + Drop, G: Gate + Drop, R> {
-    pub(crate) seated: Seated<'a, N, G, R>,
+pub struct Worker<'a, N: Stepper + Drop, G: Gate + Drop, R> {
+    pub seated: Seated<'a, N, G, R>,
 }
 
 /// The two ends of a stream: one to read, and one to write.
@@ -96,7 +96,7 @@ fn serial_of(begin: &Begin) -> u32 {
 
 impl<N: Stepper + Drop, G: Gate + Drop, R: Wait + Clock> Worker<'_, N, G, R> {
     /// Does a job. A fetch that a step begins is left to the fetchers.
-    pub(crate) fn do_job(&mut self, job: Job) {
+    pub fn do_job(&mut self, job: Job) {
         let mut next = match job {
             Job::Datagram { udp, from, octets } => self.take_datagram(udp, from, octets.as_slice()),
             Job::Stream { stream, octets, .. } => self.take_stream(stream, octets.as_slice()),

@@ -1,6 +1,6 @@
 //! Questions of other caches, which the thread at the sockets answers itself.
 ghost use Rattle.std.specs.Prelude.{◌≡◌};
-ghost use Rattle.node_workers.specs.Questions.{is_question as asks};
+ghost use Rattle.node_service.specs.Questions.{is_question as asks};
 
 use crate::gate::Gate;
 use crate::station::{Station, seconds};
@@ -20,15 +20,15 @@ const MOST_HELD: usize = 32;
 ///
 /// Answers to questions that came together are sent together: the first one that is sent wakes who sleeps until it comes, and the others mostly find it awake.
 #[derive(Drop)]
-pub(crate) struct Questions<'a, N: Stepper + Drop, G: Gate + Drop> {
-    pub(crate) station: &'a Station<G>,
+pub struct Questions<'a, N: Stepper + Drop, G: Gate + Drop> {
+    station: &'a Station<G>,
     node: N,
     held: Vec<Turn>,
 }
 
 impl<'a, N: Stepper + Drop, G: Gate + Drop> Questions<'a, N, G> {
     /// Questions to a node, of which none is held.
-    pub(crate) fn new(station: &'a Station<G>, node: N) -> Questions<'a, N, G> {
+    pub fn new(station: &'a Station<G>, node: N) -> Questions<'a, N, G> {
         Questions {
             station,
             node,

@@ -1,10 +1,9 @@
 //! What the threads of a node share beside the node itself.
 ghost use Rattle.std.specs.Prelude.{◌≡◌, ◌==◌, true, find, option_map};
 ghost use Rattle.roster.specs.Lookups.{is_member};
-ghost use Rattle.node_workers.specs.Addresses.{peer_source};
+ghost use Rattle.node_service.specs.Addresses.{peer_source};
 
-use crate::halt::Halt;
-use crate::report::Report;
+use crate::gate::Gate;
 use mio::net::TcpStream;
 use node_bytes::{Packet, Turn};
 use node_fetch::Source;
@@ -19,18 +18,19 @@ use worker_tables::{Bell, Errands, Tables};
 
 /// What the threads of a node share beside the node itself.
 #[derive(Drop)]
-pub(crate) struct Station<G: Drop> {
+pub struct Station<G: Drop> {
+    /// The clients that wait, the answers that came before their clients, and the rounds that wait.
+    pub tables: Tables<TcpStream, Serve<()>>,
+    /// Where workers wait for jobs.
+    pub bell: Bell,
+    /// What is left to the fetchers.
+    pub errands: Errands<Turn>,
     pub(crate) alloc: Global,
     pub(crate) roster: Roster,
     pub(crate) id: u8,
     pub(crate) senders: Senders,
-    pub(crate) tables: Tables<TcpStream, Serve<()>>,
-    pub(crate) bell: Bell,
-    pub(crate) errands: Errands<Turn>,
     pub(crate) is_closed: AtomicBool,
     pub(crate) is_stopped: Arc<AtomicBool, Global>,
-    pub(crate) report: Arc<Report, Global>,
-    pub(crate) halt: Arc<Halt, Global>,
     pub(crate) gate: Arc<G, Global>,
     pub(crate) ghost has_node: { is_member roster id ≡ true },
 }
@@ -44,7 +44,7 @@ pub(crate) fn seconds<C: Clock>(clock: &C) -> u64 {
 }
 
 /// This moment in milliseconds, as rounds are timed; 0 where the system does not tell it.
-pub(crate) fn milliseconds<C: Clock>(clock: &C) -> u64 {
+pub fn milliseconds<C: Clock>(clock: &C) -> u64 {
     match clock.monotonic() {
         Ok(since) => u64::try_from(since.as_millis()).unwrap_or(u64::MAX),
         Err(_) => 0,
@@ -71,6 +71,33 @@ pub(crate) fn source_of(roster: &Roster, peer: u8) -> Option<(Source, Address)>
     }
 }
 
+impl<G: Gate + Drop> Station<G> {
+    /// That of a member of the roster, over the senders of its sockets, with nobody who waits. `is_stopped` is set once the node is to stop; `gate` is told of each read of an origin.
+    pub fn new(
+        alloc: Global,
+        roster: Roster,
+        id: u8,
+        senders: Senders,
+        is_stopped: Arc<AtomicBool, Global>,
+        gate: Arc<G, Global>,
+    ) -> Station<G>
+        requires { is_member roster id ≡ true }
+    {
+        Station {
+            tables: Tables::new(alloc),
+            bell: Bell::new(),
+            errands: Errands::new(alloc),
+            alloc,
+            roster,
+            id,
+            senders,
+            is_closed: AtomicBool::new(false),
+            is_stopped,
+            gate,
+        }
+    }
+}
+
 impl<G: Drop> Station<G> {
     /// Sends datagrams on the node's sockets.
     pub(crate) fn send_all(&self, packets: &[Packet]) {
@@ -83,7 +110,7 @@ impl<G: Drop> Station<G> {
     }
 
     /// Whether the node is to be stopped.
-    pub(crate) fn is_stopped(&self) -> bool {
+    pub fn is_stopped(&self) -> bool {
         self.is_stopped.load(Ordering::SeqCst)
     }
 }

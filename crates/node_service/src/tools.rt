@@ -6,13 +6,13 @@ use timed_streams::Waiter;
 
 /// What a thread waits on: for what it reads, and for what it writes.
 #[derive(Drop)]
-pub(crate) struct Tools {
-    pub(crate) reading: Waiter,
-    pub(crate) writing: Waiter,
+pub struct Tools {
+    pub reading: Waiter,
+    pub writing: Waiter,
 }
 
 impl Tools {
-    pub(crate) fn new<N: Net>(net: &N, alloc: Global) -> io::Result<Tools> {
+    pub fn new<N: Net>(net: &N, alloc: Global) -> io::Result<Tools> {
         Ok(Tools {
             reading: Waiter::new(net, alloc)?,
             writing: Waiter::new(net, alloc)?,

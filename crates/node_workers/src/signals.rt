@@ -1,0 +1,50 @@
+//! What passes between a node's thread and the one that started it.
+use crate::fault::Unready;
+use crate::halt::Halt;
+use crate::report::Report;
+use std::alloc::{AllocError, Global};
+use std::sync::atomic::AtomicBool;
+use std::sync::{Arc, Wait};
+
+/// What passes between a node's thread and the one that started it: whether it is to be stopped, how its start went, and whether the node is held.
+#[derive(Drop)]
+pub(crate) struct Signals {
+    pub(crate) is_stopped: Arc<AtomicBool, Global>,
+    pub(crate) report: Arc<Report, Global>,
+    pub(crate) halt: Arc<Halt, Global>,
+}
+
+impl Signals {
+    /// Those of a node that is to be started.
+    pub(crate) fn new(alloc: Global) -> Result<Signals, Unready> {
+        let Ok(is_stopped) = Arc::new(alloc, AtomicBool::new(false)) else {
+            return Err(Unready::NoMemory);
+        };
+        let Ok(report) = Arc::new(alloc, Report::new()) else {
+            return Err(Unready::NoMemory);
+        };
+        let Ok(halt) = Arc::new(alloc, Halt::new()) else {
+            return Err(Unready::NoMemory);
+        };
+        Ok(Signals {
+            is_stopped,
+            report,
+            halt,
+        })
+    }
+
+    /// The same for the other thread.
+    pub(crate) fn try_clone(&self) -> Result<Signals, AllocError> {
+        Ok(Signals {
+            is_stopped: Arc::try_clone(&self.is_stopped)?,
+            report: Arc::try_clone(&self.report)?,
+            halt: Arc::try_clone(&self.halt)?,
+        })
+    }
+
+    /// The node's thread ends. Where nothing was told before, there was no memory to begin with.
+    pub(crate) fn end<R: Wait>(&self, rt: &R) {
+        self.report.tell(rt, Err(Unready::NoMemory));
+        self.halt.end(rt);
+    }
+}
