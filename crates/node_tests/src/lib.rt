@@ -2,8 +2,6 @@
 #![tactic(auto)]
 
 #[cfg(test)]
-mod lifetimes;
-#[cfg(test)]
 mod messages;
 #[cfg(test)]
 mod rules;

@@ -4,7 +4,7 @@ use floor_rules::{FloorStore, MemoryFloors};
 use htcp_wire::{Content, Htcp, Specifier};
 use http_header::{HeaderName, HeaderValue};
 use icp_wire::{Icp, IcpOp};
-use node_core::{Node, OpenFault, Placed};
+use node_core::{Node, OpenFault};
 use node_rules::{
     Begin, Event, Message, Received, Reply, Serve, Served, StepFault, can_be_answered,
 };
@@ -70,16 +70,16 @@ address = \"127.0.0.1\"
 connect = 8080
 ";
 
-pub(crate) type Tested = Node<u64, MemoryFloors>;
+type Tested = Node<u64, MemoryFloors>;
 
 /// A node that is let go as a whole.
 #[derive(Drop)]
-pub(crate) struct Held {
-    pub(crate) node: Tested,
+struct Held {
+    node: Tested,
 }
 
 /// Fails with these words where something does not hold.
-pub(crate) fn want(holds: bool, what: &'static str) -> Result<(), Fail> {
+fn want(holds: bool, what: &'static str) -> Result<(), Fail> {
     if holds { Ok(()) } else { Err(what.into()) }
 }
 
@@ -97,7 +97,7 @@ fn opened(rt: &HostRuntime, roster: Roster, id: u8) -> Result<Held, OpenFault> {
     }
 }
 
-pub(crate) fn node_of(rt: &HostRuntime, text: &str) -> Result<Held, Fail> {
+fn node_of(rt: &HostRuntime, text: &str) -> Result<Held, Fail> {
     match opened(rt, roster_of(rt, text)?, 1) {
         Ok(held) => Ok(held),
         Err(fault) => Err(fault.name().into()),
@@ -125,7 +125,7 @@ fn at(port: u16) -> Address {
     }
 }
 
-pub(crate) fn key_of(rt: &HostRuntime, url: &str) -> Result<Key, Fail> {
+fn key_of(rt: &HostRuntime, url: &str) -> Result<Key, Fail> {
     Ok(Key::read(rt.alloc(), url.as_bytes())?)
 }
 
@@ -133,7 +133,7 @@ fn octets_of(rt: &HostRuntime, text: &str) -> Result<Octets, Fail> {
     Ok(Octets::from_slice(rt.alloc(), text.as_bytes())?)
 }
 
-pub(crate) fn client(rt: &HostRuntime, url: &str, now: u64) -> Result<Event<u64>, Fail> {
+fn client(rt: &HostRuntime, url: &str, now: u64) -> Result<Event<u64>, Fail> {
     let ask = Ask {
         key: key_of(rt, url)?,
         only_if_cached: false,
@@ -144,14 +144,14 @@ pub(crate) fn client(rt: &HostRuntime, url: &str, now: u64) -> Result<Event<u64>
 }
 
 /// A header field.
-pub(crate) fn field_of(rt: &HostRuntime, name: &[u8], value: &[u8]) -> Result<Field, Fail> {
+fn field_of(rt: &HostRuntime, name: &[u8], value: &[u8]) -> Result<Field, Fail> {
     let name = HeaderName::from_bytes(rt.alloc(), name)?;
     let value = HeaderValue::from_bytes(rt.alloc(), value)?;
     Ok(Field { name, value })
 }
 
 /// An answer with this field.
-pub(crate) fn answer_with(
+fn answer_with(
     rt: &HostRuntime,
     status: u16,
     field: Field,
@@ -269,8 +269,6 @@ enum Happens {
     Origin(u32, &'static str, u64),
     /// Foreign cache 101 answers the fetch 33, for this URL and with this stamp.
     Foreign(&'static str, u32),
-    /// The fetch of this serial fails.
-    Failure(u32),
 }
 
 fn event_of(rt: &HostRuntime, happens: Happens) -> Result<Event<u64>, Fail> {
@@ -280,7 +278,6 @@ fn event_of(rt: &HostRuntime, happens: Happens) -> Result<Event<u64>, Fail> {
         Happens::Icp(port, op, number, url) => icp(rt, port, op, number, url),
         Happens::Origin(serial, url, now) => origin(rt, serial, url, now),
         Happens::Foreign(url, stamp) => foreign_answer(rt, url, stamp),
-        Happens::Failure(serial) => Ok(Event::FetchFailed { serial, now: 0 }),
     }
 }
 
@@ -350,7 +347,7 @@ fn show_fault(rt: &HostRuntime, fault: StepFault) -> Result<String, Fail> {
 }
 
 /// Takes a step, and shows what it is answered.
-pub(crate) fn step<S: FloorStore>(
+fn step<S: FloorStore>(
     rt: &HostRuntime,
     node: &mut Node<u64, S>,
     event: Event<u64>,
@@ -404,18 +401,8 @@ fn check(rt: &HostRuntime, node: &mut Tested, table: &[(Happens, &str)]) -> Resu
     Ok(())
 }
 
-/// How many asks wait at a node and how many copies it has, and its greatest floor.
-fn counts(node: &Tested) -> Result<(usize, usize, u32), Fail> {
-    let state = node.state()?;
-    Ok((
-        state.pending.as_slice().len(),
-        state.copies.as_slice().len(),
-        state.floors.seen(),
-    ))
-}
-
 /// A read that a purge overtakes begins anew, and a copy bears the stamp and the mark of its own read.
-const OVERTAKEN: [(Happens, &str); 9] = [
+const OVERTAKEN: [(Happens, &str); 6] = [
     (Happens::Ask("http://o/a", 100), " read 33"),
     (Happens::Purge("http://o/a", 1), " clr 2"),
     (Happens::Origin(33, "http://o/a", 101), " read 34"),
@@ -424,28 +411,15 @@ const OVERTAKEN: [(Happens, &str); 9] = [
         Happens::Origin(34, "http://o/a", 102),
         " serve stamp 1 tag 3 age 1",
     ),
-    (Happens::Ask("http://p/", 102), " serve 502"),
-    (Happens::Ask("http://o/b", 102), " read 97"),
     (
         Happens::Ask("http://o/a", 103),
         " serve stamp 1 tag 3 age 2",
     ),
-    (Happens::Ask("http://o/a", 161), " read 129"),
 ];
 
-#[test]
-fn a_purge_overtakes_a_read(rt: HostRuntime) -> Result<(), Fail> {
-    let mut held = node_of(&rt, ONE)?;
-    check(&rt, &mut held.node, &OVERTAKEN)?;
-    assert!(rt; !held.node.is_closed());
-    Ok(())
-}
-
-/// A foreign sibling is asked only for what it has; its stamp is not trusted, and it is not asked for what was purged.
-const WITH_A_FOREIGN_SIBLING: [(Happens, &str); 10] = [
+/// What a foreign sibling gives bears the tag of its answer, and no stamp: the one that it tells is not trusted.
+const WITH_A_FOREIGN_SIBLING: [(Happens, &str); 3] = [
     (Happens::Ask("http://o/a", 0), " Query round 32"),
-    (Happens::Icp(3102, IcpOp::Hit, 32, "http://o/a"), ""),
-    (Happens::Icp(3201, IcpOp::Hit, 32, "http://o/b"), ""),
     (
         Happens::Icp(3201, IcpOp::Hit, 32, "http://o/a"),
         " peer 101 33 only-if-cached",
@@ -454,99 +428,30 @@ const WITH_A_FOREIGN_SIBLING: [(Happens, &str); 10] = [
         Happens::Foreign("http://o/a", 9),
         " serve stamp 0 tag 0 age 0",
     ),
-    (Happens::Icp(3201, IcpOp::Query, 9, "HTTP://O/a"), " Hit"),
-    (Happens::Icp(3202, IcpOp::Query, 9, "http://o/a"), " Denied"),
-    (Happens::Purge("http://o/a", 1), " clr 0"),
-    (Happens::Icp(3201, IcpOp::Query, 9, "http://o/a"), " Miss"),
-    (Happens::Ask("http://o/a", 0), " read 65"),
 ];
 
-#[test]
-fn a_foreign_sibling(rt: HostRuntime) -> Result<(), Fail> {
-    let mut held = node_of(&rt, FOREIGN)?;
-    check(&rt, &mut held.node, &WITH_A_FOREIGN_SIBLING)
+/// The steps of a table, after which the node is open.
+fn check_open(rt: &HostRuntime, node: &mut Tested, table: &[(Happens, &str)]) -> Result<(), Fail> {
+    check(rt, node, table)?;
+    want(!node.is_closed(), "closed")
 }
 
-/// A node of which 1,024 asks are made takes no more; one ends, and ends once.
-const WHEN_FULL: [(Happens, &str); 3] = [
-    (Happens::Ask("http://o/a", 0), " Busy"),
-    (Happens::Failure(33), " serve 502"),
-    (Happens::Failure(33), " UnknownSerial"),
-];
-
-fn fill(rt: &HostRuntime, node: &mut Tested) -> Result<(), Fail> {
-    for _ in 0..1024 {
-        let event = client(rt, "http://o/a", 0)?;
-        want(node.step(event, 0).is_ok(), "an ask")?;
-    }
-    check(rt, node, &WHEN_FULL)
+/// The same at a new node of this roster.
+fn run(rt: &HostRuntime, roster: &str, table: &[(Happens, &str)]) -> Result<(), Fail> {
+    let mut held = node_of(rt, roster)?;
+    check_open(rt, &mut held.node, table)
 }
 
 #[test]
-fn at_most_1024_asks_wait(rt: HostRuntime) -> Result<(), Fail> {
-    let mut held = node_of(&rt, ONE)?;
-    fill(&rt, &mut held.node)?;
-    let (pending, _, _) = counts(&held.node)?;
-    assert_eq!(rt; pending, 1023);
-    Ok(())
-}
-
-/// Whether a copy of `http://o/a` that is placed by hand is taken so.
-fn is_placed(
-    rt: &HostRuntime,
-    node: &mut Tested,
-    stamp: Option<u32>,
-    expected: Placed,
-) -> Result<bool, Fail> {
-    Ok(node.place(&key_of(rt, "http://o/a")?, stamp, 1)? == expected)
-}
-
-/// Copies that are placed by hand, before and after a purge: an older one, and one from before the purge, are not taken.
-fn place_copies(rt: &HostRuntime, node: &mut Tested) -> Result<(), Fail> {
-    want(is_placed(rt, node, Some(3), Placed::Stored)?, "the first")?;
-    want(is_placed(rt, node, Some(2), Placed::Kept)?, "an older one")?;
-    check_step(rt, node, 0, Happens::Purge("http://o/a", 7), " clr 0")?;
-    want(
-        is_placed(rt, node, Some(6), Placed::Old)?,
-        "one from before",
-    )?;
-    want(is_placed(rt, node, None, Placed::Stored)?, "one from after")
-}
-
-#[test]
-fn copies_placed_by_hand(rt: HostRuntime) -> Result<(), Fail> {
-    let mut held = node_of(&rt, ONE)?;
-    place_copies(&rt, &mut held.node)?;
-    let (_, copies, seen) = counts(&held.node)?;
-    assert_eq!(rt; (copies, seen), (1, 7));
-    Ok(())
-}
-
-/// The greatest of the floors that a node gives back.
-fn floor_given_back(rt: &HostRuntime, held: Held) -> Result<u32, Fail> {
-    let mut floors = held.node.into_floors();
-    Ok(floors.load(rt.alloc())?.seen())
-}
-
-#[test]
-fn a_node_gives_its_floors_back(rt: HostRuntime) -> Result<(), Fail> {
-    let mut held = node_of(&rt, ONE)?;
-    check_step(
-        &rt,
-        &mut held.node,
-        0,
-        Happens::Purge("http://o/a", 7),
-        " clr 2",
-    )?;
-    assert_eq!(rt; floor_given_back(&rt, held)?, 7);
-    Ok(())
+fn copies_bear_tags_and_ages(rt: HostRuntime) -> Result<(), Fail> {
+    run(&rt, ONE, &OVERTAKEN)?;
+    run(&rt, FOREIGN, &WITH_A_FOREIGN_SIBLING)
 }
 
 #[test]
 fn a_node_that_is_no_member(rt: HostRuntime) -> Result<(), Fail> {
     let fault = opened(&rt, roster_of(&rt, ONE)?, 2).err();
     assert!(rt; fault == Some(OpenFault::NoSuchNode));
-    assert!(rt; StepFault::Closed.name() == "Closed");
     Ok(())
 }
 
