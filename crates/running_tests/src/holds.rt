@@ -1,13 +1,11 @@
 //! A node that is held.
-use crate::closings::is_silent;
-use crate::network::{PLAIN, QUERY, asking, is_answered, is_told, received, socket_at};
+use crate::network::{PLAIN, QUERY, asking, is_answered, is_silent, is_told, received, socket_at};
 use crate::nodes::DENIED;
 use crate::rosters::siblings_text;
 use crate::turnstile::{Turnstile, new_turnstile};
 use crate::workers::{running, steps_in, stopped};
 use mio::net::UdpSocket;
 use node_workers::{NoGate, StopFault, Workers};
-use std::alloc::{AllocError, Global};
 use std::sync::{Arc, Wait};
 use std::test::Fail;
 use std::time::Duration;
@@ -82,66 +80,6 @@ fn no_step_is_taken_while_held(rt: HostRuntime) -> Result<(), Fail> {
     assert!(rt; seen.is_silent, "nothing is answered before it goes on");
     assert!(rt; seen.is_answered, "it goes on");
     assert!(rt; last == Ok(1), "the last step");
-    Ok(())
-}
-
-/// How many questions come together: more than three times those whose answers are sent together.
-const MANY: u8 = 100;
-
-/// An ICP message with this number (RFC 2186).
-fn numbered(alloc: Global, message: &[u8], number: u8) -> Result<Vec<u8>, AllocError> {
-    let mut octets = Vec::from_slice(alloc, message)?;
-    if let Some(last) = octets.get_mut(7) {
-        *last = number;
-    }
-    Ok(octets)
-}
-
-/// Queries of all numbers up to a hundred.
-fn ask_many(alloc: Global, socket: &UdpSocket, to: u16) -> io::Result<()> {
-    for number in 0..MANY {
-        let query = numbered(alloc, QUERY, number)?;
-        socket.send_to(query.as_slice(), socket_at(to))?;
-    }
-    Ok(())
-}
-
-/// How many of the answers to them come in their order, each as it should be.
-fn answers_in_order(rt: &HostRuntime, socket: &UdpSocket) -> io::Result<u8> {
-    let mut buffer = [0; 2048];
-    let mut right = 0u8;
-    for number in 0..MANY {
-        let length = received(rt, socket, &mut buffer)?;
-        let wanted = numbered(rt.alloc(), DENIED, number)?;
-        let is_right = buffer.get(..length) == Some(wanted.as_slice());
-        right = right.saturating_add(u8::from(is_right));
-    }
-    Ok(right)
-}
-
-/// Many questions come while a node is held: how many are answered in their order when it goes on, and whether no other answer comes.
-fn many_at_once<W: Wait>(rt: &HostRuntime, wait: &W, workers: &Workers) -> io::Result<(u8, bool)> {
-    let socket = UdpSocket::bind(rt, socket_at(21397))?;
-    workers.hold(wait);
-    ask_many(rt.alloc(), &socket, 21401)?;
-    workers.resume(wait);
-    let right = answers_in_order(rt, &socket)?;
-    thread::sleep(rt, Duration::from_millis(PAUSE));
-    Ok((right, is_silent(&socket)))
-}
-
-/// Questions that come together are each answered once, in their order.
-#[test]
-fn questions_that_come_together_are_answered(rt: HostRuntime) -> Result<(), Fail> {
-    let gate = Arc::new(rt.alloc(), NoGate)?;
-    let text = siblings_text!(at 2139, 2140, 2141);
-    let workers = running(rt, rt.alloc(), text, 1, gate)?;
-    let answered = many_at_once(&rt, &rt, &workers);
-    let steps = stopped(&rt, workers);
-    let (right, is_all) = answered?;
-    assert!(rt; right == MANY, "those in their order");
-    assert!(rt; is_all, "none is answered twice");
-    assert!(rt; steps == Ok(100), "a step each");
     Ok(())
 }
 

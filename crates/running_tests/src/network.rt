@@ -24,11 +24,6 @@ pub(crate) fn socket_at(port: u16) -> SocketAddr {
     SocketAddr::from((Ipv4Addr::LOCALHOST, port))
 }
 
-/// A port behind another.
-pub(crate) fn port_at(port: u16, behind: u16) -> u16 {
-    u16::saturating_add(port, behind)
-}
-
 /// A client that has sent its ask to a port.
 pub(crate) fn asking(rt: &HostRuntime, port: u16, ask: &[u8]) -> io::Result<TcpStream> {
     let mut stream = TcpStream::connect(rt, socket_at(port))?;
@@ -103,9 +98,11 @@ pub(crate) fn is_told(
     Ok(buffer.get(..length) == Some(wanted))
 }
 
-/// The opcode of what is answered to the query from one port to another (RFC 2186).
-pub(crate) fn opcode_told(rt: &HostRuntime, from: u16, to: u16) -> io::Result<u8> {
+/// Whether nothing has come to a socket.
+pub(crate) fn is_silent(socket: &UdpSocket) -> bool {
     let mut buffer = [0; 2048];
-    told(rt, from, to, QUERY, &mut buffer)?;
-    Ok(buffer[0])
+    match socket.recv_from(&mut buffer) {
+        Ok(_) => false,
+        Err(error) => error.kind() == ErrorKind::WouldBlock,
+    }
 }

@@ -1,14 +1,12 @@
 //! A node that runs, and its clients.
 use crate::network::{CACHED, PLAIN, QUERY, is_answered_at, is_told};
-use crate::turnstile::new_turnstile;
-use crate::workers::{running, stopped};
+use crate::workers::running;
 use node_book::Record;
 use node_workers::{NoGate, StopFault, Workers};
-use std::io::{self, Error, ErrorKind};
+use std::io;
 use std::sync::{Arc, Wait};
 use std::test::Fail;
-use std::thread::{self, Threads};
-use std::time::{Duration, Instant};
+use std::thread::Threads;
 
 /// One member, with an origin that nobody serves.
 const ONE: &str = "default_lifetime = 60
@@ -47,7 +45,7 @@ fn clients_ask(rt: &HostRuntime) -> io::Result<[bool; 2]> {
 pub(crate) const DENIED: &[u8] = b"\x16\x02\x00\x1f\0\0\0\x07\0\0\0\0\0\0\0\0\0\0\0\0http://o/a\0";
 
 /// The CLR of purge 7 (RFC 2756).
-pub(crate) const PURGE: &[u8] =
+const PURGE: &[u8] =
     b"\x00\x40\0\0\x00\x3a\x40\x02\0\0\0\x07\0\0\x00\x03GET\x00\x0ahttp://o/a\x00\x08HTTP/1.1\x00\x13X-Purge-Number: 7\r\n\x00\x02";
 
 /// That the entity was not held.
@@ -59,76 +57,6 @@ fn datagrams_come(rt: &HostRuntime) -> io::Result<[bool; 2]> {
         is_told(rt, 21507, 21501, QUERY, DENIED)?,
         is_told(rt, 21509, 21502, PURGE, NOT_HELD)?,
     ])
-}
-
-#[test]
-fn clients_are_answered(rt: HostRuntime) -> Result<(), Fail> {
-    let gate = new_turnstile(rt.alloc(), true)?;
-    let workers = running(rt, rt.alloc(), ONE, 1, Arc::try_clone(&gate)?)?;
-    let answered = clients_ask(&rt);
-    let steps = stopped(&rt, workers);
-    assert!(rt;
-        steps == Ok(3) && gate.reads() == 1,
-        "three steps, one read"
-    );
-    assert!(rt;
-        answered? == [true, true],
-        "504 where it is not cached, 502 where nobody serves the origin"
-    );
-    Ok(())
-}
-
-#[test]
-fn datagrams_are_answered(rt: HostRuntime) -> Result<(), Fail> {
-    let gate = Arc::new(rt.alloc(), NoGate)?;
-    let workers = running(rt, rt.alloc(), ONE, 1, gate)?;
-    let answered = datagrams_come(&rt);
-    let steps = stopped(&rt, workers);
-    assert!(rt; steps == Ok(2), "two steps");
-    assert!(rt;
-        answered? == [true, true],
-        "a stranger is denied, and a purge is acknowledged"
-    );
-    Ok(())
-}
-
-/// For how many milliseconds nothing comes before a purge, so that each worker waits.
-const PAUSE: u64 = 3;
-
-/// Within how many milliseconds a worker has done a job, once it is woken for it: half of what the loop waits where nothing comes.
-const SOON: u128 = 5;
-
-/// How often that is tried, since other threads may hold up a worker too.
-const MOST_TRIES: u32 = 30;
-
-/// A purge comes while each worker waits: within how many milliseconds it is acknowledged.
-fn time_of_purge(rt: &HostRuntime) -> io::Result<u128> {
-    thread::sleep(rt, Duration::from_millis(PAUSE));
-    let begun = Instant::now(rt)?;
-    if !is_told(rt, 21509, 21502, PURGE, NOT_HELD)? {
-        return Err(Error::from(ErrorKind::InvalidData));
-    }
-    Ok(begun.elapsed(rt)?.as_millis())
-}
-
-/// Whether one of some purges is acknowledged soon.
-fn is_once_soon(rt: &HostRuntime) -> io::Result<bool> {
-    for _ in 0..MOST_TRIES {
-        if time_of_purge(rt)? < SOON {
-            return Ok(true);
-        }
-    }
-    Ok(false)
-}
-
-#[test]
-fn a_worker_is_woken_as_its_job_comes(rt: HostRuntime) -> Result<(), Fail> {
-    let gate = Arc::new(rt.alloc(), NoGate)?;
-    let workers = running(rt, rt.alloc(), ONE, 1, gate)?;
-    let is_soon = is_once_soon(&rt);
-    stopped(&rt, workers)?;
-    assert!(rt; is_soon?);
-    Ok(())
 }
 
 /// The threads of a node that take steps.

@@ -24,21 +24,5 @@ macro_rules! siblings_text {
     };
 }
 
-/// The text of a roster of two members, the second of which asks the first.
-macro_rules! pair_text {
-    (at $edge:literal, $first:literal, $second:literal, as $role:literal by $by:literal) => {
-        crate::rosters::roster_text!(wait 5000, at $edge: "node" 1 at $first, "node" 2 at $second asks 1 as $role by $by)
-    };
-}
-
-/// The text of a roster of a member that asks a foreign cache, its sibling.
-macro_rules! foreign_text {
-    (wait $wait:literal, at $edge:literal, $member:literal, $foreign:literal, by $by:literal) => {
-        crate::rosters::roster_text!(wait $wait, at $edge: "node" 1 at $member asks 101 as "sibling" by $by, "foreign" 101 at $foreign)
-    };
-}
-
-pub(crate) use foreign_text;
-pub(crate) use pair_text;
 pub(crate) use roster_text;
 pub(crate) use siblings_text;

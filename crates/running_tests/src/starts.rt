@@ -1,9 +1,7 @@
 //! Nodes that do not start.
-use crate::network::socket_at;
 use crate::workers::started;
 use node_core::OpenFault;
 use node_workers::{NoGate, StartFault, StopFault};
-use std::net::TcpListener;
 use std::sync::Arc;
 use std::test::Fail;
 use udp_loop::LoopFault;
@@ -32,15 +30,6 @@ fn a_stranger_is_not_started(rt: HostRuntime) -> Result<(), Fail> {
     let gate = Arc::new(rt.alloc(), NoGate)?;
     let fault = started(rt, rt.alloc(), ONE, 2, gate)?.err();
     assert!(rt; fault == Some(StartFault::Open(OpenFault::NoSuchNode)));
-    Ok(())
-}
-
-#[test]
-fn a_port_in_use_is_a_fault(rt: HostRuntime) -> Result<(), Fail> {
-    let gate = Arc::new(rt.alloc(), NoGate)?;
-    let _listener = TcpListener::bind(&rt, socket_at(21510))?;
-    let fault = started(rt, rt.alloc(), ONE, 1, gate)?.err();
-    assert!(rt; fault == Some(StartFault::Loop(LoopFault::Io)));
     Ok(())
 }
 

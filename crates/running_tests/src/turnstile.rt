@@ -15,7 +15,6 @@ const MOST_TURNS: u32 = 10_000;
 #[derive(Drop)]
 pub(crate) struct Turnstile {
     is_open: AtomicBool,
-    was_passed: AtomicBool,
     come: AtomicU64,
 }
 
@@ -25,7 +24,6 @@ pub(crate) fn new_turnstile(alloc: Global, is_open: bool) -> Result<Arc<Turnstil
         alloc,
         Turnstile {
             is_open: AtomicBool::new(is_open),
-            was_passed: AtomicBool::new(false),
             come: AtomicU64::new(0),
         },
     )?)
@@ -40,11 +38,6 @@ impl Turnstile {
     /// How many reads have come.
     pub(crate) fn reads(&self) -> u64 {
         self.come.load(Ordering::SeqCst)
-    }
-
-    /// Whether a read has come through.
-    pub(crate) fn was_passed(&self) -> bool {
-        self.was_passed.load(Ordering::SeqCst)
     }
 
     /// Waits until so many reads have come.
@@ -64,7 +57,6 @@ impl Gate for Turnstile {
         self.come.fetch_add(1, Ordering::SeqCst);
         for _ in 0..MOST_TURNS {
             if self.is_open.load(Ordering::SeqCst) {
-                self.was_passed.store(true, Ordering::SeqCst);
                 return;
             }
             thread::sleep(rt, Duration::from_millis(1));

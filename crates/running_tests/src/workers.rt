@@ -37,7 +37,7 @@ fn ground<S: FloorStore + Drop, R: RandomSource>(
 }
 
 /// A node of a roster with two workers, over these floors.
-pub(crate) fn started_over<
+fn started_over<
     S: FloorStore + Drop + Send + 'static,
     G: Gate + Drop + Send + Sync + 'static,
     R: Threads
