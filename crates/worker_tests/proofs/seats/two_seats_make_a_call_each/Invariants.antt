@@ -1,4 +1,4 @@
-use Rattle.seat_tests.proofs.seats.two_seats_make_a_call_each.Given as goal
+use Rattle.worker_tests.proofs.seats.two_seats_make_a_call_each.Given as goal
 
 abbrev pub ghosts-two_calls-L-Ledger : goal.ghosts-two_calls-L-Ledger
 ghosts-two_calls-L-Ledger g a = record { name = a.blank.name; parts = a.blank.parts }

@@ -1,4 +1,4 @@
-use Rattle.seat_tests.proofs.judged.records_of_shifts_are_judged.Given as goal
+use Rattle.worker_tests.proofs.judged.records_of_shifts_are_judged.Given as goal
 
 abbrev pub ghosts-two_shifts-L-Ledger : goal.ghosts-two_shifts-L-Ledger
 ghosts-two_shifts-L-Ledger g a = record { name = a.blank.name; parts = a.blank.parts }

@@ -1,4 +1,4 @@
-use Rattle.seat_tests.proofs.seats.a_shift_has_4096_calls.Given as goal
+use Rattle.worker_tests.proofs.seats.a_shift_has_4096_calls.Given as goal
 
 abbrev pub ghosts-full_shift-L-Ledger : goal.ghosts-full_shift-L-Ledger
 ghosts-full_shift-L-Ledger g a = record { name = a.blank.name; parts = a.blank.parts }
