@@ -24,7 +24,7 @@ fn text_at(alloc: Global, port: u16, id: u16, host: u16) -> Result<String, Fail>
 }
 
 /// A roster of member 1 and of another one, at 127.0.0.N.
-pub(crate) fn roster_with(alloc: Global, port: u16, id: u16, host: u16) -> Result<Roster, Fail> {
+fn roster_with(alloc: Global, port: u16, id: u16, host: u16) -> Result<Roster, Fail> {
     let text = text_at(alloc, port, id, host)?;
     match Roster::read(alloc, text.as_str()) {
         Ok(roster) => Ok(roster),

@@ -5,10 +5,6 @@ use std::io::{self, Error, ErrorKind, Read};
 use std::test::Fail;
 use url_key::{Key, KeyFault};
 
-/// The answer to the seventh ask.
-const SEVENTH: &[u8] =
-    b"HTTP/1.1 200 \r\ncache-control: max-age=60\r\ncontent-length: 6\r\nconnection: close\r\nvia: 1.1 origin\r\n\r\n/b?x 7";
-
 /// The refusals.
 const REFUSED_400: &[u8] =
     b"HTTP/1.1 400 \r\ncontent-length: 0\r\nconnection: close\r\nvia: 1.1 origin\r\n\r\n";
@@ -22,14 +18,8 @@ const REFUSED_501: &[u8] =
 /// A head that does not end.
 const LONG: [u8; 16_385] = [b'a'; 16_385];
 
-/// Asks, what a call with them is answered, and what is written.
-const ASKS: [(&[u8], Option<FetchFault>, &[u8]); 9] = [
-    (b"GET /b?x HTTP/1.1\r\nHost: o\r\n\r\n", None, SEVENTH),
-    (
-        b"GET http://o/b?x HTTP/1.1\r\nHost: o\r\n\r\n",
-        None,
-        SEVENTH,
-    ),
+/// Asks that are refused, what a call with them is answered, and what is written.
+const ASKS: [(&[u8], Option<FetchFault>, &[u8]); 7] = [
     (
         b"GET /b?x HTTP/1.1\r\n\r\n",
         Some(FetchFault::BadHead),
@@ -64,7 +54,7 @@ const ASKS: [(&[u8], Option<FetchFault>, &[u8]); 9] = [
 ];
 
 #[test]
-fn asks_are_answered_or_refused(rt: HostRuntime) {
+fn asks_are_refused(rt: HostRuntime) {
     for (place, (ask, fault, text)) in ASKS.iter().enumerate() {
         let mut reader = *ask;
         let mut written = Vec::new(rt.alloc());
@@ -122,14 +112,7 @@ fn the_longest_path_is_answered(rt: HostRuntime) -> Result<(), Fail> {
 }
 
 #[test]
-fn faults_have_names(rt: HostRuntime) -> Result<(), Fail> {
-    assert_eq!(rt; OriginFault::Port(80).name(), "Io");
+fn faults_have_names(rt: HostRuntime) {
     assert_eq!(rt; OriginFault::Io.name(), "Io");
     assert_eq!(rt; OriginFault::NoMemory.name(), "NoMemory");
-    let told = format!(in rt.alloc(); "{}", OriginFault::Port(80))?;
-    assert_eq!(rt;
-        told.as_str(),
-        "port 80 is in use, or its address is not this machine's"
-    );
-    Ok(())
 }
