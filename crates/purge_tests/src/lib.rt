@@ -1,10 +1,12 @@
-//! Tests of purges by their public calls: a master's purges, in memory and in files that stop, and the master.
+//! Tests of floors and purges by their public calls: by themselves, in memory, and in files that stop.
 #![tactic(auto)]
 
 #[cfg(test)]
 mod calls;
 #[cfg(test)]
-mod masters;
+mod disks;
+#[cfg(test)]
+mod floors;
 #[cfg(test)]
 mod purges;
 #[cfg(test)]

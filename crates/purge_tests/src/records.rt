@@ -1,7 +1,8 @@
-//! A master's purges in files: what is read of them, and what is refused.
+//! A master's purges in files: purges beside one another, a file with an open transaction, and files that stop.
 mod stops;
 
 use crate::calls::{add, counts, is_marked, mark, want};
+use crate::disks::{FORM, VERSION, made_by};
 use purge_records::SqlitePurges;
 use purge_rules::{PurgeFault, PurgeStore};
 use sqlite::{Connection, MemStore};
@@ -25,14 +26,6 @@ fn opened_over(alloc: Global, conn: Connection<MemStore>) -> Result<Held, Fail> 
 
 fn in_memory(alloc: Global) -> Result<Held, Fail> {
     opened_over(alloc, Connection::open_in_memory(alloc)?)
-}
-
-#[test]
-fn a_blank_file_has_no_purges(rt: HostRuntime) -> Result<(), Fail> {
-    let mut held = in_memory(rt.alloc())?;
-    assert_eq!(rt; counts(&mut held.store, rt.alloc())?, (0, 0));
-    assert_eq!(rt; held.store.failures(), 0);
-    Ok(())
 }
 
 /// A call that is answered Ok.
@@ -69,18 +62,6 @@ fn again(alloc: Global, held: Held, calls: &[Call]) -> Result<Held, Fail> {
     opened_over(alloc, store.into_connection())
 }
 
-#[test]
-fn opened_again_a_file_has_its_purges(rt: HostRuntime) -> Result<(), Fail> {
-    let alloc = rt.alloc();
-    let calls = [Call::Add(1, "http://a/"), Call::Mark(1, 1)];
-    let mut held = again(alloc, in_memory(alloc)?, &calls)?;
-    assert_eq!(rt; counts(&mut held.store, alloc)?, (1, 1));
-    assert!(rt; is_marked(&mut held.store, alloc, 1, "http://a/", 1, 2)?);
-    let mut held = again(alloc, held, &[Call::Finish(1)])?;
-    assert_eq!(rt; counts(&mut held.store, alloc)?, (1, 0));
-    Ok(())
-}
-
 /// Three purges of two URLs, marked across one another, the second of them finished.
 const THREE_PURGES: [Call; 9] = [
     Call::Add(1, "http://a/"),
@@ -112,29 +93,30 @@ fn wrong_mark<P: PurgeStore>(store: &mut P, alloc: Global) -> Result<Option<(u32
     Ok(None)
 }
 
+/// What is wrong with these purges.
+fn flaw<P: PurgeStore>(store: &mut P, alloc: Global) -> Result<Option<&'static str>, Fail> {
+    if counts(store, alloc)? != (7, 2) {
+        return Ok(Some("the last number, and how many are pending"));
+    }
+    if wrong_mark(store, alloc)?.is_some() {
+        return Ok(Some("who has acknowledged them"));
+    }
+    if store.failures() != 0 {
+        return Ok(Some("a failure"));
+    }
+    Ok(None)
+}
+
+/// A purge that is not there is finished too, which changes nothing.
 #[test]
 fn purges_beside_one_another(rt: HostRuntime) -> Result<(), Fail> {
     let alloc = rt.alloc();
     let mut held = again(alloc, in_memory(alloc)?, &THREE_PURGES)?;
-    assert_eq!(rt; counts(&mut held.store, alloc)?, (7, 2));
-    assert_eq!(rt; wrong_mark(&mut held.store, alloc)?, None);
-    Ok(())
-}
-
-#[test]
-fn a_purge_that_is_not_there_is_finished(rt: HostRuntime) -> Result<(), Fail> {
-    let alloc = rt.alloc();
-    let mut held = in_memory(alloc)?;
-    make_all(&mut held.store, alloc, &THREE_PURGES)?;
+    assert_eq!(rt; flaw(&mut held.store, alloc)?, None);
     let mut held = again(alloc, held, &[Call::Finish(2), Call::Finish(8)])?;
-    assert_eq!(rt; counts(&mut held.store, alloc)?, (7, 2));
-    assert_eq!(rt; held.store.failures(), 0);
+    assert_eq!(rt; flaw(&mut held.store, alloc)?, None);
     Ok(())
 }
-
-const FORM: &str = "CREATE TABLE form (version INTEGER PRIMARY KEY) STRICT";
-
-const VERSION: &str = "INSERT INTO form VALUES (1)";
 
 const LAST: &str =
     "CREATE TABLE last (id INTEGER PRIMARY KEY CHECK (id = 1), number INTEGER NOT NULL) STRICT";
@@ -146,199 +128,18 @@ const PENDING: &str = "CREATE TABLE pending (number INTEGER PRIMARY KEY, url TEX
 const ACKS: &str =
     "CREATE TABLE acks (number INTEGER NOT NULL, member INTEGER NOT NULL, PRIMARY KEY (number, member)) STRICT";
 
-/// A master's file with the last number 9, and what is done to it; and how an open of it is answered.
-const ROWS: [(&[&str], Result<(u32, usize), PurgeFault>); 23] = [
-    (&[], Ok((9, 0))),
-    (&["UPDATE last SET number = 0"], Ok((0, 0))),
-    (
-        &["UPDATE last SET number = 4294967295"],
-        Ok((4294967295, 0)),
-    ),
-    (
-        &["UPDATE last SET number = 4294967296"],
-        Err(PurgeFault::BadTable),
-    ),
-    (&["UPDATE last SET number = -1"], Err(PurgeFault::BadTable)),
-    (&["DELETE FROM last"], Err(PurgeFault::BadTable)),
-    (&["UPDATE form SET version = 9"], Err(PurgeFault::BadTable)),
-    (&["UPDATE form SET version = 2"], Err(PurgeFault::BadTable)),
-    (&["INSERT INTO form VALUES (9)"], Err(PurgeFault::BadTable)),
-    (&["DELETE FROM form"], Err(PurgeFault::BadTable)),
-    (
-        &["INSERT INTO pending VALUES (9, 'http://a/'), (1, 'http://a/')"],
-        Ok((9, 2)),
-    ),
-    (
-        &["INSERT INTO pending VALUES (10, 'http://a/')"],
-        Err(PurgeFault::BadTable),
-    ),
-    (
-        &["INSERT INTO pending VALUES (0, 'http://a/')"],
-        Err(PurgeFault::BadTable),
-    ),
-    (
-        &["INSERT INTO pending VALUES (-1, 'http://a/')"],
-        Err(PurgeFault::BadTable),
-    ),
-    (
-        &["INSERT INTO pending VALUES (4294967296, 'http://a/')"],
-        Err(PurgeFault::BadTable),
-    ),
-    (
-        &["INSERT INTO pending VALUES (3, 'http://A')"],
-        Err(PurgeFault::BadTable),
-    ),
-    (
-        &["INSERT INTO pending VALUES (3, 'no url')"],
-        Err(PurgeFault::BadTable),
-    ),
-    (
-        &[
-            "INSERT INTO pending VALUES (3, 'http://a/')",
-            "INSERT INTO acks VALUES (3, 16), (3, 1)",
-        ],
-        Ok((9, 1)),
-    ),
-    (
-        &[
-            "INSERT INTO pending VALUES (3, 'http://a/')",
-            "INSERT INTO acks VALUES (3, 17)",
-        ],
-        Err(PurgeFault::BadTable),
-    ),
-    (
-        &[
-            "INSERT INTO pending VALUES (3, 'http://a/')",
-            "INSERT INTO acks VALUES (3, 0)",
-        ],
-        Err(PurgeFault::BadTable),
-    ),
-    (
-        &[
-            "INSERT INTO pending VALUES (3, 'http://a/')",
-            "INSERT INTO acks VALUES (4, 1)",
-        ],
-        Err(PurgeFault::BadTable),
-    ),
-    (&["BEGIN"], Err(PurgeFault::BadTable)),
-    (
-        &["CREATE INDEX more ON acks (member)"],
-        Err(PurgeFault::BadTable),
-    ),
-];
-
-/// Files whose tables are not those of a master.
-const TABLES: [&[&str]; 10] = [
-    &[FORM, VERSION],
-    &[LAST, NINE],
-    &[FORM, LAST, PENDING, VERSION, NINE],
-    &[FORM, LAST, ACKS, PENDING, VERSION, NINE],
-    &[FORM, PENDING, ACKS, VERSION],
-    &[
-        FORM,
-        LAST,
-        PENDING,
-        ACKS,
-        VERSION,
-        NINE,
-        "CREATE TABLE more (number INTEGER) STRICT",
-    ],
-    &[
-        FORM,
-        LAST,
-        PENDING,
-        "CREATE TABLE acks (number INTEGER NOT NULL, member INTEGER NOT NULL) STRICT",
-        VERSION,
-        NINE,
-    ],
-    &[
-        FORM,
-        LAST,
-        PENDING,
-        "CREATE TABLE acks (number INTEGER NOT NULL, PRIMARY KEY (number)) STRICT",
-        VERSION,
-        NINE,
-    ],
-    &[
-        FORM,
-        LAST,
-        "CREATE TABLE pending (number INTEGER PRIMARY KEY) STRICT",
-        ACKS,
-        VERSION,
-        NINE,
-    ],
-    &[
-        FORM,
-        "CREATE TABLE last (id INTEGER PRIMARY KEY, number INTEGER NOT NULL) STRICT",
-        PENDING,
-        ACKS,
-        VERSION,
-        NINE,
-    ],
-];
-
-/// What an open of a file answers: the last number and how many purges are pending, or why it is refused.
-type Opened = Result<(u32, usize), PurgeFault>;
-
-fn run(conn: &mut Connection<MemStore>, statements: &[&str]) -> Result<(), Fail> {
-    for statement in statements {
-        conn.execute_batch(statement)?;
-    }
-    Ok(())
-}
-
-/// A file that these statements made, and then those.
-fn made(alloc: Global, first: &[&str], then: &[&str]) -> Result<Connection<MemStore>, Fail> {
-    let mut conn = Connection::open_in_memory(alloc)?;
-    run(&mut conn, first)?;
-    run(&mut conn, then)?;
-    Ok(conn)
-}
-
-/// Opens such a file.
-fn opened_after(alloc: Global, first: &[&str], then: &[&str]) -> Result<Opened, Fail> {
-    match SqlitePurges::open(alloc, made(alloc, first, then)?) {
-        Ok(mut store) => Ok(Ok(counts(&mut store, alloc)?)),
-        Err((_, fault)) => Ok(Err(fault)),
+/// How an open of a file is refused that these statements made.
+fn refusal_of(alloc: Global, statements: &[&str]) -> Result<Option<PurgeFault>, Fail> {
+    match SqlitePurges::open(alloc, made_by(alloc, statements)?) {
+        Ok(_) => Ok(None),
+        Err((_, fault)) => Ok(Some(fault)),
     }
 }
 
 #[test]
-fn rows_and_how_a_file_with_them_opens(rt: HostRuntime) -> Result<(), Fail> {
-    for (statements, wanted) in ROWS {
-        let first = [FORM, LAST, PENDING, ACKS, VERSION, NINE];
-        let answer = opened_after(rt.alloc(), &first, statements)?;
-        assert_eq!(rt; answer, wanted, "{statements:?}");
-    }
-    Ok(())
-}
-
-#[test]
-fn other_tables_are_refused(rt: HostRuntime) -> Result<(), Fail> {
-    for statements in TABLES {
-        let answer = opened_after(rt.alloc(), statements, &[])?;
-        assert_eq!(rt; answer, Err(PurgeFault::BadTable), "{statements:?}");
-    }
-    Ok(())
-}
-
-/// A master's file with the last number 2,000 and 1,024 purges, with the numbers from 1 on.
-const MOST: [&str; 7] = [
-    FORM,
-    LAST,
-    PENDING,
-    ACKS,
-    VERSION,
-    "INSERT INTO last VALUES (1, 2000)",
-    "INSERT INTO pending WITH RECURSIVE n(i) AS (SELECT 1 UNION ALL SELECT i + 1 FROM n WHERE i < 1024) SELECT i, 'http://o/' || i FROM n",
-];
-
-#[test]
-fn at_most_1024_purges_are_read(rt: HostRuntime) -> Result<(), Fail> {
-    let most = opened_after(rt.alloc(), &MOST, &[])?;
-    assert_eq!(rt; most, Ok((2000, 1024)));
-    let one_more = ["INSERT INTO pending VALUES (1025, 'http://o/1025')"];
-    let more = opened_after(rt.alloc(), &MOST, &one_more)?;
-    assert_eq!(rt; more, Err(PurgeFault::BadTable));
+fn a_file_in_a_transaction_is_refused(rt: HostRuntime) -> Result<(), Fail> {
+    let statements = [FORM, LAST, PENDING, ACKS, VERSION, NINE, "BEGIN"];
+    let refusal = refusal_of(rt.alloc(), &statements)?;
+    assert_eq!(rt; refusal, Some(PurgeFault::BadTable));
     Ok(())
 }

@@ -1,15 +1,14 @@
 //! Calls over files that stop after so many calls of the disk.
 //!
-//! What is done with a store is written for any store below it, and what opens and closes files for any disk: a proof then speaks of none in particular.
+//! What is done with a store is written for any store below it: a proof then speaks of none in particular.
 use crate::calls::{add, loaded, mark, want};
+use crate::disks::{Disks, closed, connected, crashed, files, stopping};
 use purge_records::SqlitePurges;
 use purge_rules::{PurgeFault, PurgeStore};
-use sqlite::{Alter, Connection, FileStore, Files, Options};
-use sqlite_disk::{Crash, Disk, Fuse, Memory};
+use sqlite::{Alter, Connection, Files};
+use sqlite_disk::{Disk, Memory};
 use std::alloc::Global;
 use std::test::Fail;
-
-type Disks = Fuse<Memory>;
 
 /// The call that is stopped.
 #[derive(Clone, Copy)]
@@ -30,40 +29,11 @@ enum End {
     Went,
 }
 
-fn files(log: Memory, db: Memory, log_calls: u64, db_calls: u64) -> Files<Disks> {
-    Files {
-        log: Fuse::new(log, log_calls),
-        db: Fuse::new(db, db_calls),
-    }
-}
-
-/// A connection to the files, or what is left of them.
-fn connected<D: Disk + Drop>(
-    alloc: Global,
-    files: Files<D>,
-) -> Result<Connection<FileStore<D>>, Files<D>> {
-    if !files.may_be_used() {
-        return Err(files);
-    }
-    match Connection::open_files(alloc, files, Options::new(7)) {
-        Ok(conn) => Ok(conn),
-        Err((_, left)) => Err(left.into_files()),
-    }
-}
-
 /// The purges of a connection, or what is left below it.
 fn stored<S: Alter + Drop>(alloc: Global, conn: Connection<S>) -> Result<SqlitePurges<S>, S> {
     match SqlitePurges::open(alloc, conn) {
         Ok(store) => Ok(store),
         Err((conn, _)) => Err(conn.into_store()),
-    }
-}
-
-/// The files of a connection that is closed.
-fn closed<D: Disk + Drop>(conn: Connection<FileStore<D>>) -> Result<Files<D>, Fail> {
-    match conn.close_files().ok() {
-        Some(files) => Ok(files),
-        None => Err("close".into()),
     }
 }
 
@@ -103,21 +73,6 @@ fn made<D: Disk + Drop>(alloc: Global, files: Files<D>) -> Result<Files<D>, Fail
 fn first_files(alloc: Global) -> Result<Files<Disks>, Fail> {
     let new = files(Memory::new(alloc), Memory::new(alloc), u64::MAX, u64::MAX);
     made(alloc, new)
-}
-
-fn copy(alloc: Global, disk: &Disks) -> Result<Memory, Fail> {
-    let mut copy = Memory::new(alloc);
-    copy.write_at(0, disk.inner().bytes())?;
-    copy.sync()?;
-    Ok(copy)
-}
-
-/// The files as a crash leaves them.
-fn crashed(alloc: Global, left: Files<Disks>) -> Result<Files<Disks>, Fail> {
-    let Files { mut log, mut db } = left;
-    log.crash();
-    db.crash();
-    Ok(files(copy(alloc, &log)?, copy(alloc, &db)?, u64::MAX, u64::MAX))
 }
 
 fn call<P: PurgeStore>(
@@ -167,18 +122,6 @@ fn after(step: Step) -> Seen {
         Step::Mark => (2, 2, 2, true),
         Step::Finish => (2, 1, 0, false),
     }
-}
-
-/// A copy of the files that stops after so many calls of the log, or of the main file.
-fn stopping(
-    alloc: Global,
-    first: &Files<Disks>,
-    log_calls: u64,
-    db_calls: u64,
-) -> Result<Files<Disks>, Fail> {
-    let log = copy(alloc, &first.log)?;
-    let db = copy(alloc, &first.db)?;
-    Ok(files(log, db, log_calls, db_calls))
 }
 
 /// Makes the call, and answers how it ended and what is left below the store.

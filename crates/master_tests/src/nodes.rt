@@ -1,13 +1,11 @@
-//! A node over its store of floors.
+//! A node over a store of floors that fails.
 use crate::failing::FailingFloors;
 use crate::world::{Cleared, cleared_by, key_of, purge, roster_of};
 use fetch_messages::Ask;
-use floor_rules::{FloorStore, MemoryFloors};
+use floor_rules::FloorStore;
 use node_core::Node;
 use node_rules::{Begin, Event, Reply, StepFault};
-use purge_numbers::SqliteFloors;
 use roster::Roster;
-use sqlite::{Connection, MemStore};
 use std::alloc::Global;
 use std::test::Fail;
 
@@ -27,17 +25,6 @@ fn over<S: FloorStore + Drop>(alloc: Global, roster: Roster, store: S) -> Result
 /// Node 1, over this store.
 fn opened<S: FloorStore + Drop>(alloc: Global, store: S) -> Result<Held<S>, Fail> {
     over(alloc, roster_of(alloc)?, store)
-}
-
-/// Node 1, over this file.
-fn opened_over(
-    alloc: Global,
-    conn: Connection<MemStore>,
-) -> Result<Held<SqliteFloors<MemStore>>, Fail> {
-    match SqliteFloors::open(alloc, conn) {
-        Ok(store) => opened(alloc, store),
-        Err((_, fault)) => Err(fault.name().into()),
-    }
 }
 
 fn client(alloc: Global, url: &str) -> Result<Event<()>, Fail> {
@@ -63,21 +50,6 @@ fn cleared<S: FloorStore>(
     })
 }
 
-/// The node's floor of a URL, its greatest floor, and how many there are.
-fn floors_of<S: FloorStore>(
-    alloc: Global,
-    node: &Node<(), S>,
-    url: &str,
-) -> Result<(u32, u32, usize), Fail> {
-    let key = key_of(alloc, url)?;
-    let state = node.state()?;
-    Ok((
-        state.floors.floor(&key),
-        state.floors.seen(),
-        state.floors.rows(),
-    ))
-}
-
 /// Whether a step begins the read of this serial.
 fn begins_read<S: FloorStore>(node: &mut Node<(), S>, event: Event<()>, wanted: u32) -> bool {
     match node.step(event, ()) {
@@ -93,24 +65,6 @@ fn is_read(reply: &Reply<()>, wanted: u32) -> bool {
 /// Whether a step is refused since the node is closed.
 fn is_refused<S: FloorStore>(node: &mut Node<(), S>, event: Event<()>) -> bool {
     matches!(node.step(event, ()), Err(StepFault::Closed))
-}
-
-/// A node over a file, opened again after a purge.
-fn opened_again(alloc: Global) -> Result<Held<SqliteFloors<MemStore>>, Fail> {
-    let mut held = opened_over(alloc, Connection::open_in_memory(alloc)?)?;
-    match cleared(alloc, &mut held.node, "http://o/a", 7)? {
-        Ok(Cleared::Code(2)) => opened_over(alloc, held.node.into_floors().into_connection()),
-        _ => Err("cleared".into()),
-    }
-}
-
-#[test]
-fn a_node_over_tables_is_opened_again(rt: HostRuntime) -> Result<(), Fail> {
-    let alloc = rt.alloc();
-    let held = opened_again(alloc)?;
-    assert_eq!(rt; floors_of(alloc, &held.node, "http://o/a")?, (7, 7, 1));
-    assert_eq!(rt; floors_of(alloc, &held.node, "http://o/b")?, (0, 7, 1));
-    Ok(())
 }
 
 /// What is wrong with a node whose store fails at its first raise: it is closed from then on.
@@ -176,52 +130,5 @@ fn a_later_fault_of_the_store_keeps_what_was_answered(rt: HostRuntime) -> Result
     assert!(rt; is_cleared(alloc, &mut held.node, 1)?);
     assert!(rt; is_cleared(alloc, &mut held.node, 2)?);
     assert!(rt; is_closed_by_fault(alloc, &mut held.node, 3)?);
-    Ok(())
-}
-
-fn raise(alloc: Global, store: &mut MemoryFloors, number: u32) -> Result<(), Fail> {
-    let url = format!(in alloc; "http://o/{number}")?;
-    let key = key_of(alloc, &url)?;
-    if number == 0 || store.raise(alloc, &key, number).is_err() {
-        return Err("a raise".into());
-    }
-    Ok(())
-}
-
-/// A store with the numbers 1 to 65,536.
-fn full(alloc: Global) -> Result<MemoryFloors, Fail> {
-    let mut store = MemoryFloors::new(alloc);
-    for number in 1..65537u32 {
-        raise(alloc, &mut store, number)?;
-    }
-    Ok(store)
-}
-
-/// What is wrong with a node whose floors are full: it refuses a new key, and clears one that it has.
-fn flaw_when_full<S: FloorStore>(
-    alloc: Global,
-    node: &mut Node<(), S>,
-) -> Result<Option<&'static str>, Fail> {
-    let refused = cleared(alloc, node, "http://o/a", 70_000)?;
-    if refused != Ok(Cleared::Refused(5)) || node.is_closed() {
-        return Ok(Some("a new key"));
-    }
-    if floors_of(alloc, node, "http://o/a")? != (0, 65536, 65536) {
-        return Ok(Some("the floors before"));
-    }
-    if cleared(alloc, node, "http://o/3", 70_001)? != Ok(Cleared::Code(2)) {
-        return Ok(Some("a key that it has"));
-    }
-    if floors_of(alloc, node, "http://o/3")? != (70_001, 70_001, 65536) {
-        return Ok(Some("the floors after"));
-    }
-    Ok(None)
-}
-
-#[test]
-fn a_node_whose_floors_are_full_refuses_a_new_key(rt: HostRuntime) -> Result<(), Fail> {
-    let alloc = rt.alloc();
-    let mut held = opened(alloc, full(alloc)?)?;
-    assert_eq!(rt; flaw_when_full(alloc, &mut held.node)?, None);
     Ok(())
 }

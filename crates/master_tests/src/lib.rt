@@ -1,4 +1,4 @@
-//! Tests of a node and of a master over stores that are opened again, that are full, and that fail.
+//! Tests of a master by its public calls: its worked runs, and a master and a node whose store fails.
 #![tactic(auto)]
 
 #[cfg(test)]

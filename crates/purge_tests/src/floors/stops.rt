@@ -1,50 +1,21 @@
 //! Raises over files that stop after so many calls.
 //!
-//! What is done with a store is written for any store below it, and what opens and closes files for any disk: a proof then speaks of none in particular.
-use super::{floor, loaded, raise, want};
+//! What is done with a store is written for any store below it: a proof then speaks of none in particular.
+use super::{floor, loaded, raise};
+use crate::calls::want;
+use crate::disks::{Disks, closed, connected, crashed, files, stopping};
 use floor_rules::{FloorFault, FloorStore};
 use purge_numbers::SqliteFloors;
-use sqlite::{Alter, Connection, FileStore, Files, Options};
-use sqlite_disk::{Crash, Disk, Fuse, Memory};
+use sqlite::{Alter, Connection, Files};
+use sqlite_disk::{Disk, Memory};
 use std::alloc::Global;
 use std::test::Fail;
-
-type Disks = Fuse<Memory>;
-
-fn files(log: Memory, db: Memory, log_calls: u64, db_calls: u64) -> Files<Disks> {
-    Files {
-        log: Fuse::new(log, log_calls),
-        db: Fuse::new(db, db_calls),
-    }
-}
-
-/// A connection to the files, or what is left of them.
-fn connected<D: Disk + Drop>(
-    alloc: Global,
-    files: Files<D>,
-) -> Result<Connection<FileStore<D>>, Files<D>> {
-    if !files.may_be_used() {
-        return Err(files);
-    }
-    match Connection::open_files(alloc, files, Options::new(7)) {
-        Ok(conn) => Ok(conn),
-        Err((_, left)) => Err(left.into_files()),
-    }
-}
 
 /// The floors of a connection, or what is left below it.
 fn stored<S: Alter + Drop>(alloc: Global, conn: Connection<S>) -> Result<SqliteFloors<S>, S> {
     match SqliteFloors::open(alloc, conn) {
         Ok(store) => Ok(store),
         Err((conn, _)) => Err(conn.into_store()),
-    }
-}
-
-/// The files of a connection that is closed.
-fn closed<D: Disk + Drop>(conn: Connection<FileStore<D>>) -> Result<Files<D>, Fail> {
-    match conn.close_files().ok() {
-        Some(files) => Ok(files),
-        None => Err("close".into()),
     }
 }
 
@@ -70,21 +41,6 @@ fn first_files(alloc: Global) -> Result<Files<Disks>, Fail> {
     made(alloc, new)
 }
 
-fn copy(alloc: Global, disk: &Disks) -> Result<Memory, Fail> {
-    let mut copy = Memory::new(alloc);
-    copy.write_at(0, disk.inner().bytes())?;
-    copy.sync()?;
-    Ok(copy)
-}
-
-/// The files as a crash leaves them.
-fn crashed(alloc: Global, left: Files<Disks>) -> Result<Files<Disks>, Fail> {
-    let Files { mut log, mut db } = left;
-    log.crash();
-    db.crash();
-    Ok(files(copy(alloc, &log)?, copy(alloc, &db)?, u64::MAX, u64::MAX))
-}
-
 /// Raises `http://a/` to 3, and answers whether that was answered Ok. A store that failed fails from then on.
 fn raised<F: FloorStore>(store: &mut F, alloc: Global) -> Result<bool, Fail> {
     let done = raise(store, alloc, "http://a/", 3)?;
@@ -97,18 +53,6 @@ fn raised<F: FloorStore>(store: &mut F, alloc: Global) -> Result<bool, Fail> {
     want(later == Err(FloorFault::StoreFault), "a store fault again")?;
     want(store.failures() == 2, "two failures")?;
     Ok(false)
-}
-
-/// A copy of the files that stops after so many calls of the log, or of the main file.
-fn stopping(
-    alloc: Global,
-    first: &Files<Disks>,
-    log_calls: u64,
-    db_calls: u64,
-) -> Result<Files<Disks>, Fail> {
-    let log = copy(alloc, &first.log)?;
-    let db = copy(alloc, &first.db)?;
-    Ok(files(log, db, log_calls, db_calls))
 }
 
 /// Raises, and answers whether that was answered Ok and what is left below the store.

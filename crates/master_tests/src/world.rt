@@ -36,6 +36,11 @@ address = \"127.0.0.1\"
 connect = 8080
 ";
 
+/// Fails with these words where something does not hold.
+pub(crate) fn want(holds: bool, what: &'static str) -> Result<(), Fail> {
+    if holds { Ok(()) } else { Err(what.into()) }
+}
+
 pub(crate) fn roster_of(alloc: Global) -> Result<Roster, Fail> {
     match Roster::read(alloc, TWO) {
         Ok(roster) => Ok(roster),
@@ -96,11 +101,10 @@ pub(crate) fn purge(alloc: Global, url: &str, number: u32) -> Result<Event<()>, 
     }))
 }
 
-/// What a node answers to a CLR: the code of its answer, or that of an overall refusal, whose opcode is that of CLR.
+/// What a node answers to a CLR: the code of its answer.
 #[derive(Clone, Copy, Debug, PartialEq, Eq)]
 pub(crate) enum Cleared {
     Code(u8),
-    Refused(u8),
     Otherwise,
 }
 
@@ -108,7 +112,6 @@ fn cleared_by_message(message: &Message) -> Cleared {
     match message {
         Message::Htcp(message) => match message.content {
             Content::ClrAnswer { code } => Cleared::Code(code),
-            Content::Overall { opcode: 4, code } => Cleared::Refused(code),
             _ => Cleared::Otherwise,
         },
         Message::Icp(_) => Cleared::Otherwise,

@@ -1,41 +1,16 @@
 //! Worked runs of a master, each a table of calls and of what they are answered.
 ghost use Rattle.std.specs.Prelude.{◌≡◌, ◌==◌};
 
-use crate::calls::want;
+use crate::world::{key_of, roster_of, want};
 use htcp_wire::{Content, HeaderKind, Htcp, number_in};
 use purge_master::{Master, MasterBook};
 use purge_rules::{
     MasterAnswer, MasterCall, MasterFault, MemoryPurges, PurgeFault, PurgeStore, Purges, Status,
 };
-use roster::Roster;
 use std::alloc::Global;
 use std::fmt::Write;
 use std::test::Fail;
 use url_key::Key;
-
-/// Members 1 and 2.
-const TWO: &str = "default_lifetime = 60
-copies = 1000
-bytes = 1048576
-query_wait = 2000
-[master]
-address = \"127.0.0.1\"
-htcp = 4800
-[[node]]
-id = 1
-name = \"n1\"
-address = \"127.0.0.1\"
-http = 8101
-icp = 3101
-htcp = 4101
-[[node]]
-id = 2
-name = \"n2\"
-address = \"127.0.0.1\"
-http = 8102
-icp = 3102
-htcp = 4102
-";
 
 /// A call of a table.
 #[derive(Clone, Copy)]
@@ -112,25 +87,14 @@ impl PurgeStore for FailingPurges {
     }
 }
 
-fn key_of(rt: &HostRuntime, url: &str) -> Result<Key, Fail> {
-    Ok(Key::read(rt.alloc(), url.as_bytes())?)
-}
-
 /// A book that is dropped as one value.
 #[derive(Drop)]
 struct Held<S: PurgeStore + Drop> {
     book: MasterBook<S>,
 }
 
-fn roster_of(rt: &HostRuntime) -> Result<Roster, Fail> {
-    match Roster::read(rt.alloc(), TWO) {
-        Ok(roster) => Ok(roster),
-        Err(error) => Err(error.fault.name().into()),
-    }
-}
-
 fn open<S: PurgeStore + Drop>(rt: &HostRuntime, store: S) -> Result<Held<S>, Fail> {
-    match Master::open(rt.alloc(), &roster_of(rt)?, store) {
+    match Master::open(rt.alloc(), &roster_of(rt.alloc())?, store) {
         Ok(master) => Ok(Held {
             book: MasterBook::open(master),
         }),
@@ -153,7 +117,7 @@ fn failing(rt: &HostRuntime, writes: u32) -> Result<Held<FailingPurges>, Fail> {
 
 fn call_of(rt: &HostRuntime, call: Call) -> Result<MasterCall, Fail> {
     Ok(match call {
-        Call::Issue(url) => MasterCall::Issue(key_of(rt, url)?),
+        Call::Issue(url) => MasterCall::Issue(key_of(rt.alloc(), url)?),
         Call::Acknowledge(member, trans, code) => MasterCall::Acknowledge {
             member,
             trans,
@@ -362,7 +326,7 @@ const LAST_NUMBER: [(Call, &str); 7] = [
 
 /// Purges of which the greatest number is pending.
 fn spent(rt: &HostRuntime) -> Result<MemoryPurges, Fail> {
-    let key = key_of(rt, "http://o/a")?;
+    let key = key_of(rt.alloc(), "http://o/a")?;
     let mut store = MemoryPurges::new(rt.alloc());
     store.add(rt.alloc(), 4294967295, &key)?;
     Ok(store)
