@@ -4,7 +4,7 @@
 //! the crate's own on.
 //!
 //! One kind of wrong bodies passes the contracts here: a `first_node` that answers `NoFirstNode` at once, since no clause knows that the roster
-//! is read and gives a node. Each test of `run_answer` runs on it.
+//! is read and gives a node. Each script test of `cache answer` runs on it.
 #![tactic(auto)]
 
 mod answer;

@@ -1,11 +1,9 @@
-//! The workers of a node: threads that take what its sockets got from the queue of jobs, take the node's steps with it, and do what those say.
+//! A node that runs: its sockets, its threads, and its shifts.
 //!
 //! [`Workers::start`] opens a node's sockets and starts one thread, which has the sockets: it starts the workers and as many fetchers, turns the [`NodeLoop`](udp_loop::NodeLoop) while they work, and
-//! puts a timer for each round of questions that has waited for the roster's `query_wait`. A worker takes jobs: it hands a datagram, an ask over a stream or a timer to the node by its seat, sends the
-//! datagrams that the step says, and answers or leaves the client. What the step begins from a peer or an origin it leaves to the fetchers. A fetcher takes errands: it does the fetch, takes the step at
-//! its end, and does what that begins, until nothing is left to be done. So workers wait for no fetch, and what the node has is served also while each fetcher waits for an origin. Another member asks
-//! for what is cached alone, which begins nothing: it is answered by a worker, and two members that fetch from each other wait for no fetch of the other. Whether the node has a copy, another cache's
-//! question, the thread at the sockets answers itself, since nothing begins with it.
+//! puts a timer for each round of questions that has waited for the roster's `query_wait`. What a worker does with a job, a fetcher with an errand and the thread at the sockets with a question, `node_service` says.
+//! Workers leave fetches to the fetchers, so they wait for none, and what the node has is served also while each fetcher waits for an origin. Another member asks for what is cached alone, which begins nothing:
+//! a worker answers it, and two members that fetch from each other wait for no fetch of the other.
 //!
 //! The node's lock is held for a step alone, and no lock while a socket is waited for. Shifts end and begin under that lock (`node_shifts`), so fetches under way and clients that wait outlive them.
 //! [`Workers::stop`] ends the last shift, and answers 503 to those who wait.
