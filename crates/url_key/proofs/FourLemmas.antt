@@ -1,4 +1,5 @@
--- A test of octets that is made four octets at a time.
+-- A test that is made four octets at a time says the same as one octet at a time: a list is its
+-- first four octets and the rest.
 use Rattle.std.proofs.Common.{◌≡◌, ℕ, ◌+◌, ◌-◌, ◌≤◌, ◌&&◌, Bool, true, List, ◌∷◌, length, take, drop, get_or, sym, ap, ◌∙◌, arith, take_all}
 use Rattle.std.specs.List.{list_all, prefix_len}
 use Rattle.std.proofs.lemmas.Bool.{and_parts}

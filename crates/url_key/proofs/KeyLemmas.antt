@@ -1,4 +1,5 @@
--- What is read is a key, and a key reads as itself.
+-- What is read is a key, and a key reads as itself: its text spells a URI with the same host in
+-- lower case, the same port, path and query, so its canonical text is the same again.
 use Rattle.std.proofs.Common.{◌≡◌, ◌≢◌, ℕ, ◌<◌, ◌≤◌, ◌==◌, true, false, not, ◌||◌, cond, take, drop, is_some, Option, Some, None, List, [], ◌∷◌, ◌++◌, length, get_or, Result, Ok, Err, MatchResult, refl, sym, ap, ap₂, ◌∙◌, subst, inl, inr, arith, append-nil, append_assoc, length-append, nat_lt, unwrap_or, codes}
 use Rattle.std.specs.List.{list_all, list_any}
 use Rattle.std.proofs.lemmas.Bool.{and_parts, cases_Bool, ltb-false, le-ltb}

@@ -4,23 +4,27 @@ ghost use Rattle.url_key.specs.Fault.{key_fault_name};
 use std::alloc::AllocError;
 use thiserror::Error;
 
-/// Why a text has no key. Each is answered only where none of those above it holds; `NoMemory` may stand in the place of any but those that
-/// are found before the text is cut: `TooLong` of a text, `NotVisibleAscii` and `Fragment`.
+/// Why a text has no key. The first fault that holds is given, in this order; `TooLong` of the key
+/// comes last, behind `BadPort`.
+///
+/// `NoMemory` may replace any fault but those that are tested before the text is cut: `TooLong` of
+/// the text, `NotVisibleAscii` and `Fragment`.
 #[derive(Clone, Copy, Debug, PartialEq, Eq, Hash, Error)]
 pub enum KeyFault {
-    /// The text, or the key that it would have, is longer than 1,024 octets.
+    /// The text, or its key, is longer than 1,024 octets.
     #[error("the text or its key is longer than 1,024 octets")]
     TooLong,
-    /// An octet is not one of `!` to `~` (0x21 to 0x7e).
+    /// An octet is outside `!` to `~` (0x21 to 0x7e).
     #[error("an octet is no visible character of ASCII")]
     NotVisibleAscii,
-    /// The text has a `#` (RFC 9110, section 4.2.5).
+    /// The text has a `#`: a fragment, which is no part of an http URI (RFC 9110, section 4.2.5).
     #[error("the text has a fragment")]
     Fragment,
-    /// The text has none of the forms of a request target (RFC 9112, section 3.2), as `http_uri` reads them.
+    /// The text has none of the forms of a request target (RFC 9112, section 3.2), as `http_uri`
+    /// reads them.
     #[error("the text is no URI")]
     NotUri,
-    /// There is no scheme, or one that is not `http` in any case of letters.
+    /// There is no scheme, or one other than `http` in any case of letters.
     #[error("the scheme is not http")]
     NotHttp,
     /// The authority has an `@` (RFC 9110, section 4.2.4).
@@ -29,16 +33,17 @@ pub enum KeyFault {
     /// The host is empty (RFC 9110, section 4.2.1).
     #[error("the host is empty")]
     NoHost,
-    /// What stands behind the host is neither nothing nor a colon and 1 to 5 digits of a value from 1 to 65535.
+    /// What follows the host is neither nothing nor `:` and 1 to 5 digits of a value from 1 to
+    /// 65535.
     #[error("the port is not a number of 1 to 65535")]
     BadPort,
-    /// A growth was refused.
+    /// An allocation failed.
     #[error("there was no memory")]
     NoMemory,
 }
 
 impl KeyFault {
-    /// The name that scripts print.
+    /// The name that scripts print: the name of the variant.
     pub const fn name(self) -> &'static str
         ensures { result.now ≡ key_fault_name self }
     {

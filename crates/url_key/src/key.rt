@@ -22,13 +22,13 @@ use std::fmt;
 use std::hash::{Hash, Hasher};
 use std::marker::Model;
 
-/// The most octets that a text which is read may have, and a key too.
+/// The greatest length of a key in octets, and of a text that [`Key::read`] takes.
 pub const LONGEST_KEY: usize = 1024;
 
-/// The canonical text of an http URL. Texts that differ in the case of the scheme or the host, in whether port 80 is written, in leading zeros of the port, or in whether
-/// the `/` of an empty path is, have one key (RFC 9110, section 4.2.3). Percent-encoded octets stay as they came, so `/~a` and `/%7Ea` have two.
+/// The canonical text of an http URL, of at most [`LONGEST_KEY`] octets. Keys compare, order and
+/// hash as their texts.
 ///
-/// A contract sees it as that text.
+/// A contract sees it as that text. Its invariant: the text reads as this key (`IsKey`).
 #[derive(Drop)]
 pub struct Key {
     text: Vec<u8>,
@@ -46,12 +46,18 @@ impl Model for Key {
 }
 
 impl Key {
-    /// The key of a URL, or the first reason why it has none.
+    /// Reads the key of a URL. The error is the first fault of the text, in the order of
+    /// [`KeyFault`].
+    ///
+    /// `NoMemory` may replace any fault but those that are tested before the text is cut: a text
+    /// that is too long, an octet that is not visible, and a fragment.
+    ///
+    /// The key keeps the text's host in lower case, its port, its path and its query (`parts`).
     pub fn read(alloc: Global, text: &[u8]) -> Result<Key, KeyFault>
         ensures ok { IfOk result (λ key. HasKey text.now (Ok key)) }
         ensures parts { IfOk result (λ key. KeepsParts text.now key) }
         ensures err { IfErr result (λ fault. UnlessNoMemory fault (HasKey text.now (Err fault))) }
-        // What is tested before the text is cut takes no memory.
+        // The tests before the text is cut allocate nothing.
         ensures memory { result ≡ Err KeyFault.NoMemory → first_fault text.now ≡ None }
     {
         match text_of_key(alloc, text) {
@@ -60,7 +66,7 @@ impl Key {
         }
     }
 
-    /// The key's text, which reads as this key.
+    /// The text of the key. It reads as this key.
     pub fn text(&self) -> &[u8]
         ensures value { result.now ≡ self.now }
         ensures valid { IsKey self.now }
@@ -68,14 +74,14 @@ impl Key {
         self.text.as_slice()
     }
 
-    /// The host, in lower case.
+    /// The host, in lower case. An address in brackets keeps its brackets.
     pub fn host(&self) -> &[u8]
         ensures { result.now ≡ key_host self.now }
     {
         host_of(self.authority())
     }
 
-    /// The port, which is 80 where the text writes none.
+    /// The port, from 1 to 65535: 80 if the text has none.
     pub fn port(&self) -> u16
         ensures { result ≡ key_port self.now }
     {
@@ -83,21 +89,23 @@ impl Key {
         port_of(rest).unwrap_or(HTTP_PORT)
     }
 
-    /// The host, and the port where it is not 80: what a `host` field holds.
+    /// The host, with `:` and the port unless it is 80: the value of a `Host` field (RFC 9110,
+    /// section 7.2).
     pub fn authority(&self) -> &[u8]
         ensures { result.now ≡ key_authority self.now }
     {
         authority_of(&self.text)
     }
 
-    /// The path, and the query where there is one.
+    /// The path, with `?` and the query if there is one: the origin-form of a request target (RFC
+    /// 9112, section 3.2.1).
     pub fn path_and_query(&self) -> &[u8]
         ensures { result.now ≡ key_path self.now }
     {
         path_of(&self.text)
     }
 
-    /// The same key once more.
+    /// A second copy of the key. The error is want of memory.
     pub fn copy(&self, alloc: Global) -> Result<Key, AllocError>
         ensures { IfOk result (λ copy. copy ≡ self.now) }
     {
@@ -106,7 +114,7 @@ impl Key {
     }
 }
 
-/// The text of the key of any text, or the first reason why it has none.
+/// The text of the key of any text, or the first fault. A text that is a plain key is copied.
 fn text_of_key(alloc: Global, text: &[u8]) -> Result<Vec<u8>, KeyFault>
     ensures outcome { MatchResult result (λ key. HasKey text.now (Ok key.items))
         (λ fault. UnlessNoMemory fault (HasKey text.now (Err fault))) }
@@ -122,7 +130,8 @@ fn text_of_key(alloc: Global, text: &[u8]) -> Result<Vec<u8>, KeyFault>
     }
 }
 
-/// The fault of a text that is tested before the text is cut.
+/// The fault that is found before the text is cut: its length, an octet that is not visible, or a
+/// fragment. Allocates nothing.
 fn early_fault(text: &[u8]) -> Option<KeyFault>
     ensures { result ≡ first_fault text.now }
 {
@@ -137,7 +146,7 @@ fn early_fault(text: &[u8]) -> Option<KeyFault>
     }
 }
 
-/// The text of the key of a text that has passed the early tests.
+/// The key's text, for a text without an early fault.
 fn key_of_text(alloc: Global, text: &[u8]) -> Result<Vec<u8>, KeyFault>
     ensures { MatchResult result (λ key. HasUriKey text.now (Ok key.items))
         (λ fault. UnlessNoMemory fault (HasUriKey text.now (Err fault))) }
@@ -149,7 +158,8 @@ fn key_of_text(alloc: Global, text: &[u8]) -> Result<Vec<u8>, KeyFault>
     }
 }
 
-/// The text of the key of a URI whose text has this length: the key is longer by a `/` at most.
+/// The key's text, for a URI that was read from a text of `length` octets. The key is longer by one
+/// `/` at most.
 fn key_of_uri(alloc: Global, length: usize, uri: &Uri) -> Result<Vec<u8>, KeyFault>
     ensures { MatchResult result (λ key. Ok key.items ≡ uri_outcome uri.now)
         (λ fault. UnlessNoMemory fault (Err fault ≡ uri_outcome uri.now)) }
@@ -168,6 +178,7 @@ fn key_of_uri(alloc: Global, length: usize, uri: &Uri) -> Result<Vec<u8>, KeyFau
     }
 }
 
+/// Whether the scheme is http. `http_uri` gives a scheme in lower case.
 fn is_http(uri: &Uri) -> bool
     ensures { result ≡ has_http (uri_scheme uri.now) }
 {
@@ -177,6 +188,7 @@ fn is_http(uri: &Uri) -> bool
     }
 }
 
+/// The authority, or no octets if there is none.
 fn authority_or_empty(uri: &Uri) -> &[u8]
     ensures { result.now ≡ unwrap_or (uri_authority uri.now) [] }
 {
@@ -186,7 +198,8 @@ fn authority_or_empty(uri: &Uri) -> &[u8]
     }
 }
 
-/// The text of the key of an authority, a path and a query.
+/// The key's text, for an authority, a path and a query. `room` is the capacity, in octets, of the
+/// buffer that is allocated.
 fn key_of_authority(
     alloc: Global,
     room: usize,

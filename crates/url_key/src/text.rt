@@ -1,4 +1,4 @@
-//! The parts of an authority and of a key's text.
+//! Cuts an authority and a key's text into their parts, and writes a key's text.
 ghost use Rattle.std.specs.Prelude.{◌≡◌, ◌==◌, ◌<◌, ◌≤◌, ◌++◌, length, codes, [], IfOk, OnOk, IsTrue, Some, None, option_copied, if◌then◌else◌};
 ghost use Rattle.std.specs.List.{list_all, list_any};
 ghost use Rattle.std.specs.Char.{is_ascii_digit};
@@ -12,25 +12,27 @@ ghost use Rattle.url_key.specs.Text.{canonical_text as text_of_key, http_prefix,
 use itoa::Buffer;
 use std::alloc::{AllocError, Global};
 
+/// The default port of http (RFC 9110, section 4.2.1).
 pub(crate) const HTTP_PORT: u16 = 80;
 
+/// The length of `http://`.
 const PREFIX_LEN: usize = 7;
 
-/// Whether each octet is a visible character of ASCII.
+/// Whether each octet is a visible character of ASCII, `!` to `~`.
 pub(crate) fn all_visible(text: &[u8]) -> bool
     ensures { result ≡ list_all is_visible text.now }
 {
     text.iter().all(|b| 33 <= *b && *b <= 126)
 }
 
-/// Whether the text has this octet.
+/// Whether the octet is in the text.
 pub(crate) fn has(octet: u8, text: &[u8]) -> bool
     ensures { result ≡ list_any (λ b. b == octet) text.now }
 {
     text.iter().any(|b| *b == octet)
 }
 
-/// Where the octet first stands, or the length.
+/// The index of the first such octet, or the length if there is none.
 fn index_of(octet: u8, text: &[u8]) -> usize
     ensures value { result ≡ bytes.index_of octet text.now }
     ensures within { result ≤ length text.now }
@@ -38,7 +40,8 @@ fn index_of(octet: u8, text: &[u8]) -> usize
     text.iter().take_while(|b| **b != octet).count()
 }
 
-/// The host of an authority that has no userinfo.
+/// The host of an authority without userinfo (RFC 3986, section 3.2.2). A host that begins with `[`
+/// ends with the first `]`, any other before the first `:`.
 pub(crate) fn host_of(authority: &[u8]) -> &[u8]
     ensures { result.now ≡ host_named authority.now }
 {
@@ -50,7 +53,7 @@ pub(crate) fn host_of(authority: &[u8]) -> &[u8]
     }
 }
 
-/// What follows the host.
+/// What follows the host: nothing, or `:` and the port, if the port is good.
 pub(crate) fn after_host(authority: &[u8]) -> &[u8]
     ensures { result.now ≡ behind_host authority.now }
 {
@@ -65,7 +68,7 @@ fn all_digits(text: &[u8]) -> bool
     text.iter().all(|b| b'0' <= *b && *b <= b'9')
 }
 
-/// The number that a few decimal digits write.
+/// The number that at most five decimal digits spell.
 #[tactic(auto, using(crate::proofs::TextLemmas::few_digits, crate::proofs::TextLemmas::next_digit))]
 fn number_of(digits: &[u8]) -> u32
     requires few { length digits.now ≤ 5 }
@@ -79,7 +82,8 @@ fn number_of(digits: &[u8]) -> u32
     number
 }
 
-/// The port that stands behind a host, and 80 where nothing stands there.
+/// The port that follows a host: 80 if nothing follows, `None` if what follows is not `:` and a
+/// port from 1 to 65535.
 pub(crate) fn port_of(rest: &[u8]) -> Option<u16>
     ensures { result ≡ port_named rest.now }
 {
@@ -93,7 +97,7 @@ pub(crate) fn port_of(rest: &[u8]) -> Option<u16>
     }
 }
 
-/// The port that these digits write, if they write one.
+/// The port that 1 to 5 digits spell. `None` for 0, for more than 65535, and for anything else.
 fn port_number(digits: &[u8]) -> Option<u16>
     ensures { result ≡ (if is_port digits.now then Some (digits_value 10 digits.now) else None) }
 {
@@ -116,7 +120,7 @@ pub(crate) fn authority_of(key: &[u8]) -> &[u8]
     &rest[..authority_end(rest)]
 }
 
-/// What follows the authority of a key's text.
+/// What follows the authority of a key's text: path and query.
 pub(crate) fn path_of(key: &[u8]) -> &[u8]
     requires { length http_prefix ≤ length key.now }
     ensures { result.now ≡ key_path key.now }
@@ -125,7 +129,7 @@ pub(crate) fn path_of(key: &[u8]) -> &[u8]
     &rest[authority_end(rest)..]
 }
 
-/// Where the authority at the front of the text ends.
+/// The index where the authority at the front ends: the first `/`, `?` or `#`, or the length.
 fn authority_end(text: &[u8]) -> usize
     ensures value { result ≡ authority_len text.now }
     ensures within { result ≤ length text.now }
@@ -135,7 +139,7 @@ fn authority_end(text: &[u8]) -> usize
         .count()
 }
 
-/// The text of the key that has these parts, in a `Vec` that has room for so many octets.
+/// The text of the key with these parts, in a `Vec` with a capacity of `room` octets.
 pub(crate) fn canonical_text(
     alloc: Global,
     room: usize,
@@ -157,7 +161,7 @@ pub(crate) fn canonical_text(
     Ok(text)
 }
 
-/// Writes a port behind a colon, where it is not 80.
+/// Appends `:` and the port, unless it is 80.
 fn push_port(text: &mut Vec<u8>, port: u16) -> Result<(), AllocError>
     ensures { OnOk result (text.new.items ≡ text.old.items ++ port_text port) }
 {
@@ -169,7 +173,7 @@ fn push_port(text: &mut Vec<u8>, port: u16) -> Result<(), AllocError>
     Ok(())
 }
 
-/// Writes a query behind a question mark, where there is one.
+/// Appends `?` and the query, if there is one.
 fn push_query(text: &mut Vec<u8>, query: Option<&str>) -> Result<(), AllocError>
     ensures { OnOk result (text.new.items
         ≡ text.old.items ++ framed_text (codes "?") (option_copied query.entry) []) }
