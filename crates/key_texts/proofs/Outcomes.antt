@@ -1,4 +1,5 @@
--- Each text has the outcome that the function gives, and no other.
+-- Each text has the outcome that the function gives, and no other: a text spells one URI at most,
+-- and the function finds it.
 use Rattle.std.proofs.Common.{◌≡◌, ℕ, cond, Option, Some, None, unwrap_or, is_some, not, ◌||◌, ◌==◌, List, [], length, Result, Err, refl, sym, ap, ◌∙◌, inl, inr}
 use Rattle.http_uri.specs.declared.uri.Uri.{Uri}
 use Rattle.http_uri.specs.Grammar.{path_of, query_of}

@@ -1,4 +1,5 @@
--- The function gives the URI that a text spells, or none where it spells none.
+-- The function gives the URI that a text spells, or none if it spells none: the forms exclude each
+-- other, and the absolute form can be cut in one way only.
 use Rattle.std.proofs.Common.{◌≡◌, ℕ, ◌+◌, ◌&&◌, ◌⊎◌, IsTrue, Decides, Option, MatchOption, List, [], ◌∷◌, length, take, drop, get_or, refl, sym, ap, ◌∙◌, subst, inl, inr, arith, ne_eqb}
 use Rattle.std.proofs.lemmas.Bool.{cond_both, both_ways}
 use Rattle.std.proofs.lemmas.Bool.Decides.{Decides-and, Decides-or}

@@ -1,4 +1,4 @@
--- Each test tells what the grammar says.
+-- Each test says what the grammar says: it is built of the same parts, and each part is decided.
 use Rattle.std.proofs.Common.{◌≡◌, ◌≢◌, ℕ, ◌-◌, ◌<◌, ◌≤◌, ◌==◌, ◌||◌, Bool, true, false, not, nat_lt, nat_le, IsTrue, IfSome, IsUtf8, Decides, Option, Some, None, unwrap_or, List, [], length, take, drop, get_or, codes, refl, sym, ap, ◌∙◌, subst, inl, inr, arith, take_all, take-append-drop, length-drop}
 use Rattle.std.specs.List.{list_all, list_any}
 use Rattle.std.proofs.lemmas.Bool.{cases_Bool, ltb-false}

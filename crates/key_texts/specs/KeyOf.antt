@@ -1,4 +1,4 @@
--- The key of a text as a function.
+-- The key of a text as a function; `url_key` has the same as the relation `HasKey`.
 use Rattle.std.specs.Prelude.{◌≡◌, ℕ, List, Option, Some, None, Result, Ok, Err}
 use Rattle.http_uri.specs.declared.uri.Uri.{Uri}
 use Rattle.url_key.specs.declared.fault.KeyFault.{KeyFault}
@@ -6,7 +6,7 @@ use Rattle.url_key.specs.declared.fault.KeyFault.TheVariants.{NotUri}
 use Rattle.url_key.specs.Key.{HasKey, early_fault, key_of_uri}
 use Rattle.key_texts.specs.UriIn.{uri_in}
 
--- the outcome of the early tests and of what the text spells
+-- the outcome: the early fault if there is one, else that of the URI that the text spells
 abbrev pub outcome_by : Option KeyFault → Option Uri → Result (List ℕ) KeyFault
 outcome_by (Some fault) spelled = Err fault
 outcome_by None None = Err NotUri
@@ -25,6 +25,6 @@ key_in (Err fault) = None
 abbrev pub key_of : List ℕ → Option (List ℕ)
 key_of text = key_in (outcome_of text)
 
--- it gives the key that each text has, and none where the text has none
+-- this function gives the key that each text has, and none if the text has none
 abbrev pub GivesKeys : (List ℕ → Option (List ℕ)) → Type 0
 GivesKeys given = (text : List ℕ) (outcome : Result (List ℕ) KeyFault) → HasKey text outcome → given text ≡ key_in outcome

@@ -1,4 +1,4 @@
--- Reading order: each file stands on those above it.
+-- In reading order: each file uses only those above it.
 pub mod Tests
 pub mod UriIn
 pub mod KeyOf

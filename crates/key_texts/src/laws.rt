@@ -1,4 +1,4 @@
-//! Laws of the definitions. Each function does nothing: its clauses are the law.
+//! Laws of the definitions. Each function has an empty body: its clauses are the law.
 ghost use Rattle.std.specs.Prelude.{◌≡◌, ℕ, List, Result, Ok, Err, Some, None, MatchOption, codes};
 ghost use Rattle.http_uri.specs.Uri.{Spells, SpellsNone};
 ghost use Rattle.url_key.specs.declared.fault.KeyFault.{KeyFault};
@@ -7,23 +7,24 @@ ghost use Rattle.url_key.specs.Key.{HasKey, early_fault};
 ghost use Rattle.key_texts.specs.UriIn.{uri_in};
 ghost use Rattle.key_texts.specs.KeyOf.{outcome_of, key_of, GivesKeys};
 
-/// Of a text that passes the early tests the function finds the URI that it spells, and none just where it spells none.
+/// For a text without an early fault, `uri_in` gives the URI that the text spells, and none exactly
+/// if it spells none.
 pub fn uri_in_decides_the_grammar()
     ensures { (text : List ℕ) → early_fault text ≡ None → MatchOption (uri_in text) (SpellsNone text) (Spells text) }
 {}
 
-/// Each text has an outcome, a key or its first fault, and the function gives it: no text has two.
+/// Each text has one outcome, a key or its first fault, and it is the one that `outcome_of` gives.
 pub fn each_text_has_one_outcome()
     ensures found { (text : List ℕ) → HasKey text (outcome_of text) }
     ensures only { (text : List ℕ) (outcome : Result (List ℕ) KeyFault) → HasKey text outcome → outcome ≡ outcome_of text }
 {}
 
-/// The function gives the key that each text has, and none where it has none.
+/// `key_of` gives the key that each text has, and none if it has none.
 pub fn key_of_gives_keys()
     ensures { GivesKeys key_of }
 {}
 
-/// Worked rows: the functions compute on literal texts.
+/// Worked examples: the functions compute on literal texts.
 pub fn worked_rows()
     ensures letters { key_of (codes "HTTP://O") ≡ Some (codes "http://o/") }
     ensures port_80 { key_of (codes "http://o:080/") ≡ Some (codes "http://o/") }

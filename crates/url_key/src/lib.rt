@@ -1,16 +1,16 @@
 //! Keys: the canonical texts of http URLs. Caches store copies under keys and purge by keys.
 //!
-//! Two URLs share one key if they differ only in the case of the scheme or the host, in a written
-//! port 80, in leading zeros of the port, or in an empty path written as `/` (RFC 9110, section
-//! 4.2.3). A key is `http://`, the host in lower case, `:` and the port unless it is 80, the path,
-//! and `?` with the query if there is one.
+//! Two URLs share one key if they differ only in the case of the scheme or the host, in whether
+//! port 80 is written, in leading zeros of the port, or in whether an empty path is written as `/`
+//! (RFC 9110, section 4.2.3). A key is `http://`, the host in lower case, `:` and the port unless
+//! it is 80, the path, and `?` with the query if there is one.
 //!
 //! Two equivalences of RFC 3986, section 6.2.2 are not applied: percent-encoded octets stay as they
 //! came, so `/~a` and `/%7Ea` have two keys; and `.` and `..` stay in paths. An empty port
 //! (`http://o:/`) is refused as `BadPort`, though RFC 9110, section 4.2.1 reads it as 80.
 //!
-//! - [`Key`]: made by [`Key::read`] only. `text`, `host`, `port`, `authority` and `path_and_query`
-//!   read it and allocate nothing. Keys compare, order and hash as their texts.
+//! - [`Key`]: read from a text by [`Key::read`]. `text`, `host`, `port`, `authority` and
+//!   `path_and_query` allocate nothing. Keys compare, order and hash as their texts.
 //! - [`KeyFault`]: why a text has no key, in the order of the tests.
 //! - [`LONGEST_KEY`]: the limit of 1,024 octets.
 //!

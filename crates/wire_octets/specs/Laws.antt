@@ -1,4 +1,6 @@
--- The laws of numbers and counted texts in network byte order, which the codecs cite.
+-- Laws that the codecs cite: a number or a counted text that was written is read back, and octets
+-- that were read are those that would be written. They hold by the value of each octet in a number
+-- of base 256.
 use Rattle.std.proofs.Common.{◌≡◌, ℕ, zero, suc, ◌+◌, ◌*◌, ◌/◌, ◌%◌, ◌^◌, ◌<◌, ◌≤◌, Bool, true, false, cond, ◌||◌, ltb, List, [], ◌∷◌, ◌++◌, length, take, drop, Option, Some, None, refl, sym, ap, ◌∙◌, append_assoc, arith, inl, inr}
 use Rattle.std.proofs.Math.Nat.{mod-eq_of_lt, mul-add-mod_self_right, mul-add-div_right, mul_assoc, pow-succ'}
 use Rattle.std.proofs.lemmas.Bool.{cases_lt, ltb-false, le-ltb}
@@ -12,9 +14,11 @@ use Rattle.wire_octets.specs.Counted.{counted, split_counted}
 
 -- ---- octets
 
+-- what follows the first n octets is octets
 pub IsOctets-drop : (n : ℕ) (octets : List ℕ) → IsOctets octets → IsOctets (drop n octets)
 IsOctets-drop n octets fits i = rw get_or-drop (fits (n + i))
 
+-- the first n octets are octets
 pub IsOctets-take : (n : ℕ) (octets : List ℕ) → IsOctets octets → IsOctets (take n octets)
 IsOctets-take n octets fits i =
     elim (cases_lt i n) [
@@ -22,23 +26,27 @@ IsOctets-take n octets fits i =
       | inr past ↦ rw (get_or_past (take n octets) i 0 (omega (arith, length-take n octets))) (omega arith)
     ]
 
+-- what follows the first octet is octets
 pub IsOctets-rest : (octet : ℕ) (octets : List ℕ) → IsOctets (octet ∷ octets) → IsOctets octets
 IsOctets-rest octet octets fits i = fits (suc i)
 
+-- the back of octets is octets
 pub IsOctets-append_right : (front back : List ℕ) → IsOctets (front ++ back) → IsOctets back
 IsOctets-append_right front back fits i = rw (← get_or-append-add front back i 0) (fits (length front + i))
 
 -- ---- numbers
 
+-- no power of 256 is 0
 pow_pos : (n : ℕ) → zero < 256 ^ n
 pow_pos zero = omega arith
 pow_pos (suc n) = let h = pow_pos n in rw (pow-succ' 256 n) (omega arith)
 
+-- an octet of a number by division
 byte_at-pow : (n x : ℕ) → byte_at n x ≡ x / 256 ^ n % 256
 byte_at-pow zero x = omega arith
 byte_at-pow (suc n) x = refl
 
--- the low octets of a number don't depend on what stands above them
+-- the low octets of a number do not depend on what is above them
 bytes-above : (n above x : ℕ) → bytes_high_first n (above * 256 ^ n + x) ≡ bytes_high_first n x
 bytes-above zero above x = refl
 bytes-above (suc n) above x =
@@ -79,17 +87,21 @@ cut_number n octets fits long =
 pub big_number-big_bytes : (n x : ℕ) (rest : List ℕ) → x < 256 ^ n → big_number n (big_bytes n x ++ rest) ≡ x
 big_number-big_bytes n x rest fits = big_number-reads_back n x rest fits
 
+-- a number of n octets is less than 256 to the power of n
 pub big_number-lt : (n : ℕ) (octets : List ℕ) → IsOctets octets → big_number n octets < 256 ^ n
 big_number-lt n octets fits = big_from-lt 0 n octets fits
 
+-- n octets are written for a number of n octets
 pub length-big_bytes : (n x : ℕ) → length (big_bytes n x) ≡ n
 length-big_bytes n x = length-bytes_high_first n x
 
+-- what follows a written number
 pub drop-big_bytes : (n x : ℕ) (rest : List ℕ) → drop n (big_bytes n x ++ rest) ≡ rest
 drop-big_bytes n x rest = drop_at (big_bytes n x) rest n (length-big_bytes n x)
 
 -- ---- counted texts
 
+-- a counted text is two octets longer than its text
 pub length-counted : (text : List ℕ) → length (counted text) ≡ 2 + length text
 length-counted text = omega arith
 
@@ -104,15 +116,18 @@ split_counted-counted text rest short =
     let enough : ltb (length (counted text ++ rest)) 2 ≡ false = le-ltb _ _ (omega (arith, length-append (counted text) rest)) in
     rw (enough, number, long, take_at text rest count refl, drop_at text rest count refl) refl
 
+-- the tests that a counted text passed, and its parts
 record IsCut (no_count past_end : Bool) (front behind text rest : List ℕ) : Type 0 where
   pub counted : no_count ≡ false
   pub long : past_end ≡ false
   pub first : front ≡ text
   pub second : behind ≡ rest
 
+-- what is read by two tests: the length is there, and the text is there
 abbrev cut : Bool → Bool → List ℕ → List ℕ → Option (List ℕ × List ℕ)
 cut no_count past_end front behind = cond (no_count || past_end) None (Some (front, behind))
 
+-- where something is read, both tests passed
 cut_parts : (no_count past_end : Bool) (front behind text rest : List ℕ) → cut no_count past_end front behind ≡ Some (text, rest) → IsCut no_count past_end front behind text rest
 cut_parts true past_end front behind text rest e = absurd cc
 cut_parts false true front behind text rest e = absurd cc

@@ -4,10 +4,10 @@ ghost use Rattle.wire_octets.specs.Counted.{split_counted as counted_front};
 
 use byteorder::{BigEndian, ByteOrder};
 
-/// The counted text at the front, and what follows it: a length of two octets in network byte order, and
-/// that many octets.
+/// The counted text at the front, and what follows it. A counted text is a length of two octets in
+/// network byte order, and that many octets.
 ///
-/// `None` where the length or the text runs past the end. This takes no memory.
+/// `None` if the length or the text runs past the end. Allocates nothing.
 #[tactic(auto, unfolding(crate::specs::Counted::split_counted))]
 pub fn split_counted(octets: &[u8]) -> Option<(&[u8], &[u8])>
     ensures { option_map (λ parts. (parts.0.now, parts.1.now)) result ≡ counted_front octets.now }

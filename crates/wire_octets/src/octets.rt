@@ -24,7 +24,7 @@ impl Model for Octets {
 }
 
 impl Octets {
-    /// No octets. This takes no memory.
+    /// No octets. Allocates nothing.
     pub fn new(alloc: Global) -> Octets
         ensures { result ≡ [] }
     {
@@ -33,7 +33,7 @@ impl Octets {
         }
     }
 
-    /// A copy of the octets of a slice, or the want of memory for them.
+    /// A copy of the octets of a slice. The error is want of memory.
     pub fn from_slice(alloc: Global, octets: &[u8]) -> Result<Octets, AllocError>
         ensures { IfOk result (λ made. made ≡ octets.now) }
     {
@@ -41,7 +41,7 @@ impl Octets {
         Ok(Octets { octets })
     }
 
-    /// The octets of a vector, which keep their place in memory.
+    /// The octets of a vector. They stay where they are in memory.
     pub fn from_vec(octets: Vec<u8>) -> Octets
         ensures { result ≡ octets.items }
     {
@@ -57,21 +57,21 @@ impl Octets {
         octets
     }
 
-    /// How many octets there are.
+    /// The number of octets.
     pub fn len(&self) -> usize
         ensures { result ≡ length self.now }
     {
         self.octets.len()
     }
 
-    /// Whether there are none.
+    /// Whether there are no octets.
     pub fn is_empty(&self) -> bool
         ensures { result ≡ (length self.now == 0) }
     {
         self.octets.is_empty()
     }
 
-    /// The same octets once more, or the want of memory for them.
+    /// A second copy. The error is want of memory.
     pub fn copy(&self, alloc: Global) -> Result<Octets, AllocError>
         ensures { IfOk result (λ copy. copy ≡ self.now) }
     {
