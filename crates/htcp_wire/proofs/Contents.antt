@@ -1,4 +1,5 @@
--- The content that DATA has, and the DATA that a content has.
+-- The content that is read of DATA is one that the grammar gives this DATA, and is read again from
+-- any DATA that the grammar gives it: by cases on RR, F1, OPCODE and RESPONSE.
 use Rattle.std.proofs.Common.{◌≡◌, ℕ, ◌+◌, ◌*◌, ◌/◌, ◌%◌, ◌^◌, ◌<◌, ◌≤◌, Bool, true, false, not, cond, eqb, ltb, leb, ◌&&◌, ◌||◌, List, [], ◌∷◌, ◌++◌, length, drop, Some, None, refl, sym, ap, subst, ◌∙◌, arith, inl, inr}
 use Rattle.std.specs.Prelude.{◌⊎◌, slice_index}
 use Rattle.std.specs.Option.{option_map}

@@ -1,4 +1,5 @@
--- What is read is spelled so, and what is spelled is read.
+-- What is at the offsets of octets without a fault is spelled by them, and a message that is
+-- spelled is at the offsets: each test of `first_fault` is one part of the grammar.
 use Rattle.std.proofs.Common.{◌≡◌, ℕ, ◌+◌, ◌^◌, ◌<◌, Bool, true, false, cond, ltb, List, ◌++◌, length, drop, Option, Some, None, refl, sym, ap, ◌∙◌, arith}
 use Rattle.std.specs.Prelude.{slice_index, is_none}
 use Rattle.std.proofs.Math.Nat.{mod-lt}

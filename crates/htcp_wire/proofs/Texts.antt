@@ -1,4 +1,5 @@
--- The texts of OP-DATA: what is read stands there, and what stands there is read.
+-- The counted texts of OP-DATA: those that are read stand at its front, and those that stand at its
+-- front are read, one after another.
 use Rattle.std.proofs.Common.{◌≡◌, ℕ, ◌+◌, ◌^◌, ◌<◌, List, ◌++◌, length, Option, Some, None, refl, sym, ap, subst, ◌∙◌, append_assoc, arith}
 use Rattle.std.specs.Option.{option_map}
 use Rattle.std.proofs.lemmas.List.{length-append}

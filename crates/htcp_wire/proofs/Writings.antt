@@ -1,4 +1,5 @@
--- The written text of a message that fits spells it.
+-- The octets that are written for a message that fits spell it, with zero reserved bits, no spare
+-- octets and an empty AUTH.
 use Rattle.std.proofs.Common.{◌≡◌, ℕ, ◌+◌, ◌*◌, ◌^◌, ◌<◌, ◌≤◌, [], ◌∷◌, ◌++◌, length, refl, sym, ap, ◌∙◌, arith}
 use Rattle.std.proofs.lemmas.List.{length-append, append-nil}
 use Rattle.htcp_wire.specs.declared.message.Content.{Content}

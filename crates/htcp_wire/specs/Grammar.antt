@@ -1,4 +1,6 @@
--- Which octets spell which message (RFC 2756). All numbers are in network byte order.
+-- Which octets spell which message (RFC 2756). All numbers are in network byte order. `Spells` is
+-- the definition; `IsContent` says which DATA a content has. Names in quotes are those of the RFC's
+-- figures.
 use Rattle.std.specs.Prelude.{◌≡◌, ℕ, ◌+◌, ◌*◌, ◌^◌, ◌<◌, ◌≤◌, Bool, true, false, ◌||◌, ◌&&◌, ◌==◌, nat_le, List, [], ◌∷◌, ◌++◌, length}
 use Rattle.byteorder.specs.Endian.{big_bytes}
 use Rattle.wire_octets.specs.Counted.{counted}
@@ -8,17 +10,20 @@ use Rattle.htcp_wire.specs.declared.message.Content.{Content}
 use Rattle.htcp_wire.specs.declared.message.Content.TheVariants.{NopAsk, NopAnswer, TstAsk, TstHit, TstMiss, ClrAsk, ClrAnswer, Other, Overall, OtherAnswer}
 use Rattle.htcp_wire.specs.declared.message.Htcp.{Htcp}
 
--- the opcodes whose requests and responses are read
+-- the opcode of NOP
 abbrev pub nop : ℕ
 nop = 0
 
+-- the opcode of TST
 abbrev pub tst : ℕ
 tst = 1
 
+-- the opcode of CLR
 abbrev pub clr : ℕ
 clr = 4
 
--- DATA without LENGTH, RESERVED and TRANS-ID. F1 is RD (a response is desired) in a request, and MO (RESPONSE speaks of the overall message) in a response; RR says that it is a response.
+-- DATA without LENGTH, RESERVED and TRANS-ID. RR says that it is a response. F1 is RD (a response
+-- is desired) in a request, and MO (RESPONSE is about the message as a whole) in a response.
 pub record Data : Type 0 where
   pub opcode : ℕ
   pub response : ℕ
@@ -45,7 +50,7 @@ pub record Asks (section : Data) (opcode : ℕ) (desired : Bool) : Type 0 where
   pub f1 : section.f1 ≡ desired
   pub opcode_is : section.opcode ≡ opcode
 
--- DATA of a response of this opcode with this RESPONSE, which speaks of the overall message or does not
+-- DATA of a response of this opcode with this RESPONSE, with MO or without
 pub record Answers (section : Data) (opcode code : ℕ) (overall : Bool) : Type 0 where
   pub rr : section.rr ≡ true
   pub f1 : section.f1 ≡ overall
@@ -97,11 +102,11 @@ data_text reserved trans section =
     big_bytes 2 (8 + length section.op_data)
     ++ (section.opcode * 16 + section.response) ∷ (reserved * 4 + bit section.f1 * 2 + bit section.rr) ∷ (big_bytes 4 trans ++ section.op_data)
 
--- "AUTH": LENGTH, itself included, and a signature, which is not looked at
+-- "AUTH": LENGTH, itself included, and a signature, which nothing looks at
 abbrev pub auth : List ℕ → List ℕ
 auth signature = big_bytes 2 (2 + length signature) ++ signature
 
--- The octets spell the message: HEADER, DATA and AUTH, and any octets behind them.
+-- the octets spell the message: HEADER, DATA and AUTH, and any octets behind them
 pub record Spells (octets : List ℕ) (message : Htcp) : Type 0 where
   pub section : Data
   pub reserved : ℕ

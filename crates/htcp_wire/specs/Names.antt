@@ -5,7 +5,7 @@ use Rattle.htcp_wire.specs.declared.message.Content.TheVariants.{NopAsk, NopAnsw
 use Rattle.htcp_wire.specs.declared.fault.HtcpFault.{HtcpFault}
 use Rattle.htcp_wire.specs.declared.fault.HtcpFault.TheVariants.{Short, BadLength, BadMajor, BadData, BadString, BadAuth, BadNumber, NoMemory}
 
--- a content's name
+-- the name of a content
 abbrev pub content_name : Content → List ℕ
 content_name (NopAsk desired) = codes "NopAsk"
 content_name NopAnswer = codes "NopAnswer"
@@ -18,7 +18,7 @@ content_name (Other opcode desired) = codes "Other"
 content_name (Overall opcode code) = codes "Overall"
 content_name (OtherAnswer opcode code) = codes "OtherAnswer"
 
--- a fault's name
+-- the name of a fault
 abbrev pub htcp_fault_name : HtcpFault → List ℕ
 htcp_fault_name Short = codes "Short"
 htcp_fault_name BadLength = codes "BadLength"

@@ -1,4 +1,5 @@
--- What stands at the offsets of a message (RFC 2756).
+-- What is at which offset of a message (RFC 2756). `decode` reads by offsets; the proofs show that
+-- this agrees with the grammar.
 use Rattle.std.specs.Prelude.{◌≡◌, ℕ, ◌+◌, ◌-◌, ◌/◌, ◌%◌, Bool, not, ◌&&◌, ◌==◌, nat_lt, nat_le, List, length, take, drop, slice_index, Option, Some, None, if◌then◌else◌}
 use Rattle.std.specs.Option.{option_map}
 use Rattle.byteorder.specs.Endian.{big_number}
@@ -16,7 +17,7 @@ abbrev pub ◌>>=◌ : {A B : Type 0} → Option A → (A → Option B) → Opti
 None >>= f = None
 (Some x) >>= f = f x
 
--- four counted texts at the front of OP-DATA
+-- the four counted texts at the front of OP-DATA ("SPECIFIER")
 unfoldable pub specifier_at : List ℕ → Option Specifier
 specifier_at op_data = do
   method ← split_counted op_data
@@ -25,7 +26,7 @@ specifier_at op_data = do
   headers ← split_counted version.1
   Some (record { method = method.0; uri = uri.0; version = version.0; request_headers = headers.0 })
 
--- three counted texts at the front of OP-DATA
+-- the three counted texts at the front of OP-DATA ("DETAIL")
 unfoldable pub detail_at : List ℕ → Option Detail
 detail_at op_data = do
   response ← split_counted op_data
@@ -33,13 +34,13 @@ detail_at op_data = do
   cache ← split_counted entity.1
   Some (record { response_headers = response.0; entity_headers = entity.0; cache_headers = cache.0 })
 
--- CLR's OP-DATA
+-- the content of the OP-DATA of CLR: REASON is the low four bits of the second octet
 abbrev pub clr_at : Bool → List ℕ → Option Content
 clr_at desired op_data =
     if nat_lt (length op_data) 2 then None
     else option_map (λ spec. ClrAsk desired (slice_index op_data 1 % 16) spec) (specifier_at (drop 2 op_data))
 
--- the content of a request, if OP-DATA holds what it needs
+-- the content of a request, none if OP-DATA lacks what the opcode needs
 abbrev pub ask_at : ℕ → Bool → List ℕ → Option Content
 ask_at opcode desired op_data =
     if opcode == nop then Some (NopAsk desired)
@@ -47,7 +48,7 @@ ask_at opcode desired op_data =
     else (if opcode == clr then clr_at desired op_data
     else Some (Other opcode desired)))
 
--- the content of a response that does not speak of the overall message, if OP-DATA holds what it needs
+-- the content of a response with MO 0, none if OP-DATA lacks what it needs
 abbrev pub answer_at : ℕ → ℕ → List ℕ → Option Content
 answer_at opcode code op_data =
     if (opcode == nop) && (code == 0) then Some NopAnswer
@@ -56,29 +57,34 @@ answer_at opcode code op_data =
     else (if (opcode == clr) && (nat_le code 2) then Some (ClrAnswer code)
     else Some (OtherAnswer opcode code))))
 
--- the content of DATA, if OP-DATA holds what it needs
+-- the content of DATA, none if OP-DATA lacks what it needs
 unfoldable pub content_at : Data → Option Content
 content_at section =
     if not section.rr then ask_at section.opcode section.f1 section.op_data
     else (if section.f1 then Some (Overall section.opcode section.response)
     else answer_at section.opcode section.response section.op_data)
 
--- the fields by their offsets
+-- LENGTH of HEADER: octets 0 and 1
 abbrev pub length_field : List ℕ → ℕ
 length_field octets = big_number 2 octets
 
+-- MAJOR: octet 2
 abbrev pub major_field : List ℕ → ℕ
 major_field octets = slice_index octets 2
 
+-- MINOR: octet 3
 abbrev pub minor_field : List ℕ → ℕ
 minor_field octets = slice_index octets 3
 
+-- LENGTH of DATA: octets 4 and 5
 abbrev pub data_length_field : List ℕ → ℕ
 data_length_field octets = big_number 2 (drop 4 octets)
 
+-- TRANS-ID: octets 8 to 11
 abbrev pub trans_field : List ℕ → ℕ
 trans_field octets = big_number 4 (drop 8 octets)
 
+-- DATA: OPCODE and RESPONSE in octet 6, F1 and RR in octet 7, OP-DATA from octet 12 on
 abbrev pub data_field : List ℕ → Data
 data_field octets = record {
   opcode = slice_index octets 6 / 16;
@@ -92,7 +98,7 @@ data_field octets = record {
 abbrev pub auth_field : List ℕ → List ℕ
 auth_field octets = drop (4 + data_length_field octets) octets
 
--- the message has what stands at the offsets
+-- the message has what is at the offsets of the octets
 pub record Holds (octets : List ℕ) (message : Htcp) : Type 0 where
   pub minor : message.minor ≡ minor_field octets
   pub trans : message.trans ≡ trans_field octets

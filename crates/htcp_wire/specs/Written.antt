@@ -1,4 +1,5 @@
--- The written text of a message: MINOR, RESERVED and a request's RESPONSE are 0, there are no spare octets, and AUTH is empty.
+-- The octets that are written for a message, and which messages are written. MINOR, RESERVED and a
+-- request's RESPONSE are 0, there are no spare octets, and AUTH is empty.
 use Rattle.std.specs.Prelude.{◌≡◌, ℕ, ◌+◌, ◌<◌, ◌≤◌, Bool, true, false, List, [], ◌∷◌, ◌++◌, length}
 use Rattle.wire_octets.specs.Counted.{counted}
 use Rattle.htcp_wire.specs.declared.message.Content.{Content}
@@ -14,7 +15,7 @@ ask opcode desired op_data = record { opcode = opcode; response = 0; f1 = desire
 abbrev pub answer : ℕ → ℕ → Bool → List ℕ → Data
 answer opcode code overall op_data = record { opcode = opcode; response = code; f1 = overall; rr = true; op_data = op_data }
 
--- DATA of a content
+-- the DATA that is written for a content
 abbrev pub written_data : Content → Data
 written_data (NopAsk desired) = ask nop desired []
 written_data NopAnswer = answer nop 0 false []
@@ -27,15 +28,15 @@ written_data (Other opcode desired) = ask opcode desired []
 written_data (Overall opcode code) = answer opcode code true []
 written_data (OtherAnswer opcode code) = answer opcode code false []
 
--- the text with this DATA
+-- a message with this TRANS-ID and this DATA
 abbrev pub written_with : ℕ → Data → List ℕ
 written_with trans section = header (14 + length section.op_data) 0 ++ (data_text 0 trans section ++ auth [])
 
--- the written text of a message of MINOR 0
+-- the octets of a message of MINOR 0
 abbrev pub written : Htcp → List ℕ
 written message = written_with message.trans (written_data message.content)
 
--- the numbers that a content may have where it is written; an OtherAnswer is not
+-- the numbers that a content may have if it is written; an OtherAnswer is never written
 abbrev pub InRange : Content → Type 0
 InRange (ClrAsk desired reason spec) = reason < 16
 InRange (ClrAnswer code) = code ≤ 2
@@ -44,11 +45,11 @@ InRange (Overall opcode code) = (opcode < 16) × (code < 16)
 InRange (OtherAnswer opcode code) = ⊥
 InRange content = Unit {0}
 
--- the most octets of a written message
+-- the greatest length of a written message, in octets
 abbrev pub longest_written : ℕ
 longest_written = 16384
 
--- what is written: every message of HTCP/0.0 but an OtherAnswer, if its numbers are in range and it is not too long
+-- which messages are written: of MINOR 0, no OtherAnswer, with numbers in range, and not too long
 pub record Fits (message : Htcp) : Type 0 where
   pub minor : message.minor ≡ 0
   pub in_range : InRange message.content

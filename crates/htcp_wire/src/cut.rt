@@ -8,7 +8,7 @@ use crate::{Content, Detail, Specifier};
 use std::alloc::{AllocError, Global};
 use wire_octets::{Octets, split_counted};
 
-/// A specifier whose texts still lie in the datagram.
+/// A specifier whose texts are still in the datagram.
 #[derive(Drop)]
 pub(crate) struct SpecifierCut<'a> {
     method: &'a [u8],
@@ -18,6 +18,7 @@ pub(crate) struct SpecifierCut<'a> {
 }
 
 impl SpecifierCut<'_> {
+    /// The specifier with copies of its texts.
     fn copied(&self, alloc: Global) -> Result<Specifier, AllocError>
         ensures { IfOk result (λ made. made ≡ specifier_seen self.now) }
     {
@@ -30,7 +31,7 @@ impl SpecifierCut<'_> {
     }
 }
 
-/// A detail whose texts still lie in the datagram.
+/// A detail whose texts are still in the datagram.
 #[derive(Drop)]
 pub(crate) struct DetailCut<'a> {
     response_headers: &'a [u8],
@@ -39,6 +40,7 @@ pub(crate) struct DetailCut<'a> {
 }
 
 impl DetailCut<'_> {
+    /// The detail with copies of its texts.
     fn copied(&self, alloc: Global) -> Result<Detail, AllocError>
         ensures { IfOk result (λ made. made ≡ detail_seen self.now) }
     {
@@ -50,19 +52,23 @@ impl DetailCut<'_> {
     }
 }
 
-/// A content whose texts still lie in the datagram.
+/// A content whose texts are still in the datagram.
 #[derive(Drop)]
 pub(crate) enum ContentCut<'a> {
-    /// One that has no texts.
+    /// A content without texts.
     Plain(Content),
+    /// RD, and the specifier.
     TstAsk(bool, SpecifierCut<'a>),
+    /// What is known of the entity.
     TstHit(DetailCut<'a>),
+    /// CACHE-HDRS.
     TstMiss(&'a [u8]),
+    /// RD, REASON, and the specifier.
     ClrAsk(bool, u8, SpecifierCut<'a>),
 }
 
 impl ContentCut<'_> {
-    /// The content with texts of its own.
+    /// The content with copies of its texts.
     pub(crate) fn copied(self, alloc: Global) -> Result<Content, AllocError>
         ensures { IfOk result (λ made. made ≡ content_seen self.entry) }
     {
@@ -119,7 +125,7 @@ fn cut_detail(op_data: &[u8]) -> Option<DetailCut<'_>>
     })
 }
 
-/// The content of CLR's OP-DATA: its reason, in the low 4 bits of two octets, and a specifier.
+/// The content of the OP-DATA of CLR: REASON, the low 4 bits of two octets, and a specifier.
 fn cut_clr(desired: bool, op_data: &[u8]) -> Option<ContentCut<'_>>
     ensures { option_map content_seen result ≡ clr_at desired op_data.now }
 {
@@ -128,7 +134,7 @@ fn cut_clr(desired: bool, op_data: &[u8]) -> Option<ContentCut<'_>>
     Some(ContentCut::ClrAsk(desired, reason[1] % 16, spec))
 }
 
-/// The content of a request, if its OP-DATA holds what it needs.
+/// The content of a request. `None` if its OP-DATA lacks what the opcode needs.
 pub(crate) fn cut_ask(opcode: u8, desired: bool, op_data: &[u8]) -> Option<ContentCut<'_>>
     ensures { option_map content_seen result ≡ ask_at opcode desired op_data.now }
 {
@@ -140,7 +146,7 @@ pub(crate) fn cut_ask(opcode: u8, desired: bool, op_data: &[u8]) -> Option<Conte
     }
 }
 
-/// The content of a response that does not speak of the overall message, if its OP-DATA holds what it needs.
+/// The content of a response with MO 0. `None` if its OP-DATA lacks what opcode and code need.
 pub(crate) fn cut_answer(opcode: u8, code: u8, op_data: &[u8]) -> Option<ContentCut<'_>>
     ensures { option_map content_seen result ≡ answer_at opcode code op_data.now }
 {

@@ -4,7 +4,7 @@ ghost use Rattle.htcp_wire.specs.Names.{content_name};
 use std::alloc::{AllocError, Global};
 use wire_octets::Octets;
 
-/// The most octets that a written message may have. A message that is read may have 65,535.
+/// The greatest length of a written message, in octets. One that is read may have 65,535.
 pub const LONGEST_WRITTEN: usize = 16_384;
 
 /// The opcode of NOP.
@@ -16,21 +16,21 @@ pub(crate) const TST: u8 = 1;
 /// The opcode of CLR.
 pub(crate) const CLR: u8 = 4;
 
-/// Which entity a request speaks of (RFC 2756, "SPECIFIER").
+/// Which entity a request is about (RFC 2756, "SPECIFIER").
 #[derive(Debug, PartialEq, Eq, Drop)]
 pub struct Specifier {
-    /// METHOD: the method of an HTTP request, as `GET`.
+    /// METHOD: the method of an HTTP request, such as `GET`.
     pub method: Octets,
-    /// URI: what is requested.
+    /// URI: the URI of the entity. This crate does not look into it.
     pub uri: Octets,
-    /// VERSION: the version of HTTP, as `HTTP/1.1`.
+    /// VERSION: the version of HTTP, such as `HTTP/1.1`.
     pub version: Octets,
-    /// REQ-HDRS: header lines of a request, each ended by CR LF.
+    /// REQ-HDRS: header lines of a request, each ended by CR LF. `decode` takes any octets.
     pub request_headers: Octets,
 }
 
 impl Specifier {
-    /// The same specifier once more, or the want of memory for it.
+    /// A second copy. The error is want of memory.
     pub fn copy(&self, alloc: Global) -> Result<Specifier, AllocError>
         ensures { IfOk result (λ copy. copy ≡ self.now) }
     {
@@ -50,12 +50,12 @@ pub struct Detail {
     pub response_headers: Octets,
     /// ENTITY-HDRS: header lines of the entity.
     pub entity_headers: Octets,
-    /// CACHE-HDRS: header lines of the cache that answers.
+    /// CACHE-HDRS: header lines of the cache that responds.
     pub cache_headers: Octets,
 }
 
 impl Detail {
-    /// The same detail once more, or the want of memory for it.
+    /// A second copy. The error is want of memory.
     pub fn copy(&self, alloc: Global) -> Result<Detail, AllocError>
         ensures { IfOk result (λ copy. copy ≡ self.now) }
     {
@@ -67,50 +67,52 @@ impl Detail {
     }
 }
 
-/// What a message asks or answers. In a request `desired` is RD: a response is desired.
+/// What a message asks or answers. In a request `desired` is RD: a response is desired. `opcode`
+/// and `code` are OPCODE and RESPONSE, each 0 to 15 in a message that is read.
 #[derive(Debug, PartialEq, Eq, Drop)]
 pub enum Content {
     /// NOP: is the receiver there?
     NopAsk {
         desired: bool,
     },
-    /// NOP's response: it is.
+    /// The response to NOP: the sender is there.
     NopAnswer,
     /// TST: does the receiver hold the entity?
     TstAsk {
         desired: bool,
         spec: Specifier,
     },
-    /// TST's response 0: it does, and this is known of it.
+    /// Response 0 to TST: the sender holds the entity, and this is known of it.
     TstHit {
         detail: Detail,
     },
-    /// TST's response 1: it does not. Header lines of the cache that answers may stand here.
+    /// Response 1 to TST: the sender does not hold it. `cache` is CACHE-HDRS.
     TstMiss {
         cache: Octets,
     },
-    /// CLR: drop the entity, for a reason of 0 (unspecified), 1 (the origin said that it does not exist) or up to 15.
+    /// CLR: drop the entity. `reason` is REASON, 0 to 15: 0 unspecified, 1 the origin said that the
+    /// entity does not exist.
     ClrAsk {
         desired: bool,
         reason: u8,
         spec: Specifier,
     },
-    /// CLR's response: 0 (it was held and is gone), 1 (it is held and stays) or 2 (it was not held).
+    /// The response to CLR: 0 it was held and is gone, 1 it is held and stays, 2 it was not held.
     ClrAnswer {
         code: u8,
     },
-    /// A request of another opcode: MON, SET, or one of 5 to 15.
+    /// A request with another opcode: MON, SET, or 5 to 15.
     Other {
         opcode: u8,
         desired: bool,
     },
-    /// A response that speaks of the overall message (MO), as 2 (opcode not implemented) or 5 (inappropriate,
-    /// disallowed or undesirable opcode).
+    /// A response with MO 1, about the message as a whole: for example 2 (opcode not implemented)
+    /// or 5 (inappropriate, disallowed or undesirable opcode).
     Overall {
         opcode: u8,
         code: u8,
     },
-    /// A response that is none of these.
+    /// A response with MO 0 that is none of the above.
     OtherAnswer {
         opcode: u8,
         code: u8,
@@ -118,7 +120,7 @@ pub enum Content {
 }
 
 impl Content {
-    /// The name that scripts print.
+    /// The name that scripts print: the name of the variant.
     pub const fn name(&self) -> &'static str
         ensures { result.now ≡ content_name self.now }
     {
@@ -136,7 +138,7 @@ impl Content {
         }
     }
 
-    /// The same content once more, or the want of memory for it.
+    /// A second copy. The error is want of memory.
     pub fn copy(&self, alloc: Global) -> Result<Content, AllocError>
         ensures { IfOk result (λ copy. copy ≡ self.now) }
     {
@@ -179,20 +181,20 @@ impl Content {
     }
 }
 
-/// A message, without its spare octets, reserved bits, signature and a request's RESPONSE, which may hold anything where
-/// it is read and are zero or absent where it is written.
+/// A message without its reserved bits, its signature, its spare octets and a request's RESPONSE.
+/// These may be anything in a message that is read; in one that is written they are zero or absent.
 #[derive(Debug, PartialEq, Eq, Drop)]
 pub struct Htcp {
-    /// MINOR of the HEADER. MAJOR is 0.
+    /// MINOR of HEADER. `decode` takes any, `encode` writes 0. MAJOR is 0.
     pub minor: u8,
-    /// TRANS-ID, which a response repeats.
+    /// TRANS-ID. A response repeats that of its request.
     pub trans: u32,
     /// What it asks or answers.
     pub content: Content,
 }
 
 impl Htcp {
-    /// The same message once more, or the want of memory for it.
+    /// A second copy. The error is want of memory.
     pub fn copy(&self, alloc: Global) -> Result<Htcp, AllocError>
         ensures { IfOk result (λ copy. copy ≡ self.now) }
     {

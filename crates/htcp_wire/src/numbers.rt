@@ -7,16 +7,17 @@ ghost use Rattle.htcp_wire.specs.Numbers.{number_in_text, number_of_values, line
 
 use crate::HtcpFault;
 
-/// Which private line a number is sought in.
+/// The private header line in which a number is sought.
 #[derive(Clone, Copy, Debug, PartialEq, Eq, Hash)]
 pub enum HeaderKind {
-    /// `X-Purge-Number: n` of a CLR's REQ-HDRS: the number of a purge.
+    /// `X-Purge-Number: n` in REQ-HDRS of a CLR: the number of a purge.
     PurgeNumber,
-    /// `X-Purge-Stamp: n` of the CACHE-HDRS that answer a TST: the stamp of a copy.
+    /// `X-Purge-Stamp: n` in CACHE-HDRS of a response to TST: the stamp of a copy.
     PurgeStamp,
 }
 
 impl HeaderKind {
+    /// The name of the line.
     fn line_name(self) -> &'static [u8]
         ensures { result.now ≡ line_name self }
     {
@@ -27,12 +28,14 @@ impl HeaderKind {
     }
 }
 
-/// The number in the one line of its kind, of 0 to 4294967295, or `None` where there is no such line. Lines end with
-/// CR LF, and what follows the last CR LF is a line too; a name may have any case of letters, and spaces and tabs may
-/// stand round the number.
+/// The number in the one line of its kind, 0 to 4294967295 in decimal, or `None` if there is no
+/// such line.
 ///
-/// The only refusal is `BadNumber`: the number is not decimal, has a leading zero or is too great, or there are two
-/// such lines. This takes no memory.
+/// Lines end with CR LF; what follows the last CR LF is a line too. The name may have any case of
+/// letters, and spaces and tabs may stand round the number.
+///
+/// The only fault is `BadNumber`: the number is not decimal, has a leading zero or is too great, or
+/// there are two such lines. Allocates nothing.
 pub fn number_in(text: &[u8], kind: HeaderKind) -> Result<Option<u32>, HtcpFault>
     ensures { result ≡ number_in_text text.now kind }
 {
@@ -48,7 +51,7 @@ pub fn number_in(text: &[u8], kind: HeaderKind) -> Result<Option<u32>, HtcpFault
     number_of_value(at_most_one(found, value_in(name, &text[start..]))?)
 }
 
-/// The number of a value, if there is one.
+/// The number of the value, if there is a value.
 fn number_of_value(value: Option<&[u8]>) -> Result<Option<u32>, HtcpFault>
     ensures { result ≡ number_of_values (option_to_list (option_copied value.entry)) }
 {
@@ -61,14 +64,14 @@ fn number_of_value(value: Option<&[u8]>) -> Result<Option<u32>, HtcpFault>
     }
 }
 
-/// Whether an octet is the LF of a CR LF, where this much of its line stands before it.
+/// Whether the octet is the LF of a CR LF. `line` is what is before it in its line.
 fn ends_line(line: &[u8], octet: u8) -> bool
     ensures { result ≡ is_line_feed line.now octet }
 {
     octet == b'\n' && !line.is_empty() && line[line.len() - 1] == b'\r'
 }
 
-/// The one value of two lines, if not both have one.
+/// The value of whichever of two has one. `BadNumber` if both have.
 fn at_most_one<'a>(
     first: Option<&'a [u8]>,
     second: Option<&'a [u8]>,
@@ -83,7 +86,7 @@ fn at_most_one<'a>(
     }
 }
 
-/// The value of a line with this name, without the blanks at its ends.
+/// The value of the line if it has this name, without spaces and tabs at its ends.
 #[tactic(auto, unfolding(crate::specs::Numbers::value_in))]
 fn value_in<'a>(name: &[u8], line: &'a [u8]) -> Option<&'a [u8]>
     ensures { option_copied result ≡ value_of_line name.now line.now }
@@ -96,24 +99,28 @@ fn value_in<'a>(name: &[u8], line: &'a [u8]) -> Option<&'a [u8]>
     }
 }
 
+/// Whether two names are the same in any case of letters.
 fn is_same_name(name: &[u8], other: &[u8]) -> bool
     ensures { result ≡ same_name name.now other.now }
 {
     name.eq_ignore_ascii_case(other)
 }
 
+/// The index of the first colon.
 fn first_colon(line: &[u8]) -> Option<usize>
     ensures { result ≡ position is_colon line.now }
 {
     line.iter().position(|octet| *octet == b':')
 }
 
+/// Whether the octet is a space or a tab.
 fn is_blank(octet: u8) -> bool
     ensures { result ≡ is_blank_octet octet }
 {
     octet == b' ' || octet == b'\t'
 }
 
+/// The value without blanks at its front.
 fn trim_front(value: &[u8]) -> &[u8]
     ensures { result.now ≡ without_front_blanks value.now }
 {
@@ -123,13 +130,14 @@ fn trim_front(value: &[u8]) -> &[u8]
     }
 }
 
-/// The place of the first octet that is no blank.
+/// The index of the first octet that is no blank.
 fn first_text(value: &[u8]) -> Option<usize>
     ensures { result ≡ position (λ octet. not (is_blank_octet octet)) value.now }
 {
     value.iter().position(|octet| !is_blank(*octet))
 }
 
+/// The value without blanks at its end.
 fn trim_end(value: &[u8]) -> &[u8]
     ensures { result.now ≡ without_end_blanks value.now }
 {
@@ -140,7 +148,7 @@ fn trim_end(value: &[u8]) -> &[u8]
     &value[..end]
 }
 
-/// The number that a value writes in decimal, without leading zeros.
+/// The number that the value spells in decimal without leading zeros.
 fn number_of(value: &[u8]) -> Option<u32>
     ensures { result ≡ (if is_number value.now then Some (digits_value 10 value.now) else None) }
 {
@@ -151,13 +159,14 @@ fn number_of(value: &[u8]) -> Option<u32>
     u32::try_from(few_digits(value)).ok()
 }
 
+/// Whether each octet is a decimal digit.
 fn all_digits(value: &[u8]) -> bool
     ensures { result ≡ list_all is_ascii_digit value.now }
 {
     value.iter().all(|octet| octet.is_ascii_digit())
 }
 
-/// The number that a few decimal digits write.
+/// The number that at most ten decimal digits spell.
 #[tactic(auto, using(crate::proofs::Digits::few_digits, crate::proofs::Digits::next_digit))]
 fn few_digits(digits: &[u8]) -> u64
     requires few { length digits.now ≤ 10 }

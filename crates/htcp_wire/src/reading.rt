@@ -10,31 +10,31 @@ use crate::{Content, Htcp, HtcpFault};
 use byteorder::{BigEndian, ByteOrder};
 use std::alloc::Global;
 
-/// The octets of a HEADER, a DATA without OP-DATA and the LENGTH of an AUTH.
+/// The length in octets of HEADER, DATA without OP-DATA, and LENGTH of AUTH.
 const SHORTEST_MESSAGE: usize = 14;
 
-/// The octets of DATA without OP-DATA, its LENGTH included.
+/// The length in octets of DATA without OP-DATA, its LENGTH included.
 const SHORTEST_DATA: usize = 8;
 
-/// The message that a datagram spells, or its first fault.
+/// The message that a datagram spells, or its first fault, in the order of [`HtcpFault`].
 ///
-/// A refusal takes no memory: `NoMemory` comes only where the octets spell a message, whose texts are all that is
-/// allocated.
+/// Only the texts are allocated, once the datagram has no fault. So `NoMemory` means that the
+/// octets spell a message.
 pub fn decode(alloc: Global, octets: &[u8]) -> Result<Htcp, HtcpFault>
-    // What is read is spelled by the octets.
+    // The octets spell the message that is given.
     ensures spelled { IfOk result (λ message. Spells octets.now message) }
-    // What the octets spell is read, unless memory runs out.
+    // If the octets spell a message, it is given, unless memory runs out.
     ensures read { (message : Htcp) → Spells octets.now message →
         MatchResult result (λ found. found ≡ message) (λ fault. fault ≡ HtcpFault.NoMemory) }
-    // What is refused has that fault first.
+    // A fault that is given is the first of the octets.
     ensures refused { IfErr result (λ fault. fault ≢ HtcpFault.NoMemory → first_fault octets.now ≡ Some fault) }
-    // Memory is asked for only once there is no fault.
+    // Nothing is allocated before all tests are passed.
     ensures memory { result ≡ Err HtcpFault.NoMemory → first_fault octets.now ≡ None }
 {
     read(alloc, octets)
 }
 
-/// The message at the offsets of a datagram that has no fault.
+/// The message at the offsets of a datagram, if it has no fault.
 fn read(alloc: Global, octets: &[u8]) -> Result<Htcp, HtcpFault>
     ensures ok { IfOk result (λ message. (first_fault octets.now ≡ None) × Holds octets.now message) }
     ensures err { IfErr result (λ fault. (first_fault octets.now ≡ Some fault)
@@ -71,7 +71,7 @@ struct Parts<'a> {
     auth: &'a [u8],
 }
 
-/// The parts of a datagram, or the first fault of its HEADER and of LENGTH of DATA.
+/// The parts of a datagram, or the first fault of HEADER and of LENGTH of DATA.
 #[tactic(auto, unfolding(crate::specs::Faults::first_fault))]
 fn split_parts(octets: &[u8]) -> Result<Parts<'_>, HtcpFault>
     ensures { MatchResult result
@@ -107,7 +107,7 @@ fn split_parts(octets: &[u8]) -> Result<Parts<'_>, HtcpFault>
     })
 }
 
-/// The content of DATA, if OP-DATA holds what it needs.
+/// The content of DATA. `None` if OP-DATA lacks what it needs.
 #[tactic(auto, unfolding(crate::specs::Reading::content_at))]
 fn cut_content<'a>(section: &DataCut<'a>) -> Option<ContentCut<'a>>
     ensures { option_map content_seen result ≡ content_at (data_seen section.now) }
@@ -124,7 +124,7 @@ fn cut_content<'a>(section: &DataCut<'a>) -> Option<ContentCut<'a>>
     }
 }
 
-/// Whether LENGTH of AUTH is under 2, or over the octets left.
+/// Whether LENGTH of AUTH is under 2, or greater than the number of octets left.
 fn is_bad_auth(left: &[u8]) -> bool
     requires { 2 ≤ length left.now }
     ensures { result ≡ has_bad_auth left.now }

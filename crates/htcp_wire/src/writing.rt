@@ -10,14 +10,14 @@ use byteorder::{BigEndian, ByteOrder};
 use std::alloc::{AllocError, Global};
 use wire_octets::Octets;
 
-/// The octets of a written message without OP-DATA.
+/// The length in octets of a written message without OP-DATA.
 const FRAME_LENGTH: usize = 14;
 
-/// The octets of a HEADER, and of a DATA up to OP-DATA.
+/// The length in octets of HEADER, and of DATA up to OP-DATA.
 const HEAD_LENGTH: usize = 12;
 
-/// Whether a message can be written: one of HTCP/0.0 but an `OtherAnswer`, whose numbers are in range, of at most
-/// 16,384 octets in all. This takes no memory.
+/// Whether a message can be written: MINOR is 0, the content is no `OtherAnswer`, its numbers are
+/// in range, and it has at most 16,384 octets in all. Allocates nothing.
 pub fn fits(message: &Htcp) -> bool
     ensures { IsTrue result ↔ Fits message.now }
 {
@@ -26,9 +26,9 @@ pub fn fits(message: &Htcp) -> bool
         && op_data_length(&message.content) <= LONGEST_WRITTEN - FRAME_LENGTH
 }
 
-/// The written text of a message. `fits` tells which messages have one.
+/// The octets of a message that [`fits`].
 ///
-/// The only refusal is `NoMemory`, of the one allocation that is made.
+/// The only fault is `NoMemory`, of the one allocation.
 pub fn encode(alloc: Global, message: &Htcp) -> Result<Vec<u8>, HtcpFault>
     requires { Fits message.now }
     ensures { MatchResult result
@@ -43,7 +43,7 @@ pub fn encode(alloc: Global, message: &Htcp) -> Result<Vec<u8>, HtcpFault>
     Ok(octets)
 }
 
-/// Whether the numbers of a content are those that are written.
+/// Whether the numbers of a content are in the range that is written.
 fn is_in_range(content: &Content) -> bool
     ensures { IsTrue result ↔ InRange content.now }
 {
@@ -57,7 +57,7 @@ fn is_in_range(content: &Content) -> bool
     }
 }
 
-/// The octets of OP-DATA, or the greatest number where they are more.
+/// The length of OP-DATA in octets, or the greatest `usize` if it is more.
 fn op_data_length(content: &Content) -> usize
     ensures { result ≡ min (length (written_data content.now).op_data) (2 ^ 64 - 1) }
 {
@@ -70,6 +70,7 @@ fn op_data_length(content: &Content) -> usize
     }
 }
 
+/// The same of a specifier.
 fn specifier_length(spec: &Specifier) -> usize
     ensures { result ≡ min (length (specifier spec.now)) (2 ^ 64 - 1) }
 {
@@ -79,6 +80,7 @@ fn specifier_length(spec: &Specifier) -> usize
         .saturating_add(counted_length(&spec.request_headers))
 }
 
+/// The same of a detail.
 fn detail_length(detail: &Detail) -> usize
     ensures { result ≡ min (length (detail_text detail.now)) (2 ^ 64 - 1) }
 {
@@ -87,6 +89,7 @@ fn detail_length(detail: &Detail) -> usize
         .saturating_add(counted_length(&detail.cache_headers))
 }
 
+/// The length in octets of a counted text.
 fn counted_length(text: &Octets) -> usize
     ensures value { result ≡ length (counted text.now) }
     ensures small { result < 2 ^ 64 }
@@ -94,7 +97,7 @@ fn counted_length(text: &Octets) -> usize
     text.as_slice().len() + 2
 }
 
-/// HEADER, and DATA up to OP-DATA, of a message of this length.
+/// HEADER and DATA up to OP-DATA, for a message of `length` octets.
 fn head(content: &Content, length: u16, trans: u32) -> [u8; HEAD_LENGTH]
     requires range { InRange content.now }
     requires long { 14 ≤ length }
@@ -143,7 +146,7 @@ fn flags_octet(content: &Content) -> u8
     }
 }
 
-/// Writes OP-DATA at the end.
+/// Appends OP-DATA.
 fn push_op_data(out: &mut Vec<u8>, content: &Content) -> Result<(), AllocError>
     requires { length (written_data content.now).op_data < 2 ^ 16 }
     ensures { OnOk result (out.new.items ≡ out.old.items ++ (written_data content.now).op_data) }
@@ -160,6 +163,7 @@ fn push_op_data(out: &mut Vec<u8>, content: &Content) -> Result<(), AllocError>
     }
 }
 
+/// Appends a specifier.
 fn push_specifier(out: &mut Vec<u8>, spec: &Specifier) -> Result<(), AllocError>
     requires { length (specifier spec.now) < 2 ^ 16 }
     ensures { OnOk result (out.new.items ≡ out.old.items ++ specifier spec.now) }
@@ -170,6 +174,7 @@ fn push_specifier(out: &mut Vec<u8>, spec: &Specifier) -> Result<(), AllocError>
     push_counted(out, &spec.request_headers)
 }
 
+/// Appends a detail.
 fn push_detail(out: &mut Vec<u8>, detail: &Detail) -> Result<(), AllocError>
     requires { length (detail_text detail.now) < 2 ^ 16 }
     ensures { OnOk result (out.new.items ≡ out.old.items ++ detail_text detail.now) }
@@ -179,6 +184,7 @@ fn push_detail(out: &mut Vec<u8>, detail: &Detail) -> Result<(), AllocError>
     push_counted(out, &detail.cache_headers)
 }
 
+/// Appends a counted text.
 fn push_counted(out: &mut Vec<u8>, text: &Octets) -> Result<(), AllocError>
     requires { length text.now < 2 ^ 16 }
     ensures { OnOk result (out.new.items ≡ out.old.items ++ counted text.now) }

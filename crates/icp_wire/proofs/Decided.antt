@@ -1,4 +1,5 @@
--- Octets spell one message or have a fault, and `decode` says which.
+-- Octets spell one message or have a fault, and `decode` says which: the message is what is at the
+-- offsets, and two messages at the same offsets are one.
 use Rattle.std.proofs.Common.{◌≡◌, ℕ, Bool, true, false, cond, List, Option, Some, None, Result, Ok, Err, refl, sym, ap, ◌∙◌, inl, inr}
 use Rattle.std.specs.Prelude.{◌⊎◌, ◌≢◌, IfOk, IfErr, MatchResult}
 use Rattle.wire_octets.specs.Fields.{IsOctets}

@@ -1,4 +1,5 @@
--- The fields of a header at their offsets.
+-- The fields of a header at their offsets: each field has a fixed length, so it is found behind
+-- those before it.
 use Rattle.std.proofs.Common.{◌≡◌, ℕ, ◌+◌, ◌^◌, ◌<◌, ◌≤◌, List, ◌++◌, length, take, drop, sym, ap, ◌∙◌, append_assoc, arith}
 use Rattle.std.proofs.lemmas.List.{drop_at, drop-drop, take-append-drop, length-append, length-drop}
 use Rattle.byteorder.specs.Endian.{big_bytes, big_number}

@@ -1,3 +1,6 @@
+-- Read first Decided (the law `grammar_is_exact` and the clauses of `decode`) and Writings (the law
+-- `written_is_spelled`). They rest on Readings, which joins grammar and offsets; Headers, Payloads
+-- and Zeros serve it.
 pub mod Zeros
 pub mod Payloads
 pub mod Headers

@@ -1,4 +1,5 @@
--- The written text of a message that fits spells it.
+-- The octets that are written for a message that fits spell it, with zeros as options, option data
+-- and addresses.
 use Rattle.std.proofs.Common.{◌≡◌, ℕ, ◌+◌, ◌^◌, ◌<◌, List, [], ◌∷◌, length, refl, sym, ap, arith}
 use Rattle.std.specs.Prelude.{◌≢◌}
 use Rattle.icp_wire.specs.declared.message.Icp.{Icp}

@@ -1,4 +1,5 @@
--- The first zero octet of a text ends its URL.
+-- The first zero octet of a text ends its URL: what is before it has no zero octet, and a URL
+-- without a zero octet is what is before it.
 use Rattle.std.proofs.Common.{◌≡◌, ℕ, zero, suc, ◌<◌, Bool, true, false, cond, eqb, ltb, List, [], ◌∷◌, ◌++◌, length, drop, get_or, Some, None, refl, sym, ap, ◌∙◌, arith}
 use Rattle.std.specs.Prelude.{Contains, Option, is_none, position}
 use Rattle.std.specs.List.{before_first, after_first, position_or_len}

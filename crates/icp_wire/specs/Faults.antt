@@ -1,4 +1,4 @@
--- Why octets spell no message: the first fault, in the order in which faults are tested.
+-- Why octets spell no message: the first fault, in the order of the tests.
 use Rattle.std.specs.Prelude.{ℕ, not, ◌==◌, nat_lt, List, length, position, Option, Some, None, is_none, if◌then◌else◌}
 use Rattle.std.specs.List.{after_first}
 use Rattle.wire_octets.specs.Counted.{split_counted}
@@ -9,28 +9,28 @@ use Rattle.icp_wire.specs.declared.fault.IcpFault.TheVariants.{Short, TooLong, B
 use Rattle.icp_wire.specs.Grammar.{header_length, longest_message, version}
 use Rattle.icp_wire.specs.Reading.{opcode_field, version_field, length_field, payload_field, op_of, is_zero, from_url}
 
--- a counted object, and nothing behind it
+-- the fault of what should be a counted object with nothing behind it
 abbrev pub object_fault : Option (List ℕ × List ℕ) → Option IcpFault
 object_fault None = Some BadObject
 object_fault (Some parts) = if length parts.1 == 0 then None else Some BadObject
 
--- the fault of what follows the zero octet: an object in a HIT_OBJ, and nothing in the others
+-- the fault of what follows the zero octet: an object in a HIT_OBJ, nothing in the others
 abbrev pub rest_fault : IcpOp → List ℕ → Option IcpFault
 rest_fault HitObj rest = object_fault (split_counted rest)
 rest_fault op rest = if length rest == 0 then None else Some Trailing
 
--- the fault of a payload: no zero octet ends the URL, or that of what follows it
+-- the fault of a payload: no zero octet ends the URL, or the fault of what follows it
 unfoldable pub payload_fault : IcpOp → List ℕ → Option IcpFault
 payload_fault op payload =
     let text = from_url op payload in
     if is_none (position is_zero text) then Some NoZero else rest_fault op (after_first is_zero text)
 
--- an opcode that is not read, or the fault of its payload
+-- `BadOpcode` for an opcode that is not read, else the fault of the payload
 abbrev pub opcode_fault : Option IcpOp → List ℕ → Option IcpFault
 opcode_fault None payload = Some BadOpcode
 opcode_fault (Some op) payload = payload_fault op payload
 
--- the first fault of a datagram
+-- the first fault of a datagram, none if it spells a message
 unfoldable pub first_fault : List ℕ → Option IcpFault
 first_fault octets =
     if nat_lt (length octets) header_length then Some Short

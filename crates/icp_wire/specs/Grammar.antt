@@ -1,4 +1,6 @@
--- Which octets spell which message (RFC 2186). All numbers are in network byte order.
+-- Which octets spell which message (RFC 2186). All numbers are in network byte order. `Spells` is
+-- the definition; `IsPayload` says by opcode what follows the header. Names in quotes are headings
+-- of the RFC.
 use Rattle.std.specs.Prelude.{◌≡◌, ℕ, ◌^◌, ◌<◌, ◌≤◌, List, [], ◌∷◌, ◌++◌, length, Contains}
 use Rattle.byteorder.specs.Endian.{big_bytes}
 use Rattle.wire_octets.specs.Counted.{counted}
@@ -6,14 +8,15 @@ use Rattle.icp_wire.specs.declared.message.Icp.{Icp}
 use Rattle.icp_wire.specs.declared.message.IcpOp.{IcpOp}
 use Rattle.icp_wire.specs.declared.message.IcpOp.TheVariants.{Query, Hit, Miss, Error, MissNoFetch, Denied, HitObj}
 
--- the octets of a header, and the most that a message may have ("ICP Message Format", "Message Length")
+-- the length of a header in octets ("ICP Message Format")
 abbrev pub header_length : ℕ
 header_length = 20
 
+-- the greatest length of a message in octets ("Message Length")
 abbrev pub longest_message : ℕ
 longest_message = 16384
 
--- the version of ICP that is read and written ("Version")
+-- the only version of ICP that is read and written ("Version")
 abbrev pub version : ℕ
 version = 2
 
@@ -27,7 +30,7 @@ opcode MissNoFetch = 21
 opcode Denied = 22
 opcode HitObj = 23
 
--- The payload of a message with this URL and this object, which is empty but in a HIT_OBJ:
+-- the payload of a message with this URL and this object, which is empty in all but a HIT_OBJ:
 abbrev pub IsPayload : IcpOp → List ℕ → List ℕ → List ℕ → Type 0
 -- "ICP_OP_QUERY": the address of the host that wants the object, the URL, a zero octet
 IsPayload Query url object payload =
@@ -37,7 +40,8 @@ IsPayload HitObj url object payload = (length object < 2 ^ 16) × (payload ≡ u
 -- the others: the URL, a zero octet
 IsPayload op url object payload = (object ≡ []) × (payload ≡ url ++ 0 ∷ [])
 
--- "ICP Message Format": the octets spell the message, for some options, option data, sender host address and payload.
+-- the octets spell the message, for some options, option data, sender host address and payload
+-- ("ICP Message Format")
 pub record Spells (octets : List ℕ) (message : Icp) : Type 0 where
   pub options : List ℕ
   pub option_data : List ℕ

@@ -1,4 +1,4 @@
--- What joins the grammar, the faults and the written texts.
+-- What the law `grammar_is_exact` says of octets, by the grammar and the faults.
 use Rattle.std.specs.Prelude.{◌≡◌, ℕ, ◌⊎◌, List, Some, None}
 use Rattle.icp_wire.specs.declared.message.Icp.{Icp}
 use Rattle.icp_wire.specs.declared.fault.IcpFault.{IcpFault}
@@ -16,6 +16,6 @@ pub record SpellsNone (octets : List ℕ) (fault : IcpFault) : Type 0 where
   pub first : first_fault octets ≡ Some fault
   pub none : (message : Icp) → ¬ Spells octets message
 
--- the octets spell one message and have no fault, or have a fault and spell none
+-- the octets spell exactly one message and have no fault, or have a fault and spell none
 abbrev pub IsDecided : List ℕ → Type 0
 IsDecided octets = ((message : Icp) × SpellsOnly octets message) ⊎ ((fault : IcpFault) × SpellsNone octets fault)

@@ -5,7 +5,7 @@ use Rattle.icp_wire.specs.declared.message.IcpOp.TheVariants.{Query, Hit, Miss, 
 use Rattle.icp_wire.specs.declared.fault.IcpFault.{IcpFault}
 use Rattle.icp_wire.specs.declared.fault.IcpFault.TheVariants.{Short, TooLong, BadVersion, BadLength, BadOpcode, NoZero, Trailing, BadObject, NoMemory}
 
--- an opcode's name
+-- the name of an opcode
 abbrev pub icp_op_name : IcpOp → List ℕ
 icp_op_name Query = codes "Query"
 icp_op_name Hit = codes "Hit"
@@ -15,7 +15,7 @@ icp_op_name MissNoFetch = codes "MissNoFetch"
 icp_op_name Denied = codes "Denied"
 icp_op_name HitObj = codes "HitObj"
 
--- a fault's name
+-- the name of a fault
 abbrev pub icp_fault_name : IcpFault → List ℕ
 icp_fault_name Short = codes "Short"
 icp_fault_name TooLong = codes "TooLong"

@@ -1,4 +1,5 @@
--- The written text of a message: with zeros in its options, option data and addresses.
+-- The octets that are written for a message, with zeros for its options, option data and addresses,
+-- and which messages are written.
 use Rattle.std.specs.Prelude.{◌≡◌, ◌≢◌, ℕ, ◌+◌, ◌≤◌, List, [], ◌∷◌, ◌++◌, length, Contains}
 use Rattle.byteorder.specs.Endian.{big_bytes}
 use Rattle.icp_wire.specs.declared.message.Icp.{Icp}
@@ -10,21 +11,22 @@ use Rattle.icp_wire.specs.Grammar.{header_length, longest_message, version, opco
 abbrev pub unset : List ℕ
 unset = 0 ∷ 0 ∷ 0 ∷ 0 ∷ []
 
--- the payload with this URL and no object
+-- the payload with this URL and no object; a QUERY has the requester's address first, as zeros
 abbrev pub written_payload : IcpOp → List ℕ → List ℕ
 written_payload Query url = unset ++ url ++ 0 ∷ []
 written_payload op url = url ++ 0 ∷ []
 
--- a header, and its payload
+-- a header and its payload
 abbrev pub written_with : IcpOp → ℕ → List ℕ → List ℕ
 written_with op number payload =
     opcode op ∷ version ∷ (big_bytes 2 (header_length + length payload) ++ big_bytes 4 number ++ unset ++ unset ++ unset ++ payload)
 
--- the written text of a message that has no object
+-- the octets of a message that has no object
 abbrev pub written : Icp → List ℕ
 written message = written_with message.op message.number (written_payload message.op message.url)
 
--- what is written: every message but a HIT_OBJ, if it is not too long
+-- which messages are written: all but a HIT_OBJ, without an object and without a zero octet in the
+-- URL, if they are not too long
 pub record Fits (message : Icp) : Type 0 where
   pub op : message.op ≢ HitObj
   pub object : message.object ≡ []

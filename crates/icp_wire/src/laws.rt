@@ -5,12 +5,14 @@ ghost use Rattle.icp_wire.specs.Grammar.{Spells};
 ghost use Rattle.icp_wire.specs.Laws.{IsDecided};
 ghost use Rattle.icp_wire.specs.Written.{Fits, written};
 
-/// A law: octets spell one message and have no fault, or have a first fault and spell no message.
+/// A law: octets spell exactly one message and have no fault, or have a first fault and spell no
+/// message.
 pub fn grammar_is_exact()
     ensures { (octets : List ℕ) → IsOctets octets → IsDecided octets }
 {}
 
-/// A law: the written text of a message that fits spells it, so `decode` reads back what `encode` wrote.
+/// A law: the octets that are written for a message that fits spell it, so `decode` reads back what
+/// `encode` wrote.
 pub fn written_is_spelled()
     ensures { (message : Icp) → Fits message → message.number < 2 ^ 32 → Spells (written message) message }
 {}

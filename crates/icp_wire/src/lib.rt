@@ -1,8 +1,28 @@
-//! ICP version 2: the messages by which caches ask each other for an object (RFC 2186).
+//! The codec of ICP version 2 (RFC 2186): the messages by which caches ask each other for a URL.
+//! What a node does with them (RFC 2187) is in `node_rules`.
 //!
-//! `decode` answers a message exactly where the octets spell it (`Spells` of `specs/Grammar`), and else the
-//! first fault (`first_fault` of `specs/Faults`). `encode` gives the written text of a message (`written` of
-//! `specs/Written`), which spells it. `grammar_is_exact` and `written_is_spelled` are the laws that join them.
+//! - [`Icp`]: a message with its [`IcpOp`], request number, URL and object. Contracts see its
+//!   fields, and the texts as lists of octets.
+//! - [`decode`]: the message of a datagram, or its first fault ([`IcpFault`]).
+//! - [`fits`], [`encode`]: whether a message can be written, and its octets.
+//! - [`grammar_is_exact`], [`written_is_spelled`]: laws. A datagram spells exactly one message or
+//!   has a fault; what `encode` writes, `decode` reads back.
+//!
+//! The codec reads opcodes 1 to 4 and 21 to 23 (RFC 2186, "ICP Opcodes"); SECHO and DECHO are
+//! `BadOpcode`. It reads a HIT_OBJ but never writes one. It ignores options, option data and
+//! addresses when it reads, and writes them as zero.
+//!
+//! To read, in this order:
+//!
+//! 1. `specs/Grammar.antt`: which octets spell which message (`Spells`).
+//! 2. `specs/Reading.antt`: what is at which offset. `specs/Faults.antt`: the first fault of a
+//!    datagram (`first_fault`).
+//! 3. `specs/Written.antt`: the octets that are written, and of which messages (`Fits`).
+//! 4. `specs/Laws.antt` and `src/laws.rt`: the laws. `specs/Names.antt`: names that scripts print.
+//! 5. `src/message.rt`, `src/fault.rt`, `src/reading.rt`, `src/writing.rt`.
+//! 6. `proofs/Decided.antt`, and before it what it is built on, in the order of `proofs/Lib.antt`.
+//!
+//! It touches no file, socket, clock or thread.
 #![tactic(auto)]
 
 mod fault;

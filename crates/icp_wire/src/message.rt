@@ -4,39 +4,40 @@ ghost use Rattle.icp_wire.specs.Names.{icp_op_name};
 use std::alloc::{AllocError, Global};
 use wire_octets::Octets;
 
-/// The most octets that a message may have, its header included (RFC 2186, "Message Length").
+/// The greatest length of a message in octets, header included (RFC 2186, "Message Length").
 pub const LONGEST_MESSAGE: usize = 16_384;
 
-/// The octets of a header (RFC 2186, "ICP Message Format").
+/// The length of a header in octets (RFC 2186, "ICP Message Format").
 pub(crate) const HEADER_LENGTH: usize = 20;
 
-/// The octets of an address, and of options and option data.
+/// The length in octets of an address; options and option data have it too.
 pub(crate) const ADDRESS_LENGTH: usize = 4;
 
-/// The version of ICP that is read and written.
+/// The only version of ICP that is read and written.
 pub(crate) const VERSION: u8 = 2;
 
-/// What a message asks or answers: the opcodes that are read (RFC 2186, "ICP Opcodes"). SECHO and DECHO are not.
+/// What a message asks or answers: the opcodes that are read (RFC 2186, "ICP Opcodes"). SECHO and
+/// DECHO are not among them.
 #[derive(Clone, Copy, Debug, PartialEq, Eq, Hash)]
 pub enum IcpOp {
     /// ICP_OP_QUERY: does the receiver hold the URL?
     Query = 1,
-    /// ICP_OP_HIT: it does.
+    /// ICP_OP_HIT: the sender holds it.
     Hit = 2,
-    /// ICP_OP_MISS: it does not, and may be asked to fetch it.
+    /// ICP_OP_MISS: the sender does not hold it, and may be asked to fetch it.
     Miss = 3,
-    /// ICP_OP_ERR: the query made no sense.
+    /// ICP_OP_ERR: the query made no sense to the sender.
     Error = 4,
-    /// ICP_OP_MISS_NOFETCH: it does not, and is not to be asked to fetch it.
+    /// ICP_OP_MISS_NOFETCH: the sender does not hold it, and does not want to be asked to fetch it.
     MissNoFetch = 21,
-    /// ICP_OP_DENIED: the sender may not fetch the URL from it.
+    /// ICP_OP_DENIED: the receiver may not fetch it from the sender.
     Denied = 22,
-    /// ICP_OP_HIT_OBJ: it does, and here is the object.
+    /// ICP_OP_HIT_OBJ: the sender holds it, and the object is in the message.
     HitObj = 23,
 }
 
 impl IcpOp {
-    /// The name that scripts print.
+    /// The name that scripts print: the name of the variant.
     pub const fn name(self) -> &'static str
         ensures { result.now ≡ icp_op_name self }
     {
@@ -52,22 +53,23 @@ impl IcpOp {
     }
 }
 
-/// A message, without its options, option data and addresses, which may hold anything where it is read and are
-/// zero where it is written.
+/// A message without its options, option data and addresses. These may be anything in a message
+/// that is read, and are zero in one that is written.
 #[derive(Debug, PartialEq, Eq, Drop)]
 pub struct Icp {
     /// What it asks or answers.
     pub op: IcpOp,
-    /// The request number, which an answer repeats.
+    /// The request number. A reply repeats that of its query.
     pub number: u32,
-    /// The URL, octet for octet and without the zero octet that ends it. It may be empty.
+    /// The URL, octet for octet, without the zero octet that ends it. It may be empty, or no URL at
+    /// all: this crate does not look into it.
     pub url: Octets,
     /// The object of a `HitObj`; empty in all others.
     pub object: Octets,
 }
 
 impl Icp {
-    /// The same message once more, or the want of memory for it.
+    /// A second copy. The error is want of memory.
     pub fn copy(&self, alloc: Global) -> Result<Icp, AllocError>
         ensures { IfOk result (λ copy. copy ≡ self.now) }
     {

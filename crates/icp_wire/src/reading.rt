@@ -11,25 +11,25 @@ use memchr::memchr;
 use std::alloc::Global;
 use wire_octets::{Octets, split_counted};
 
-/// The message that a datagram spells, or its first fault.
+/// The message that a datagram spells, or its first fault, in the order of [`IcpFault`].
 ///
-/// A refusal takes no memory: `NoMemory` comes only where the octets spell a message, whose URL and object are
-/// all that is allocated.
+/// Only the URL and the object are allocated, once the datagram has no fault. So `NoMemory` means
+/// that the octets spell a message.
 pub fn decode(alloc: Global, octets: &[u8]) -> Result<Icp, IcpFault>
-    // What is read is spelled by the octets.
+    // The octets spell the message that is given.
     ensures spelled { IfOk result (λ message. Spells octets.now message) }
-    // What the octets spell is read, unless memory runs out.
+    // If the octets spell a message, it is given, unless memory runs out.
     ensures read { (message : Icp) → Spells octets.now message →
         MatchResult result (λ found. found ≡ message) (λ fault. fault ≡ IcpFault.NoMemory) }
-    // What is refused has that fault first.
+    // A fault that is given is the first of the octets.
     ensures refused { IfErr result (λ fault. fault ≢ IcpFault.NoMemory → first_fault octets.now ≡ Some fault) }
-    // Memory is asked for only once there is no fault.
+    // Nothing is allocated before all tests are passed.
     ensures memory { result ≡ Err IcpFault.NoMemory → first_fault octets.now ≡ None }
 {
     read(alloc, octets)
 }
 
-/// The message at the offsets of a datagram that has no fault.
+/// The message at the offsets of a datagram, if it has no fault.
 fn read(alloc: Global, octets: &[u8]) -> Result<Icp, IcpFault>
     ensures ok { IfOk result (λ message. (first_fault octets.now ≡ None) × Holds octets.now message) }
     ensures err { IfErr result (λ fault. (first_fault octets.now ≡ Some fault)
@@ -49,7 +49,7 @@ fn read(alloc: Global, octets: &[u8]) -> Result<Icp, IcpFault>
     })
 }
 
-/// What a message needs of a header, and the payload behind it.
+/// What a message needs of a header, and the payload that follows it.
 struct Header<'a> {
     op: IcpOp,
     number: u32,
@@ -87,7 +87,7 @@ fn split_header(octets: &[u8]) -> Result<Header<'_>, IcpFault>
     }
 }
 
-/// The opcode of a number, where it is read.
+/// The opcode of a number, if it is read.
 fn op_of(code: u8) -> Option<IcpOp>
     ensures { result ≡ op_of_code code }
 {
@@ -103,7 +103,7 @@ fn op_of(code: u8) -> Option<IcpOp>
     }
 }
 
-/// The URL and the object of a payload.
+/// The URL and the object of a payload, or its first fault.
 #[tactic(auto, unfolding(crate::specs::Faults::payload_fault))]
 fn split_payload(op: IcpOp, payload: &[u8]) -> Result<(&[u8], &[u8]), IcpFault>
     ensures { MatchResult result
@@ -116,7 +116,7 @@ fn split_payload(op: IcpOp, payload: &[u8]) -> Result<(&[u8], &[u8]), IcpFault>
     Ok((url, object))
 }
 
-/// The URL and what follows it: in a QUERY they stand behind the requester's address.
+/// The payload from the URL on. In a QUERY the requester's address stands before the URL.
 fn from_url(op: IcpOp, payload: &[u8]) -> &[u8]
     ensures { result.now ≡ url_onwards op payload.now }
 {
@@ -126,7 +126,7 @@ fn from_url(op: IcpOp, payload: &[u8]) -> &[u8]
     }
 }
 
-/// What stands before the first zero octet, and what behind it.
+/// What is before the first zero octet, and what is behind it. `None` if there is none.
 fn split_url(text: &[u8]) -> Option<(&[u8], &[u8])>
     ensures { MatchOption result (position is_zero text.now ≡ None)
         (λ parts. IsSome (position is_zero text.now)
@@ -136,13 +136,14 @@ fn split_url(text: &[u8]) -> Option<(&[u8], &[u8])>
     Some((&text[..end], &text[end + 1..]))
 }
 
+/// The index of the first zero octet.
 fn first_zero(text: &[u8]) -> Option<usize>
     ensures { result ≡ position is_zero text.now }
 {
     memchr(0, text)
 }
 
-/// The object behind the zero octet, which is empty but in a HIT_OBJ.
+/// The object behind the zero octet: empty in all but a HIT_OBJ.
 fn object_of(op: IcpOp, rest: &[u8]) -> Result<&[u8], IcpFault>
     ensures { MatchResult result
         (λ object. (rest_fault op rest.now ≡ None) × (object.now ≡ object_behind op rest.now))

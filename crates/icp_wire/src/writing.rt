@@ -8,8 +8,8 @@ use crate::{Icp, IcpFault, IcpOp};
 use byteorder::{BigEndian, ByteOrder};
 use std::alloc::Global;
 
-/// Whether a message can be written: any but a HIT_OBJ, with no object, no zero octet in its URL, and at most
-/// 16,384 octets in all. This takes no memory.
+/// Whether a message can be written: any but a HIT_OBJ, without an object, without a zero octet in
+/// its URL, of at most 16,384 octets in all. Allocates nothing.
 pub fn fits(message: &Icp) -> bool
     ensures { IsTrue result ↔ Fits message.now }
 {
@@ -20,10 +20,9 @@ pub fn fits(message: &Icp) -> bool
         && written_length(message.op, url) <= LONGEST_MESSAGE
 }
 
-/// The written text of a message, whose options, option data and addresses are zero. `fits` tells which messages
-/// have one.
+/// The octets of a message that [`fits`]. Options, option data and addresses are zero.
 ///
-/// The only refusal is `NoMemory`, of the one allocation that is made.
+/// The only fault is `NoMemory`, of the one allocation.
 pub fn encode(alloc: Global, message: &Icp) -> Result<Vec<u8>, IcpFault>
     requires { Fits message.now }
     ensures { MatchResult result
@@ -41,7 +40,7 @@ pub fn encode(alloc: Global, message: &Icp) -> Result<Vec<u8>, IcpFault>
     Ok(octets)
 }
 
-/// The octets of a written message.
+/// The length in octets of a written message.
 fn written_length(op: IcpOp, url: &[u8]) -> usize
     ensures { result ≡ header_length + length (written_payload op url.now) }
 {
@@ -51,7 +50,7 @@ fn written_length(op: IcpOp, url: &[u8]) -> usize
     }
 }
 
-/// A header with zeros in its options, option data and sender host address.
+/// A header with zero options, option data and sender host address.
 fn header(op: IcpOp, length: u16, number: u32) -> [u8; HEADER_LENGTH]
     ensures { result ≡ opcode op ∷ version ∷ (big_bytes 2 length ++ big_bytes 4 number ++ unset ++ unset ++ unset) }
 {
