@@ -1,4 +1,5 @@
--- Lemmas on the words of a line.
+-- The words of a text are its first word and the words of what follows the space, so a loop that
+-- cuts one word at a time finds them all.
 use Rattle.std.proofs.Common.{◌≡◌, ℕ, suc, ◌+◌, ◌++◌, Bool, true, false, not, cond, nat_lt, List, [], ◌∷◌, length, Option, Some, None, refl, ap, sym, ◌∙◌, append_assoc, if◌then◌else◌, arith}
 use Rattle.std.specs.Prelude.{option_map, position}
 use Rattle.std.specs.List.{position_or_len}

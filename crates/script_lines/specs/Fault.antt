@@ -1,9 +1,9 @@
--- The faults of a run over an input.
+-- The names of the faults of a run.
 use Rattle.std.specs.Prelude.{ℕ, List, codes}
 use Rattle.script_lines.specs.declared.fault.RunFault.{RunFault}
 use Rattle.script_lines.specs.declared.fault.RunFault.TheVariants.{Io, TooManyTurns, LineTooLong, NoMemory, NoFirstNode}
 
--- a fault's name, as the program prints it
+-- the name of a fault, as the program prints it
 abbrev pub run_fault_name : RunFault → List ℕ
 run_fault_name Io = codes "Io"
 run_fault_name TooManyTurns = codes "TooManyTurns"

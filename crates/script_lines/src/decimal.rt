@@ -1,14 +1,15 @@
-//! Numbers in decimal, without leading zeros.
+//! Numbers in decimal, without a sign and without leading zeros.
 ghost use Rattle.std.specs.Prelude.{◌≡◌, ◌≤◌, ◌^◌, IsTrue, length};
 ghost use Rattle.std.specs.List.{list_all};
 ghost use Rattle.std.specs.Char.{is_ascii_digit};
 ghost use Rattle.std.specs.Str.Parse.{digits_value};
 ghost use Rattle.script_lines.specs.Words.{is_decimal as may_be_decimal, decimal_below};
 
-/// The most digits of a number of 64 bits.
+/// The number of digits of the greatest number of 64 bits.
 const MOST_DIGITS: usize = 20;
 
-/// The number of 64 bits that the text writes, if it writes one: in decimal, without leading zeros and without a sign.
+/// The number of 64 bits that the text spells in decimal, without a sign and without leading zeros.
+/// `None` for any other text.
 pub fn decimal_u64(text: &[u8]) -> Option<u64>
     ensures { result ≡ decimal_below (2 ^ 64) text.now }
 {
@@ -23,7 +24,8 @@ pub fn decimal_u64(text: &[u8]) -> Option<u64>
     }
 }
 
-/// The number of 32 bits that the text writes, if it writes one: in decimal, without leading zeros and without a sign.
+/// The number of 32 bits that the text spells in decimal, without a sign and without leading zeros.
+/// `None` for any other text.
 pub fn decimal_u32(text: &[u8]) -> Option<u32>
     ensures { result ≡ decimal_below (2 ^ 32) text.now }
 {
@@ -33,7 +35,8 @@ pub fn decimal_u32(text: &[u8]) -> Option<u32>
     }
 }
 
-/// The number of 16 bits that the text writes, if it writes one: in decimal, without leading zeros and without a sign.
+/// The number of 16 bits that the text spells in decimal, without a sign and without leading zeros.
+/// `None` for any other text.
 pub fn decimal_u16(text: &[u8]) -> Option<u16>
     ensures { result ≡ decimal_below (2 ^ 16) text.now }
 {
@@ -43,7 +46,8 @@ pub fn decimal_u16(text: &[u8]) -> Option<u16>
     }
 }
 
-/// The number of 8 bits that the text writes, if it writes one: in decimal, without leading zeros and without a sign.
+/// The number of 8 bits that the text spells in decimal, without a sign and without leading zeros.
+/// `None` for any other text.
 pub fn decimal_u8(text: &[u8]) -> Option<u8>
     ensures { result ≡ decimal_below (2 ^ 8) text.now }
 {
@@ -53,7 +57,7 @@ pub fn decimal_u8(text: &[u8]) -> Option<u8>
     }
 }
 
-/// Whether the text is a few digits without leading zeros.
+/// Whether the text is 1 to 20 digits without leading zeros.
 fn is_decimal(text: &[u8]) -> bool
     ensures { result ≡ may_be_decimal text.now }
 {
@@ -63,13 +67,14 @@ fn is_decimal(text: &[u8]) -> bool
     text.len() == 1 || text[0] != b'0'
 }
 
+/// Whether each octet is a decimal digit.
 fn all_digits(text: &[u8]) -> bool
     ensures { result ≡ list_all is_ascii_digit text.now }
 {
     text.iter().all(|octet| b'0' <= *octet && *octet <= b'9')
 }
 
-/// The number that a few digits write.
+/// The number that at most 20 digits spell.
 #[tactic(auto, using(crate::proofs::Digits::few_digits, crate::proofs::Digits::next_digit))]
 fn value_of(digits: &[u8]) -> u128
     requires few { length digits.now ≤ 20 }

@@ -10,23 +10,23 @@ pub enum RunFault {
     /// The reader or the writer failed.
     #[error("the reader or the writer failed")]
     Io,
-    /// The input was not at its end after 70,000 reads.
+    /// 70,000 reads each gave an octet or more, and another read was needed.
     #[error("the input has not ended after 70,000 reads")]
     TooManyTurns,
-    /// A line has more than 140,000 octets.
+    /// A line has more than 140,000 octets, its end not counted.
     #[error("a line is longer than 140,000 octets")]
     LineTooLong,
-    /// A growth was refused.
+    /// An allocation failed.
     #[error("there was no memory")]
     NoMemory,
-    /// The roster that is part of the program, that of `cache answer`, gave no first node. No proof rules this out, but it never
-    /// comes: a test opens that node.
+    /// The built-in roster of `cache answer` gave no first node. No proof rules this out; a test
+    /// opens that node.
     #[error("the roster of the program gave no first node")]
     NoFirstNode,
 }
 
 impl RunFault {
-    /// The name that the program prints.
+    /// The name that the program prints: the name of the variant.
     pub const fn name(self) -> &'static str
         ensures { result.now ≡ run_fault_name self }
     {

@@ -1,12 +1,34 @@
-//! Scripts: texts of lines that are answered one after another.
+//! Scripts: reads lines from any reader, answers each, and writes the answers to any writer, one
+//! line for each.
 //!
-//! A `Script` answers a line; `play` takes the lines of any reader and writes each answer, in a line of its own, to any writer, as
-//! far as it has come: a person who types a line sees its answer at once. `play_until` ends before the first line of a given text.
-//! `words` and `decimal` cut a line.
+//! - [`Script`]: what answers a line. The crates of the command line implement it.
+//! - [`play`]: answers all lines. [`play_until`]: answers the lines before the first that is a
+//!   given text, such as `quit`.
+//! - [`RunFault`]: why a run stopped.
+//! - [`split_word`], [`words_of`], [`is_word`], [`decimal_u8`] to [`decimal_u64`]: the words and
+//!   numbers of a line.
 //!
-//! Three kinds of wrong bodies pass the contracts here. `write_text` that answers `Io` at once: no clause knows whether a writer
-//! failed; tests show that `Io` comes only then. `LineReader::holds_line`, which decides when answers are written, and not which.
-//! A `play_before` that reads on behind the last line: no clause says how much of an input is read.
+//! Limits: 140,000 octets for a line, and 70,000 reads that give octets for an input. Answers are
+//! written before more is read, so a person who types a line sees its answer at once.
+//!
+//! To read, in this order:
+//!
+//! 1. `specs/Lines.antt`: the lines of an input.
+//! 2. `specs/Script.antt`: what a run writes (`HasPlayedBefore`, by `PlaysAll` and `PlaysSome`).
+//! 3. `src/script.rt`: the loop. `src/lines.rt` takes lines from a reader, with
+//!    `specs/Reading.antt`. `src/write.rt` writes.
+//! 4. `src/words.rt`, `src/decimal.rt`, with `specs/Words.antt`. `src/fault.rt`, with
+//!    `specs/Fault.antt`.
+//! 5. `proofs/PlayLemmas.antt` and `proofs/LineLemmas.antt`, which `specs/Playing.antt` and
+//!    `specs/Reading.antt` state.
+//!
+//! Three wrong bodies would meet the contracts. `write_text` could give `Io` at once, since no
+//! clause knows whether a writer failed; tests show that `Io` comes only then.
+//! `LineReader::holds_line` could be wrong: it decides when answers are written, not which.
+//! `play_before` could read on behind the last line, since no clause says how much of an input is
+//! read; tests show that it does not.
+//!
+//! It touches only the reader and the writer that are passed in.
 #![tactic(auto)]
 
 mod decimal;

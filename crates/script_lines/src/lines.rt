@@ -1,4 +1,4 @@
-//! Lines of an input, taken one after another from any reader.
+//! Takes the lines of an input from any reader, one after another.
 ghost use Rattle.std.specs.Prelude.{◌≡◌, ◌+◌, ◌<◌, ◌≤◌, ◌≢◌, ℕ, vec_len, vec_capacity, [], drop, take, length, OnOk, IfOk, IfErr, IsTrue, MatchOption, MatchBool, Some, None, Err, true, false};
 ghost use Rattle.std.specs.Io.KnownBytes.{IsAtEnd};
 ghost use Rattle.script_lines.specs.Reading.{Takes, HasNoEnd, EndsAt, TakesLine, TakesNone, FailsToTake, IsCounted, most_left};
@@ -8,16 +8,17 @@ use memchr::memchr;
 use std::alloc::{AllocError, Global};
 use std::io::Read;
 
-/// The most octets that a line may have.
+/// The greatest length of a line in octets, its end not counted.
 const LONGEST_LINE: usize = 140_000;
 
-/// The most reads of one input.
+/// The greatest number of reads of one input that give octets.
 const MOST_TURNS: u32 = 70_000;
 
-/// How many octets are asked for in one read.
+/// How many octets one read asks for.
 const PIECE_LENGTH: usize = 65_536;
 
-/// What was read of an input and not yet taken, and how often it was read.
+/// What was read of an input and not yet taken: `held` from index `next` on. `turns` counts the
+/// reads that gave octets.
 #[derive(Drop)]
 pub(crate) struct LineReader {
     held: Vec<u8>,
@@ -30,7 +31,7 @@ pub(crate) struct LineReader {
 }
 
 impl LineReader {
-    /// Nothing is read yet.
+    /// A reader of lines that has read nothing.
     pub(crate) fn new(alloc: Global) -> Result<LineReader, AllocError>
         ensures { IfOk result (λ made. (made.next ≡ 0) × (made.held.items ≡ []) × (made.turns ≡ 0)) }
     {
@@ -42,7 +43,7 @@ impl LineReader {
         })
     }
 
-    /// Whether a line with its end is held, so that the next one can be taken without reading.
+    /// Whether a line with its end is held, so that the next line needs no read.
     pub(crate) fn holds_line(&self) -> bool {
         match self.end_of_line() {
             Some(length) => length <= LONGEST_LINE,
@@ -50,7 +51,7 @@ impl LineReader {
         }
     }
 
-    /// How many octets stand before the end of the next line, where it is held.
+    /// The length of the next line, if its end is held.
     fn end_of_line(&self) -> Option<usize>
         ensures { let rest = drop self.now.next self.now.held.items in
             MatchOption result (HasNoEnd (length rest) rest) (λ length. EndsAt length rest) }
@@ -59,7 +60,7 @@ impl LineReader {
         memchr(b'\n', rest)
     }
 
-    /// Takes the next line, without its end, in place of what `line` held; `false` where there is none.
+    /// Takes the next line into `line`, without its end. `false` if there is none.
     pub(crate) fn next_line<R: Read>(
         &mut self,
         reader: &mut R,
@@ -90,7 +91,7 @@ impl LineReader {
         }
     }
 
-    /// Takes a line whose end stands behind so many octets.
+    /// Takes a line of `length` octets, whose end is held.
     fn take_line(&mut self, length: usize, line: &mut Vec<u8>) -> Result<bool, RunFault>
         requires { EndsAt length (drop self.old.next self.old.held.items) }
         ensures ok { IfOk result (λ found. (found ≡ true) × (length ≤ 140000)
@@ -110,7 +111,7 @@ impl LineReader {
         Ok(true)
     }
 
-    /// Takes what is held as the last line, where something is.
+    /// Takes what is held as the last line. `false` if nothing is held.
     fn take_rest(&mut self, line: &mut Vec<u8>) -> Result<bool, RunFault>
         ensures ok { IfOk result (λ found. MatchBool found
             ((line.new.items ≡ drop self.old.next self.old.held.items) × (drop self.old.next self.old.held.items ≢ []) × (drop self.new.next self.new.held.items ≡ []))
@@ -127,7 +128,7 @@ impl LineReader {
         Ok(true)
     }
 
-    /// Reads once, and keeps what came; `false` where the input is at its end.
+    /// Reads once, and keeps what came. `false` if the input is at its end.
     fn read_more<R: Read>(&mut self, reader: &mut R) -> Result<bool, RunFault>
         ensures taken { Takes (drop self.old.next self.old.held.items) (R.remaining reader.old)
             (drop self.new.next self.new.held.items) (R.remaining reader.new) }
@@ -159,7 +160,7 @@ impl LineReader {
         }
     }
 
-    /// Drops what was taken, and makes room for a read.
+    /// Drops what was taken, and makes room for one read.
     fn make_room(&mut self) -> Result<(), AllocError>
         ensures rest { drop self.new.next self.new.held.items ≡ drop self.old.next self.old.held.items }
         ensures turns { self.new.turns ≡ self.old.turns }
@@ -172,7 +173,7 @@ impl LineReader {
     }
 }
 
-/// Drops the first octets.
+/// Drops the first `count` octets.
 fn drop_front(octets: &mut Vec<u8>, count: usize)
     requires { count ≤ vec_len octets.old }
     ensures { octets.new.items ≡ drop count octets.old.items }

@@ -1,4 +1,4 @@
-//! Scripts: inputs whose lines are answered one after another, each answer in a line of its own.
+//! The loop over an input: each line is answered, and each answer is a line of its own.
 ghost use Rattle.std.specs.Prelude.{◌≡◌, ℕ, List, [], ◌∷◌, ◌++◌, option_map, OnOk, OnErr};
 ghost use Rattle.script_lines.specs.Lines.{is_last as is_last_line};
 ghost use Rattle.script_lines.specs.Script.{HasPlayed, HasPlayedUntil, HasPlayedBefore};
@@ -9,22 +9,28 @@ use crate::write::write_text;
 use std::alloc::{AllocError, Global};
 use std::io::{Read, Write};
 
-/// The most octets of answers that are kept before they are written.
+/// Answers are written once they are longer than this, in octets, even if another line is held.
 const MOST_UNWRITTEN: usize = 65_536;
 
 /// What answers the lines of a script.
 pub trait Script {
-    /// From the first state, the line may be answered with the text, and the second state is left.
+    /// Whether, in the first state, the line may be answered by the text, which leaves the second
+    /// state.
     ghost answers: { Self → List ℕ → List ℕ → Self → Type 0 };
 
-    /// Writes the answer to a line behind what `text` holds, without a line's end.
+    /// Appends the answer to a line to `text`, without a line end. The error is want of memory; it
+    /// ends the run.
     fn answer(&mut self, alloc: Global, line: &[u8], text: &mut Vec<u8>) -> Result<(), AllocError>
         ensures { OnOk result ((answer : List ℕ) × answers self.old line.now answer self.new
             × (text.new.items ≡ text.old.items ++ answer)) };
 }
 
-/// Answers all lines of an input. What is answered is written before more is read, so a person who types a line
-/// sees its answer at once. After a fault a front of the answers is written.
+/// Answers all lines of an input. Answers are written before more is read, so a person who types a
+/// line sees its answer at once.
+///
+/// After a fault some first lines were answered, and a front of the answers was written.
+/// `LineTooLong` comes only if the line after those is too long, `TooManyTurns` only after 70,000
+/// reads that gave octets.
 pub fn play<S: Script, R: Read, W: Write>(
     alloc: Global,
     script: &mut S,
@@ -37,11 +43,11 @@ pub fn play<S: Script, R: Read, W: Write>(
     play_before(alloc, script, None, reader, writer)
 }
 
-/// Answers the lines of an input before the first that is `last`, and asks the reader for nothing once that line was read;
-/// all of them, where there is no such line. What is answered is written before more is read.
+/// Answers the lines of an input before the first that is `last`, or all lines if none is. Nothing
+/// is read once that line was read. Answers are written before more is read.
 ///
-/// Faults: those of `play`, by the lines up to the first that is `last`: what stands behind it is not looked at. A front of the
-/// answers is written then.
+/// Faults are as of [`play`], of the lines up to the first that is `last`: what is behind it is not
+/// looked at.
 pub fn play_until<S: Script, R: Read, W: Write>(
     alloc: Global,
     script: &mut S,
@@ -55,7 +61,7 @@ pub fn play_until<S: Script, R: Read, W: Write>(
     play_before(alloc, script, Some(last), reader, writer)
 }
 
-/// Answers the lines before the first that is the last one, where one is named.
+/// Answers the lines before the first that is `last`, or all if there is no `last`.
 fn play_before<S: Script, R: Read, W: Write>(
     alloc: Global,
     script: &mut S,
@@ -94,7 +100,7 @@ fn play_before<S: Script, R: Read, W: Write>(
     }
 }
 
-/// Whether the line is the last one, where one is named.
+/// Whether the line is `last`. False if there is no `last`.
 fn is_last(last: Option<&[u8]>, line: &[u8]) -> bool
     ensures { result ≡ is_last_line (option_map (λ text. text.now) last.entry) line.now }
 {
@@ -104,7 +110,7 @@ fn is_last(last: Option<&[u8]>, line: &[u8]) -> bool
     }
 }
 
-/// Writes the answer to a line, and a line's end.
+/// Appends the answer to a line, and a line end.
 fn answer_line<S: Script>(
     alloc: Global,
     script: &mut S,

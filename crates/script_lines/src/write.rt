@@ -4,7 +4,7 @@ ghost use Rattle.text_writer.specs.Writing.{Writes};
 use crate::fault::RunFault;
 use std::io::Write;
 
-/// Writes the text. A writer that failed holds a front of it, and not all of it.
+/// Writes the text. After `Io` a front of it is written, and not all of it.
 pub(crate) fn write_text<W: Write>(writer: &mut W, text: &[u8]) -> Result<(), RunFault>
     ensures written { Writes (W.contents writer.old) (W.contents writer.new) result text.now }
     ensures fault { IfErr result (λ fault. fault ≡ RunFault.Io) }

@@ -1,4 +1,5 @@
--- One piece written after another.
+-- Texts that are written one after another: what has been written is a front of the whole, which
+-- each piece makes longer, up to the whole or to a failure.
 use Rattle.std.proofs.Common.{◌≡◌, ℕ, ◌==◌, false, List, [], ◌∷◌, ◌++◌, length, take, drop, Option, Some, None, Result, Ok, Err, refl, sym, ap, ◌∙◌, subst, append_assoc, append-nil, take-append-drop}
 use Rattle.std.specs.Io.KnownBytes.{Appends, Keeps}
 use Rattle.std.proofs.KnownBytes.{Appends-nil, Appends-trans, Appends-kept}
@@ -51,6 +52,7 @@ up_to_none a b c text rest n up some zero wrote =
     let none : take n rest ≡ take 0 rest = ap (λ (k : ℕ). take k rest) zero in
     up_to_kept a b c text rest up some (kept_by_nothing b c (take n rest) none wrote)
 
+-- a piece that is cut in two, between what is done and the rest
 is_split : (done front back rest piece : List ℕ) → piece ≡ front ++ back → done ++ (piece ++ rest) ≡ (done ++ front) ++ (back ++ rest)
 is_split done front back rest piece is =
     ap (λ p. done ++ (p ++ rest)) is ∙ ap (λ t. done ++ t) (append_assoc front back rest) ∙ sym (append_assoc done front (back ++ rest))

@@ -1,9 +1,15 @@
-//! Writing of whole texts, after which a writer that failed holds a front of the text, and not all of it.
+//! Writes a whole text to any writer: [`write_text`]. After a failure the writer has a front of the
+//! text, and not all of it.
 //!
-//! The laws of `proofs/Laws` join texts that are written one after another.
+//! To read, in this order: `specs/Writing.antt` (what a call leaves in its writer: `Writes`),
+//! `src/write.rt`, `proofs/Laws.antt`. Crates that write a text in several calls cite those laws:
+//! they join texts that are written one after another.
 //!
-//! The trait of writing counts no failures, so a body that answers `WriteFailed` at once would meet the contract. That it comes only
-//! where the writer failed is shown by tests.
+//! A contract sees the octets that a writer has, if they are known, and not its failures. So a body
+//! that gives [`WriteFailed`] at once would meet the contract. Tests show that it comes only if the
+//! writer fails.
+//!
+//! It touches only the writer that is passed in.
 #![tactic(auto)]
 
 mod write;

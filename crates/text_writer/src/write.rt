@@ -3,13 +3,16 @@ ghost use Rattle.text_writer.specs.Writing.{Writes};
 use std::io::Write;
 use thiserror::Error;
 
-/// The writer failed, or took no octet of a text that was not empty. A front of the text is written, and not all of it.
+/// The writer failed, or took no octet of a text that was not empty. It has a front of the text,
+/// and not all of it.
 #[derive(Clone, Copy, Debug, PartialEq, Eq, Error)]
 #[error("the writer failed")]
 pub struct WriteFailed;
 
-/// Writes the text, by as many calls as the writer wants: each writes at least one octet or fails. After
-/// `WriteFailed` a front of the text is written, and not all of it. This takes no memory.
+/// Writes the text, in as many calls as the writer needs. Each call writes one octet or more, or
+/// fails the whole. Allocates nothing.
+///
+/// After [`WriteFailed`] a front of the text is written, and not all of it.
 pub fn write_text<W: Write>(writer: &mut W, text: &[u8]) -> Result<(), WriteFailed>
     ensures { Writes (W.contents writer.old) (W.contents writer.new) result text.now }
 {
