@@ -1,4 +1,4 @@
--- Ids that are left over, as members without a parent among them are taken away.
+-- The ids that are left as `parent_loop` removes the members that have no parent among those left.
 use Rattle.std.specs.Prelude.{ℕ, Bool, ◌&&◌, ◌==◌, List}
 use Rattle.std.specs.List.{list_any}
 use Rattle.roster_tables.specs.declared.plain.Tables.{Tables}

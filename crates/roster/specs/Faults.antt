@@ -1,4 +1,4 @@
--- What each fault of a roster's text says, and its name.
+-- What each fault of a roster says of the text, in the order of the tests, and its name.
 use Rattle.std.specs.Prelude.{◌≡◌, ℕ, true, false, List, Some, None, codes}
 use Rattle.roster_tables.specs.Reading.{tables_in}
 use Rattle.roster_tables.specs.declared.plain.Tables.{Tables}
@@ -8,13 +8,13 @@ use Rattle.roster.specs.declared.fault.RosterFault.{RosterFault}
 use Rattle.roster.specs.declared.fault.RosterFault.TheVariants as fault
 use Rattle.roster.specs.Judged.{has_too_many, has_double_address, has_unknown_peer, HasParentLoop}
 
--- the fault of a text whose tables can't be read
+-- the fault of a text whose tables cannot be read
 abbrev pub fault_of : TablesFault → RosterFault
 fault_of (tables.BadToml _) = fault.BadToml
 fault_of (tables.BadField _) = fault.BadField
 fault_of tables.NoMemory = fault.NoMemory
 
--- what each fault says of tables, of which each is told only where none of those above it holds
+-- what a fault says of tables: it holds, and none of those before it does
 abbrev pub IsFirst : Tables → RosterFault → Type 0
 IsFirst t fault.BadToml = ⊥
 IsFirst t fault.BadField = ⊥
@@ -25,14 +25,14 @@ IsFirst t fault.ParentLoop =
     (has_too_many t ≡ false) × (has_double_address t ≡ false) × (has_unknown_peer t ≡ false) × HasParentLoop t
 IsFirst t fault.NoMemory = Unit {0}
 
--- the first fault of a text
+-- what a fault says of a text: it holds, and none of those before it does
 abbrev pub IsFirstOf : List ℕ → RosterFault → Type 0
 IsFirstOf text fault.BadToml = tables_in text ≡ None
 IsFirstOf text fault.BadField = tables_in text ≡ Some None
 IsFirstOf text fault.NoMemory = Unit {0}
 IsFirstOf text f = (t : Tables) × (tables_in text ≡ Some (Some t)) × IsFirst t f
 
--- a fault's name, as scripts print it
+-- the name of a fault, as scripts print it
 abbrev pub fault_name : RosterFault → List ℕ
 fault_name fault.BadToml = codes "BadToml"
 fault_name fault.BadField = codes "BadField"

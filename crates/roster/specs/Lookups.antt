@@ -1,4 +1,4 @@
--- Who is who: look-ups in a roster.
+-- What each look-up in a roster gives.
 use Rattle.std.specs.Prelude.{◌≡◌, ℕ, Bool, false, ◌&&◌, ◌||◌, ◌==◌, bytes_eq, List, [], option_map, is_some, Option, Some, None}
 use Rattle.std.specs.List.{list_any, find}
 use Rattle.roster_tables.specs.declared.plain.Address.{Address}
@@ -11,11 +11,11 @@ use Rattle.roster_tables.specs.declared.plain.Origin.{Origin}
 use Rattle.roster_tables.specs.declared.plain.Tables.{Tables}
 use Rattle.roster_tables.specs.Roles.{is_sibling, is_parent}
 
--- one address and one port
+-- the same IPv4 address and the same port
 abbrev pub same_address : Address → Address → Bool
 same_address a b = (a.ip == b.ip) && (a.port == b.port)
 
--- the member of an id
+-- the member with this id
 abbrev pub member_of : Tables → ℕ → Option Member
 member_of t id = find (λ m. m.cache.id == id) t.members
 
@@ -23,29 +23,29 @@ member_of t id = find (λ m. m.cache.id == id) t.members
 abbrev pub is_member : Tables → ℕ → Bool
 is_member t id = is_some (member_of t id)
 
--- the peers of an entry; none where there is no entry
+-- the peers of an entry; none if there is no entry
 abbrev pub peers_in : Option Member → List Peer
 peers_in None = []
 peers_in (Some m) = m.peers
 
--- the peers of a member's entry
+-- the peers of the member with this id
 abbrev pub peers_of : Tables → ℕ → List Peer
 peers_of t id = peers_in (member_of t id)
 
--- whether a member's entry names a cache a sibling
+-- the entry of one member names a cache as a sibling (RFC 2187, section 2)
 abbrev pub names_sibling : Tables → ℕ → ℕ → Bool
 names_sibling t of whom = list_any (λ p. (p.id == whom) && is_sibling p.role) (peers_of t of)
 
--- whether a member's entry names a cache a parent
+-- the entry of one member names a cache as a parent (RFC 2187, section 2)
 abbrev pub names_parent : Tables → ℕ → ℕ → Bool
 names_parent t of whom = list_any (λ p. (p.id == whom) && is_parent p.role) (peers_of t of)
 
--- where a cache answers a protocol
+-- the address of a cache for a protocol
 abbrev pub address_by : Udp → Cache → Address
 address_by udp.Icp c = c.icp
 address_by udp.Htcp c = c.htcp
 
--- the member that is reached at an address by a protocol
+-- the id of the member that has this address for this protocol
 abbrev pub member_at : Tables → Address → Udp → Option ℕ
 member_at t address by = option_map (λ m. m.cache.id) (find (λ m. same_address address (address_by by m.cache)) t.members)
 
@@ -53,19 +53,20 @@ member_at t address by = option_map (λ m. m.cache.id) (find (λ m. same_address
 abbrev pub is_master : Tables → Address → Bool
 is_master t from = same_address from t.master
 
--- a member's address, by either protocol, or the master's
+-- the ICP or HTCP address of a member, or the master's address
 abbrev pub is_own : Tables → Address → Bool
 is_own t address = is_master t address || (is_some (member_at t address udp.Icp) || is_some (member_at t address udp.Htcp))
 
--- whether this is the origin of a host and a port
+-- this is the origin of this host and port
 abbrev pub is_origin_of : List ℕ → ℕ → Origin → Bool
 is_origin_of host port o = bytes_eq o.host host && (o.port == port)
 
--- where the origin of a host and a port is reached
+-- the address to connect to for the origin of this host and port
 abbrev pub origin_at : Tables → List ℕ → ℕ → Option Address
 origin_at t host port = option_map (λ o. o.connect) (find (is_origin_of host port) t.origins)
 
--- each member is found by its HTCP address, and none has the master's: this follows where no address is double, and is told for callers
+-- each member is found by its own HTCP address, and none has the master's address; this follows
+-- since no address is double, and callers use it
 pub record HasOwnAddresses (t : Tables) : Type 0 where
   pub found : (id : ℕ) (m : Member) → member_of t id ≡ Some m → member_at t m.cache.htcp udp.Htcp ≡ Some id
   pub apart : (id : ℕ) (m : Member) (by : Udp) → member_of t id ≡ Some m → is_master t (address_by by m.cache) ≡ false

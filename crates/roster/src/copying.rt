@@ -1,11 +1,11 @@
-//! Rosters once more.
+//! Second copies of the tables of a roster.
 ghost use Rattle.std.specs.Prelude.{◌≡◌, IfOk};
 
 use crate::{Cache, Member, Origin};
 use roster_tables::{Listed, Tables};
 use std::alloc::{AllocError, Global};
 
-/// The same cache once more.
+/// A second copy of a cache.
 fn copy_of_cache(alloc: Global, cache: &Cache) -> Result<Cache, AllocError>
     ensures { IfOk result (λ copy. copy ≡ cache.now) }
 {
@@ -18,7 +18,7 @@ fn copy_of_cache(alloc: Global, cache: &Cache) -> Result<Cache, AllocError>
     })
 }
 
-/// The same member once more.
+/// A second copy of a member.
 fn copy_of_member(alloc: Global, member: &Member) -> Result<Member, AllocError>
     ensures { IfOk result (λ copy. copy ≡ member.now) }
 {
@@ -28,7 +28,7 @@ fn copy_of_member(alloc: Global, member: &Member) -> Result<Member, AllocError>
     })
 }
 
-/// The same origin once more.
+/// A second copy of an origin.
 fn copy_of_origin(alloc: Global, origin: &Origin) -> Result<Origin, AllocError>
     ensures { IfOk result (λ copy. copy ≡ origin.now) }
 {
@@ -39,7 +39,7 @@ fn copy_of_origin(alloc: Global, origin: &Origin) -> Result<Origin, AllocError>
     })
 }
 
-/// The same members once more.
+/// A second copy of members.
 fn copy_of_members(alloc: Global, members: &[Member]) -> Result<Vec<Member>, AllocError>
     ensures { IfOk result (λ copy. copy.items ≡ members.now) }
 {
@@ -50,7 +50,7 @@ fn copy_of_members(alloc: Global, members: &[Member]) -> Result<Vec<Member>, All
     Ok(copy)
 }
 
-/// The same caches once more.
+/// A second copy of caches.
 fn copy_of_caches(alloc: Global, caches: &[Cache]) -> Result<Vec<Cache>, AllocError>
     ensures { IfOk result (λ copy. copy.items ≡ caches.now) }
 {
@@ -61,7 +61,7 @@ fn copy_of_caches(alloc: Global, caches: &[Cache]) -> Result<Vec<Cache>, AllocEr
     Ok(copy)
 }
 
-/// The same origins once more.
+/// A second copy of origins.
 fn copy_of_origins(alloc: Global, origins: &[Origin]) -> Result<Vec<Origin>, AllocError>
     ensures { IfOk result (λ copy. copy.items ≡ origins.now) }
 {
@@ -72,7 +72,7 @@ fn copy_of_origins(alloc: Global, origins: &[Origin]) -> Result<Vec<Origin>, All
     Ok(copy)
 }
 
-/// The same tables once more.
+/// A second copy of tables.
 pub(crate) fn copy_of_tables(alloc: Global, tables: &Tables) -> Result<Tables, AllocError>
     ensures { IfOk result (λ copy. copy ≡ tables.now) }
 {

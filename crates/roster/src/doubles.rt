@@ -1,4 +1,4 @@
-//! Items that stand twice in a list.
+//! Finds items that are twice in a list.
 ghost use Rattle.std.specs.Prelude.{◌≡◌, ◌==◌, is_some, bytes_eq};
 ghost use Rattle.std.specs.List.{list_any};
 ghost use Rattle.roster.specs.Judged.{has_doubles, clashes, same_origin, same_peer};
@@ -6,10 +6,11 @@ ghost use Rattle.roster.specs.Lookups.{same_address};
 
 use crate::{Address, Cache, Origin, Peer};
 
-/// A thing that must not stand twice in a list.
+/// An item that must not be twice in a list.
 pub(crate) trait Distinct {
     ghost use Rattle.std.specs.Prelude.{Bool, ◌≡◌, is_some};
 
+    /// Whether two items are the same.
     ghost same: { Self → Self → Bool };
 
     /// The key by which this is the same as another.
@@ -20,6 +21,7 @@ pub(crate) trait Distinct {
 impl Distinct for &Cache {
     ghost same = { λ a b. clashes a.now b.now };
 
+    /// Caches: by id, by name or by HTTP address.
     fn clash(&self, other: &Self) -> Option<&'static str> {
         if self.id == other.id {
             Some("id")
@@ -36,6 +38,7 @@ impl Distinct for &Cache {
 impl Distinct for Address {
     ghost same = { same_address };
 
+    /// UDP addresses: by address and port.
     fn clash(&self, other: &Self) -> Option<&'static str> {
         if *self == *other { Some("htcp") } else { None }
     }
@@ -44,6 +47,7 @@ impl Distinct for Address {
 impl Distinct for Origin {
     ghost same = { same_origin };
 
+    /// Origins: by host and port.
     fn clash(&self, other: &Self) -> Option<&'static str> {
         if self.host.as_slice() == other.host.as_slice() && self.port == other.port {
             Some("host")
@@ -56,6 +60,7 @@ impl Distinct for Origin {
 impl Distinct for Peer {
     ghost same = { same_peer };
 
+    /// Peers: by id.
     fn clash(&self, other: &Self) -> Option<&'static str> {
         if self.id == other.id {
             Some("id")
@@ -78,7 +83,7 @@ fn clash_among<T: Distinct>(item: &T, others: &[T]) -> Option<&'static str>
     }
 }
 
-/// The index of the first item that stands again behind itself, and the key by which it does.
+/// The index of the first item that is the same as one behind it, and the key by which it is.
 pub(crate) fn first_double<T: Distinct>(items: &[T]) -> Option<(usize, &'static str)>
     ensures { is_some result ≡ has_doubles T.same items.now }
 {

@@ -7,27 +7,29 @@ use std::alloc::AllocError;
 use std::error::Error;
 use std::fmt;
 
-/// Why a text has no roster. Each is told only where none of those above it holds; `NoMemory` may stand in the place of any.
+/// Why a text has no roster. The first fault that holds is given, in this order; `NoMemory` may
+/// replace any.
 #[derive(Clone, Copy, Debug, PartialEq, Eq, Hash)]
 pub enum RosterFault {
     /// The text is no TOML document.
     BadToml,
     /// A key is missing, unknown, of another type or out of its range, or there is no node.
     BadField,
-    /// Over 16 nodes, 8 foreign caches, 23 peers of a node or 256 origins.
+    /// More than 16 nodes, 8 foreign caches, 23 peers of a node or 256 origins.
     TooMany,
-    /// Two equal ids, names, addresses over UDP, addresses of HTTP, or origins of one host and port.
+    /// Two equal ids, names, UDP addresses (the master's too), HTTP addresses of caches, or origins
+    /// of one host and port.
     DoubleAddress,
-    /// A peer that no entry bears, the node itself, or one named twice.
+    /// A node names a peer that no entry has, itself, or one peer twice.
     UnknownPeer,
-    /// The members' parents form a cycle.
+    /// Going from some member to a parent, and on, leads back to that member.
     ParentLoop,
-    /// A growth was refused.
+    /// An allocation failed.
     NoMemory,
 }
 
 impl RosterFault {
-    /// The name that scripts print.
+    /// The name that scripts print: the name of the variant.
     pub const fn name(self) -> &'static str
         ensures { result.now ≡ fault_name self }
     {
@@ -76,7 +78,7 @@ impl From<TablesFault> for RosterError {
     }
 }
 
-/// The place of a table and a key.
+/// A place by its table, the number of its entry and its key.
 pub(crate) fn place(table: TableKind, entry: usize, key: &'static str) -> Place {
     Place {
         table,
@@ -87,12 +89,12 @@ pub(crate) fn place(table: TableKind, entry: usize, key: &'static str) -> Place 
     }
 }
 
-/// Why a text has no roster, and where it is wrong.
+/// Why a text has no roster, and where it is wrong. It prints as one sentence.
 #[derive(Clone, Copy, Debug, PartialEq, Eq)]
 pub struct RosterError {
     /// The fault.
     pub fault: RosterFault,
-    /// Where it is; it says nothing where there was no memory.
+    /// Where it is; without meaning if there was no memory.
     pub place: Place,
 }
 
@@ -114,7 +116,7 @@ impl fmt::Display for RosterError {
 
 impl Error for RosterError {}
 
-/// Writes where a fault is: the table, which of them, the key and the line.
+/// Writes where a fault is: the table, its number, the key and the line.
 fn write_table<W: fmt::Write>(f: &mut fmt::Formatter<W>, place: Place) -> fmt::Result {
     f.write_str(match place.table {
         TableKind::Top => "roster",

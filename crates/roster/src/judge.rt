@@ -1,4 +1,4 @@
-//! Whether tables fit together.
+//! Judges whether tables fit together.
 ghost use Rattle.std.specs.Prelude.{◌≡◌, ◌==◌, ◌∷◌, length, nat_lt, true, false, map, is_some, not, IfOk, IfErr, MatchResult, MatchOption};
 ghost use Rattle.std.specs.List.{list_any};
 ghost use Rattle.roster.specs.Judged.{caches_of, has_too_many, has_double_address, has_doubles, udp_of as udp_of_caches, udp_addresses, is_unknown as is_unknown_to, names_unknown, has_unknown_peer, HasParentLoop, FitTogether, clashes, same_origin, same_peer};
@@ -12,7 +12,7 @@ use crate::{Address, Cache, Member, Peer, Place, TableKind};
 use roster_tables::Tables;
 use std::alloc::{AllocError, Global};
 
-/// All caches: the members', then the foreign ones.
+/// All caches: first the members, then the foreign ones.
 fn caches(alloc: Global, tables: &Tables) -> Result<Vec<&Cache>, AllocError>
     ensures { IfOk result (λ caches. map (λ c. c.now) caches.items ≡ caches_of tables.now) }
 {
@@ -26,7 +26,7 @@ fn caches(alloc: Global, tables: &Tables) -> Result<Vec<&Cache>, AllocError>
     Ok(caches)
 }
 
-/// Where there are too many tables.
+/// Where there are too many tables, if there are.
 fn too_many(tables: &Tables) -> Option<Place>
     ensures { is_some result ≡ has_too_many tables.now }
 {
@@ -43,7 +43,7 @@ fn too_many(tables: &Tables) -> Option<Place>
     }
 }
 
-/// Which of the members, from 1, has too many peers.
+/// Which member, from 1, has too many peers.
 fn too_many_peers(members: &[Member]) -> Option<usize>
     ensures { is_some result ≡ list_any (λ m. nat_lt 23 (length m.peers)) members.now }
 {
@@ -56,7 +56,7 @@ fn too_many_peers(members: &[Member]) -> Option<usize>
     None
 }
 
-/// The addresses of caches over UDP.
+/// The UDP addresses of the master and of the caches.
 fn udp_addresses(
     alloc: Global,
     master: Address,
@@ -80,7 +80,7 @@ fn double_cache(caches: &[&Cache]) -> Option<(usize, &'static str)>
     first_double(caches)
 }
 
-/// Where an id, a name, an address or an origin stands twice.
+/// Where an id, a name, an address or an origin is twice, if one is.
 fn double_address(
     alloc: Global,
     tables: &Tables,
@@ -102,7 +102,7 @@ fn double_address(
     }
 }
 
-/// The place of the cache of this index.
+/// The place of the cache of this index in `caches`.
 fn cache_place(tables: &Tables, index: usize, key: &'static str) -> Place {
     let members = tables.members.as_slice().len();
     if index < members {
@@ -112,7 +112,7 @@ fn cache_place(tables: &Tables, index: usize, key: &'static str) -> Place {
     }
 }
 
-/// The place of the address of this index.
+/// The place of the address of this index in `udp_addresses`.
 fn udp_place(tables: &Tables, index: usize) -> Place {
     if index == 0 {
         place(TableKind::Master, 0, "htcp")
@@ -123,7 +123,7 @@ fn udp_place(tables: &Tables, index: usize) -> Place {
     }
 }
 
-/// Whether a cache bears the id.
+/// Whether a cache has the id.
 fn bears(caches: &[&Cache], id: u8) -> bool
     ensures { result ≡ list_any (λ c. c.id == id) (map (λ c. c.now) caches.now) }
 {
@@ -133,14 +133,14 @@ fn bears(caches: &[&Cache], id: u8) -> bool
     }
 }
 
-/// Whether a peer is the member itself, or no cache bears its id.
+/// Whether the peer is the member itself, or no cache has its id.
 fn is_unknown(caches: &[&Cache], member: &Member, peer: Peer) -> bool
     ensures { result ≡ is_unknown_to (map (λ c. c.now) caches.now) member.now peer }
 {
     peer.id == member.cache.id || !bears(caches, peer.id)
 }
 
-/// Which of the peers, from 0, is unknown.
+/// The index of the first peer that is unknown.
 fn first_unknown(caches: &[&Cache], member: &Member, peers: &[Peer]) -> Option<usize>
     ensures { is_some result ≡ list_any (is_unknown_to (map (λ c. c.now) caches.now) member.now) peers.now }
 {
@@ -159,7 +159,7 @@ fn first_unknown(caches: &[&Cache], member: &Member, peers: &[Peer]) -> Option<u
     }
 }
 
-/// Which of a member's peers, from 0, is unknown or stands again.
+/// The index of a peer of the member that is unknown or named twice.
 fn bad_peer(caches: &[&Cache], member: &Member) -> Option<usize>
     ensures { is_some result ≡ names_unknown (map (λ c. c.now) caches.now) member.now }
 {
@@ -173,7 +173,7 @@ fn bad_peer(caches: &[&Cache], member: &Member) -> Option<usize>
     }
 }
 
-/// Where one of the members names a peer that is unknown, itself, or one twice.
+/// Where one of the members names an unknown peer, itself, or one peer twice.
 fn unknown_peer_of(caches: &[&Cache], members: &[Member]) -> Option<Place>
     ensures { is_some result ≡ list_any (names_unknown (map (λ c. c.now) caches.now)) members.now }
 {
@@ -189,7 +189,7 @@ fn unknown_peer_of(caches: &[&Cache], members: &[Member]) -> Option<Place>
     None
 }
 
-/// Where a member names a peer that is unknown, itself, or one twice.
+/// The same of all members of the tables.
 fn unknown_peer(tables: &Tables, caches: &[&Cache]) -> Option<Place>
     requires { map (λ c. c.now) caches.now ≡ caches_of tables.now }
     ensures { is_some result ≡ has_unknown_peer tables.now }
@@ -197,7 +197,7 @@ fn unknown_peer(tables: &Tables, caches: &[&Cache]) -> Option<Place>
     unknown_peer_of(caches, tables.members.as_slice())
 }
 
-/// The place of the member of this id.
+/// The place of the member with this id.
 fn member_place(members: &[Member], id: u8) -> Place {
     let index = members.iter().position(|member| member.cache.id == id);
     place(
@@ -207,7 +207,7 @@ fn member_place(members: &[Member], id: u8) -> Place {
     )
 }
 
-/// The first fault of tables, if there is one.
+/// Judges tables: the first fault, if there is one.
 pub(crate) fn judge(alloc: Global, tables: &Tables) -> Result<(), RosterError>
     ensures { MatchResult result (λ _. FitTogether tables.now) (λ error. IsFirst tables.now error.fault) }
 {

@@ -1,8 +1,37 @@
-//! Rosters: who takes part in a hierarchy of caches, who asks whom, and at which addresses they are.
+//! Rosters: the configuration of a hierarchy of caches. A roster says who takes part, who asks
+//! whom, and at which addresses they are.
 //!
-//! `Roster::read` reads the tables of a text (`roster_tables`) and judges whether they fit together (`specs/Judged`); what holds of
-//! every roster is `IsRoster`. The place that an error names and its sentence are a help for people: no contract speaks of them (a `Display` that
-//! writes nothing would pass), and tests show them.
+//! - [`Roster`]: `Roster::read` reads the tables of a text with `roster_tables` and judges whether
+//!   they fit together. Crates above look up members, peers, origins and the master in it, and
+//!   never see the text. Look-ups allocate nothing.
+//! - [`RosterFault`], in the order of the tests, and [`RosterError`]: a fault and its [`Place`],
+//!   which prints as a sentence.
+//! - [`is_foreign`], [`address_by`]: of an id, and of a cache. The types of the tables are those of
+//!   `roster_tables`.
+//!
+//! A contract sees a `Roster` as its `Tables`. The invariant `IsRoster` holds of each:
+//!
+//! - at most 16 members, 8 foreign caches, 23 peers of a member and 256 origins, and at least one
+//!   member;
+//! - no two equal ids, names, UDP addresses (ICP, HTCP and the master's together), HTTP addresses,
+//!   or origins of one host and port;
+//! - each peer is another cache of the roster, and no member names one twice;
+//! - no chain of parents leads back to where it began;
+//! - a member is found by its own HTCP address, and none has the master's address.
+//!
+//! To read, in this order:
+//!
+//! 1. `specs/Judged.antt`: which tables are a roster (`IsRoster`, `FitTogether`).
+//!    `specs/Faults.antt`: the order of the faults.
+//! 2. `specs/Lookups.antt`: what each look-up gives.
+//! 3. `src/roster.rt`: `Roster`. `src/judge.rt`: the tests, with `src/doubles.rt` and
+//!    `src/loops.rt` (and `specs/Among.antt`). `src/copying.rt`: a second copy. `src/fault.rt`:
+//!    faults and their sentences.
+//! 4. `proofs/Circles.antt`: cycles of parents. `proofs/Addresses.antt`: members by their
+//!    addresses.
+//!
+//! No contract speaks of the place that an error names, nor of its sentence: a `Display` that
+//! writes nothing would pass. Tests show both. The crate reads no file and touches no socket.
 #![tactic(auto)]
 
 mod copying;

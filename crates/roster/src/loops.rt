@@ -1,4 +1,4 @@
-//! Members whose parents form a cycle.
+//! Finds cycles of parents.
 ghost use Rattle.std.specs.Prelude.{◌≡◌, ◌==◌, ◌&&◌, map, filter, IfOk, MatchOption, slice_get, length};
 ghost use Rattle.std.specs.List.{list_any};
 ghost use Rattle.roster.specs.Judged.{HasParentLoop};
@@ -18,14 +18,14 @@ fn ids(alloc: Global, members: &[Member]) -> Result<Vec<u8>, AllocError>
     members.iter().map(|member| member.cache.id).collect(alloc)
 }
 
-/// Whether an id is among some.
+/// Whether the id is among these.
 fn is_among(id: u8, ids: &[u8]) -> bool
     ensures { result ≡ is_in ids.now id }
 {
     ids.iter().any(|other| *other == id)
 }
 
-/// Whether one of the peers is a parent whose id is among some.
+/// Whether one of the peers is a parent whose id is among these.
 fn has_parent(peers: &[Peer], ids: &[u8]) -> bool
     ensures { result ≡ list_any (λ p. is_parent_role p.role && is_in ids.now p.id) peers.now }
 {
@@ -34,14 +34,14 @@ fn has_parent(peers: &[Peer], ids: &[u8]) -> bool
         .any(|peer| peer.role.is_parent() && is_among(peer.id, ids))
 }
 
-/// Whether a member has a parent whose id is among some.
+/// Whether the member has a parent whose id is among these.
 fn climbs(tables: &Tables, ids: &[u8], id: u8) -> bool
     ensures { result ≡ has_parent_in tables.now ids.now id }
 {
     has_parent(peers_in(tables.members.as_slice(), id), ids)
 }
 
-/// Those of the ids whose members have a parent among them.
+/// The ids whose members have a parent among the ids.
 fn climbing(alloc: Global, tables: &Tables, ids: &[u8]) -> Result<Vec<u8>, AllocError>
     ensures { IfOk result (λ kept. kept.items ≡ filter (has_parent_in tables.now ids.now) ids.now) }
 {
@@ -54,14 +54,14 @@ fn climbing(alloc: Global, tables: &Tables, ids: &[u8]) -> Result<Vec<u8>, Alloc
     Ok(kept)
 }
 
-/// Whether there are as many of some ids as of others.
+/// Whether both lists have the same length.
 fn is_as_long(ids: &[u8], others: &[u8]) -> bool
     ensures { result ≡ (length ids.now == length others.now) }
 {
     ids.len() == others.len()
 }
 
-/// The first of some ids.
+/// The first of the ids.
 fn first_of(ids: &[u8]) -> Option<u8>
     ensures { result ≡ slice_get ids.now 0 }
 {
@@ -71,9 +71,10 @@ fn first_of(ids: &[u8]) -> Option<u8>
     }
 }
 
-/// A member whose parents lead into a cycle.
+/// A member whose parents lead into a cycle, if there is a cycle.
 ///
-/// Takes away the members without a parent among those that are left, until none of these is left or all have one.
+/// Removes the members that have no parent among those left, until none is left or all that are
+/// left have one.
 pub(crate) fn parent_loop(alloc: Global, tables: &Tables) -> Result<Option<u8>, AllocError>
     ensures { IfOk result (λ found.
         MatchOption found (¬ (HasParentLoop tables.now)) (λ _. HasParentLoop tables.now)) }

@@ -15,10 +15,11 @@ use roster_tables::Tables;
 use std::alloc::{AllocError, Global};
 use std::marker::Model;
 
-/// Who takes part in a hierarchy, whom each asks, and where all of them are.
+/// The configuration of a hierarchy: who takes part, whom each asks, and where all of them are.
 ///
-/// A contract sees it as its tables. They are in their ranges, no two of them share an id, a name or an address, each
-/// peer is known, and no chain of parents leads back to where it began.
+/// A contract sees it as its tables. Its invariant is `IsRoster`: the tables are in their ranges,
+/// no two share an id, a name or an address, each peer is known, and no chain of parents leads back
+/// to where it began.
 #[derive(Debug, Drop)]
 pub struct Roster {
     tables: Tables,
@@ -36,7 +37,8 @@ impl Model for Roster {
 }
 
 impl Roster {
-    /// The roster that a text says, or the first reason why it says none.
+    /// The roster that a text says. The error has the first fault, in the order of
+    /// [`RosterFault`](crate::RosterFault); `NoMemory` may replace any.
     pub fn read(alloc: Global, text: &str) -> Result<Roster, RosterError>
         ensures ok { IfOk result (λ roster. tables_in text.now ≡ Some (Some roster)) }
         ensures valid { IfOk result IsRoster }
@@ -49,7 +51,7 @@ impl Roster {
         }
     }
 
-    /// The members, of which there are 1 to 16, in the text's order.
+    /// The members, 1 to 16, in the order of the text.
     pub fn members(&self) -> &[Member]
         ensures value { result.now ≡ self.now.members }
         ensures valid { IsRoster self.now }
@@ -57,7 +59,7 @@ impl Roster {
         self.tables.members.as_slice()
     }
 
-    /// The member of this id, if there is one.
+    /// The member with this id, if there is one.
     pub fn member(&self, id: u8) -> Option<&Member>
         ensures value { option_map (λ m. m.now) result ≡ member_by_id self.now id }
         ensures valid { IsRoster self.now }
@@ -72,7 +74,7 @@ impl Roster {
         self.member(id).is_some()
     }
 
-    /// The peers of the member of this id, at most 23, in the order in which it asks them.
+    /// The peers of the member with this id, at most 23, in the order in which it asks them.
     pub fn peers(&self, id: u8) -> &[Peer]
         requires { is_member_of self.now id ≡ true }
         ensures value { result.now ≡ peers_of self.now id }
@@ -81,14 +83,15 @@ impl Roster {
         peers_in(self.members(), id)
     }
 
-    /// The foreign caches, at most 8, in the text's order.
+    /// The foreign caches, at most 8, in the order of the text.
     pub fn foreign(&self) -> &[Cache]
         ensures { result.now ≡ self.now.foreign }
     {
         self.tables.foreign.as_slice()
     }
 
-    /// Where the origin of this host, in lower case, and this port is reached.
+    /// The address to connect to for the origin of this host and port. The host is compared octet
+    /// for octet, so it has to be in lower case. `None` if the roster has no such origin.
     pub fn origin(&self, host: &[u8], port: u16) -> Option<Address>
         ensures { result ≡ origin_at self.now host.now port }
     {
@@ -102,14 +105,14 @@ impl Roster {
         }
     }
 
-    /// Where the purge master is, over UDP.
+    /// The address of the master of purges, over UDP.
     pub fn master(&self) -> Address
         ensures { result ≡ self.now.master }
     {
         self.tables.master
     }
 
-    /// Whether this is the address of the purge master.
+    /// Whether this is the address of the master.
     pub fn is_master(&self, address: Address) -> bool
         ensures { result ≡ is_master_at self.now address }
     {
@@ -117,7 +120,7 @@ impl Roster {
         address.ip == master.ip && address.port == master.port
     }
 
-    /// Whether this is the address of a member, by either protocol, or of the purge master.
+    /// Whether this is the ICP or HTCP address of a member, or the address of the master.
     pub fn is_own(&self, address: Address) -> bool
         ensures { result ≡ is_own_address self.now address }
     {
@@ -126,7 +129,7 @@ impl Roster {
             || self.member_at(address, Udp::Htcp).is_some()
     }
 
-    /// The id of the member that is reached at this address by this protocol.
+    /// The id of the member that has this address for this protocol.
     pub fn member_at(&self, address: Address, by: Udp) -> Option<u8>
         ensures { result ≡ member_by_address self.now address by }
     {
@@ -140,14 +143,14 @@ impl Roster {
         }
     }
 
-    /// Whether the entry of the member of one id names another cache a sibling.
+    /// Whether the entry of the member `of` names the cache `whom` as a sibling.
     pub fn names_sibling(&self, of: u8, whom: u8) -> bool
         ensures { result ≡ calls_sibling self.now of whom }
     {
         has_sibling(peers_in(self.members(), of), whom)
     }
 
-    /// The same roster once more.
+    /// A second copy. The error is want of memory.
     pub fn copy(&self, alloc: Global) -> Result<Roster, AllocError>
         ensures value { IfOk result (λ copy. copy ≡ self.now) }
         ensures valid { IsRoster self.now }
@@ -157,7 +160,7 @@ impl Roster {
         })
     }
 
-    /// What every node keeps to.
+    /// The limits of each node.
     pub fn limits(&self) -> Limits
         ensures { result ≡ self.now.limits }
     {
@@ -165,14 +168,14 @@ impl Roster {
     }
 }
 
-/// Whether an id is a foreign cache's: 101 to 108.
+/// Whether the id is one of a foreign cache: 101 to 108.
 pub fn is_foreign(id: u8) -> bool
     ensures { result ≡ is_foreign_id id }
 {
     (101..=108).contains(&id)
 }
 
-/// Where a cache answers a protocol.
+/// The address of a cache for a protocol.
 pub fn address_by(by: Udp, cache: &Cache) -> Address
     ensures { result ≡ address_for by cache.now }
 {
@@ -182,21 +185,21 @@ pub fn address_by(by: Udp, cache: &Cache) -> Address
     }
 }
 
-/// Whether this is the origin of a host and a port.
+/// Whether this is the origin of this host and port.
 fn is_origin_of(host: &[u8], port: u16, origin: &Origin) -> bool
     ensures { result ≡ is_origin_for host.now port origin.now }
 {
     origin.host.as_slice() == host && origin.port == port
 }
 
-/// The member of this id.
+/// The member with this id.
 pub(crate) fn member_of(members: &[Member], id: u8) -> Option<&Member>
     ensures { option_map (λ m. m.now) result ≡ find (λ m. m.cache.id == id) members.now }
 {
     members.iter().find(|member| member.cache.id == id)
 }
 
-/// The peers of the member of this id; none where there is no such member.
+/// The peers of the member with this id; none if there is no such member.
 pub(crate) fn peers_in(members: &[Member], id: u8) -> &[Peer]
     ensures { result.now ≡ peers_of_entry (find (λ m. m.cache.id == id) members.now) }
 {
@@ -206,7 +209,7 @@ pub(crate) fn peers_in(members: &[Member], id: u8) -> &[Peer]
     }
 }
 
-/// Whether a cache is among the peers as a sibling.
+/// Whether the cache `whom` is among the peers as a sibling.
 fn has_sibling(peers: &[Peer], whom: u8) -> bool
     ensures { result ≡ list_any (λ p. (p.id == whom) && is_sibling_role p.role) peers.now }
 {

@@ -1,4 +1,5 @@
--- What std's reading of an IPv4 address says of a text.
+-- The reading of an IPv4 address by std gives the address that `ip_of` defines, and none where it
+-- defines none: std proves its reading right both ways.
 use Rattle.std.proofs.Common.{◌≡◌, ℕ, List, [], ◌∷◌, Option, Some, None, refl, sym, ap, lit≤, append-nil}
 use Rattle.std.specs.declared.net.ipv4_addr.Ipv4Addr.{Ipv4Addr}
 use Rattle.std.specs.Net.Grammar.{IsIpv4Text, IsDotted}

@@ -1,4 +1,5 @@
--- Lists of entries and of keys, read one after another.
+-- Lists of entries, and of keys, that are read one after another say what the whole list says; one
+-- bad entry makes the whole list bad.
 use Rattle.std.proofs.Common.{◌≡◌, ℕ, ◌+◌, ◌<◌, zero, suc, ◌&&◌, List, [], ◌∷◌, ◌++◌, length, take, get_or, Option, Some, None, option_and_then, String, Global, string_bytes, refl, ap, arith}
 use Rattle.std.proofs.lemmas.List.{take_more}
 use Rattle.std.specs.List.{list_all}

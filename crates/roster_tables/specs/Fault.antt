@@ -4,25 +4,26 @@ use Rattle.roster_tables.specs.declared.fault.TablesFault.{TablesFault}
 use Rattle.roster_tables.specs.declared.fault.TablesFault.TheVariants.{BadToml, BadField, NoMemory}
 use Rattle.roster_tables.specs.Reading.{tables_in}
 
--- a fault of a field, where the fact holds, or want of memory
+-- a fault of a field, which says this fact, or want of memory, which says nothing
 abbrev pub IsFieldFault : TablesFault → Type 0 → Type 0
 IsFieldFault (BadToml _) P = ⊥
 IsFieldFault (BadField _) P = P
 IsFieldFault NoMemory P = Unit {0}
 
--- a text that is no document, or a document in which a field is bad
+-- `BadToml`: the text is no document; `BadField`: it is one in which a field is bad; `NoMemory`
+-- says nothing
 abbrev pub IsReason : List ℕ → TablesFault → Type 0
 IsReason text (BadToml _) = tables_in text ≡ None
 IsReason text (BadField _) = tables_in text ≡ Some None
 IsReason text NoMemory = Unit {0}
 
--- a bad field
+-- the fault is `BadField`
 abbrev pub IsBadField : TablesFault → Type 0
 IsBadField (BadToml _) = ⊥
 IsBadField (BadField _) = Unit {0}
 IsBadField NoMemory = ⊥
 
--- a text that is no document
+-- the fault is `BadToml`
 abbrev pub IsBadToml : TablesFault → Type 0
 IsBadToml (BadToml _) = Unit {0}
 IsBadToml (BadField _) = ⊥

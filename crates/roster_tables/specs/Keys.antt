@@ -5,7 +5,7 @@ use Rattle.toml.specs.Data.{Members, no_members, member}
 use Rattle.roster_tables.specs.declared.place.TableKind.{TableKind}
 use Rattle.roster_tables.specs.declared.place.TableKind.TheVariants.{Top, Master, Node, Peer, Foreign, Origin}
 
--- the keys of a cache's table; that of a member has `peer` as well
+-- the keys of the table of a cache; that of a member also has `peer`
 abbrev pub keys_of_cache : List (List ℕ)
 keys_of_cache = codes "id" ∷ codes "name" ∷ codes "address" ∷ codes "http" ∷ codes "icp" ∷ codes "htcp" ∷ []
 
@@ -23,7 +23,7 @@ keys_of Origin = codes "host" ∷ codes "port" ∷ codes "address" ∷ codes "co
 abbrev pub is_among : List (List ℕ) → List ℕ → Bool
 is_among keys key = list_any (λ k. bytes_eq key k) keys
 
--- the table has no key but these
+-- the table has only these keys
 abbrev pub has_only : List (List ℕ) → Members → Bool
 has_only keys no_members = true
 has_only keys (member key d ms) = is_among keys key && has_only keys ms

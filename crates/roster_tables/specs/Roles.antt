@@ -3,12 +3,12 @@ use Rattle.std.specs.Prelude.{Bool, true, false}
 use Rattle.roster_tables.specs.declared.plain.Role.{Role}
 use Rattle.roster_tables.specs.declared.plain.Role.TheVariants as role
 
--- the role is a sibling's
+-- the role is sibling: the node asks it only for what it holds
 abbrev pub is_sibling : Role → Bool
 is_sibling role.Sibling = true
 is_sibling role.Parent = false
 
--- the role is a parent's
+-- the role is parent: the node may also ask it to fetch
 abbrev pub is_parent : Role → Bool
 is_parent role.Sibling = false
 is_parent role.Parent = true

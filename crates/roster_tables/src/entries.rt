@@ -1,4 +1,4 @@
-//! The tables of each kind.
+//! Reads the tables of each kind.
 ghost use Rattle.std.specs.Prelude.{◌≡◌, ◌<◌, true, MatchResult, Some, None, option_map, option_and_then, string_bytes, codes};
 ghost use Rattle.std.specs.List.{list_all};
 ghost use Rattle.std.specs.BTreeMap.{keys};
@@ -14,16 +14,18 @@ use crate::{Address, Cache, Listed, Member, Origin, Peer, Place, TableKind, Tabl
 use std::alloc::Global;
 use toml::{Table, Value};
 
-/// A table that is one of many of its kind.
+/// A table that may stand several times in its list.
 pub(crate) trait Entry: Sized + Drop {
     ghost use Rattle.std.specs.Prelude.{Bool, Option, true, Some, None, ◌≡◌, MatchResult};
     ghost use Rattle.toml.specs.Data.{Data};
 
+    /// What a value says, None if it is bad.
     ghost reads: { Data → Option Self };
 
+    /// Whether everything in the entry is in its range.
     ghost is_sound: { Self → Bool };
 
-    /// What a value says; `place` is where it stands.
+    /// What a value says. `place` is where it is in the text.
     fn read(alloc: Global, value: &Value, place: Place) -> Result<Self, TablesFault>
         ensures { MatchResult result
             (λ x. (reads (view value.now) ≡ Some x) × (is_sound x ≡ true))
@@ -67,21 +69,21 @@ fn is_cache_key(key: &str) -> bool
         || key == "htcp"
 }
 
-/// Whether all keys of a table may stand in one of its kind.
+/// Whether a table of this kind may have all the keys that this one has.
 fn are_keys(kind: TableKind, table: &Table) -> bool
     ensures { result ≡ list_all (λ key. is_among (keys_of kind) (string_bytes key)) (keys table.now) }
 {
     table.keys().all(|key| is_key(kind, key.as_str()))
 }
 
-/// Whether a table has only keys of its kind.
+/// The same of the table as contracts see it.
 fn has_only(kind: TableKind, table: &Table) -> bool
     ensures { result ≡ has_only_keys (keys_of kind) (table_view table.now) }
 {
     are_keys(kind, table)
 }
 
-/// The table, if it has only keys of its kind.
+/// The table. `BadField` if it has a key that its kind does not allow.
 pub(crate) fn known_table(
     kind: TableKind,
     table: &Table,
@@ -98,7 +100,8 @@ pub(crate) fn known_table(
     }
 }
 
-/// The table of a value, which has only keys of its kind.
+/// The table of a value. `BadField` if there is no value, it is no table, or it has a key that its
+/// kind does not allow.
 pub(crate) fn table_of(
     kind: TableKind,
     value: Option<&Value>,
@@ -128,7 +131,7 @@ impl Entry for Peer {
     }
 }
 
-/// The id of a peer.
+/// The id of a peer: 1 to 16 or 101 to 108.
 fn peer_id(table: &Table, place: Place) -> Result<u8, TablesFault>
     ensures { MatchResult result
         (λ id. (option_and_then (checked may_be_peer) (number_within 1 108 (codes "id") (table_view table.now)) ≡ Some id)
@@ -144,7 +147,7 @@ fn peer_id(table: &Table, place: Place) -> Result<u8, TablesFault>
     }
 }
 
-/// A cache whose id is within a range.
+/// A cache whose id is from `low` to `high`.
 fn read_cache(
     alloc: Global,
     table: &Table,
@@ -215,7 +218,7 @@ impl Entry for Member {
     }
 }
 
-/// The entries at a key, none where the key is missing.
+/// The entries at a key: none if the key is missing.
 pub(crate) fn read_list<T: Entry>(
     alloc: Global,
     table: &Table,
@@ -233,7 +236,7 @@ pub(crate) fn read_list<T: Entry>(
     }
 }
 
-/// What each of the values says.
+/// What each of the values says, in order.
 fn read_all<T: Entry>(
     alloc: Global,
     values: &[Value],

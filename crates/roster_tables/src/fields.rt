@@ -1,4 +1,4 @@
-//! The fields of a table: each a number, a text or an address at a key.
+//! Reads one field of a table: a number, a text or an address at a key.
 ghost use Rattle.std.specs.Prelude.{◌≡◌, true, false, MatchResult, Some, None, codes, option_map, option_and_then};
 ghost use Rattle.std.specs.List.{list_all};
 ghost use Rattle.toml.specs.Data.{get_member};
@@ -20,7 +20,7 @@ pub(crate) fn value_at<'a>(table: &'a Table, key: &str) -> Option<&'a Value>
     table.get(key)
 }
 
-/// The whole number at a key, if it is not negative.
+/// The whole number at a key, unless it is negative.
 fn natural_at(table: &Table, key: &str) -> Option<u64>
     ensures { result ≡ natural_in (get_member key.now (table_view table.now)) }
 {
@@ -30,7 +30,7 @@ fn natural_at(table: &Table, key: &str) -> Option<u64>
     }
 }
 
-/// A number, if it is not negative.
+/// The number, unless it is negative.
 fn natural(number: i64) -> Option<u64>
     ensures { result ≡ natural_of number }
 {
@@ -51,7 +51,7 @@ fn text_at<'a>(table: &'a Table, key: &str) -> Option<&'a [u8]>
     }
 }
 
-/// The number at a key, within a range.
+/// The number at a key, from `low` to `high`.
 pub(crate) fn number(
     table: &Table,
     key: &'static str,
@@ -69,7 +69,7 @@ pub(crate) fn number(
     }
 }
 
-/// The port at a key.
+/// The port at a key, from 1 to 65535.
 pub(crate) fn port(table: &Table, key: &'static str, place: Place) -> Result<u16, TablesFault>
     ensures { MatchResult result
         (λ n. (port_at key.now (table_view table.now) ≡ Some n) × (is_port n ≡ true))
@@ -78,7 +78,7 @@ pub(crate) fn port(table: &Table, key: &'static str, place: Place) -> Result<u16
     Ok(number(table, key, 1, 65535, place)? as u16)
 }
 
-/// Four octets as one number, the first highest.
+/// Four octets as one number, the first octet highest.
 fn value_of(octets: [u8; 4]) -> u32
     ensures { result ≡ ip_value octets }
 {
@@ -86,7 +86,8 @@ fn value_of(octets: [u8; 4]) -> u32
     ((u32::from(a) * 256 + u32::from(b)) * 256 + u32::from(c)) * 256 + u32::from(d)
 }
 
-/// The IPv4 address that a text writes.
+/// The IPv4 address that a text spells: four decimal numbers of 0 to 255 with dots, without leading
+/// zeros (RFC 3986, section 3.2.2).
 fn ip_of(text: &[u8]) -> Option<u32>
     ensures { result ≡ ip_of_text text.now }
 {
@@ -109,49 +110,49 @@ pub(crate) fn ip(table: &Table, place: Place) -> Result<u32, TablesFault>
     ip.ok_or(place.fault_at("address"))
 }
 
-/// Whether a length is within a range.
+/// Whether a length is from `low` to `high`.
 fn is_within(length: usize, low: usize, high: usize) -> bool
     ensures { result ≡ is_between low high length }
 {
     low <= length && length <= high
 }
 
-/// Whether all octets may stand in a name.
+/// Whether each octet may be in a name.
 fn are_name_letters(text: &[u8]) -> bool
     ensures { result ≡ list_all is_letter_of_name text.now }
 {
     text.iter().all(|octet| is_name_letter(*octet))
 }
 
-/// Whether all octets may stand in a host.
+/// Whether each octet may be in a host.
 fn are_host_letters(text: &[u8]) -> bool
     ensures { result ≡ list_all is_letter_of_host text.now }
 {
     text.iter().all(|octet| is_host_letter(*octet))
 }
 
-/// Whether an octet is a lower case letter or a digit.
+/// Whether the octet is a lower-case letter or a digit.
 fn is_name_letter(octet: u8) -> bool
     ensures { result ≡ is_letter_of_name octet }
 {
     octet.is_ascii_lowercase() || octet.is_ascii_digit()
 }
 
-/// Whether a text is a name: 1 to 32 lower case letters and digits.
+/// Whether the text is a name: 1 to 32 lower-case letters and digits.
 fn is_name(text: &[u8]) -> bool
     ensures { result ≡ is_name_text text.now }
 {
     is_within(text.len(), 1, 32) && are_name_letters(text)
 }
 
-/// Whether a text is a host: 1 to 255 lower case letters, digits, `.` and `-`.
+/// Whether the text is a host: 1 to 255 lower-case letters, digits, `.` and `-`.
 fn is_host(text: &[u8]) -> bool
     ensures { result ≡ is_host_text text.now }
 {
     is_within(text.len(), 1, 255) && are_host_letters(text)
 }
 
-/// Whether an octet may stand in a host.
+/// Whether the octet may be in a host.
 fn is_host_letter(octet: u8) -> bool
     ensures { result ≡ is_letter_of_host octet }
 {

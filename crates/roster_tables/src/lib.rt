@@ -1,7 +1,27 @@
-//! What a roster's text says, as plain data: the tables of a TOML document (TOML 1.1), read key by key.
+//! Reads the text of a roster, the configuration of a hierarchy, into plain data. The text is a
+//! TOML 1.1 document. Each key is checked alone: its table, type and range. Whether the tables fit
+//! together is judged by the crate `roster`.
 //!
-//! Whether the tables fit together is told by the crate above. The place that a fault names is a help for people: no contract speaks
-//! of it, and tests show it.
+//! - [`Tables`]: the whole text, read by `Tables::read`: [`Limits`], the master's [`Address`], and
+//!   lists of [`Member`], [`Cache`] (foreign caches) and [`Origin`]. A member has [`Peer`]s, each
+//!   with a [`Role`] and a protocol ([`Udp`]).
+//! - [`Listed`]: a list that does not change. A contract sees it as a list; all other types are
+//!   seen field by field.
+//! - [`TablesFault`]: why a text has no tables; [`Place`] and [`TableKind`]: where it is wrong.
+//!
+//! To read, in this order:
+//!
+//! 1. `specs/Keys.antt`: the keys of each table. `specs/Ranges.antt`: the ranges (`are_tables`).
+//!    `specs/Roles.antt`: sibling and parent.
+//! 2. `specs/Reading.antt`: what a document says (`tables_in`). `specs/Fault.antt`: what a fault
+//!    says of the text.
+//! 3. `src/plain.rt`: the types, with units and ranges. `src/listed.rt`.
+//! 4. `src/read.rt`: the whole document. `src/entries.rt`: each kind of table. `src/fields.rt`: one
+//!    key. `src/place.rt`, `src/fault.rt`.
+//! 5. `proofs/Lists.antt`, `proofs/Ips.antt`.
+//!
+//! No contract speaks of the place that a fault names; tests show it. The crate reads no file: the
+//! text is passed in.
 #![tactic(auto)]
 
 mod entries;

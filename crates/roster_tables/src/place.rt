@@ -2,7 +2,7 @@ ghost use Rattle.roster_tables.specs.Fault.{IsBadField};
 
 use crate::TablesFault;
 
-/// Which table of a roster's text.
+/// A kind of table in the text of a roster.
 #[derive(Clone, Copy, Debug, PartialEq, Eq)]
 pub enum TableKind {
     /// The keys above the first header.
@@ -19,23 +19,24 @@ pub enum TableKind {
     Origin,
 }
 
-/// Where a roster's text is wrong, for a person who looks for it.
+/// Where the text of a roster is wrong, for the person who has to correct it.
 #[derive(Clone, Copy, Debug, PartialEq, Eq)]
 pub struct Place {
-    /// The table.
+    /// The kind of the table.
     pub table: TableKind,
-    /// Which of the tables of its kind, from 1, for a peer the one of its node; 0 where there is one such table, or none is meant.
+    /// Which table of its kind, from 1; for a peer, which node. 0 if there is only one such table,
+    /// or no single one is meant.
     pub entry: usize,
-    /// Which of the peers of a node, from 1; 0 where none is meant.
+    /// Which peer of the node, from 1. 0 if none is meant.
     pub peer: usize,
-    /// The key, or nothing where none is meant.
+    /// The key, empty if none is meant.
     pub key: &'static str,
-    /// The line of the text, from 1, where it is known.
+    /// The line of the text, from 1, if it is known.
     pub line: Option<usize>,
 }
 
 impl Place {
-    /// The tables of this kind.
+    /// All tables of this kind.
     pub(crate) fn of(table: TableKind) -> Place {
         Place {
             table,
@@ -46,7 +47,7 @@ impl Place {
         }
     }
 
-    /// The peers of the node that stands here.
+    /// The peers of the node at this place.
     pub(crate) fn peers(self) -> Place {
         Place {
             table: TableKind::Peer,
@@ -54,7 +55,7 @@ impl Place {
         }
     }
 
-    /// One of the tables of the kind that stands here.
+    /// The table of this index, from 0, of the kind at this place.
     pub(crate) fn item(self, index: usize) -> Place {
         let count = index.saturating_add(1);
         match self.table {
@@ -69,7 +70,7 @@ impl Place {
         }
     }
 
-    /// The fault of a bad field at a key.
+    /// The fault `BadField`, at a key of this place.
     pub(crate) fn fault_at(self, key: &'static str) -> TablesFault
         ensures { IsBadField result }
     {

@@ -3,12 +3,12 @@ ghost use Rattle.roster_tables.specs.Roles.{is_sibling as is_sibling_role, is_pa
 
 use crate::Listed;
 
-/// Where a socket is: an address of IPv4 and a port.
+/// An IPv4 address and a port, of TCP or of UDP.
 #[derive(Clone, Copy, Debug, PartialEq, Eq)]
 pub struct Address {
     /// The four octets as one number, the first octet highest.
     pub ip: u32,
-    /// The port.
+    /// The port, from 1.
     pub port: u16,
 }
 
@@ -24,14 +24,14 @@ pub enum Udp {
 /// What a peer is to the node that names it (RFC 2187, section 2).
 #[derive(Clone, Copy, Debug, PartialEq, Eq)]
 pub enum Role {
-    /// It gives only what it holds.
+    /// The node asks it only for what it holds.
     Sibling,
-    /// It also gets what it doesn't hold.
+    /// The node may also ask it to fetch what it does not hold.
     Parent,
 }
 
 impl Role {
-    /// Whether the role is a sibling's.
+    /// Whether the role is `Sibling`.
     pub fn is_sibling(self) -> bool
         ensures { result ≡ is_sibling_role self }
     {
@@ -41,7 +41,7 @@ impl Role {
         }
     }
 
-    /// Whether the role is a parent's.
+    /// Whether the role is `Parent`.
     pub fn is_parent(self) -> bool
         ensures { result ≡ is_parent_role self }
     {
@@ -52,76 +52,76 @@ impl Role {
     }
 }
 
-/// A cache that a node asks.
+/// A cache that a node asks, as the entry of the node names it.
 #[derive(Clone, Copy, Debug, PartialEq, Eq)]
 pub struct Peer {
     /// Its id: 1 to 16 for a member, 101 to 108 for a foreign cache.
     pub id: u8,
-    /// What it is to the node.
+    /// What it is to the node that names it.
     pub role: Role,
-    /// The protocol in which the node asks it.
+    /// The protocol by which the node queries it.
     pub by: Udp,
 }
 
-/// A cache and its addresses, which all have one IPv4 address.
+/// A cache: its id, its name and its three addresses, which have one IPv4 address.
 #[derive(Debug, Drop)]
 pub struct Cache {
     /// Its id: 1 to 16 for a member, 101 to 108 for a foreign cache.
     pub id: u8,
-    /// Its name: 1 to 32 lower case letters and digits.
+    /// Its name: 1 to 32 lower-case letters and digits.
     pub name: Listed<u8>,
-    /// Where it serves HTTP, over TCP.
+    /// Its address for HTTP, over TCP.
     pub http: Address,
-    /// Where it answers ICP, over UDP.
+    /// Its address for ICP, over UDP.
     pub icp: Address,
-    /// Where it answers HTCP, over UDP.
+    /// Its address for HTCP, over UDP.
     pub htcp: Address,
 }
 
-/// A cache of the hierarchy, and whom it asks.
+/// A cache of the hierarchy, and the peers that it asks.
 #[derive(Debug, Drop)]
 pub struct Member {
     /// The cache.
     pub cache: Cache,
-    /// Its peers, in the order in which they are asked.
+    /// Its peers, in the order in which it asks them.
     pub peers: Listed<Peer>,
 }
 
-/// A server of pages, by the host and the port that URLs name.
+/// An origin server, by the host and the port that URLs name.
 #[derive(Debug, Drop)]
 pub struct Origin {
-    /// The host: 1 to 255 lower case letters, digits, `.` and `-`.
+    /// The host: 1 to 255 lower-case letters, digits, `.` and `-`.
     pub host: Listed<u8>,
-    /// The port, from 1.
+    /// The port in URLs, from 1.
     pub port: u16,
-    /// Where it is reached, over TCP.
+    /// The address to connect to, over TCP.
     pub connect: Address,
 }
 
-/// What every node keeps to.
+/// The limits of each node.
 #[derive(Clone, Copy, Debug, PartialEq, Eq)]
 pub struct Limits {
-    /// For how many seconds an answer that does not say so stays fresh, 0 to 2147483648.
+    /// The lifetime of an answer that gives none, 0 to 2147483648 seconds.
     pub default_lifetime: u64,
-    /// The most copies in a node's store, 1 to 65,536.
+    /// The greatest number of copies in the store of a node, 1 to 65,536.
     pub copies: u64,
-    /// The most octets in a node's store, 1 to 1,073,741,824.
+    /// The greatest size of the store of a node, 1 to 1,073,741,824 octets.
     pub bytes: u64,
-    /// For how long a node waits for its peers' answers, 1 to 60,000 milliseconds.
+    /// How long a node waits for replies of its peers, 1 to 60,000 milliseconds.
     pub query_wait: u64,
 }
 
-/// What a roster's text says.
+/// What the text of a roster says.
 #[derive(Debug, Drop)]
 pub struct Tables {
-    /// What every node keeps to.
+    /// The limits of each node.
     pub limits: Limits,
-    /// Where the purge master is, over UDP.
+    /// The address of the master of purges, over UDP.
     pub master: Address,
-    /// The caches of the hierarchy.
+    /// The caches of the hierarchy, in the order of the text. There is at least one.
     pub members: Listed<Member>,
-    /// Caches of others, which members may ask.
+    /// Caches of others, which members may ask, in the order of the text.
     pub foreign: Listed<Cache>,
-    /// The servers of pages.
+    /// The origin servers, in the order of the text.
     pub origins: Listed<Origin>,
 }

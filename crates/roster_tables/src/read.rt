@@ -1,4 +1,4 @@
-//! The whole document.
+//! Reads the whole document.
 ghost use Rattle.std.specs.Prelude.{◌≡◌, true, MatchResult, Some, None, IfOk, IfErr, option_map, option_and_then, codes, nat_le, length};
 ghost use Rattle.std.specs.List.{list_all};
 ghost use Rattle.toml.specs.Data.{get_member};
@@ -15,9 +15,10 @@ use std::alloc::Global;
 use toml::Table;
 
 impl Tables {
-    /// The tables that a text says, or why there are none.
+    /// The tables that a text says. They are in their ranges.
     ///
-    /// `BadToml` is told before `BadField`; of several bad fields one is named.
+    /// The error is `BadToml` exactly if the text is no TOML document, `BadField` exactly if a
+    /// field of the document is bad; `NoMemory` may replace either.
     pub fn read(alloc: Global, text: &str) -> Result<Tables, TablesFault>
         ensures ok { IfOk result (λ tables. tables_in text.now ≡ Some (Some tables)) }
         ensures ranges { IfOk result (λ tables. are_tables tables ≡ true) }
@@ -33,7 +34,7 @@ impl Tables {
     }
 }
 
-/// The fault of a text that is no document from a place on, with its line.
+/// The fault of a text that is no document, with the line of the octet at `start`.
 fn bad_toml(text: &[u8], start: usize) -> TablesFault
     ensures { IsBadToml result }
 {
@@ -67,7 +68,7 @@ fn tables_of(alloc: Global, document: &Table) -> Result<Tables, TablesFault>
     })
 }
 
-/// What every node keeps to.
+/// The limits of each node.
 fn limits(table: &Table, place: Place) -> Result<Limits, TablesFault>
     ensures { MatchResult result
         (λ limits. (limits_of (table_view table.now) ≡ Some limits) × (are_limits limits ≡ true))
@@ -85,7 +86,7 @@ fn limits(table: &Table, place: Place) -> Result<Limits, TablesFault>
     })
 }
 
-/// Where the master is.
+/// The address of the master.
 fn master(table: &Table) -> Result<Address, TablesFault>
     ensures { MatchResult result
         (λ a. (master_of (get_member (codes "master") (table_view table.now)) ≡ Some a) × (is_port a.port ≡ true))
@@ -98,7 +99,7 @@ fn master(table: &Table) -> Result<Address, TablesFault>
     Ok(Address { ip, port })
 }
 
-/// The members, of which there is at least one.
+/// The members, at least one.
 fn members(alloc: Global, table: &Table) -> Result<Listed<Member>, TablesFault>
     ensures { MatchResult result
         (λ ms. (members_of (table_view table.now) ≡ Some ms) × (nat_le 1 (length ms) ≡ true) × (list_all is_member ms ≡ true))

@@ -1,7 +1,8 @@
 //! Scripts: reads lines from any reader, answers each, and writes the answers to any writer, one
 //! line for each.
 //!
-//! - [`Script`]: what answers a line. The crates of the command line implement it.
+//! - [`Script`]: what answers a line. `answer_script`, `wire_script`, `world_script` and
+//!   `cluster_script` implement it.
 //! - [`play`]: answers all lines. [`play_until`]: answers the lines before the first that is a
 //!   given text, such as `quit`.
 //! - [`RunFault`]: why a run stopped.
@@ -19,8 +20,8 @@
 //!    `specs/Reading.antt`. `src/write.rt` writes.
 //! 4. `src/words.rt`, `src/decimal.rt`, with `specs/Words.antt`. `src/fault.rt`, with
 //!    `specs/Fault.antt`.
-//! 5. `proofs/PlayLemmas.antt` and `proofs/LineLemmas.antt`, which `specs/Playing.antt` and
-//!    `specs/Reading.antt` state.
+//! 5. `specs/Playing.antt`, the invariant of the loop, with `proofs/PlayLemmas.antt`;
+//!    `proofs/LineLemmas.antt`, for the lines that are taken.
 //!
 //! Three wrong bodies would meet the contracts. `write_text` could give `Io` at once, since no
 //! clause knows whether a writer failed; tests show that `Io` comes only then.

@@ -1,3 +1,5 @@
+-- Each step of the loop of `number_in` keeps the values found so far: an octet that ends no line
+-- changes nothing, one that ends a line adds its value, and a second value is `BadNumber`.
 use Rattle.std.proofs.Common.{◌-◌, length, sym, ap, ◌∙◌, arith}
 use Rattle.std.specs.Prelude.{option_to_list}
 use Rattle.std.proofs.lemmas.Result.{err_from_is_err_and}

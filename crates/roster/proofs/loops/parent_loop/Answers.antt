@@ -1,3 +1,5 @@
+-- The loop keeps that each id on a cycle is left, and fewer ids are left each time; `Circles` says
+-- what holds once all that are left have a parent left.
 use Rattle.std.proofs.Common.{subst, sym, ◌∙◌}
 use Rattle.roster.specs.Among.{climbs}
 use Rattle.roster.proofs.Circles.{LoopsAreLeft, loops_in_all, loops_in_kept, fewer, as_many, at_end}

@@ -1,3 +1,5 @@
+-- The loop keeps the invariant of `specs/Playing`: each way out of it, and each way round, is one
+-- lemma of PlayLemmas.
 use Rattle.std.proofs.Common.{option_map, ◌≡◌, [], drop, refl, sym, ap, subst, Err, ◌∙◌}
 use Rattle.script_lines.specs.declared.fault.RunFault.TheVariants.{Io, TooManyTurns, LineTooLong, NoMemory}
 use Rattle.text_writer.proofs.Laws.{proper_front}

@@ -1,3 +1,5 @@
+-- A line that is taken is cut at the first LF that is held, or is what is held at the end of the
+-- input; each read adds a piece of the input to what is held.
 use Rattle.std.proofs.Common.{drop, arith, length-drop, sym, subst}
 use Rattle.script_lines.specs.Reading.{IsCounted}
 use Rattle.script_lines.proofs.Counting.{counted_then}
