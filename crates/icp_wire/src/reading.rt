@@ -23,7 +23,7 @@ pub fn decode(alloc: Global, octets: &[u8]) -> Result<Icp, IcpFault>
         MatchResult result (λ found. found ≡ message) (λ fault. fault ≡ IcpFault.NoMemory) }
     // A fault that is given is the first of the octets.
     ensures refused { IfErr result (λ fault. fault ≢ IcpFault.NoMemory → first_fault octets.now ≡ Some fault) }
-    // Nothing is allocated before all tests are passed.
+    // `NoMemory` comes only if the octets have no fault.
     ensures memory { result ≡ Err IcpFault.NoMemory → first_fault octets.now ≡ None }
 {
     read(alloc, octets)

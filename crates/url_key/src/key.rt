@@ -57,7 +57,7 @@ impl Key {
         ensures ok { IfOk result (λ key. HasKey text.now (Ok key)) }
         ensures parts { IfOk result (λ key. KeepsParts text.now key) }
         ensures err { IfErr result (λ fault. UnlessNoMemory fault (HasKey text.now (Err fault))) }
-        // The tests before the text is cut allocate nothing.
+        // `NoMemory` comes only if the text passes the tests before it is cut.
         ensures memory { result ≡ Err KeyFault.NoMemory → first_fault text.now ≡ None }
     {
         match text_of_key(alloc, text) {
