@@ -1,9 +1,13 @@
 //! Keys: the canonical texts of http URLs. Caches store copies under keys and purge by keys.
 //!
-//! Two URLs share one key if they differ only in the case of the scheme or the host, in whether
-//! port 80 is written, in leading zeros of the port, or in whether an empty path is written as `/`
-//! (RFC 9110, section 4.2.3). A key is `http://`, the host in lower case, `:` and the port unless
-//! it is 80, the path, and `?` with the query if there is one.
+//! Two URLs share one key if they differ only in these points (RFC 9110, section 4.2.3):
+//!
+//! - the case of the scheme or the host,
+//! - whether port 80 is written, and leading zeros of the port,
+//! - whether an empty path is written as `/`.
+//!
+//! A key is `http://`, the host in lower case, `:` and the port unless it is 80, the path, and `?`
+//! with the query if there is one.
 //!
 //! Two equivalences of RFC 3986, section 6.2.2 are not applied: percent-encoded octets stay as they
 //! came, so `/~a` and `/%7Ea` have two keys; and `.` and `..` stay in paths. An empty port
