@@ -1,4 +1,5 @@
--- What holds of every choice.
+-- The laws of every choice, by the cases of `choice`: a good hit, a parent's miss, waiting, the
+-- origin. What `find` returns is in the list of answers and passes its test.
 use Rattle.std.proofs.Common.{◌≡◌, ◌≢◌, inl, inr, ℕ, suc, ◌&&◌, Bool, true, false, cond, List, [], ◌∷◌, Option, Some, None, refl, subst, arith}
 use Rattle.std.specs.Prelude.{Contains}
 use Rattle.std.specs.List.{find}

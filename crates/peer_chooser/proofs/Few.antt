@@ -1,4 +1,5 @@
--- No member of a roster has more than 23 peers.
+-- No member of a roster has more than 23 peers: a roster with such a member is refused
+-- (`IsRoster`).
 use Rattle.std.proofs.Common.{◌≡◌, ℕ, ◌≤◌, ◌==◌, Bool, true, false, cond, List, [], ◌∷◌, length, Option, Some, arith}
 use Rattle.std.specs.Prelude.{nat_lt}
 use Rattle.std.specs.List.{list_any, find}

@@ -1,4 +1,5 @@
--- Where an ask goes after what its peers said (RFC 2187, section 5).
+-- Where a request goes after its peers answered (RFC 2187, section 5). The rule is `choice`, at the
+-- end.
 use Rattle.std.specs.Prelude.{ℕ, Bool, true, false, not, ◌&&◌, ◌||◌, ◌==◌, nat_le, List, find, Option, Some, None, if◌then◌else◌}
 use Rattle.std.specs.List.{list_any, list_all}
 use Rattle.roster_tables.specs.declared.plain.Peer.{Peer}
@@ -10,54 +11,57 @@ use Rattle.peer_chooser.specs.declared.said.Source.{Source}
 use Rattle.peer_chooser.specs.declared.said.Source.TheVariants as source
 use Rattle.peer_chooser.specs.Round.{RoundText, may_ask, has_told}
 
--- a copy under this stamp, or under one that was not told, may be new enough for the floor
+-- A copy of this stamp may be new enough for the floor. One whose stamp was not told may be.
 abbrev pub reaches : ℕ → Option ℕ → Bool
 reaches floor None = true
 reaches floor (Some stamp) = nat_le floor stamp
 
--- the peer has a copy that may be new enough
+-- The peer has a copy that may be new enough.
 abbrev pub is_hit : ℕ → Said → Bool
 is_hit floor (said.Hit stamp) = reaches floor stamp
 is_hit floor said.Miss = false
 is_hit floor said.NoFetch = false
 
--- the peer has no copy; a parent would get one
+-- The peer has no copy; a parent would fetch one.
 abbrev pub is_miss : Said → Bool
 is_miss (said.Hit stamp) = false
 is_miss said.Miss = true
 is_miss said.NoFetch = false
 
--- the peer was not tried, and it may be asked at this floor
+-- The peer may be asked at this floor, and was not tried.
 abbrev pub is_open : ℕ → List ℕ → Peer → Bool
 is_open floor tried p = may_ask floor p && not (list_any (λ id. id == p.id) tried)
 
--- a hit that may be followed
+-- A hit that may be followed.
 abbrev pub is_good_hit : ℕ → List ℕ → Told → Bool
 is_good_hit floor tried t = is_open floor tried t.peer && is_hit floor t.said
 
--- a miss that may be followed: a parent also gets what it does not hold
+-- A miss that may be followed: a parent also fetches what it does not hold.
 abbrev pub is_parent_miss : ℕ → List ℕ → Told → Bool
 is_parent_miss floor tried t = is_open floor tried t.peer && (is_parent t.peer.role && is_miss t.said)
 
--- no answer is waited for: the time is over, or all have answered
+-- No answer is waited for: the time is over, or all have answered.
 abbrev pub is_over : RoundText → Bool
 is_over r = r.expired || list_all (λ p. has_told r.told p.id) r.asked
 
--- a sibling is asked only for what it holds (RFC 2187, section 2; RFC 9111, section 5.2.1.7)
+-- A request to this peer. A sibling is asked only for what it holds (RFC 2187, section 2; RFC 9111,
+-- section 5.2.1.7).
 abbrev pub from : Peer → Source
 from p = source.Peer p.id (is_sibling p.role)
 
--- a parent that answered, or else the origin
+-- A parent that answered; without one, the origin.
 abbrev pub from_parent : Option Told → Source
 from_parent (Some t) = from t.peer
 from_parent None = source.Origin
 
--- a peer that told of a good hit; or else wait, or go on without one
+-- The peer of a good hit. Without one: wait, or once no answer is waited for, a parent or the
+-- origin.
 abbrev pub from_hit : RoundText → ℕ → List ℕ → Option Told → Source
 from_hit r floor tried (Some t) = from t.peer
 from_hit r floor tried None =
     if is_over r then from_parent (find (is_parent_miss floor tried) r.told) else source.Wait
 
--- the first good hit to arrive; else wait while answers may come; else the first parent's miss to arrive; else the origin
+-- The first good hit to arrive; else wait while answers may come; else the first parent's miss to
+-- arrive; else the origin.
 unfoldable pub choice : RoundText → ℕ → List ℕ → Source
 choice r floor tried = from_hit r floor tried (find (is_good_hit floor tried) r.told)

@@ -6,7 +6,9 @@ use Rattle.peer_chooser.specs.declared.said.Source.TheVariants as source
 use Rattle.peer_chooser.specs.Round.{RoundText, ended}
 use Rattle.peer_chooser.specs.Choice.{choice, is_open, is_hit, is_miss}
 
--- the ask goes to a peer that answered, may be asked at the floor and was not tried: one that told of a copy that may be new enough, or a parent that has none; only what it holds is asked of it exactly if it is a sibling
+-- The request goes to a peer that answered, may be asked at the floor and was not tried. The peer
+-- has a copy that may be new enough, or it is a parent without a copy. The request bears
+-- `only-if-cached` exactly if the peer is a sibling.
 pub record FollowsAnswer (r : RoundText) (floor : ℕ) (tried : List ℕ) (id : ℕ) (only_if_cached : Bool) : Type 0 where
   pub told : Told
   pub answered : Contains r.told told
@@ -15,12 +17,12 @@ pub record FollowsAnswer (r : RoundText) (floor : ℕ) (tried : List ℕ) (id : 
   pub untried : is_open floor tried told.peer ≡ true
   pub useful : (is_hit floor told.said ≡ true) ⊎ ((is_parent told.peer.role ≡ true) × (is_miss told.said ≡ true))
 
--- a choice of a peer follows its answer
+-- Every choice of a peer follows its answer.
 abbrev pub EachChoiceFollows : Type 0
 EachChoiceFollows =
     (r : RoundText) (floor : ℕ) (tried : List ℕ) (id : ℕ) (only_if_cached : Bool)
     → choice r floor tried ≡ source.Peer id only_if_cached → FollowsAnswer r floor tried id only_if_cached
 
--- once the time for answers is over nothing is waited for
+-- Once the time for answers is over, the choice is not to wait.
 abbrev pub NoneWaitsInTheEnd : Type 0
 NoneWaitsInTheEnd = (r : RoundText) (floor : ℕ) (tried : List ℕ) → choice (ended r) floor tried ≢ source.Wait

@@ -1,4 +1,4 @@
-//! The choice of a source, over slices.
+//! The choice of a source, as functions over slices.
 
 ghost use Rattle.std.specs.Prelude.{◌≡◌, ◌==◌, find, option_map};
 ghost use Rattle.std.specs.List.{list_all, list_any};
@@ -15,20 +15,22 @@ pub(crate) fn may_ask(floor: u32, peer: Peer) -> bool
     floor == 0 || !is_foreign(peer.id)
 }
 
-/// Whether a peer may be asked at this floor, and was not tried.
+/// Whether a peer may be asked at this floor and was not tried.
 fn is_open(floor: u32, tried: &[u8], peer: Peer) -> bool
     ensures { result ≡ spec.is_open floor tried.now peer }
 {
     may_ask(floor, peer) && !has_id(peer.id, tried)
 }
 
+/// Whether the id is among these.
 fn has_id(id: u8, ids: &[u8]) -> bool
     ensures { result ≡ list_any (λ i. i == id) ids.now }
 {
     ids.iter().any(|i| *i == id)
 }
 
-/// Whether an answer tells of a copy that may be new enough for the floor.
+/// Whether an answer tells of a copy that may be new enough for the floor. A hit without a stamp
+/// may be.
 fn is_hit(floor: u32, said: Said) -> bool
     ensures { result ≡ spec.is_hit floor said }
 {
@@ -39,6 +41,7 @@ fn is_hit(floor: u32, said: Said) -> bool
     }
 }
 
+/// Whether an answer says that there is no copy, and that a parent would fetch one.
 fn is_miss(said: Said) -> bool
     ensures { result ≡ spec.is_miss said }
 {
@@ -48,44 +51,49 @@ fn is_miss(said: Said) -> bool
     }
 }
 
+/// Whether this is a hit that may be followed.
 fn is_good_hit(floor: u32, tried: &[u8], told: Told) -> bool
     ensures { result ≡ spec.is_good_hit floor tried.now told }
 {
     is_open(floor, tried, told.peer) && is_hit(floor, told.said)
 }
 
+/// Whether this is a parent's miss that may be followed.
 fn is_parent_miss(floor: u32, tried: &[u8], told: Told) -> bool
     ensures { result ≡ spec.is_parent_miss floor tried.now told }
 {
     is_open(floor, tried, told.peer) && (told.peer.role.is_parent() && is_miss(told.said))
 }
 
-/// Whether the peer of this id has answered.
+/// Whether the peer with this id has answered.
 pub(crate) fn has_told(told: &[Told], id: u8) -> bool
     ensures { result ≡ has_answered told.now id }
 {
     told.iter().any(|t| t.peer.id == id)
 }
 
-/// Whether all that were asked have answered.
+/// Whether every peer that was asked has answered.
 fn have_all_told(asked: &[Peer], told: &[Told]) -> bool
     ensures { result ≡ list_all (λ p. has_answered told.now p.id) asked.now }
 {
     asked.iter().all(|peer| has_told(told, peer.id))
 }
 
+/// The first hit to arrive that may be followed.
 fn good_hit<'a>(told: &'a [Told], floor: u32, tried: &[u8]) -> Option<&'a Told>
     ensures { option_map (λ t. t.now) result ≡ find (spec.is_good_hit floor tried.now) told.now }
 {
     told.iter().find(|t| is_good_hit(floor, tried, **t))
 }
 
+/// The first parent's miss to arrive that may be followed.
 fn parent_miss<'a>(told: &'a [Told], floor: u32, tried: &[u8]) -> Option<&'a Told>
     ensures { option_map (λ t. t.now) result ≡ find (spec.is_parent_miss floor tried.now) told.now }
 {
     told.iter().find(|t| is_parent_miss(floor, tried, **t))
 }
 
+/// A request to this peer, with `only-if-cached` if it is a sibling.
 fn source_from(peer: Peer) -> Source
     ensures { result ≡ spec.from peer }
 {
@@ -95,7 +103,7 @@ fn source_from(peer: Peer) -> Source
     }
 }
 
-/// Where an ask goes once no answer is waited for and no hit is left.
+/// Where a request goes once nobody's answer is waited for and no hit is left.
 fn parent_or_origin(told: &[Told], floor: u32, tried: &[u8]) -> Source
     ensures { result ≡ spec.from_parent (find (spec.is_parent_miss floor tried.now) told.now) }
 {
@@ -105,7 +113,7 @@ fn parent_or_origin(told: &[Told], floor: u32, tried: &[u8]) -> Source
     }
 }
 
-/// Where an ask goes next.
+/// Where a request goes next.
 #[tactic(auto, unfolding(crate::specs::Choice::choice))]
 pub(crate) fn choose(
     asked: &[Peer],

@@ -8,24 +8,26 @@ use crate::{Said, Source, Told};
 use roster::{Peer, Role, Roster, Udp};
 use std::marker::Model;
 
-/// The most peers that a member has.
+/// The most peers of a member.
 const MOST_PEERS: usize = 23;
 
-/// What stands in the places of a round that aren't used.
+/// Fills the unused places of `asked`.
 const NOBODY: Peer = Peer {
     id: 0,
     role: Role::Sibling,
     by: Udp::Icp,
 };
 
+/// Fills the unused places of `told`.
 const NOTHING: Told = Told {
     peer: NOBODY,
     said: Said::Miss,
 };
 
-/// A round of questions to the peers of a member, and what they said.
+/// One set of queries to the peers of a member, and their answers.
 ///
-/// A contract sees the peers asked, their first answers in order of arrival, and whether the time for answers is over.
+/// A contract sees the peers asked, their first answers in order of arrival, and whether the round
+/// has expired. A `Round` holds at most 23 answers.
 #[derive(Drop)]
 pub struct Round {
     asked: [Peer; MOST_PEERS],
@@ -52,9 +54,11 @@ impl Model for Round {
 }
 
 impl Round {
-    /// A round of the member of this id, which asks its peers about a URL with this floor: the greatest number of a
-    /// purge of it. All peers of the member are asked, but foreign caches only where the floor is 0. The id is a
-    /// member's. It takes no memory.
+    /// Starts a round for the member `id`, about a URL with this floor (the greatest number of a
+    /// purge of it).
+    ///
+    /// It asks all peers of the member, foreign caches only where the floor is 0. `id` must be that
+    /// of a member. Allocates nothing.
     pub fn start(roster: &Roster, id: u8, floor: u32) -> Round
         requires { is_member roster.now id ≡ true }
         ensures { result ≡ started (peers_of_member roster.now id) floor }
@@ -62,7 +66,7 @@ impl Round {
         Round::begin(peers_of(roster, id), floor)
     }
 
-    /// A round that asks those of these peers that may be asked at this floor.
+    /// Starts a round with those of these peers that may be asked at this floor.
     pub(crate) fn begin(peers: &[Peer], floor: u32) -> Round
         requires { length peers.now ≤ 23 }
         ensures { result ≡ started peers.now floor }
@@ -84,7 +88,7 @@ impl Round {
         }
     }
 
-    /// The same round once more, which has at most 23 answers. It takes no memory.
+    /// Copies the round, which has at most 23 answers. Allocates nothing.
     pub fn copy(&self) -> Round
         ensures value { result ≡ self.now }
         ensures few { length self.now.told ≤ 23 }
@@ -98,14 +102,14 @@ impl Round {
         }
     }
 
-    /// The peers that are asked, in the roster's order. It takes no memory.
+    /// The peers asked, in the roster's order. Allocates nothing.
     pub fn asked(&self) -> &[Peer]
         ensures { result.now ≡ self.now.asked }
     {
         &self.asked[..self.asked_count]
     }
 
-    /// The first answers, in order of arrival. It takes no memory.
+    /// The first answers, in order of arrival. Allocates nothing.
     pub fn told(&self) -> &[Told]
         ensures { result.now ≡ self.now.told }
     {
@@ -119,8 +123,11 @@ impl Round {
         self.has_expired
     }
 
-    /// A peer has answered. Its first answer counts, also after the round has expired; a later one, and that of a
-    /// cache that was not asked, change nothing. It takes no memory.
+    /// Records an answer of the peer with this id. Its first answer counts, even after the round
+    /// has expired.
+    ///
+    /// A later answer changes nothing, nor does that of a cache that was not asked. Allocates
+    /// nothing.
     pub fn answer(&mut self, peer: u8, said: Said)
         ensures { self.new ≡ answered self.old peer said }
     {
@@ -130,18 +137,24 @@ impl Round {
         }
     }
 
-    /// The time for answers is over. It takes no memory.
+    /// Ends the time for answers. Allocates nothing.
     pub fn expire(&mut self)
         ensures { self.new ≡ ended self.old }
     {
         self.has_expired = true;
     }
 
-    /// Where the ask goes next, at a floor that may have risen since the round began, where these peers were tried
-    /// already: to the first peer that told of a copy whose stamp, if it is known, is at least the floor; else
-    /// nowhere yet, while some peer has not answered and the round has not expired; else to the first parent that
-    /// has no copy; else to the origin. First is what arrived first. A foreign cache is passed over where the floor is
-    /// above 0. It takes no memory.
+    /// Chooses where the request goes next. `floor` may have risen since the round started; `tried`
+    /// lists the ids of the peers that were tried already.
+    ///
+    /// The choice is the first that applies, in order of arrival among answers:
+    ///
+    /// 1. a peer that has a copy, whose stamp is unknown or at least `floor`;
+    /// 2. `Wait`, while some peer has not answered and the round has not expired;
+    /// 3. a parent that has no copy;
+    /// 4. the origin.
+    ///
+    /// Tried peers are passed over, and foreign caches where `floor` is above 0. Allocates nothing.
     pub fn next(&self, floor: u32, tried: &[u8]) -> Source
         ensures { result ≡ choice self.now floor tried.now }
     {
@@ -149,7 +162,7 @@ impl Round {
     }
 }
 
-/// The peers of a member.
+/// The peers of a member. `id` must be that of a member.
 fn peers_of(roster: &Roster, id: u8) -> &[Peer]
     requires { is_member roster.now id ≡ true }
     ensures value { result.now ≡ peers_of_member roster.now id }
@@ -158,7 +171,7 @@ fn peers_of(roster: &Roster, id: u8) -> &[Peer]
     roster.peers(id)
 }
 
-/// The peer of this id, if it was asked and has not answered.
+/// The peer with this id, if it was asked and has not answered.
 fn awaited(asked: &[Peer], told: &[Told], id: u8) -> Option<Peer>
     ensures { result ≡ (if has_answered told.now id then None else find (λ p. p.id == id) asked.now) }
 {
@@ -169,6 +182,7 @@ fn awaited(asked: &[Peer], told: &[Told], id: u8) -> Option<Peer>
     }
 }
 
+/// The peer with this id, if there is one.
 fn peer_of(asked: &[Peer], id: u8) -> Option<&Peer>
     ensures { option_map (λ p. p.now) result ≡ find (λ p. p.id == id) asked.now }
 {

@@ -1,35 +1,36 @@
 use roster::Peer;
 
-/// What a peer says that is asked for a copy (RFC 2186, "ICP Opcodes"; RFC 2756, "TST").
+/// What a peer answers to a query (RFC 2186, "ICP Opcodes"; RFC 2756, "TST").
 #[derive(Clone, Copy, Debug, PartialEq, Eq)]
 pub enum Said {
-    /// It holds a copy, under this purge stamp if it told one.
+    /// It has a copy, with this purge stamp if it told one.
     Hit(Option<u32>),
-    /// It holds none. A parent would get one.
+    /// It has no copy. If it is a parent, it would fetch one.
     Miss,
-    /// It gives none, not even as a parent.
+    /// It serves nothing: it has no copy, and would not fetch one even as a parent.
     NoFetch,
 }
 
-/// A peer's first answer.
+/// A peer's first answer to a round.
 #[derive(Clone, Copy, Debug, PartialEq, Eq)]
 pub struct Told {
     /// Who answered.
     pub peer: Peer,
-    /// What it said.
+    /// What it answered.
     pub said: Said,
 }
 
-/// Where an ask goes next.
+/// Where a request goes next.
 #[derive(Clone, Copy, Debug, PartialEq, Eq)]
 pub enum Source {
-    /// Nowhere yet: peers may still answer.
+    /// Nowhere yet: some peer may still answer.
     Wait,
-    /// To a peer.
+    /// To this peer.
     Peer {
         /// The peer's id.
         id: u8,
-        /// Whether only a stored answer is asked for (RFC 9111, section 5.2.1.7), as it is of each sibling.
+        /// Whether the request bears `only-if-cached` (RFC 9111, section 5.2.1.7): true exactly of
+        /// a sibling.
         only_if_cached: bool,
     },
     /// To the origin.

@@ -1,3 +1,4 @@
+-- Recording an answer keeps `HasRoom` and adds the answer that the rule adds (`proofs/Rooms`).
 use Rattle.std.proofs.Common.{◌≡◌, Some, sym, ap, ◌∙◌}
 use Rattle.peer_chooser.specs.Round.{RoundText, awaited, answered}
 use Rattle.peer_chooser.proofs.Rooms.{seen, has_place, HasRoom-more, seen_more}
