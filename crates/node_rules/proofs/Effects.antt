@@ -1,4 +1,5 @@
--- Each rule of the step has one of the five effects, and keeps what each keeps.
+-- Each rule of the step has one of the five effects, and keeps what each keeps. The proof goes over
+-- the rules in the order of specs/: each lemma NAME_does is about the rule NAME.
 use Rattle.std.proofs.Common.{◌≡◌, ℕ, ◌*◌, ◌≤◌, Bool, true, false, cond, not, ◌&&◌, ◌||◌, max, List, [], ◌∷◌, ◌++◌, option_map, find, map, filter, Option, Some, None, Result, Ok, Err, refl, sym, ◌∙◌, ap, inr, nat_le, nat_eq, subst, arith, rules}
 use Rattle.std.specs.List.{AllByRecursion, Contains, cons_option, filter_map}
 use Rattle.std.specs.Prelude.{bytes_eq}

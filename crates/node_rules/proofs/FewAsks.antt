@@ -1,4 +1,5 @@
--- No step leaves more than 1,024 asks waiting.
+-- No step leaves more than 1,024 requests pending. Only a new request adds one, and only where the
+-- node is not busy; all other rules change or end requests. One lemma for each rule.
 use Rattle.std.proofs.Common.{◌≡◌, ℕ, ◌+◌, ◌<◌, ◌≤◌, Bool, true, false, cond, not, ◌&&◌, ◌||◌, List, [], ◌∷◌, length, Option, Some, None, Result, Ok, Err, refl, sym, subst, nat_le, nat_lt, nat_eq, arith, length-append, leb-false}
 use Rattle.std.proofs.lemmas.List.{length-map}
 use Rattle.icp_wire.specs.declared.message.IcpOp.{IcpOp}

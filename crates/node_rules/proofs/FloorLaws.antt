@@ -1,4 +1,5 @@
--- How a floor and its raising go together.
+-- How a floor and its raise go together. A raise sets the key's floor to the greater of the old one
+-- and the number and leaves each other floor, so no floor falls.
 use Rattle.std.proofs.Common.{◌≡◌, ℕ, ◌<◌, ◌≤◌, ◌⊎◌, Bool, true, false, cond, not, ◌&&◌, List, [], ◌∷◌, map, Option, Some, None, refl, sym, ◌∙◌, ap, subst, inl, inr, max, nat_le, unwrap_or, leb-false, arith}
 use Rattle.std.specs.Prelude.{bytes_eq, is_some, IsSome}
 use Rattle.std.specs.Ordering.{nat_cmp, is_eq}

@@ -1,4 +1,5 @@
--- What each of the five effects keeps.
+-- What the five effects keep of floors and copies: floors rise, copies stay at or above their
+-- floors, the store keeps its limits, and the node stays open. By cases on the effect.
 use Rattle.std.proofs.Common.{◌≡◌, ℕ, ◌≤◌, true, not, ◌&&◌, List, refl, sym, subst, nat_lt, arith}
 use Rattle.std.specs.Prelude.{bytes_eq}
 use Rattle.std.specs.List.{AllByRecursion}

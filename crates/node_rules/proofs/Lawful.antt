@@ -1,4 +1,5 @@
--- The steps of a node are lawful: from the five effects, and for a fault from the floors that it leaves.
+-- Every step is lawful. The function's outcome follows from its effect, by cases; a fault that
+-- closes the node, from the floors that it leaves.
 use Rattle.std.proofs.Common.{◌≡◌, ℕ, ◌≤◌, max, false, List, [], Option, Some, None, Result, Ok, Err, refl, sym, ◌∙◌, ap, subst, inl, inr, arith}
 use Rattle.std.specs.List.{AllByRecursion, Contains}
 use Rattle.std.proofs.lemmas.Option.{none-some}

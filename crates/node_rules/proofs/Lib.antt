@@ -1,3 +1,7 @@
+-- In reading order. Effects shows that the step has one of five effects; it takes most of the work,
+-- and uses Cases, FloorLaws, Stores and Pendings. Kept says what each effect keeps. Stepping
+-- carries this from the function to the relation, and Lawful puts the law together. Questions,
+-- FewAsks and the Tag files each prove one law on their own, rule by rule.
 pub mod Cases
 pub mod FloorLaws
 pub mod Stores

@@ -1,4 +1,5 @@
--- A sibling's question begins nothing.
+-- A sibling's request begins nothing: the rules that it reaches give a reply without a begin and
+-- leave the pending requests. It is no purge, so no fault closes the node at it.
 use Rattle.std.proofs.Common.{◌≡◌, ℕ, Bool, true, false, Option, Some, None, Result, refl, sym, ◌∙◌, subst}
 use Rattle.roster_tables.specs.declared.plain.Address.{Address}
 use Rattle.icp_wire.specs.declared.message.IcpOp.{IcpOp}

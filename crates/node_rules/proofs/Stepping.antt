@@ -1,4 +1,6 @@
--- What holds of the function, of an unchanged state and of a closed one holds of the relation.
+-- From the function to the relation. A step of the relation is the function's, or leaves the state
+-- as it was, or closes the node at a purge; so a fact needs a proof in these three cases
+-- (`steps_case`).
 use Rattle.std.proofs.Common.{◌≡◌, ℕ, ◌≤◌, false, List, Option, Some, None, Result, Ok, Err, sym, ◌∙◌, subst, inl, inr, arith}
 use Rattle.node_rules.specs.declared.state.NodeState.{NodeState}
 use Rattle.node_rules.specs.declared.event.Event.{Event}

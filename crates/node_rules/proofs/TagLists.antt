@@ -1,4 +1,5 @@
--- Another tag in the place of each tag, through lists and stores.
+-- Another tag in the place of each tag, through lists and stores: no operation of the store looks
+-- at tags, so it gives the same with other tags.
 use Rattle.std.proofs.Common.{◌≡◌, ℕ, ◌-◌, Bool, true, false, cond, not, ◌&&◌, List, [], ◌∷◌, ◌++◌, map, filter, find, Option, Some, None, refl, ◌∙◌, ap, nat_lt, nat_le}
 use Rattle.std.specs.Prelude.{option_map}
 use Rattle.object_store.specs.declared.copy.WebCopy.{WebCopy}

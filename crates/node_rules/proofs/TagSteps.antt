@@ -1,4 +1,6 @@
--- The step never looks at tags: another tag in the place of each leads to the same step with another tag in the place of each.
+-- The step function never looks at tags: with other tags it leads to the same step with other tags.
+-- One lemma for each rule, in the order of specs/; each test in a rule gives the same with other
+-- tags.
 use Rattle.std.proofs.Common.{◌≡◌, ℕ, ◌+◌, Bool, true, false, not, ◌&&◌, ◌||◌, cond, List, [], ◌∷◌, ◌++◌, Option, Some, None, refl, nat_le, nat_eq, ap, unwrap_or}
 use Rattle.std.specs.Prelude.{bytes_eq}
 use Rattle.roster_tables.specs.declared.plain.Address.{Address}

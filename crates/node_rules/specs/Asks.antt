@@ -1,4 +1,4 @@
--- A client's or a member's ask comes.
+-- A client's or a member's request arrives. The rule is `ask_comes`, at the end.
 use Rattle.std.specs.Prelude.{ℕ, ◌+◌, Bool, false, ◌||◌, nat_le, nat_lt, List, [], ◌∷◌, length, Option, Some, None, option_map, if◌then◌else◌}
 use Rattle.std.specs.List.{filter_map}
 use Rattle.fetch_messages.specs.declared.ask.Ask.{Ask}
@@ -21,65 +21,73 @@ use Rattle.node_rules.specs.Known.{cache_of}
 use Rattle.node_rules.specs.State.{Setting, Stepped, replies, refuses, serving, with_copies, adding, good_copy, served_age, round_serial}
 use Rattle.node_rules.specs.Fetching.{read_origin}
 
+-- The entry of the member that sent the request names this node a sibling.
 abbrev pub is_siblings_ask : Setting → Option ℕ → Bool
 is_siblings_ask g None = false
 is_siblings_ask g (Some asker) = names_sibling g.roster asker g.id
 
--- an ask that may be answered from the store alone: it says so (RFC 9111, section 5.2.1.7), or its asker's entry names this node a sibling (RFC 2187, section 2)
+-- A request that is answered from the store alone: it bears `only-if-cached` (RFC 9111, section
+-- 5.2.1.7), or a sibling sent it (RFC 2187, section 2).
 abbrev pub is_cached_only : Setting → Option ℕ → Ask → Bool
 is_cached_only g asker ask = ask.only_if_cached || is_siblings_ask g asker
 
--- 1,024 asks wait, or no block of serials is left
+-- 1,024 requests are pending, or no block of serials is left.
 abbrev pub is_busy : {X : Type 0} → NodeState X → Bool
 is_busy s = nat_le 1024 (length s.pending) || nat_lt 134217727 s.next
 
+-- The next block is taken.
 abbrev pub takes_block : {X : Type 0} → NodeState X → NodeState X
 takes_block s = record { floors = s.floors; copies = s.copies; pending = s.pending; next = s.next + 1; closed = s.closed }
 
+-- A new pending request, for which nothing has begun.
 abbrev pub new_ask : {X : Type 0} → ℕ → Option ℕ → Ask → Option RoundText → Pending X
 new_ask block asker ask round = record { block = block; asker = asker; ask = ask; round = round; tried = []; fetches = 0; reads = 0; fetch = Nowhere }
 
--- the question to one peer, if the roster has it
+-- The query to one peer, if the roster has the peer.
 abbrev pub question_to : Tables → ℕ → List ℕ → Peer → Option Outgoing
 question_to roster serial key p = option_map (λ c. to (address_by p.by c) (query p.by serial key)) (cache_of roster p.id)
 
--- the peers are asked in the roster's order
+-- A round begins: the peers are queried in the roster's order.
 unfoldable pub begin_round : {X : Type 0} → Setting → NodeState X → Option ℕ → Ask → ℕ → RoundText → Stepped X
 begin_round g s asker ask block round =
     let p = new_ask block asker ask (Some round) in
     replies (adding s p)
     record { serve = None; send = filter_map (question_to g.roster (round_serial p) ask.key) round.asked; begin = Some (begin.Round (round_serial p)) }
 
--- without anybody to ask the origin is read
+-- A round begins. If nobody is to be queried, the origin is read instead.
 unfoldable pub ask_around : {X : Type 0} → Setting → NodeState X → Option ℕ → Ask → ℕ → ℕ → X → RoundText → List Peer → Stepped X
 ask_around g s asker ask block now mark round [] =
     let p = new_ask block asker ask None in read_origin g (adding s p) p None now mark
 ask_around g s asker ask block now mark round (peer ∷ peers) = begin_round g s asker ask block round
 
--- nobody is asked for a stored answer where the ask wants none
+-- Nobody is asked for a stored response if the request bears `no-cache`.
 abbrev pub peers_to_ask : Setting → Ask → List Peer
 peers_to_ask g ask = if ask.no_cache then [] else peers_of g.roster g.id
 
+-- A new request takes the next block, and a round or an origin read begins.
 unfoldable pub begin_ask : {X : Type 0} → Setting → NodeState X → Option ℕ → Ask → ℕ → X → Stepped X
 begin_ask g s asker ask now mark =
     let round = started (peers_to_ask g ask) (floor s.floors ask.key) in
     ask_around g (takes_block s) asker ask s.next now mark round round.asked
 
+-- No copy may be served: 504 for a request to the store alone, else `Busy`, else a fetch begins.
 unfoldable pub not_held : {X : Type 0} → Setting → NodeState X → Option ℕ → Ask → ℕ → X → Stepped X
 not_held g s asker ask now mark =
     if is_cached_only g asker ask
     then replies s (serving None asker (Status 504))
     else (if is_busy s then refuses s Busy else begin_ask g s asker ask now mark)
 
+-- The copy is served, if there is one, and becomes the most recent.
 unfoldable pub by_copy : {X : Type 0} → Setting → NodeState X → Option ℕ → Ask → ℕ → X → Option (WebCopy X) → Stepped X
 by_copy g s asker ask now mark (Some c) =
     replies (with_copies s (to_front ask.key s.copies)) (serving None asker (Copy c (served_age c now)))
 by_copy g s asker ask now mark None = not_held g s asker ask now mark
 
--- the copy that answers an ask, which may want no stored answer (RFC 9111, section 5.2.1.4)
+-- The copy that serves a request; none if it bears `no-cache` (RFC 9111, section 5.2.1.4).
 abbrev pub copy_for : {X : Type 0} → NodeState X → Ask → ℕ → Option (WebCopy X)
 copy_for s ask now = if ask.no_cache then None else good_copy s ask.key now
 
--- A held copy is served; else a cached-only ask gets 504 (RFC 9111, section 5.2.1.7); else Busy; else a read or a round begins.
+-- A held copy is served. Else a request to the store alone gets 504 (RFC 9111, section 5.2.1.7).
+-- Else the node is `Busy`, or a round or an origin read begins.
 unfoldable pub ask_comes : {X : Type 0} → Setting → NodeState X → Option ℕ → Ask → ℕ → X → Stepped X
 ask_comes g s asker ask now mark = by_copy g s asker ask now mark (copy_for s ask now)

@@ -1,4 +1,4 @@
--- A datagram comes.
+-- A datagram arrives: queries, answers to a round, purges. The rule is `datagram`, at the end.
 use Rattle.std.specs.Prelude.{ℕ, Bool, true, false, not, ◌&&◌, ◌||◌, ◌==◌, nat_le, bytes_eq, List, [], ◌∷◌, find, is_some, Option, Some, None, Result, Ok, Err, codes, if◌then◌else◌}
 use Rattle.std.specs.FinMap.{get, len}
 use Rattle.icp_wire.specs.declared.message.Icp.{Icp}
@@ -32,47 +32,53 @@ use Rattle.node_rules.specs.Known.{is_peer_at, is_known}
 use Rattle.node_rules.specs.State.{Setting, Stepped, replies, quiet, sending, with_copies, good_copy, round_serial}
 use Rattle.node_rules.specs.Arrivals.{with_round, round_moves}
 
+-- This message goes back to the sender.
 abbrev pub sends_back : {X : Type 0} → NodeState X → Address → Message → Stepped X
 sends_back s from m = replies s (sending (to from m ∷ []))
 
--- what is answered only where a response is desired (RFC 2756, "RD")
+-- The same, only if a response is desired (RFC 2756, "RD").
 abbrev pub if_desired : {X : Type 0} → NodeState X → Bool → Address → Message → Stepped X
 if_desired s true from m = sends_back s from m
 if_desired s false from m = replies s quiet
 
--- Questions: an ICP QUERY (RFC 2186, "ICP_OP_QUERY"), an HTCP TST (RFC 2756, "TST")
+-- Queries: an ICP QUERY (RFC 2186, "ICP_OP_QUERY"), an HTCP TST (RFC 2756, "TST")
 
+-- HIT if there is a copy, MISS if there is none.
 abbrev pub hit_or_miss : {X : Type 0} → Option (WebCopy X) → IcpOp
 hit_or_miss None = op.Miss
 hit_or_miss (Some c) = op.Hit
 
--- DENIED to a sender that is not known, ERR where the URL has no key, else whether a copy may be served
+-- DENIED to an unknown sender, ERR if the URL has no key, else HIT or MISS by whether a copy may be
+-- served.
 abbrev pub icp_answer : {X : Type 0} → Bool → NodeState X → ℕ → Option (List ℕ) → IcpOp
 icp_answer false s now key = op.Denied
 icp_answer true s now None = op.Error
 icp_answer true s now (Some key) = hit_or_miss (good_copy s key now)
 
--- The answer repeats number and URL, and the store keeps its order.
+-- A QUERY arrives. The response repeats number and URL, and the store keeps its order.
 unfoldable pub icp_query : {X : Type 0} → Setting → NodeState X → Address → Icp → ℕ → Stepped X
 icp_query g s from m now =
     sends_back s from (icp (icp_answer (is_known g.roster g.id udp.Icp from) s now (g.key_of m.url)) m.number m.url)
 
+-- The TST response that tells a copy's stamp.
 abbrev pub tst_hit : ℕ → Content
 tst_hit stamp = content.TstHit record { response_headers = []; entity_headers = []; cache_headers = stamp_line stamp }
 
+-- The TST response for this copy, or for none.
 abbrev pub tst_answer : {X : Type 0} → Option (WebCopy X) → Content
 tst_answer None = content.TstMiss []
 tst_answer (Some c) = tst_hit c.stamp
 
+-- The copy of this key that may be served, if the key is there.
 abbrev pub copy_at : {X : Type 0} → NodeState X → ℕ → Option (List ℕ) → Option (WebCopy X)
 copy_at s now None = None
 copy_at s now (Some key) = good_copy s key now
 
--- the copy that a SPECIFIER means, if it may be served: only GET has one
+-- The copy that a SPECIFIER means, if it may be served. Only GET means one.
 abbrev pub copy_meant : {X : Type 0} → Setting → NodeState X → Specifier → ℕ → Option (WebCopy X)
 copy_meant g s spec now = if bytes_eq spec.method (codes "GET") then copy_at s now (g.key_of spec.uri) else None
 
--- a sender that is not known gets the overall code 5, any other whether a copy may be served
+-- A TST arrives. An unknown sender gets the overall code 5, any other whether a copy may be served.
 unfoldable pub htcp_tst : {X : Type 0} → Setting → NodeState X → Address → ℕ → Bool → Specifier → ℕ → Stepped X
 htcp_tst g s from trans desired spec now =
     if_desired s desired from
@@ -80,12 +86,12 @@ htcp_tst g s from trans desired spec now =
 
 -- Answers of peers to a round
 
--- the peer of a round that is asked by this protocol at this address
+-- The peer of a round that is queried by this protocol at this address.
 abbrev pub peer_at : Setting → Udp → Address → Option RoundText → Option Peer
 peer_at g by from None = None
 peer_at g by from (Some r) = find (is_peer_at g.roster by from) r.asked
 
--- a peer's later answers change nothing
+-- A peer's first answer moves its round. Its later answers change nothing.
 unfoldable pub hears : {X : Type 0} → Setting → NodeState X → Pending X → Peer → Said → ℕ → X → Option RoundText → Stepped X
 hears g s p peer said now mark None = replies s quiet
 hears g s p peer said now mark (Some r) =
@@ -93,20 +99,23 @@ hears g s p peer said now mark (Some r) =
     then replies s quiet
     else round_moves g s (with_round p (answered r peer.id said)) now mark
 
+-- An answer of this peer arrives, if there is one.
 unfoldable pub told_by : {X : Type 0} → Setting → NodeState X → Pending X → (Peer → Said) → ℕ → X → Option Peer → Stepped X
 told_by g s p said now mark None = replies s quiet
 told_by g s p said now mark (Some peer) = hears g s p peer (said peer) now mark p.round
 
--- it counts where a peer of that ask's round said it
+-- An answer arrives for this request. It counts if a peer of the request's round sent it.
 unfoldable pub told_to : {X : Type 0} → Setting → NodeState X → Udp → Address → (Peer → Said) → ℕ → X → Option (Pending X) → Stepped X
 told_to g s by from said now mark None = replies s quiet
 told_to g s by from said now mark (Some p) = told_by g s p said now mark (peer_at g by from p.round)
 
+-- This text was read, and its key is this one.
 abbrev pub is_key : Option (List ℕ) → List ℕ → Bool
 is_key None key = false
 is_key (Some read) key = bytes_eq read key
 
--- an object that comes with a hit is not used; a QUERY is a question and never comes here
+-- What an ICP answer says. The object of a HIT_OBJ is not used. A QUERY is no answer and never
+-- comes here.
 abbrev pub icp_said : IcpOp → Said
 icp_said op.Hit = said.Hit None
 icp_said op.HitObj = said.Hit None
@@ -116,101 +125,112 @@ icp_said op.Error = said.NoFetch
 icp_said op.MissNoFetch = said.NoFetch
 icp_said op.Denied = said.NoFetch
 
--- It counts for a pending round of its number whose ask has its key.
+-- An ICP answer arrives. It counts for the round of its request number, if the request there has
+-- its key.
 unfoldable pub icp_told : {X : Type 0} → Setting → NodeState X → Address → Icp → ℕ → X → Stepped X
 icp_told g s from m now mark =
     told_to g s udp.Icp from (λ p. icp_said m.op) now mark
     (find (λ p. (round_serial p == m.number) && is_key (g.key_of m.url) p.ask.key) s.pending)
 
--- a bad stamp line tells no stamp
+-- The stamp that a line tells. A bad line tells none.
 abbrev pub stamp_in : Result (Option ℕ) HtcpFault → Option ℕ
 stamp_in (Ok stamp) = stamp
 stamp_in (Err fault) = None
 
--- only a member's stamp line is trusted
+-- What a TST hit says. Only a member's stamp line is trusted.
 abbrev pub tst_hit_said : List ℕ → Peer → Said
 tst_hit_said headers p = said.Hit (if is_foreign_id p.id then None else stamp_in (number_in_text headers PurgeStamp))
 
--- It counts for a pending round whose serial is its TRANS-ID; a response names no URL.
+-- A TST response arrives. It counts for the round whose serial is its TRANS-ID; it names no URL.
 unfoldable pub htcp_told : {X : Type 0} → Setting → NodeState X → Address → ℕ → (Peer → Said) → ℕ → X → Stepped X
 htcp_told g s from trans said now mark =
     told_to g s udp.Htcp from said now mark (find (λ p. round_serial p == trans) s.pending)
 
 -- Purges: an HTCP CLR (RFC 2756, "CLR")
 
--- 0: it was held and is gone; 2: it was not held
+-- The code of a CLR response. 0: a copy was held and is gone. 2: none was held.
 abbrev pub clr_code : Bool → ℕ
 clr_code true = 0
 clr_code false = 2
 
--- a CLR that is not allowed
+-- A CLR that is not allowed gets the overall code 5.
 abbrev pub clr_refused : {X : Type 0} → NodeState X → Address → ℕ → Bool → Stepped X
 clr_refused s from trans desired = if_desired s desired from (overall trans 4 5)
 
+-- A CLR is answered by whether a copy was dropped.
 abbrev pub clr_done : {X : Type 0} → NodeState X → Address → ℕ → Bool → Bool → Stepped X
 clr_done s from trans desired dropped = if_desired s desired from (htcp trans (content.ClrAnswer (clr_code dropped)))
 
--- 65,536 keys have floors, and this one has none
+-- 65,536 keys have floors, and this key has none.
 abbrev pub is_full : FloorMap → List ℕ → Bool
 is_full floors key = nat_le most_rows (len floors) && not (is_some (get floors key))
 
--- a purge leaves no copy of its key below it
+-- The state after a purge: the key's floor is raised, and no copy of it below the number is held.
 abbrev pub purged : {X : Type 0} → NodeState X → List ℕ → ℕ → NodeState X
 purged s key n = record { floors = raised s.floors key n; copies = without_below key n s.copies; pending = s.pending; next = s.next; closed = s.closed }
 
--- The floor is raised, an older copy goes, and the answer says whether one went.
--- That the raise is committed first is said where the store is: KeepsStore of node_core.
+-- A purge. The floor is raised, an older copy goes, and the response says whether one went. That
+-- the raise is committed first is said where the store is: KeepsStore of node_core.
 unfoldable pub purge : {X : Type 0} → NodeState X → Address → ℕ → Bool → List ℕ → ℕ → Stepped X
 purge s from trans desired key n =
     if is_full s.floors key
     then clr_refused s from trans desired
     else clr_done (purged s key n) from trans desired (is_older_than n (copy_of key s.copies))
 
--- a good numbered CLR, the key and the number that it purges: it comes from the master, its URI is a key, and its number is its TRANS-ID and at least 1
+-- The key and the number of a good numbered CLR. It comes from the master, its URI has a key, and
+-- its number is its TRANS-ID and at least 1.
 abbrev pub purge_of : Setting → Address → ℕ → Option (List ℕ) → ℕ → Option (List ℕ × ℕ)
 purge_of g from trans None n = None
 purge_of g from trans (Some key) n =
     if is_master g.roster from && (n == trans) && nat_le 1 n then Some (key, n) else None
 
+-- A good numbered CLR purges; any other is refused.
 unfoldable pub numbered_clr : {X : Type 0} → NodeState X → Address → ℕ → Bool → Option (List ℕ × ℕ) → Stepped X
 numbered_clr s from trans desired None = clr_refused s from trans desired
 numbered_clr s from trans desired (Some x) = purge s from trans desired x.0 x.1
 
+-- A copy of the key is held, whatever its stamp.
 abbrev pub held : {X : Type 0} → NodeState X → Option (List ℕ) → Bool
 held s None = false
 held s (Some key) = is_some (copy_of key s.copies)
 
+-- The state without the key's copy.
 abbrev pub dropped : {X : Type 0} → NodeState X → Option (List ℕ) → NodeState X
 dropped s None = s
 dropped s (Some key) = with_copies s (without key s.copies)
 
--- without a number line the copy goes whatever its stamp, and floors stay
+-- A CLR without a number line, from a known sender or the master: the copy goes whatever its stamp,
+-- and floors stay.
 unfoldable pub plain_clr : {X : Type 0} → Setting → NodeState X → Address → ℕ → Bool → Option (List ℕ) → Stepped X
 plain_clr g s from trans desired key =
     if is_known g.roster g.id udp.Htcp from || is_master g.roster from
     then clr_done (dropped s key) from trans desired (held s key)
     else clr_refused s from trans desired
 
+-- A CLR by its number line: without one, with a number, or with a bad line, which is refused.
 unfoldable pub clr_by_line : {X : Type 0} → Setting → NodeState X → Address → ℕ → Bool → Option (List ℕ) → Result (Option ℕ) HtcpFault → Stepped X
 clr_by_line g s from trans desired key (Ok None) = plain_clr g s from trans desired key
 clr_by_line g s from trans desired key (Ok (Some n)) = numbered_clr s from trans desired (purge_of g from trans key n)
 clr_by_line g s from trans desired key (Err fault) = clr_refused s from trans desired
 
+-- A CLR arrives.
 unfoldable pub htcp_clr : {X : Type 0} → Setting → NodeState X → Address → ℕ → Bool → Specifier → Stepped X
 htcp_clr g s from trans desired spec =
     clr_by_line g s from trans desired (g.key_of spec.uri) (number_in_text spec.request_headers PurgeNumber)
 
 -- All messages
 
+-- An ICP message arrives: a QUERY, or an answer to a round.
 unfoldable pub icp_comes : {X : Type 0} → Setting → NodeState X → Address → Icp → ℕ → X → IcpOp → Stepped X
 icp_comes g s from m now mark op.Query = icp_query g s from m now
 icp_comes g s from m now mark _ = icp_told g s from m now mark
 
--- an answer to a TST that was not answered as TST says
+-- A response of another kind arrives. If its opcode is TST, the peer serves nothing.
 unfoldable pub tst_refused : {X : Type 0} → Setting → NodeState X → Address → ℕ → ℕ → ℕ → X → Stepped X
 tst_refused g s from trans opcode now mark =
     if opcode == 1 then htcp_told g s from trans (λ p. said.NoFetch) now mark else replies s quiet
 
+-- An HTCP message arrives.
 unfoldable pub htcp_comes : {X : Type 0} → Setting → NodeState X → Address → ℕ → ℕ → X → Content → Stepped X
 htcp_comes g s from trans now mark (content.NopAsk desired) = if_desired s desired from (htcp trans content.NopAnswer)
 htcp_comes g s from trans now mark content.NopAnswer = replies s quiet
@@ -223,6 +243,7 @@ htcp_comes g s from trans now mark (content.Other opcode desired) = if_desired s
 htcp_comes g s from trans now mark (content.Overall opcode code) = tst_refused g s from trans opcode now mark
 htcp_comes g s from trans now mark (content.OtherAnswer opcode code) = tst_refused g s from trans opcode now mark
 
+-- A datagram arrives.
 unfoldable pub datagram : {X : Type 0} → Setting → NodeState X → Address → ℕ → X → Message → Stepped X
 datagram g s from now mark (message.Icp m) = icp_comes g s from m now mark m.op
 datagram g s from now mark (message.Htcp m) = htcp_comes g s from m.trans now mark m.content

@@ -1,4 +1,5 @@
--- How a pending ask goes on: to a peer, to the origin, or to its end. The ask p is one that waits in the state s.
+-- How a pending request goes on: to a peer, to the origin, or to its end. The request p is pending
+-- in the state s. The rule is `go_on`, at the end.
 use Rattle.std.specs.Prelude.{ℕ, ◌+◌, Bool, false, nat_le, List, Option, Some, None, if◌then◌else◌}
 use Rattle.fetch_messages.specs.declared.ask.Ask.{Ask}
 use Rattle.floor_rules.specs.Floors.{floor, seen}
@@ -16,54 +17,58 @@ use Rattle.node_rules.specs.declared.reply.Begin.TheVariants as begin
 use Rattle.node_rules.specs.Known.{has_origin}
 use Rattle.node_rules.specs.State.{Setting, Stepped, replies, quiet, beginning, serving, changing, ending, fetch_serial}
 
--- the ask with its fetch, and one serial more taken
+-- The request with one fetch more begun, so one serial more taken.
 abbrev pub fetching : {X : Type 0} → Pending X → ℕ → Fetch X → Pending X
 fetching p reads fetch = record { block = p.block; asker = p.asker; ask = p.ask; round = p.round; tried = p.tried; fetches = p.fetches + 1; reads = reads; fetch = fetch }
 
--- a member is told which member asks
+-- A member is told which member sends the request; a foreign cache is not.
 abbrev pub own_id : ℕ → ℕ → Option ℕ
 own_id id peer = if is_foreign_id peer then None else Some id
 
+-- The request that a peer is sent.
 abbrev pub peer_ask : List ℕ → Bool → Option ℕ → Ask
 peer_ask key cached member = record { key = key; only_if_cached = cached; no_cache = false; member = member }
 
--- an origin is asked for the key, and no stored answer where the waiting ask wants none (RFC 9111, section 5.2.1.4)
+-- The request that an origin is sent. It bears `no-cache` if the pending request does (RFC 9111,
+-- section 5.2.1.4).
 abbrev pub origin_ask : Ask → Ask
 origin_ask ask = record { key = ask.key; only_if_cached = false; no_cache = ask.no_cache; member = None }
 
--- the peer is asked, under the next serial of the block
+-- The request goes to a peer, under the next serial of its block.
 unfoldable pub ask_peer : {X : Type 0} → Setting → NodeState X → Pending X → ℕ → Bool → ℕ → Stepped X
 ask_peer g s p peer cached now =
     let q = fetching p p.reads (AtPeer peer now) in
     replies (changing s q) (beginning (begin.Peer (fetch_serial q) peer (peer_ask p.ask.key cached (own_id g.id peer))))
 
--- a read bears the greatest purge number seen as it begins, and the step's mark
+-- An origin read begins. It bears the greatest purge number seen so far, and the mark of the step.
 unfoldable pub begin_read : {X : Type 0} → NodeState X → Pending X → ℕ → X → Stepped X
 begin_read s p now mark =
     let q = fetching p (p.reads + 1) (AtOrigin (seen s.floors) now mark) in
     replies (changing s q) (beginning (begin.Read (fetch_serial q) (origin_ask p.ask)))
 
--- the ask ends with a bare status
+-- The request ends with a bare status.
 abbrev pub give_up : {X : Type 0} → NodeState X → Pending X → Option ℕ → ℕ → Stepped X
 give_up s p waiter status = replies (ending s p.block) (serving waiter p.asker (Status status))
 
--- three reads at most (a fourth is 503), and only from an origin of the roster (else 502; RFC 9110, sections 15.6.3 and 15.6.4)
+-- At most three reads: 503 in place of a fourth. 502 if the roster has no such origin (RFC 9110,
+-- sections 15.6.3 and 15.6.4).
 unfoldable pub read_origin : {X : Type 0} → Setting → NodeState X → Pending X → Option ℕ → ℕ → X → Stepped X
 read_origin g s p waiter now mark =
     if nat_le 3 p.reads
     then give_up s p waiter 503
     else (if has_origin g.roster p.ask.key then begin_read s p now mark else give_up s p waiter 502)
 
+-- The request goes to this source; if it is to wait, it keeps what has changed.
 unfoldable pub go_to : {X : Type 0} → Setting → NodeState X → Pending X → ℕ → X → Source → Stepped X
 go_to g s p now mark source.Wait = replies (changing s p) quiet
 go_to g s p now mark (source.Peer peer cached) = ask_peer g s p peer cached now
 go_to g s p now mark source.Origin = read_origin g s p (Some p.block) now mark
 
--- without a round there is only the origin
+-- The source that the round chooses. Without a round there is only the origin.
 abbrev pub choice_of : Option RoundText → ℕ → List ℕ → Source
 choice_of None floor tried = source.Origin
 choice_of (Some r) floor tried = choice r floor tried
 
--- an ask that is not fetching goes on as its round says, by the floor as it is now
+-- A request that no fetch runs for goes on as its round says, by the floor as it is now.
 unfoldable pub go_on : {X : Type 0} → Setting → NodeState X → Pending X → ℕ → X → Stepped X
 go_on g s p now mark = go_to g s p now mark (choice_of p.round (floor s.floors p.ask.key) p.tried)

@@ -8,14 +8,14 @@ use Rattle.roster_tables.specs.declared.plain.Limits.{Limits}
 use Rattle.node_rules.specs.declared.state.NodeState.{NodeState}
 use Rattle.node_rules.specs.Arrivals.{store_of}
 
--- a copy whose stamp is not below the floor of its key
+-- A copy whose stamp is at least the floor of its key.
 abbrev pub IsAbove : {X : Type 0} → FloorMap → WebCopy X → Type 0
 IsAbove floors c = floor floors c.key ≤ c.stamp
 
--- no copy that is held is below its floor
+-- No copy that is held is below its floor.
 abbrev pub AllAbove : {X : Type 0} → NodeState X → Type 0
 AllAbove s = AllByRecursion (IsAbove s.floors) s.copies
 
--- the copies are within the roster's limits, with one of each key
+-- The copies are within the roster's limits, with at most one of each key.
 abbrev pub AreStored : {X : Type 0} → Limits → List (WebCopy X) → Type 0
 AreStored limits copies = IsStore (store_of limits copies)

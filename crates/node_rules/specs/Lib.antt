@@ -1,4 +1,5 @@
--- Reading order: each file stands on those above it.
+-- In reading order: each file stands on those above it. The definition of a step ends with
+-- Relation; laws follow.
 pub mod Names
 pub mod Texts
 pub mod Messages

@@ -3,7 +3,7 @@ use Rattle.std.specs.Prelude.{List, ℕ, codes}
 use Rattle.node_rules.specs.declared.reply.StepFault.{StepFault}
 use Rattle.node_rules.specs.declared.reply.StepFault.TheVariants.{Closed, UnknownSerial, Busy, StoreFault, NoMemory}
 
--- a fault's name, as scripts print it
+-- A fault's name, as scripts print it.
 abbrev pub step_fault_name : StepFault → List ℕ
 step_fault_name Closed = codes "Closed"
 step_fault_name UnknownSerial = codes "UnknownSerial"

@@ -1,4 +1,5 @@
--- One step of a node, as a relation: the function, or want of memory, or a fault of the floor store.
+-- One step of a node as a relation: what the function gives, or a failed allocation, or a fault of
+-- the floor store. The rule is `Steps`, at the end.
 use Rattle.std.specs.Prelude.{◌≡◌, ℕ, true, false, List, [], ◌⊎◌, Option, Some, None, Result, Ok, Err}
 use Rattle.htcp_wire.specs.declared.message.Content.{Content}
 use Rattle.htcp_wire.specs.declared.message.Content.TheVariants as content
@@ -20,52 +21,58 @@ use Rattle.node_rules.specs.State.{Setting}
 use Rattle.node_rules.specs.Datagrams.{purge_of}
 use Rattle.node_rules.specs.Step.{step}
 
+-- The purge of a CLR by its number line, if it is a good one.
 abbrev pub purge_by_line : Setting → Address → ℕ → Option (List ℕ) → Result (Option ℕ) HtcpFault → Option (List ℕ × ℕ)
 purge_by_line g from trans key (Ok None) = None
 purge_by_line g from trans key (Ok (Some n)) = purge_of g from trans key n
 purge_by_line g from trans key (Err fault) = None
 
--- the purge that a CLR of this SPECIFIER brings, its key and its number
+-- The key and the number that a CLR of this SPECIFIER purges.
 abbrev pub purge_meant : Setting → Address → ℕ → Specifier → Option (List ℕ × ℕ)
 purge_meant g from trans spec = purge_by_line g from trans (g.key_of spec.uri) (number_in_text spec.request_headers PurgeNumber)
 
+-- The same of the content of an HTCP message.
 abbrev pub purge_in_content : Setting → Address → ℕ → Content → Option (List ℕ × ℕ)
 purge_in_content g from trans (content.ClrAsk desired reason spec) = purge_meant g from trans spec
 purge_in_content g from trans _ = None
 
+-- The same of a message.
 abbrev pub purge_in_message : Setting → Address → Message → Option (List ℕ × ℕ)
 purge_in_message g from (message.Icp m) = None
 purge_in_message g from (message.Htcp m) = purge_in_content g from m.trans m.content
 
--- the purge that an event brings, its key and its number: a good numbered CLR of the master
+-- The purge that an event brings, as its key and number: a good numbered CLR of the master.
 abbrev pub purge_in : {X : Type 0} → Setting → Event X → Option (List ℕ × ℕ)
 purge_in g (event.Datagram from message now) = purge_in_message g from message
 purge_in g _ = None
 
--- closed, with no ask pending, and with the raise in the floors, if there was room for it, or without it
+-- A node that a purge has closed: no request is pending, and the raise stands in the floors, if
+-- they had room for it, or does not.
 pub record IsClosed {X : Type 0} (s : NodeState X) (key : List ℕ) (n : ℕ) (next : NodeState X) : Type 0 where
   pub closed : next.closed ≡ true
   pub pending : next.pending ≡ []
   pub floors : IsBeforeOrAfter s.floors key n next.floors
 
+-- The node closes at this purge. Without a purge it does not.
 abbrev pub ClosesOn : {X : Type 0} → NodeState X → Option (List ℕ × ℕ) → NodeState X → Type 0
 ClosesOn s None next = ⊥
 ClosesOn s (Some x) next = IsClosed s x.0 x.1 next
 
--- a fault at a numbered CLR of the master closes the node
+-- A fault at a numbered CLR of the master closes an open node.
 abbrev pub Closes : {X : Type 0} → Setting → NodeState X → Event X → NodeState X → Type 0
 Closes g s e next = (s.closed ≡ false) × ClosesOn s (purge_in g e) next
 
--- want of memory changes nothing, or closes the node
+-- A failed allocation changes nothing, or closes the node at a numbered CLR of the master.
 abbrev pub WantsMemory : {X : Type 0} → Setting → NodeState X → Event X → NodeState X → Type 0
 WantsMemory g s e next = (s.closed ≡ false) × (next ≡ s) ⊎ Closes g s e next
 
+-- The step gives this fault and leads to this state.
 abbrev pub Refuses : {X : Type 0} → Setting → NodeState X → Event X → X → StepFault → NodeState X → Type 0
 Refuses g s e mark fault.NoMemory next = WantsMemory g s e next
 Refuses g s e mark fault.StoreFault next = Closes g s e next
 Refuses g s e mark f next = step g s e mark ≡ record { state = next; outcome = Err f }
 
--- In state s, the event e under this mark may be answered by this outcome and lead to the next state.
+-- In state s, the event e with this mark may have this outcome and lead to the next state.
 abbrev pub Steps : {X : Type 0} → Setting → NodeState X → Event X → X → Result (Reply X) StepFault → NodeState X → Type 0
 Steps g s e mark (Ok reply) next = step g s e mark ≡ record { state = next; outcome = Ok reply }
 Steps g s e mark (Err f) next = Refuses g s e mark f next

@@ -1,4 +1,5 @@
--- Another tag in the place of each tag: in copies, reads, states, events and replies.
+-- Another tag in the place of each tag: in copies, reads, states, events and replies. Each function
+-- here applies f to every tag and changes nothing else.
 use Rattle.std.specs.Prelude.{map, option_map, Result, Ok, Err}
 use Rattle.object_store.specs.declared.copy.WebCopy.{WebCopy}
 use Rattle.node_rules.specs.declared.state.Fetch.{Fetch}

@@ -3,87 +3,89 @@ use fetch_messages::{Answer, Ask};
 use roster::Address;
 use url_key::Key;
 
-/// What a node meets. All moments are in seconds.
+/// The input of a node's step. Times (`now`) are in seconds.
+///
+/// `T` is the type of the tags that copies carry; no rule looks at them.
 #[derive(Drop)]
 pub enum Event<T> {
-    /// A client asks.
+    /// A client's request arrives.
     Client {
-        /// What it asks.
+        /// The request.
         ask: Ask,
-        /// The moment.
+        /// The time.
         now: u64,
     },
-    /// A datagram comes.
+    /// A datagram arrives, by ICP or HTCP.
     Datagram {
-        /// Where it comes from.
+        /// The sender's address.
         from: Address,
-        /// What it says.
+        /// The message that it spells.
         message: Received,
-        /// The moment.
+        /// The time.
         now: u64,
     },
-    /// Another member of the hierarchy asks by HTTP.
+    /// A request of another member arrives by HTTP.
     PeerAsk {
         /// The member's id.
         asker: u8,
-        /// What it asks.
+        /// The request.
         ask: Ask,
-        /// The moment.
+        /// The time.
         now: u64,
     },
-    /// A member answers a fetch.
+    /// A member responds to a fetch.
     PeerAnswer {
-        /// The fetch's serial.
+        /// The serial of the fetch.
         serial: u32,
         /// The member's id.
         peer: u8,
-        /// The URL that was asked for.
+        /// The URL that was requested.
         key: Key,
-        /// Its answer.
+        /// The response.
         answer: Answer,
-        /// The tag of the copy that it served.
+        /// The tag of the copy that the member served.
         tag: T,
-        /// The moment.
+        /// The time.
         now: u64,
     },
-    /// The origin answers a read.
+    /// The origin responds to a read.
     OriginAnswer {
-        /// The read's serial.
+        /// The serial of the read.
         serial: u32,
-        /// The URL that was asked for.
+        /// The URL that was requested.
         key: Key,
-        /// Its answer.
+        /// The response.
         answer: Answer,
-        /// The moment.
+        /// The time.
         now: u64,
     },
-    /// A foreign cache answers a fetch.
+    /// A foreign cache responds to a fetch.
     ForeignAnswer {
-        /// The fetch's serial.
+        /// The serial of the fetch.
         serial: u32,
-        /// The cache's id.
+        /// The id of the foreign cache.
         peer: u8,
-        /// The URL that was asked for.
+        /// The URL that was requested.
         key: Key,
-        /// Its answer.
+        /// The response.
         answer: Answer,
-        /// The tag that its copy gets.
+        /// The tag that the copy gets.
         tag: T,
-        /// The moment.
+        /// The time.
         now: u64,
     },
     /// A fetch fails.
     FetchFailed {
-        /// The fetch's serial.
+        /// The serial of the fetch.
         serial: u32,
-        /// The moment.
+        /// The time.
         now: u64,
     },
     /// A round has waited for its time.
     Expired {
-        /// The round's serial.
+        /// The serial of the round.
         serial: u32,
-        /// The moment.
+        /// The time.
         now: u64,
     },
 }

@@ -1,4 +1,4 @@
-//! Laws of the definitions. Each function does nothing: its clauses are the law.
+//! Laws of the definition. Each function does nothing: its contract states the law.
 ghost use Rattle.std.specs.Prelude.{◌≡◌, ◌≤◌, ℕ, List, length, Result, Some, true, false};
 ghost use Rattle.object_store.specs.declared.copy.WebCopy.{WebCopy};
 ghost use Rattle.floor_rules.specs.Floors.{floor};
@@ -15,25 +15,26 @@ ghost use Rattle.node_rules.specs.Lawful.{Lawful};
 ghost use Rattle.node_rules.specs.Tags.{retag_state, retag_event, retag_outcome, retag_stepped};
 ghost use Rattle.node_rules.specs.Good.{AllAbove, IsAbove, AreStored};
 
-/// The function is one way to step.
+/// What the function `step` gives is a step by the relation `Steps`.
 pub fn the_function_is_a_step<T>()
     ensures { (g : Setting) (s : NodeState T) (e : Event T) (mark : T) →
         Steps g s e mark (step g s e mark).outcome (step g s e mark).state }
 {}
 
-/// The function closes no node: only want of memory and a store that fails do.
+/// The function never closes a node. Only a failed allocation or a floor store that fails does.
 pub fn the_function_closes_no_node<T>()
     ensures { (g : Setting) (s : NodeState T) (e : Event T) (mark : T) →
         (step g s e mark).state.closed ≡ s.closed }
 {}
 
-/// The floors of a node never fall.
+/// No step lowers a floor.
 pub fn floors_never_fall<T>()
     ensures { (g : Setting) (s : NodeState T) (e : Event T) (mark : T) (outcome : Result (Reply T) StepFault) (next : NodeState T) (key : List ℕ) →
         Steps g s e mark outcome next → floor s.floors key ≤ floor next.floors key }
 {}
 
-/// A step serves no copy below the floor of its key. Where none is held below it, a step that leaves the node open leaves none below it.
+/// No step serves a copy below the floor of its key (`served`). If no copy is held below its floor,
+/// a step that leaves the node open leaves none below it (`stored`).
 pub fn copies_stay_above_their_floors<T>()
     ensures stored { (g : Setting) (s : NodeState T) (e : Event T) (mark : T) (outcome : Result (Reply T) StepFault) (next : NodeState T) →
         AllAbove s → Steps g s e mark outcome next → next.closed ≡ false → AllAbove next }
@@ -41,31 +42,34 @@ pub fn copies_stay_above_their_floors<T>()
         Steps g s e mark outcome next → (c : WebCopy T) → copy_served outcome ≡ Some c → IsAbove next.floors c }
 {}
 
-/// A step that leaves the node open keeps the store within its limits, with one copy for each key.
+/// A step that leaves the node open keeps the store within its limits, with at most one copy of
+/// each key.
 pub fn the_store_keeps_its_limits<T>()
     ensures { (g : Setting) (s : NodeState T) (e : Event T) (mark : T) (outcome : Result (Reply T) StepFault) (next : NodeState T) →
         AreStored g.roster.limits s.copies → Steps g s e mark outcome next → next.closed ≡ false → AreStored g.roster.limits next.copies }
 {}
 
-/// At most 1,024 asks wait: where no more do, a step leaves no more waiting.
+/// If at most 1,024 requests are pending, a step leaves at most 1,024.
 pub fn few_asks_wait<T>()
     ensures { (g : Setting) (s : NodeState T) (e : Event T) (mark : T) (outcome : Result (Reply T) StepFault) (next : NodeState T) →
         length s.pending ≤ 1024 → Steps g s e mark outcome next → length next.pending ≤ 1024 }
 {}
 
-/// No QUERY, no TST and no ask of a member that takes this node for a sibling begins anything or is left waiting.
+/// A QUERY, a TST, and a request of a member that names this node a sibling begin nothing and leave
+/// no request waiting (RFC 2187, section 2).
 pub fn siblings_begin_nothing<T>()
     ensures { (g : Setting) (s : NodeState T) (e : Event T) (mark : T) (outcome : Result (Reply T) StepFault) (next : NodeState T) →
         is_from_sibling g e ≡ true → Steps g s e mark outcome next → BeginsNothing s outcome next }
 {}
 
-/// Each step of a node keeps to the laws that the safety of purges rests on.
+/// Every step is lawful: it keeps all that the safety of purges rests on (`specs/Lawful`).
 pub fn steps_are_lawful<T>()
     ensures { (g : Setting) (s : NodeState T) (e : Event T) (mark : T) (outcome : Result (Reply T) StepFault) (next : NodeState T) →
         Steps g s e mark outcome next → Lawful g s e mark outcome next }
 {}
 
-/// A node carries tags and never looks at them: with another tag in the place of each, it takes the same steps.
+/// A node carries tags and never looks at them: replace each tag by another, and each step stays a
+/// step. `tag_laws` has the converse.
 pub fn nodes_never_look_at_tags<T, U>()
     ensures function { (f : T → U) (g : Setting) (s : NodeState T) (e : Event T) (mark : T) →
         step g (retag_state f s) (retag_event f e) (f mark) ≡ retag_stepped f (step g s e mark) }

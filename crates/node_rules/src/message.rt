@@ -9,10 +9,11 @@ use icp_wire::{Icp, LONGEST_MESSAGE};
 use roster::{Address, Udp};
 use std::marker::Model;
 
-/// The octets of an ICP answer without its URL: a header, and the zero octet behind the URL (RFC 2186).
+/// The octets of an ICP response without its URL: a header of 20 octets, and the zero octet behind
+/// the URL (RFC 2186).
 const ICP_FRAME: usize = 21;
 
-/// A message of either protocol.
+/// A message by either protocol.
 #[derive(Debug, Drop)]
 pub enum Message {
     /// A message of ICP version 2 (RFC 2186).
@@ -22,7 +23,7 @@ pub enum Message {
 }
 
 impl Message {
-    /// The protocol by which it is sent.
+    /// The protocol that carries it.
     pub fn protocol(&self) -> Udp
         ensures { result ≡ protocol_of self.now }
     {
@@ -32,7 +33,7 @@ impl Message {
         }
     }
 
-    /// The TRANS-ID and the code of a CLR's answer, if it is one (RFC 2756, section 6.5).
+    /// The TRANS-ID and the response code, if it is a response to a CLR (RFC 2756, section 6.5).
     pub fn clear_answer(&self) -> Option<(u32, u8)>
         ensures { result ≡ clear_answer_in_message self.now }
     {
@@ -46,8 +47,8 @@ impl Message {
     }
 }
 
-/// A message that came, and that can be answered: an answer that repeats its number and URL, or its opcode, has a text. Each
-/// message that the codecs read is one.
+/// A received message that can be answered: a response that repeats its number and URL, or its
+/// opcode, can be encoded. Every message that the codecs decode is one.
 ///
 /// A contract sees the message.
 #[derive(Debug, Drop)]
@@ -67,7 +68,7 @@ impl Model for Received {
 }
 
 impl Received {
-    /// The message as one that came. `can_be_answered` tells which messages may be handed in.
+    /// Takes a message that can be answered, as `can_be_answered` tells.
     pub fn new(message: Message) -> Received
         requires { IsAnswerable message }
         ensures { result ≡ message }
@@ -75,7 +76,7 @@ impl Received {
         Received { message }
     }
 
-    /// What it says.
+    /// The message.
     pub fn message(&self) -> &Message
         ensures value { result.now ≡ self.now }
         ensures answerable { IsAnswerable self.now }
@@ -83,7 +84,7 @@ impl Received {
         &self.message
     }
 
-    /// The message itself.
+    /// Gives the message back.
     pub fn into_message(self) -> Message
         ensures value { result ≡ self }
         ensures answerable { IsAnswerable self }
@@ -92,7 +93,7 @@ impl Received {
     }
 }
 
-/// A message to be sent, which has a text.
+/// A message to send, which can be encoded.
 ///
 /// A contract sees the message.
 #[derive(Debug, Drop)]
@@ -112,7 +113,7 @@ impl Model for Sent {
 }
 
 impl Sent {
-    /// The message as one to be sent. `fits` tells which messages may be handed in.
+    /// Takes a message that can be encoded, as `fits` tells.
     pub fn new(message: Message) -> Sent
         requires { IsSendable message }
         ensures { result ≡ message }
@@ -120,7 +121,7 @@ impl Sent {
         Sent { message }
     }
 
-    /// What it says.
+    /// The message.
     pub fn message(&self) -> &Message
         ensures value { result.now ≡ self.now }
         ensures sendable { IsSendable self.now }
@@ -129,16 +130,16 @@ impl Sent {
     }
 }
 
-/// A datagram to be sent.
+/// A datagram to send.
 #[derive(Debug, Drop)]
 pub struct Outgoing {
-    /// Where it goes.
+    /// The receiver's address.
     pub to: Address,
-    /// What it says.
+    /// The message.
     pub message: Sent,
 }
 
-/// Whether an answer to the message has a text.
+/// Whether a response to the message can be encoded.
 pub fn can_be_answered(message: &Message) -> bool
     ensures { IsTrue result ↔ IsAnswerable message.now }
 {
@@ -148,7 +149,7 @@ pub fn can_be_answered(message: &Message) -> bool
     }
 }
 
-/// Whether an ICP answer can repeat the URL.
+/// Whether an ICP response can repeat the URL: it has no zero octet and is short enough.
 fn can_be_repeated(message: &Icp) -> bool
     ensures { IsTrue result ↔ Fits (icp_message op.Miss message.now.number message.now.url) }
 {
@@ -156,7 +157,7 @@ fn can_be_repeated(message: &Icp) -> bool
     !url.contains(&0) && url.len() <= LONGEST_MESSAGE - ICP_FRAME
 }
 
-/// Whether the opcode has four bits, where an answer repeats it.
+/// Whether the opcode fits four bits, where a response repeats it.
 fn has_opcode(content: &Content) -> bool
     ensures { IsTrue result ↔ HasOpcode content.now }
 {
@@ -166,7 +167,7 @@ fn has_opcode(content: &Content) -> bool
     }
 }
 
-/// Whether the message has a text: `fits` of its codec.
+/// Whether the message can be encoded, as `fits` of its codec tells.
 pub fn fits(message: &Message) -> bool
     ensures { IsTrue result ↔ IsSendable message.now }
 {

@@ -8,7 +8,7 @@ use roster::Listed;
 use std::alloc::AllocError;
 use thiserror::Error;
 
-/// What is served.
+/// What is served in response to a request.
 #[derive(Drop)]
 pub enum Served<T> {
     /// A copy.
@@ -18,55 +18,56 @@ pub enum Served<T> {
         /// Its age in seconds, at most 2147483648 (RFC 9111, sections 1.2.2 and 5.1).
         age: u64,
     },
-    /// A bare status (RFC 9110, section 15): 502, 503 or 504.
+    /// A status without a body (RFC 9110, section 15): 502, 503 or 504.
     Status(u16),
 }
 
-/// Something that is served, and to whom.
+/// What is served, and to whom.
 #[derive(Drop)]
 pub struct Serve<T> {
-    /// The block of the pending ask that gets it; none: the asker of this event.
+    /// The block of the pending request that is served; none for the request of this event.
     pub waiter: Option<u32>,
-    /// The member that asked, if one did.
+    /// The member that sent the request; none for a client.
     pub asker: Option<u8>,
     /// What is served.
     pub served: Served<T>,
 }
 
-/// What a step begins.
+/// What a step begins. The caller carries it out, and hands in its end as an event.
 #[derive(Debug, Drop)]
 pub enum Begin {
-    /// A round of questions, which are among the datagrams sent. It is to expire after the roster's `query_wait`.
+    /// A round of queries; they are among the datagrams sent. The caller lets it expire after the
+    /// roster's `query_wait`.
     Round {
-        /// Its serial.
+        /// The serial of the round.
         serial: u32,
     },
     /// A fetch from a peer.
     Peer {
-        /// Its serial.
+        /// The serial of the fetch.
         serial: u32,
         /// The peer's id.
         peer: u8,
-        /// What the peer is asked.
+        /// The request to send.
         ask: Ask,
     },
     /// A read of the origin.
     Read {
-        /// Its serial.
+        /// The serial of the read.
         serial: u32,
-        /// What the origin is asked.
+        /// The request to send.
         ask: Ask,
     },
 }
 
-/// What a step does.
+/// The output of a step.
 #[derive(Drop)]
 pub struct Reply<T> {
-    /// What it serves.
+    /// What to serve, if anything.
     pub serve: Option<Serve<T>>,
-    /// The datagrams that it sends, in order.
+    /// The datagrams to send, in order.
     pub send: Listed<Outgoing>,
-    /// What it begins.
+    /// What to begin, if anything.
     pub begin: Option<Begin>,
 }
 
@@ -76,16 +77,17 @@ pub enum StepFault {
     /// The node is closed. Nothing changed.
     #[error("the node is closed")]
     Closed,
-    /// No pending ask is at this serial, with this key and this source. Nothing changed.
+    /// No pending request waits at this serial, with this key and this source. Nothing changed.
     #[error("no pending ask is at this serial")]
     UnknownSerial,
-    /// 1,024 asks wait, or no block of serials is left. Nothing changed.
+    /// 1,024 requests are pending, or no block of serials is left. Nothing changed.
     #[error("too many asks wait")]
     Busy,
     /// The floor store failed. The node is closed.
     #[error("the floor store failed")]
     StoreFault,
-    /// A growth was refused. Nothing changed, unless the floor store answered so: then the node is closed.
+    /// An allocation failed. Nothing changed, unless the floor store reported it: then the node is
+    /// closed.
     #[error("there was no memory")]
     NoMemory,
 }
@@ -102,7 +104,7 @@ impl From<AllocError> for StepFault {
 }
 
 impl StepFault {
-    /// The name that scripts print.
+    /// The fault's name, as scripts print it.
     pub const fn name(self) -> &'static str
         ensures { result.now ≡ step_fault_name self }
     {
