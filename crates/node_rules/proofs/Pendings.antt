@@ -1,6 +1,6 @@
--- What holds of each pending request as requests are removed, changed and put back. An origin read
--- that was under way stays so, since no rule changes the fetch of a request and leaves it at the
--- origin.
+-- What holds of each pending request as requests are removed, changed and put back. Each request of
+-- the state before a step is under way in it, so the origin reads that a step leaves alone need no
+-- further reason.
 use Rattle.std.proofs.Common.{◌≡◌, zero, suc, Bool, true, List, [], ◌∷◌, ◌++◌, map, filter, find, cond, Option, Some, refl, subst, inl, arith}
 use Rattle.std.specs.List.{AllByRecursion, Contains}
 use Rattle.std.proofs.lemmas.Option.{none-some}

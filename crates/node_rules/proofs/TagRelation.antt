@@ -1,5 +1,5 @@
--- The relation never looks at tags either: by the function's law, and since a node that closes has
--- no requests and says nothing of copies.
+-- The relation never looks at tags either: the function does not, and the rule of closing speaks of
+-- no copy and leaves no request.
 use Rattle.std.proofs.Common.{◌≡◌, ℕ, List, map, Option, Some, None, Result, Ok, Err, refl, sym, ◌∙◌, ap, subst, inl, inr}
 use Rattle.node_rules.specs.declared.state.NodeState.{NodeState}
 use Rattle.node_rules.specs.declared.event.Event.{Event}

@@ -199,7 +199,8 @@ pub data Effect {X : Type 0} (g : Setting) (s : NodeState X) (e : Event X) (mark
   Stays : (pending : List (Pending X)) (next : ℕ) (outcome : Result (Reply X) StepFault) → copy_served outcome ≡ None → Keeps g s e mark record { state = state_of s.floors s.copies s.closed pending next; outcome = outcome } → Effect g s e mark record { state = state_of s.floors s.copies s.closed pending next; outcome = outcome }
   -- a held copy is served by an open node, and comes to the front
   Serves : (key : List ℕ) (c : WebCopy X) (pending : List (Pending X)) (next : ℕ) (outcome : Result (Reply X) StepFault) → s.closed ≡ false → IsHeldAbove s.floors s.copies key c → copy_served outcome ≡ Some c → Keeps g s e mark record { state = state_of s.floors (to_front key s.copies) s.closed pending next; outcome = outcome } → Effect g s e mark record { state = state_of s.floors (to_front key s.copies) s.closed pending next; outcome = outcome }
-  -- the event brings an open node a copy that is not below its floor: it is served, and stored if it has a lifetime
+  -- the event brings an open node a copy not below its floor: it is served, and stored if it has a
+  -- lifetime
   Brings : (c : WebCopy X) (life : Option ℕ) (pending : List (Pending X)) (next : ℕ) (outcome : Result (Reply X) StepFault) → s.closed ≡ false → IsAnswerOf s e c → floor s.floors c.key ≤ c.stamp → copy_served outcome ≡ Some c → Keeps g s e mark record { state = state_of s.floors (stored g.roster.limits c life s.copies) s.closed pending next; outcome = outcome } → Effect g s e mark record { state = state_of s.floors (stored g.roster.limits c life s.copies) s.closed pending next; outcome = outcome }
   -- the purge that the event brings raises its floor, and no copy stays below it
   Purges : (key : List ℕ) (n : ℕ) (pending : List (Pending X)) (next : ℕ) (outcome : Result (Reply X) StepFault) → purge_in g e ≡ Some (key, n) → copy_served outcome ≡ None → Keeps g s e mark record { state = state_of (raised s.floors key n) (without_below key n s.copies) s.closed pending next; outcome = outcome } → Effect g s e mark record { state = state_of (raised s.floors key n) (without_below key n s.copies) s.closed pending next; outcome = outcome }
