@@ -1,4 +1,5 @@
--- Each step with other tags comes of a step with the node's own.
+-- Each step with other tags comes of a step with the node's own. The function gives the same with
+-- other tags; and of a closed state the relation says only what has no tags in it.
 use Rattle.std.proofs.Common.{◌≡◌, ℕ, true, List, [], Option, Some, None, Result, Ok, Err, refl, sym, ◌∙◌, ap, subst, inl, inr}
 use Rattle.node_rules.specs.declared.state.NodeState.{NodeState}
 use Rattle.node_rules.specs.declared.event.Event.{Event}

@@ -1,4 +1,4 @@
--- Steps with other tags, and the steps of which they come.
+-- A step with other tags, and the step with a node's own tags that it comes of.
 use Rattle.std.specs.Prelude.{◌≡◌, false, Result}
 use Rattle.node_rules.specs.declared.state.NodeState.{NodeState}
 use Rattle.node_rules.specs.declared.event.Event.{Event}
@@ -8,14 +8,16 @@ use Rattle.node_rules.specs.State.{Setting}
 use Rattle.node_rules.specs.Relation.{Steps}
 use Rattle.node_rules.specs.Tags.{retag_state, retag_outcome}
 
--- The same state; where it is closed, no more is asked than that the other one is closed too, with the same floors and as little that waits.
+-- The same state, if it is open. A closed one only has the same floors and the same pending
+-- requests.
 pub record IsAlike {Y : Type 0} (a b : NodeState Y) : Type 0 where
   pub closed : a.closed ≡ b.closed
   pub floors : a.floors ≡ b.floors
   pub pending : a.pending ≡ b.pending
   pub whole : b.closed ≡ false → a ≡ b
 
--- the node's own step, of which this one comes: it has this outcome and leads to this state, but for the tags
+-- The node's own step that this one comes of: it has this outcome and leads to this state, but for
+-- the tags.
 pub record ComesOfStep {X Y : Type 0} (f : X → Y) (g : Setting) (s : NodeState X) (e : Event X) (mark : X) (outcome : Result (Reply Y) StepFault) (next : NodeState Y) : Type 0 where
   pub own_outcome : Result (Reply X) StepFault
   pub own_next : NodeState X

@@ -1,4 +1,4 @@
-//! The law.
+//! The law. Its function does nothing: its contract states the law.
 ghost use Rattle.std.specs.Prelude.{◌≡◌, Result};
 ghost use Rattle.node_rules.specs.declared.state.NodeState.{NodeState};
 ghost use Rattle.node_rules.specs.declared.event.Event.{Event};
@@ -9,8 +9,11 @@ ghost use Rattle.node_rules.specs.Relation.{Steps};
 ghost use Rattle.node_rules.specs.Tags.{retag_state, retag_event};
 ghost use Rattle.tag_laws.specs.Tagged.{ComesOfStep};
 
-/// A step that a node takes with other tags in the place of its own, is a step that it takes with its own: with the same outcome and to the same state, but for the tags. Of a state that is closed
-/// only what the rules say of it is the same: that it is closed, its floors and that nothing waits.
+/// A step that a node takes with other tags is one that it takes with its own: the outcome and the
+/// next state are the same, but for the tags.
+///
+/// Of a closed next state, only this is the same: that it is closed, its floors, and that no
+/// request is pending.
 pub fn steps_of_other_tags_are_steps<T, U>()
     ensures { (f : T → U) (g : Setting) (s : NodeState T) (e : Event T) (mark : T) (outcome : Result (Reply U) StepFault) (next : NodeState U) →
         Steps g (retag_state f s) (retag_event f e) (f mark) outcome next → ComesOfStep f g s e mark outcome next }
