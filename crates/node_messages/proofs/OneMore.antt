@@ -1,4 +1,4 @@
--- One question more.
+-- One query more at the end of a list of queries.
 use Rattle.std.proofs.Common.{◌≡◌, ℕ, ◌+◌, ◌<◌, List, [], ◌∷◌, ◌++◌, take, length, get_or, filter_map, Option, Some, None, refl, ◌∙◌, ap, option_to_list}
 use Rattle.std.proofs.lemmas.List.{take_more}
 use Rattle.std.proofs.lemmas.List.Elements.{filter_map-append}

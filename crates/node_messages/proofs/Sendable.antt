@@ -1,4 +1,6 @@
--- The messages that a node sends have a text.
+-- The messages that a node sends can be encoded. A key has no zero octet and at most 1,024 octets,
+-- so queries are short enough; a response is as long as the miss that must fit; a stamp has at most
+-- ten digits.
 use Rattle.std.proofs.Common.{◌≡◌, ◌≢◌, ℕ, ◌≤◌, ◌<◌, ◌+◌, ◌^◌, true, false, subst, List, [], ◌∷◌, ◌++◌, length, Some, Ok, Err, refl, sym, inl, inr, codes, decimal, arith, length-append, Contains}
 use Rattle.std.specs.List.{list_all}
 use Rattle.std.proofs.lemmas.Bool.{cases_Bool, le-ltb}

@@ -1,4 +1,4 @@
-//! The questions of a round.
+//! The queries of a round.
 ghost use Rattle.std.specs.Prelude.{◌≡◌, ◌++◌, IfOk, OnOk, option_to_list};
 ghost use Rattle.std.specs.List.{filter_map};
 ghost use Rattle.roster_tables.specs.declared.plain.Udp.TheVariants as udp;
@@ -14,7 +14,7 @@ use std::alloc::{AllocError, Global};
 use url_key::Key;
 use wire_octets::Octets;
 
-/// GET of a key, as a SPECIFIER says it (RFC 2756, "SPECIFIER").
+/// GET of a key, as a SPECIFIER with empty REQ-HDRS (RFC 2756, "SPECIFIER").
 fn get(alloc: Global, key: &[u8]) -> Result<Specifier, AllocError>
     ensures { IfOk result (λ spec. spec ≡ messages.get key.now) }
 {
@@ -26,7 +26,7 @@ fn get(alloc: Global, key: &[u8]) -> Result<Specifier, AllocError>
     })
 }
 
-/// The question whether a peer holds a key's copy, by its protocol.
+/// The query whether a peer holds a copy of the key, by its protocol.
 fn query(alloc: Global, by: Udp, serial: u32, key: &Key) -> Result<Sent, AllocError>
     ensures { IfOk result (λ sent. sent ≡ messages.query by serial key.now) }
 {
@@ -36,7 +36,7 @@ fn query(alloc: Global, by: Udp, serial: u32, key: &Key) -> Result<Sent, AllocEr
     }
 }
 
-/// The question by ICP.
+/// A QUERY (RFC 2186, "ICP_OP_QUERY").
 fn icp_query(alloc: Global, serial: u32, key: &Key) -> Result<Sent, AllocError>
     ensures { IfOk result (λ sent. sent ≡ messages.query udp.Icp serial key.now) }
 {
@@ -49,7 +49,7 @@ fn icp_query(alloc: Global, serial: u32, key: &Key) -> Result<Sent, AllocError>
     Ok(Sent::new(Message::Icp(message)))
 }
 
-/// The question by HTCP.
+/// A TST (RFC 2756, "TST"). It desires a response.
 fn htcp_query(alloc: Global, serial: u32, key: &Key) -> Result<Sent, AllocError>
     ensures { IfOk result (λ sent. sent ≡ messages.query udp.Htcp serial key.now) }
 {
@@ -65,7 +65,7 @@ fn htcp_query(alloc: Global, serial: u32, key: &Key) -> Result<Sent, AllocError>
     Ok(Sent::new(Message::Htcp(message)))
 }
 
-/// The question to one peer, if it is in the roster.
+/// The query to one peer; none if the roster does not have the peer.
 fn query_to(
     alloc: Global,
     roster: &Roster,
@@ -87,6 +87,7 @@ fn query_to(
     }
 }
 
+/// Appends a query, if there is one.
 fn push_some(sent: &mut Vec<Outgoing>, question: Option<Outgoing>) -> Result<(), AllocError>
     ensures { OnOk result (sent.new.items ≡ sent.old.items ++ option_to_list question) }
 {
@@ -96,8 +97,10 @@ fn push_some(sent: &mut Vec<Outgoing>, question: Option<Outgoing>) -> Result<(),
     Ok(())
 }
 
-/// The questions of the round of this serial, in the order of the peers that are asked: whether they hold a copy of the key (RFC 2186,
-/// "ICP_OP_QUERY"; RFC 2756, "TST").
+/// Makes the queries of the round with this serial, in the order of the peers asked: whether they
+/// hold a copy of the key (RFC 2186, "ICP_OP_QUERY"; RFC 2756, "TST").
+///
+/// The serial is the request number or the TRANS-ID.
 #[tactic(auto, using(crate::proofs::OneMore::one_more))]
 pub fn queries(
     alloc: Global,

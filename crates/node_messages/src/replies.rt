@@ -1,4 +1,4 @@
-//! What a node answers to a datagram.
+//! A node's responses to datagrams.
 ghost use Rattle.std.specs.Prelude.{◌≡◌, ◌≢◌, ◌<◌, ◌++◌, ◌∷◌, [], IfOk, IfSome, codes, decimal, option_map};
 ghost use Rattle.icp_wire.specs.declared.message.IcpOp.TheVariants as ops;
 ghost use Rattle.htcp_wire.specs.declared.message.Content.TheVariants as content;
@@ -18,8 +18,11 @@ use wire_octets::Octets;
 /// The opcode of TST.
 const TST: u8 = 1;
 
-/// The answer to an ICP query: this opcode, with the query's number and URL (RFC 2186, "ICP Opcodes"). The URL is that of a message that
-/// can be answered, and the opcode is no query's and brings no object. It takes no memory.
+/// Makes the response to a QUERY: this opcode, with the query's number and URL (RFC 2186, "ICP
+/// Opcodes").
+///
+/// The URL must be that of a message that can be answered. The opcode must be neither QUERY nor
+/// HIT_OBJ. Allocates nothing.
 #[tactic(auto, using(crate::proofs::Sendable::answer_fits))]
 pub fn icp_answer(alloc: Global, to: Address, op: IcpOp, number: u32, url: Octets) -> Outgoing
     requires answerable { IsSendable (messages.icp ops.Miss number url) }
@@ -39,7 +42,7 @@ pub fn icp_answer(alloc: Global, to: Address, op: IcpOp, number: u32, url: Octet
     }
 }
 
-/// An HTCP message.
+/// An HTCP/0.0 message that can be encoded.
 fn htcp(to: Address, trans: u32, content: Content) -> Outgoing
     requires { IsSendable (messages.htcp trans content) }
     ensures { result ≡ messages.to to (messages.htcp trans content) }
@@ -55,15 +58,17 @@ fn htcp(to: Address, trans: u32, content: Content) -> Outgoing
     }
 }
 
-/// The answer to a NOP (RFC 2756, "NOP"). It takes no memory.
+/// Makes the response to a NOP (RFC 2756, "NOP"). Allocates nothing.
 pub fn nop_answer(to: Address, trans: u32) -> Outgoing
     ensures { result ≡ messages.to to (messages.htcp trans content.NopAnswer) }
 {
     htcp(to, trans, Content::NopAnswer)
 }
 
-/// An answer that speaks of the overall message (RFC 2756, "RESPONSE" where MO is 1): 2 for an opcode that is not implemented, 5 for one
-/// that is not allowed here. Opcode and code have four bits. It takes no memory.
+/// Makes a response to the message as a whole (RFC 2756, "RESPONSE" where MO is 1). Code 2: opcode
+/// not implemented. Code 5: not allowed here.
+///
+/// Opcode and code have four bits. Allocates nothing.
 pub fn overall_answer(to: Address, trans: u32, opcode: u8, code: u8) -> Outgoing
     requires opcode { opcode < 16 }
     requires code { code < 16 }
@@ -72,7 +77,8 @@ pub fn overall_answer(to: Address, trans: u32, opcode: u8, code: u8) -> Outgoing
     htcp(to, trans, Content::Overall { opcode, code })
 }
 
-/// The answer to a CLR (RFC 2756, "CLR"): 0 where a copy is gone, 2 where there was none. It takes no memory.
+/// Makes the response to a CLR (RFC 2756, "CLR"): 0 if a copy was dropped, 2 if there was none.
+/// Allocates nothing.
 pub fn clr_answer(to: Address, trans: u32, dropped: bool) -> Outgoing
     ensures { result ≡ messages.to to (messages.htcp trans (content.ClrAnswer (clr_code dropped))) }
 {
@@ -80,7 +86,8 @@ pub fn clr_answer(to: Address, trans: u32, dropped: bool) -> Outgoing
     htcp(to, trans, Content::ClrAnswer { code })
 }
 
-/// The answer to a TST (RFC 2756, "TST"): 0 with the stamp of the copy that is held, or 1 where there is none. A miss takes no memory.
+/// Makes the response to a TST (RFC 2756, "TST"): 0 with the stamp of the copy that is held, or 1
+/// without a copy. Only a hit allocates.
 pub fn tst_answer(
     alloc: Global,
     to: Address,
@@ -95,7 +102,7 @@ pub fn tst_answer(
     }
 }
 
-/// The answer to a TST for what is not held.
+/// The response to a TST for what is not held.
 fn miss_answer(alloc: Global, to: Address, trans: u32) -> Outgoing
     ensures { result ≡ messages.to to (messages.htcp trans (content.TstMiss [])) }
 {
@@ -103,7 +110,7 @@ fn miss_answer(alloc: Global, to: Address, trans: u32) -> Outgoing
     htcp(to, trans, Content::TstMiss { cache })
 }
 
-/// The answer to a TST for a copy of this stamp.
+/// The response to a TST for a copy with this stamp.
 fn hit_answer(alloc: Global, to: Address, trans: u32, stamp: u32) -> Result<Outgoing, AllocError>
     ensures { IfOk result (λ sent. sent ≡ messages.to to (messages.htcp trans (tst_hit stamp))) }
 {
@@ -111,7 +118,7 @@ fn hit_answer(alloc: Global, to: Address, trans: u32, stamp: u32) -> Result<Outg
     Ok(htcp(to, trans, content))
 }
 
-/// The content of a TST's answer that tells a stamp.
+/// The content of a TST response that tells a stamp.
 fn tst_hit_of(alloc: Global, stamp: u32) -> Result<Content, AllocError>
     ensures { IfOk result (λ content. content ≡ tst_hit stamp) }
 {
