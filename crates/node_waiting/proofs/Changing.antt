@@ -1,4 +1,5 @@
--- What becomes of asks in order as one is added, changes or ends.
+-- Requests in order stay so as one is added, changes or ends: a new block is greater than all
+-- others, a change keeps the block, and removing one element keeps the order.
 use Rattle.std.proofs.Common.{◌≡◌, ◌≢◌, ℕ, zero, suc, ◌<◌, ◌==◌, Bool, true, false, cond, not, List, [], ◌∷◌, ◌++◌, map, filter, All, length, get_or, set, slice_get, Some, refl, inl, inr, sym, ap, ◌∙◌, subst, arith, length-set, get_or-set_same, get_or-set_other}
 use Rattle.std.specs.List.{remove}
 use Rattle.std.proofs.lemmas.Bool.Decides.{nat_tests}

@@ -1,4 +1,5 @@
--- Following an answer makes one less of those that may still be followed.
+-- Following an answer leaves at least one answer less to follow: its peer is asked now, so the
+-- answer counts as followed.
 use Rattle.std.proofs.Common.{◌≡◌, ℕ, zero, suc, ◌+◌, ◌≤◌, Bool, true, false, cond, List, [], ◌∷◌, count_by, Some, refl, sym, ap, subst, arith}
 use Rattle.std.specs.List.{Contains}
 use Rattle.std.proofs.lemmas.Bool.Decides.{nat_tests}

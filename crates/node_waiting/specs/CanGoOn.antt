@@ -1,7 +1,6 @@
--- An ask that waits can go on: each fetch that it may still begin has a serial in its block.
---     told_of round        the answers of its round, none without a round
---     untried_count p      how many of them are of peers that it neither tried nor asks now
--- It begins at most one fetch for each answer and three for the origin, 26 in all, and its block has serials for 31.
+-- A pending request can go on: each fetch that it may still begin has a serial in its block. It
+-- begins at most one fetch for each answer to its round and three origin reads, 26 in all; a block
+-- has serials for 31 fetches.
 use Rattle.std.specs.Prelude.{ℕ, ◌+◌, ◌≤◌, Bool, false, not, ◌&&◌, ◌==◌, List, [], length, count_by, Option, Some, None}
 use Rattle.std.specs.List.{list_any}
 use Rattle.peer_chooser.specs.declared.said.Told.{Told}
@@ -10,24 +9,27 @@ use Rattle.node_rules.specs.declared.state.Fetch.{Fetch}
 use Rattle.node_rules.specs.declared.state.Fetch.TheVariants.{Nowhere, AtPeer, AtOrigin}
 use Rattle.node_rules.specs.declared.state.Pending.{Pending}
 
+-- The answers to its round; none without a round.
 abbrev pub told_of : Option RoundText → List Told
 told_of None = []
 told_of (Some r) = r.told
 
--- the peer of this id is asked now
+-- The present fetch is from the peer of this id.
 abbrev pub is_asked_now : {X : Type 0} → ℕ → Fetch X → Bool
 is_asked_now id Nowhere = false
 is_asked_now id (AtPeer peer asked) = peer == id
 is_asked_now id (AtOrigin stamp asked mark) = false
 
--- the answer is of a peer that is neither tried nor asked now
+-- The answer is of a peer that was not tried, and that the present fetch is not from.
 abbrev pub is_untried : {X : Type 0} → List ℕ → Fetch X → Told → Bool
 is_untried tried fetch t = not (list_any (λ id. id == t.peer.id) tried) && not (is_asked_now t.peer.id fetch)
 
+-- How many answers may still be followed.
 abbrev pub untried_count : {X : Type 0} → Pending X → ℕ
 untried_count p = count_by (is_untried p.tried p.fetch) (told_of p.round)
 
--- three reads at most, 23 answers at most, and no more fetches than the reads and the answers that were followed
+-- At most three reads and at most 23 answers. The fetches begun, and the answers that may still be
+-- followed, are together no more than the reads and the answers.
 pub record CanGoOn {X : Type 0} (p : Pending X) : Type 0 where
   pub few_reads : p.reads ≤ 3
   pub few_answers : length (told_of p.round) ≤ 23

@@ -1,11 +1,11 @@
--- How far an ask is that waits.
+-- How far a pending request is, and a request that is as far as this.
 use Rattle.node_rules.specs.declared.state.Pending.{Pending}
 use Rattle.node_waiting.specs.declared.progress.Progress.{Progress}
 
--- how far the ask is
+-- How far the request is.
 abbrev pub progress_of : {X : Type 0} → Pending X → Progress X
 progress_of p = record { round = p.round; tried = p.tried; fetches = p.fetches; reads = p.reads; fetch = p.fetch }
 
--- the ask, as far as this
+-- The request, as far as this.
 abbrev pub with_progress : {X : Type 0} → Pending X → Progress X → Pending X
 with_progress p progress = record { block = p.block; asker = p.asker; ask = p.ask; round = progress.round; tried = progress.tried; fetches = progress.fetches; reads = progress.reads; fetch = progress.fetch }

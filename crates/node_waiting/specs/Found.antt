@@ -1,18 +1,18 @@
--- What is found among the asks that wait.
+-- What is found among the pending requests.
 use Rattle.std.specs.Prelude.{◌≡◌, ◌≢◌, ℕ, ◌<◌, All, Bool, List, length, Option, Some, None, if◌then◌else◌}
 use Rattle.std.specs.List.{HoldsAt}
 use Rattle.node_rules.specs.declared.state.Pending.{Pending}
 
--- the ask at this place is of this block
+-- The request at this place has this block.
 pub record IsPlaceOf {X : Type 0} (asks : List (Pending X)) (block place : ℕ) : Type 0 where
   pub in_range : place < length asks
   pub is_of_it : HoldsAt (λ p. p.block ≡ block) asks place
 
--- no ask is of this block
+-- No request has this block.
 abbrev pub IsAbsent : {X : Type 0} → List (Pending X) → ℕ → Type 0
 IsAbsent asks block = All (λ p. p.block ≢ block) asks
 
--- what was found, where it passes one more test
+-- What was found, if it passes one more test.
 abbrev pub if_passes : {X : Type 0} → (X → Bool) → Option X → Option X
 if_passes test None = None
 if_passes test (Some x) = if test x then Some x else None

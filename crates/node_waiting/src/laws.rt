@@ -1,4 +1,4 @@
-//! Laws of asks that wait. Each function does nothing: its clauses are the law.
+//! Laws of pending requests. Each function does nothing: its contract states the law.
 ghost use Rattle.std.specs.Prelude.{◌≡◌, ◌≤◌, ◌<◌, ◌+◌, ◌++◌, [], ◌∷◌, ℕ, All, Bool, true, List, length, Option, Some, None};
 ghost use Rattle.fetch_messages.specs.declared.ask.Ask.{Ask};
 ghost use Rattle.roster_tables.specs.declared.plain.Peer.{Peer};
@@ -16,12 +16,12 @@ ghost use Rattle.node_waiting.specs.CanGoOn.{CanGoOn};
 
 use peer_chooser::choices_follow_answers;
 
-/// An ask that can go on has begun 26 fetches at most.
+/// A request that can go on has begun at most 26 fetches.
 pub fn fetches_are_few<T>()
     ensures { (p : Pending T) → CanGoOn p → p.fetches ≤ 26 }
 {}
 
-/// A new ask can go on, without a round and with one that begins.
+/// A new request can go on, with a round that begins (`with_round`) or without one (`alone`).
 pub fn new_asks_can_go_on<T>()
     ensures alone { (block : ℕ) (asker : Option ℕ) (ask : Ask) →
         let p : Pending T = new_ask block asker ask None in CanGoOn p }
@@ -29,7 +29,8 @@ pub fn new_asks_can_go_on<T>()
         let p : Pending T = new_ask block asker ask (Some (started peers floor)) in CanGoOn p }
 {}
 
-/// An ask that goes to the peer that its round chose, or to the origin for the first, second or third time, can go on.
+/// A request can go on as it goes to the peer that its round chose (`peer`), or to the origin for
+/// the first, second or third time (`origin`).
 pub fn fetching_asks_can_go_on<T>()
     ensures peer { (p : Pending T) (r : RoundText) (floor peer now : ℕ) (cached : Bool) →
         CanGoOn p → p.round ≡ Some r → is_idle p.fetch ≡ true → choice r floor p.tried ≡ source.Peer peer cached →
@@ -41,7 +42,8 @@ pub fn fetching_asks_can_go_on<T>()
     choices_follow_answers();
 }
 
-/// An ask whose fetch has ended can go on: at a peer, which is tried now, or at the origin.
+/// A request can go on after its fetch has ended: from a peer, which counts as tried now, or from
+/// the origin.
 pub fn asks_can_go_on_after_a_fetch<T>()
     ensures peer { (p : Pending T) (peer asked : ℕ) →
         CanGoOn p → p.fetch ≡ AtPeer peer asked → CanGoOn (not_fetching p (p.tried ++ peer ∷ [])) }
@@ -49,7 +51,8 @@ pub fn asks_can_go_on_after_a_fetch<T>()
         CanGoOn p → p.fetch ≡ AtOrigin stamp asked mark → CanGoOn (not_fetching p p.tried) }
 {}
 
-/// An ask can go on after an answer to its round, of which there are 23 at most, and after its round's end.
+/// A request can go on after an answer to its round, which has at most 23 answers then, and after
+/// its round has expired.
 pub fn asks_can_go_on_with_their_rounds<T>()
     ensures answered { (p : Pending T) (r : RoundText) (id : ℕ) (said : Said) →
         CanGoOn p → p.round ≡ Some r → length (answered r id said).told ≤ 23 → CanGoOn (with_round p (answered r id said)) }
@@ -57,12 +60,12 @@ pub fn asks_can_go_on_with_their_rounds<T>()
         CanGoOn p → p.round ≡ Some r → CanGoOn (with_round p (ended r)) }
 {}
 
-/// Of two changes of one ask the later one counts.
+/// Of two changes of one request, the later one counts.
 pub fn later_changes_count<T>()
     ensures { (asks : List (Pending T)) (p : Pending T) (q : Pending T) → q.block ≡ p.block → changed q (changed p asks) ≡ changed q asks }
 {}
 
-/// Blocks that are below a bound stay so as an ask is added, changes or ends.
+/// If all blocks are below a bound, they stay so as a request is added, changes or ends.
 pub fn blocks_stay_below<T>()
     ensures added { (asks : List (Pending T)) (p : Pending T) (bound : ℕ) →
         All (λ q. q.block < bound) asks → p.block < bound → All (λ q. q.block < bound) (asks ++ p ∷ []) }

@@ -1,11 +1,28 @@
-//! The asks that wait at a node for their answers.
+//! The pending requests of a node, as a list that is found by serials.
 //!
-//! A node's state has them as a list, in the order of their blocks of serials (`Pending` and `NodeState` of `node_rules`). A
-//! `Waiting` is that list: it finds an ask by the serial of its round or of its present fetch with a binary search, changes
-//! an ask in its place, and takes it out when it ends.
+//! The main type is [`Waiting`]: the requests in the order of their blocks of serials (`Pending`
+//! and `NodeState` of `node_rules`). It finds a request by the serial of its round
+//! ([`Waiting::of_round`]) or of its last fetch ([`Waiting::of_fetch`]) with one binary search. It
+//! changes a request in its place by a [`Progress`], the parts of a request that change, and takes
+//! it out when it ends.
 //!
-//! A serial tells the block by `serial / 32` because no ask begins more than 26 fetches: each ask in a `Waiting` can go on
-//! (`specs/CanGoOn`), and `laws` says that an ask stays so with whatever a node's rules do to it.
+//! Block b has the serials 32b to 32b + 31, so a serial tells its block by `serial / 32`. That is
+//! enough because no request begins more than 26 fetches: one for each of at most 23 answers to its
+//! round, and three origin reads. Each request in a `Waiting` *can go on*: its block has a serial
+//! for each fetch that it may still begin.
+//!
+//! Where to read:
+//!
+//! - `specs/CanGoOn`: why the serials of a block suffice; `specs/InOrder`: the invariant of
+//!   `Waiting`
+//! - `specs/Found`, `specs/Changed`: what is found, and what a change leaves
+//! - `src/waiting.rt`: the calls; `src/progress.rt`: `Progress`
+//! - `src/laws.rt`: a request can still go on after all that the rules of a node do to it
+//! - `proofs/Finding`, `proofs/Changing`, `proofs/Counting`: proofs of finding, changing, and the
+//!   count of fetches
+//!
+//! A contract sees a `Waiting` as the list of its requests. Pure: no IO and no clock; only
+//! [`Waiting::add`] allocates.
 #![tactic(auto)]
 
 pub mod laws;

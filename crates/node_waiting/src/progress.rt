@@ -6,23 +6,23 @@ use peer_chooser::Round;
 use roster::Listed;
 use std::alloc::Global;
 
-/// The parts of an ask that change while it waits: how far it is.
+/// How far a pending request is: the parts of it that change.
 #[derive(Drop)]
 pub struct Progress<T> {
-    /// The round of questions to the node's peers, if there is one.
+    /// The round of queries to the node's peers, if there is one.
     pub round: Option<Round>,
-    /// The peers whose fetch failed or whose answer was not used.
+    /// The peers whose fetch failed or whose response was not used.
     pub tried: Listed<u8>,
-    /// How many fetches it has begun, at most 26.
+    /// How many fetches were begun for it, at most 26.
     pub fetches: u8,
-    /// How many of them were reads of the origin, at most 3.
+    /// How many of them were origin reads, at most 3.
     pub reads: u8,
-    /// Its present fetch.
+    /// The present fetch.
     pub fetch: Fetch<T>,
 }
 
 impl<T> Progress<T> {
-    /// As far as a new ask without a round. It takes no memory.
+    /// How far a new request without a round is. Allocates nothing.
     pub fn new(alloc: Global) -> Progress<T>
         ensures { result ≡ record {
           round = None;

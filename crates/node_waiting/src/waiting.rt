@@ -9,9 +9,10 @@ use std::alloc::{AllocError, Global};
 use std::marker::Model;
 use std::mem::replace;
 
-/// The asks that wait at a node, in the order of their blocks.
+/// The pending requests of a node, in the order of their blocks.
 ///
-/// A contract sees the list of them. Their blocks ascend, from 1 to 134,217,727, and each ask can go on.
+/// A contract sees the list of them. Their blocks ascend, from 1 to 134,217,727, and each request
+/// can go on.
 #[derive(Drop)]
 pub struct Waiting<T> {
     asks: Vec<Pending<T>>,
@@ -35,7 +36,7 @@ impl<T> Waiting<T> {
     ghost use Rattle.node_waiting.specs.Changed.{progress_of, with_progress};
     ghost use Rattle.node_waiting.specs.Found.{IsPlaceOf, IsAbsent, if_passes};
 
-    /// No ask waits. It takes no memory.
+    /// An empty list. Allocates nothing.
     pub fn new(alloc: Global) -> Waiting<T>
         ensures { result ≡ [] }
     {
@@ -44,7 +45,7 @@ impl<T> Waiting<T> {
         }
     }
 
-    /// How many asks wait.
+    /// How many requests are pending.
     pub fn len(&self) -> usize
         ensures count { result ≡ length self.now }
         ensures in_order { AreInOrder self.now }
@@ -52,14 +53,14 @@ impl<T> Waiting<T> {
         self.asks.len()
     }
 
-    /// Whether no ask waits.
+    /// Whether no request is pending.
     pub fn is_empty(&self) -> bool
         ensures { result ≡ (length self.now == 0) }
     {
         self.asks.is_empty()
     }
 
-    /// The place of the ask whose round has this serial, if there is one. It takes no memory.
+    /// The place of the request whose round has this serial, if there is one. Allocates nothing.
     pub fn of_round(&self, serial: u32) -> Option<usize>
         ensures found { option_and_then (slice_get self.now) result ≡ find (λ p. round_serial p == serial) self.now }
         ensures found_where { (test : Pending T → Bool) →
@@ -70,8 +71,8 @@ impl<T> Waiting<T> {
         if serial % 32 == 0 { Some(place) } else { None }
     }
 
-    /// The place of the ask whose last fetch has this serial, if there is one; an ask that has begun none has its round's. It takes
-    /// no memory.
+    /// The place of the request whose last fetch has this serial, if there is one. Before its first
+    /// fetch, a request is found by the serial of its round. Allocates nothing.
     pub fn of_fetch(&self, serial: u32) -> Option<usize>
         ensures found { option_and_then (slice_get self.now) result ≡ find (λ p. fetch_serial p == serial) self.now }
         ensures found_where { (test : Pending T → Bool) →
@@ -87,7 +88,7 @@ impl<T> Waiting<T> {
         }
     }
 
-    /// The place of the ask of this block, if there is one.
+    /// The place of the request with this block, if there is one.
     fn of_block(&self, block: u32) -> Option<usize>
         ensures in_order { AreInOrder self.now }
         ensures place { MatchOption result (IsAbsent self.now block) (IsPlaceOf self.now block) }
@@ -98,7 +99,7 @@ impl<T> Waiting<T> {
         }
     }
 
-    /// The ask at a place, which is below `len`.
+    /// The request at a place, which must be below `len`.
     pub fn ask(&self, place: usize) -> &Pending<T>
         requires { place < length self.now }
         ensures value { slice_get self.now place ≡ Some result.now }
@@ -108,8 +109,10 @@ impl<T> Waiting<T> {
         &self.asks[place]
     }
 
-    /// Adds an ask behind the others. Its block is greater than theirs and at most 134,217,727, and it can go on. Where there is
-    /// no memory for it, it comes back, and nothing changes.
+    /// Appends a request. Its block must be greater than all others and at most 134,217,727, and it
+    /// must be able to go on.
+    ///
+    /// If an allocation fails, the request comes back and nothing changes.
     pub fn add(&mut self, ask: Pending<T>) -> Result<(), (Pending<T>, AllocError)>
         requires block { IsBlock ask.block }
         requires above { All (λ q. q.block < ask.block) self.old }
@@ -125,8 +128,10 @@ impl<T> Waiting<T> {
         Ok(())
     }
 
-    /// The ask at a place, which is below `len`, becomes as far as this, and can go on. It stays in its place. How far it was
-    /// comes back. It takes no memory.
+    /// Sets how far the request at a place is, and gives back how far it was. The request stays in
+    /// its place. Allocates nothing.
+    ///
+    /// The place must be below `len`, and the request must be able to go on then.
     pub fn replace(&mut self, place: usize, progress: Progress<T>) -> Progress<T>
         requires place { place < length self.old }
         requires can_go_on { IfSome (slice_get self.old place) (λ p. CanGoOn (with_progress p progress)) }
@@ -144,7 +149,7 @@ impl<T> Waiting<T> {
         }
     }
 
-    /// Takes out the ask at a place, which is below `len`. Those behind it move up by one.
+    /// Removes the request at a place, which must be below `len`. Those behind it move up by one.
     pub fn end(&mut self, place: usize) -> Pending<T>
         requires { place < length self.old }
         ensures value { slice_get self.old place ≡ Some result }
@@ -158,8 +163,8 @@ impl<T: Drop> Waiting<T> {
     ghost use Rattle.node_waiting.specs.CanGoOn.{CanGoOn};
     ghost use Rattle.node_waiting.specs.Changed.{with_progress};
 
-    /// The ask at a place, which is below `len`, becomes as far as this, and can go on. It stays in its place. It takes no
-    /// memory.
+    /// Sets how far the request at a place is, as `replace` does, and drops how far it was.
+    /// Allocates nothing.
     pub fn change(&mut self, place: usize, progress: Progress<T>)
         requires place { place < length self.old }
         requires can_go_on { IfSome (slice_get self.old place) (λ p. CanGoOn (with_progress p progress)) }

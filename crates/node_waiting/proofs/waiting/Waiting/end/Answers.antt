@@ -1,3 +1,4 @@
+-- Removing the request at a place removes the one of its block, since no other has that block.
 use Rattle.std.proofs.Common.{◌≡◌, ◌<◌, length, Some, slice_get, ap, refl, arith}
 use Rattle.std.specs.List.{remove}
 use Rattle.std.proofs.lemmas.Option.{slice_get_read}

@@ -1,3 +1,5 @@
+-- Finding by the serial of a fetch: the request of the block has begun so many fetches, or it has
+-- not, or no request has the block.
 use Rattle.std.proofs.Common.{◌≡◌, ◌≢◌, ◌%◌, get_or, arith}
 use Rattle.node_waiting.proofs.Finding.{fetch_found, fetch_other, fetch_absent, fetch_where}
 use Rattle.node_waiting.proofs.waiting.Waiting.of_fetch.Goals as goal

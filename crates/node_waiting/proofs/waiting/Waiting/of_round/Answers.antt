@@ -1,3 +1,5 @@
+-- Finding by the serial of a round: the serial is the first one of the block, or it is not, or no
+-- request has the block.
 use Rattle.node_waiting.proofs.Finding.{round_found, round_absent, round_where, no_round}
 use Rattle.node_waiting.proofs.waiting.Waiting.of_round.Goals as goal
 

@@ -1,3 +1,4 @@
+-- Changing the request at a place changes the one of its block, since no other has that block.
 use Rattle.std.proofs.Common.{◌≡◌, ◌<◌, length, slice_get, Some, refl, ap, arith}
 use Rattle.std.proofs.lemmas.Option.{slice_get_read}
 use Rattle.node_waiting.specs.CanGoOn.{CanGoOn}
