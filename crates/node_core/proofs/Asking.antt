@@ -1,4 +1,6 @@
--- What the rules say of an ask that has just come behind the others, whose blocks are lesser.
+-- What the rules say of a new request. It stands last and its block is greater than all others, so
+-- changing or ending it touches it alone; the code, which adds the request as it is in the end,
+-- comes to the same.
 use Rattle.std.proofs.Common.{◌≡◌, ℕ, suc, ◌+◌, ◌*◌, ◌<◌, ◌==◌, true, false, cond, not, List, [], ◌∷◌, ◌++◌, map, filter, All, length, Option, Some, None, refl, sym, ap, ◌∙◌, arith}
 use Rattle.std.proofs.lemmas.Bool.{false≢true}
 use Rattle.std.proofs.lemmas.Bool.Decides.{nat_tests}

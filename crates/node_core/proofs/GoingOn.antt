@@ -1,4 +1,6 @@
--- What a node keeps as an ask changes or ends, and where an ask goes.
+-- What a node keeps as a pending request changes or ends, and where a request goes. A changed
+-- request keeps its block and can go on, so the invariant holds; each rule of going on comes to
+-- what the code does in its case.
 use Rattle.std.proofs.Common.{◌≡◌, ℕ, ◌<◌, ◌≤◌, true, false, Bool, List, Option, Some, None, Result, slice_get, refl, ap, sym, subst, nat_le, arith}
 use Rattle.std.proofs.lemmas.Bool.Decides.{nat_tests}
 use Rattle.std.proofs.lemmas.Option.{slice_get_within, get_or_from_slice_get}

@@ -1,4 +1,4 @@
--- What the code of a node leads to, by what a rule comes to.
+-- Small facts: a method leads to what its rule comes to.
 use Rattle.std.proofs.Common.{◌≡◌, Result, ap, sym, subst, ◌∙◌}
 use Rattle.node_rules.specs.declared.state.NodeState.{NodeState}
 use Rattle.node_rules.specs.declared.reply.Reply.{Reply}

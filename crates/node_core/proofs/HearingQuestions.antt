@@ -1,4 +1,5 @@
--- What questions of other caches lead to.
+-- What queries of other caches lead to. The code gets the key of the text, and the rule has it as a
+-- parameter; both are the same where that parameter gives the keys of texts.
 use Rattle.std.proofs.Common.{◌≡◌, ◌≢◌, ℕ, Bool, true, false, List, [], ◌∷◌, Option, Some, None, option_map, if◌then◌else◌, refl, ap, sym, ◌∙◌}
 use Rattle.icp_wire.specs.declared.message.Icp.{Icp}
 use Rattle.icp_wire.specs.declared.message.IcpOp.{IcpOp}

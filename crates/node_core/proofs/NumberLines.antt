@@ -1,4 +1,5 @@
--- What a CLR leads to, by its number line.
+-- What a CLR leads to, by its number line. The code reads line and key as the rule does, so each
+-- case of the code is a case of the rule.
 use Rattle.std.proofs.Common.{◌≡◌, ℕ, Bool, List, Option, Some, None, Result, Ok, Err, ◌∙◌, sym}
 use Rattle.htcp_wire.specs.declared.message.Specifier.{Specifier}
 use Rattle.htcp_wire.specs.declared.numbers.HeaderKind.TheVariants.{PurgeNumber}

@@ -1,4 +1,6 @@
--- From what a rule leads to, to the relation of steps.
+-- From what a method does by a rule to the relation of steps. A method that changes nothing when an
+-- allocation fails takes a step of the relation; only a purge may meet a fault of the store, which
+-- closes the node.
 use Rattle.std.proofs.Common.{◌≡◌, ℕ, false, true, ◌⊎◌, inl, inr, List, Option, Some, Result, Ok, Err, ◌∙◌, ap, subst, sym}
 use Rattle.std.specs.Prelude.{⊤, Bool}
 use Rattle.std.specs.Prelude.{◌<◌, ◌≤◌, IsSome, None}

@@ -1,4 +1,5 @@
--- What is told, where the words of a peer are given in another way.
+-- The rule takes what an answer says as a function of the peer, the code as a pair (`Heard`). If
+-- both say the same of each peer, the rule leads to the same.
 use Rattle.std.proofs.Common.{◌≡◌, ℕ, Bool, true, false, cond, List, Option, Some, None, Result, refl, sym, ap, subst, ◌∙◌, ◌==◌}
 use Rattle.htcp_wire.specs.declared.message.Detail.{Detail}
 use Rattle.htcp_wire.specs.declared.message.Content.TheVariants as content

@@ -1,4 +1,4 @@
--- A node as contracts see it, and what holds of every node.
+-- A node as contracts see it, and the invariant of every node.
 use Rattle.std.specs.Prelude.{◌≡◌, ℕ, ◌<◌, ◌≤◌, All, IsTrue, Bool, true, false, List, [], Option, Some, None, Result, Ok, Err}
 use Rattle.url_key.specs.declared.fault.KeyFault.{KeyFault}
 use Rattle.url_key.specs.Key.{HasKey}
@@ -12,22 +12,23 @@ use Rattle.node_rules.specs.declared.state.Pending.{Pending}
 use Rattle.node_rules.specs.declared.state.NodeState.{NodeState}
 use Rattle.node_rules.specs.State.{Setting}
 
--- the roster, the node's id in it, its state, and the store of its floors
+-- The roster, the node's id in it, its state, and the store of its floors.
 pub record NodeText (X S : Type 0) : Type 0 where
   pub roster : Tables
   pub id : ℕ
   pub state : NodeState X
   pub store : S
 
--- what stays the same through all steps, with this way to read a text as a key
+-- What stays the same through all steps, with this way to get the key of a text.
 abbrev pub setting_of : {X S : Type 0} → NodeText X S → (List ℕ → Option (List ℕ)) → Setting
 setting_of v key_of = record { roster = v.roster; id = v.id; key_of = key_of }
 
--- the store has the roster's limits
+-- The store of copies has the roster's limits.
 abbrev pub HasLimits : {X : Type 0} → Held X → Limits → Type 0
 HasLimits held limits = (held.limit_count ≡ limits.copies) × (held.limit_bytes ≡ limits.bytes)
 
--- the id is a member's; the store has the roster's limits; a block is taken once; a closed node has no ask pending
+-- The id is a member's; the store of copies has the roster's limits; each block is taken once; a
+-- closed node has no pending request.
 pub record IsNode {X : Type 0} (roster : Tables) (id : ℕ) (held : Held X) (pending : List (Pending X)) (next : ℕ) (closed : Bool) : Type 0 where
   pub member : is_member roster id ≡ true
   pub limits : HasLimits held roster.limits
@@ -36,21 +37,22 @@ pub record IsNode {X : Type 0} (roster : Tables) (id : ℕ) (held : Held X) (pen
   pub taken : All (λ p. p.block < next) pending
   pub none_waits : closed ≡ true → pending ≡ []
 
--- while the node is open, no call of its store has failed, and its floors are those that an honest store has committed
+-- While the node is open, no call of its store has failed, and an honest store has committed its
+-- floors.
 abbrev pub IsTied : Bool → FloorMap → Bool → Type 0 → FloorMap → Type 0
 IsTied closed floors usable honest stored = closed ≡ false → IsTrue usable × (honest → stored ≡ floors)
 
--- roster, id and the store of floors stay
+-- Roster, id and store of floors stay.
 pub record IsSameNode {X S : Type 0} (before after : NodeText X S) : Type 0 where
   pub roster : after.roster ≡ before.roster
   pub id : after.id ≡ before.id
   pub store : after.store ≡ before.store
 
--- the key that the text has, if it has one
+-- The key of the text, if it has one.
 abbrev pub HasKeyOf : List ℕ → Option (List ℕ) → Type 0
 HasKeyOf text key = (outcome : Result (List ℕ) KeyFault) × HasKey text outcome × (key ≡ key_in outcome)
 
--- roster and id stay
+-- Roster and id stay.
 pub record IsSameMember {X S : Type 0} (before after : NodeText X S) : Type 0 where
   pub roster : after.roster ≡ before.roster
   pub id : after.id ≡ before.id

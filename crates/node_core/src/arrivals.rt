@@ -1,4 +1,5 @@
-//! An answer comes to a fetch, a fetch fails, or a round's time is over.
+//! A response to a fetch arrives, a fetch fails, or a round expires (`specs/Arrivals` of
+//! `node_rules`).
 ghost use Rattle.std.specs.Prelude.{◌≡◌, ◌<◌, ◌++◌, ◌∷◌, [], ℕ, List, Option, Some, find, length, unwrap_or, IfOk, IfSome, false, true, slice_get};
 ghost use Rattle.node_rules.specs.State as state;
 ghost use Rattle.node_rules.specs.Arrivals as arrivals;
@@ -23,14 +24,14 @@ use roster::{Listed, is_foreign};
 use std::alloc::{AllocError, Global};
 use url_key::Key;
 
-/// Whether a status is a gateway's fault (RFC 9110, sections 15.6.3 to 15.6.5).
+/// Whether a status is a gateway's: 502, 503 or 504 (RFC 9110, sections 15.6.3 to 15.6.5).
 fn is_gateway_fault(status: u16) -> bool
     ensures { result ≡ arrivals.is_gateway_fault status }
 {
     status == 502 || status == 503 || status == 504
 }
 
-/// Whether an ask is not fetching.
+/// Whether no fetch runs.
 fn is_idle<T>(fetch: &Fetch<T>) -> bool
     ensures { result ≡ state.is_idle fetch.now }
 {
@@ -40,7 +41,7 @@ fn is_idle<T>(fetch: &Fetch<T>) -> bool
     }
 }
 
-/// The same fetch.
+/// Copies a fetch.
 pub(crate) fn same_fetch<T: Copy>(fetch: &Fetch<T>) -> Fetch<T>
     ensures { result ≡ fetch.now }
 {
@@ -58,7 +59,7 @@ pub(crate) fn same_fetch<T: Copy>(fetch: &Fetch<T>) -> Fetch<T>
     }
 }
 
-/// The same round, if there is one.
+/// Copies a round, if there is one.
 pub(crate) fn same_round(round: &Option<Round>) -> Option<Round>
     ensures { result ≡ round.now }
 {
@@ -77,14 +78,14 @@ fn with_one_more(alloc: Global, peers: &[u8], peer: u8) -> Result<Listed<u8>, Al
     Ok(Listed::new(made))
 }
 
-/// These peers.
+/// Copies a list of peers.
 pub(crate) fn same_peers(alloc: Global, peers: &[u8]) -> Result<Listed<u8>, AllocError>
     ensures { IfOk result (λ made. made ≡ peers.now) }
 {
     Ok(Listed::new(Vec::from_slice(alloc, peers)?))
 }
 
-/// How far an ask is whose fetch has ended, where these peers are tried.
+/// How far a request is once its fetch has ended, with these peers tried.
 fn not_fetching<T>(ask: &Pending<T>, tried: Listed<u8>) -> Progress<T>
     ensures { result ≡ progress_of (arrivals.not_fetching ask.now tried) }
 {
@@ -97,7 +98,7 @@ fn not_fetching<T>(ask: &Pending<T>, tried: Listed<u8>) -> Progress<T>
     }
 }
 
-/// How far an ask is whose round has come to this.
+/// How far a request is with its round as it is now.
 fn with_round<T: Copy>(
     alloc: Global,
     ask: &Pending<T>,
@@ -115,7 +116,7 @@ fn with_round<T: Copy>(
 }
 
 impl<T: Copy + Drop, S: FloorStore> Node<T, S> {
-    /// The place of the ask that fetches under this serial for this key.
+    /// The place of the request whose last fetch has this serial, if it is for this key.
     fn place_of_fetch(&self, serial: u32, key: &Key) -> Option<usize>
         ensures place { IfSome result (λ place. place < length self.now.state.pending) }
         ensures found { option_and_then (slice_get self.now.state.pending) result ≡ find (arrivals.is_fetch serial key.now) self.now.state.pending }
@@ -128,7 +129,8 @@ impl<T: Copy + Drop, S: FloorStore> Node<T, S> {
         }
     }
 
-    /// The ask at a place ends with an answer, which becomes a copy.
+    /// Makes the response a copy, stores it if it may be, and serves it to the request at a place,
+    /// which ends.
     fn use_answer(
         &mut self,
         place: usize,
@@ -166,7 +168,7 @@ impl<T: Copy + Drop, S: FloorStore> Node<T, S> {
         ))
     }
 
-    /// The peer of the ask at a place counts as tried, and the ask goes on.
+    /// Counts the peer of the request at a place as tried, and goes on with the request.
     fn try_on(&mut self, place: usize, peer: u8, now: u64, mark: T) -> Result<Reply<T>, StepFault>
         requires place { place < length self.old.state.pending }
         requires fetch { IfSome (slice_get self.old.state.pending place) (λ p. (asked : ℕ) × (p.fetch ≡ AtPeer peer asked)) }
@@ -180,7 +182,8 @@ impl<T: Copy + Drop, S: FloorStore> Node<T, S> {
         self.go_on(place, progress, now, mark)
     }
 
-    /// The peer of the ask at a place answers: the answer is used unless it is a gateway's fault, or below the key's floor as it is now.
+    /// A peer responds to the request at a place. The response is used unless its status is a
+    /// gateway's, or its stamp is below the key's floor as it is now.
     fn peer_gave(
         &mut self,
         place: usize,
@@ -206,7 +209,8 @@ impl<T: Copy + Drop, S: FloorStore> Node<T, S> {
         }
     }
 
-    /// The origin of the ask at a place answers: the answer is used unless a purge of the key came after its read began.
+    /// The origin responds to the request at a place. The response is used unless the key's floor
+    /// has risen above the stamp of the read.
     fn origin_gave(
         &mut self,
         place: usize,
@@ -232,7 +236,7 @@ impl<T: Copy + Drop, S: FloorStore> Node<T, S> {
         self.go_on(place, progress, now, mark)
     }
 
-    /// A peer answers, under this stamp.
+    /// A peer responds, with this stamp.
     fn peer_answer_to(
         &mut self,
         serial: u32,
@@ -259,7 +263,7 @@ impl<T: Copy + Drop, S: FloorStore> Node<T, S> {
         }
     }
 
-    /// A member's answer counts with its stamp, or 0 where it has none.
+    /// A member responds. The stamp that it bears counts, 0 if it bears none.
     pub(crate) fn peer_answer(
         &mut self,
         serial: u32,
@@ -281,7 +285,7 @@ impl<T: Copy + Drop, S: FloorStore> Node<T, S> {
         self.peer_answer_to(serial, peer, key, stamp, answer, tag, now, mark)
     }
 
-    /// A foreign cache's answer counts with the stamp 0.
+    /// A foreign cache responds. Its stamp counts as 0.
     pub(crate) fn foreign_answer(
         &mut self,
         serial: u32,
@@ -302,7 +306,7 @@ impl<T: Copy + Drop, S: FloorStore> Node<T, S> {
         self.peer_answer_to(serial, peer, key, 0, answer, tag, now, mark)
     }
 
-    /// An origin's answer counts with the stamp and the mark of its read.
+    /// The origin responds. The stamp and the mark of the read count.
     pub(crate) fn origin_answer(
         &mut self,
         serial: u32,
@@ -328,7 +332,8 @@ impl<T: Copy + Drop, S: FloorStore> Node<T, S> {
         }
     }
 
-    /// A failed peer is tried; a failed origin is 502 (RFC 9110, section 15.6.3).
+    /// A fetch fails. A failed peer counts as tried; a failed origin read ends in 502 (RFC 9110,
+    /// section 15.6.3).
     pub(crate) fn fetch_failed(
         &mut self,
         serial: u32,
@@ -349,7 +354,8 @@ impl<T: Copy + Drop, S: FloorStore> Node<T, S> {
         }
     }
 
-    /// The round of the ask at a place has come to this: while it fetches, an ask only keeps it.
+    /// The round of the request at a place has changed to this. The request goes on unless a fetch
+    /// runs for it; else it only keeps the round.
     pub(crate) fn round_moves(
         &mut self,
         place: usize,
@@ -372,7 +378,7 @@ impl<T: Copy + Drop, S: FloorStore> Node<T, S> {
         }
     }
 
-    /// No more answers are waited for; later ones are still heard.
+    /// A round expires: no more answers are waited for. Later ones still count.
     pub(crate) fn round_expired(
         &mut self,
         serial: u32,

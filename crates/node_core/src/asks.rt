@@ -1,4 +1,4 @@
-//! A client's or a member's ask comes.
+//! A client's or a member's request arrives (`specs/Asks` of `node_rules`).
 ghost use Rattle.std.specs.Prelude.{◌≡◌, ◌≤◌, ℕ, List, [], Option, None, Some, IfOk, OnOk, OnErr, false};
 ghost use Rattle.roster.specs.Lookups.{is_member};
 ghost use Rattle.object_store.specs.Listed.{to_front};
@@ -23,13 +23,13 @@ use roster::{Listed, Roster};
 use std::alloc::AllocError;
 use url_key::Key;
 
-/// The most asks that wait.
+/// The most pending requests.
 const MOST_ASKS: usize = 1_024;
 
 /// The last block of serials.
 const LAST_BLOCK: u32 = 134_217_727;
 
-/// Whether the asker's entry names this node a sibling.
+/// Whether a member sent the request whose entry names this node a sibling.
 fn is_siblings_ask(roster: &Roster, id: u8, asker: Option<u8>) -> bool
     ensures { (key_of : List ℕ → Option (List ℕ)) → result ≡ asks.is_siblings_ask (record {
       roster = roster.now;
@@ -44,7 +44,8 @@ fn is_siblings_ask(roster: &Roster, id: u8, asker: Option<u8>) -> bool
 }
 
 impl<T: Copy + Drop, S: FloorStore> Node<T, S> {
-    /// An ask comes. A held copy is served; else a cached-only ask gets 504 (RFC 9111, section 5.2.1.7); else `Busy`; else a read or a round begins.
+    /// A request arrives. A held copy is served. Else a request to the store alone gets 504 (RFC
+    /// 9111, section 5.2.1.7). Else the node is `Busy`, or a round or an origin read begins.
     pub(crate) fn ask(
         &mut self,
         asker: Option<u8>,
@@ -73,7 +74,7 @@ impl<T: Copy + Drop, S: FloorStore> Node<T, S> {
         serves(self.alloc, None, asker, Served::Copy { copy, age })
     }
 
-    /// An ask comes for which no copy may be served.
+    /// Handles a request for which no copy may be served.
     fn not_held(
         &mut self,
         asker: Option<u8>,
@@ -94,22 +95,22 @@ impl<T: Copy + Drop, S: FloorStore> Node<T, S> {
         self.begin_ask(asker, ask, now, mark)
     }
 
-    /// Whether an ask may be answered from the store alone: it says so (RFC 9111, section 5.2.1.7), or its asker's entry names this node a
-    /// sibling.
+    /// Whether a request is answered from the store alone: it bears `only-if-cached` (RFC 9111,
+    /// section 5.2.1.7), or a sibling sent it (RFC 2187, section 2).
     fn is_cached_only(&self, asker: Option<u8>, ask: &Ask) -> bool
         ensures { (key_of : List ℕ → Option (List ℕ)) → result ≡ asks.is_cached_only (setting_of self.now key_of) asker ask.now }
     {
         ask.only_if_cached || is_siblings_ask(&self.roster, self.id, asker)
     }
 
-    /// Whether no new ask can wait: as many as may wait do, or no block of serials is left.
+    /// Whether no new request can wait: 1,024 are pending, or no block of serials is left.
     fn is_busy(&self) -> bool
         ensures { result ≡ asks.is_busy self.now.state }
     {
         self.pending.len() >= MOST_ASKS || self.next > LAST_BLOCK
     }
 
-    /// A new ask begins a read or a round.
+    /// Begins a round or an origin read for a new request.
     fn begin_ask(
         &mut self,
         asker: Option<u8>,
@@ -133,7 +134,8 @@ impl<T: Copy + Drop, S: FloorStore> Node<T, S> {
         }
     }
 
-    /// A new ask reads the origin, if the roster has it.
+    /// Begins an origin read for a new request, or serves 502 if the roster has no such origin. The
+    /// block is taken in both cases.
     fn begin_with_read(
         &mut self,
         asker: Option<u8>,
@@ -162,7 +164,7 @@ impl<T: Copy + Drop, S: FloorStore> Node<T, S> {
         Ok(begins(self.alloc, Begin::Read { serial, ask: asked }))
     }
 
-    /// A new ask begins a round of questions, in the roster's order.
+    /// Begins a round for a new request, with queries in the roster's order.
     fn begin_with_round(
         &mut self,
         asker: Option<u8>,
@@ -186,7 +188,7 @@ impl<T: Copy + Drop, S: FloorStore> Node<T, S> {
         })
     }
 
-    /// A new ask waits, in the next block.
+    /// Adds a new pending request, with the next block.
     fn wait(
         &mut self,
         asker: Option<u8>,

@@ -17,7 +17,7 @@ use url_key::Key;
 /// The greatest age that is told, in seconds (RFC 9111, section 1.2.2).
 const GREATEST_AGE: u64 = 2_147_483_648;
 
-/// The age that a copy's answer came with, 0 where it bore none.
+/// The age that the copy's response came with, 0 if it bore none.
 fn age_of<T>(copy: &WebCopy<T>) -> u64
     ensures { result ≡ state.age_of copy.now }
 {
@@ -27,7 +27,7 @@ fn age_of<T>(copy: &WebCopy<T>) -> u64
     }
 }
 
-/// The age that a copy is served with.
+/// The age that a copy is served with, in seconds.
 pub(crate) fn served_age<T>(copy: &WebCopy<T>, now: u64) -> u64
     ensures { result ≡ state.served_age copy.now now }
 {
@@ -35,14 +35,15 @@ pub(crate) fn served_age<T>(copy: &WebCopy<T>, now: u64) -> u64
     age_of(copy).saturating_add(held).min(GREATEST_AGE)
 }
 
-/// Whether a copy may be served at this floor and moment.
+/// Whether a copy may be served at this floor and time: its stamp is at least the floor, and it is
+/// fresh (RFC 9111, section 4.2).
 fn is_good<T>(floor: u32, now: u64, copy: &WebCopy<T>) -> bool
     ensures { result ≡ state.is_good floor now copy.now }
 {
     floor <= copy.stamp && is_fresh(age_of(copy), copy.asked, now, copy.lifetime)
 }
 
-/// The copy, if it may be served at this floor and moment.
+/// The copy, if it may be served at this floor and time.
 fn if_good<T>(floor: u32, now: u64, copy: Option<&WebCopy<T>>) -> Option<&WebCopy<T>>
     ensures { option_map (λ c. c.now) result ≡ state.if_good floor now (option_map (λ c. c.now) copy.entry) }
 {
@@ -53,14 +54,14 @@ fn if_good<T>(floor: u32, now: u64, copy: Option<&WebCopy<T>>) -> Option<&WebCop
 }
 
 impl<T: Copy + Drop, S: FloorStore> Node<T, S> {
-    /// The key's copy, if it may be served.
+    /// The key's copy, if it may be served. The store keeps its order.
     pub(crate) fn good_copy(&self, key: &Key, now: u64) -> Option<&WebCopy<T>>
         ensures { option_map (λ c. c.now) result ≡ state.good_copy self.now.state key.now now }
     {
         if_good(self.floors.floor(key), now, self.copies.peek(key))
     }
 
-    /// The copy that answers an ask, which may want no stored answer.
+    /// The copy that serves a request; none if it bears `no-cache` (RFC 9111, section 5.2.1.4).
     fn copy_for(&self, ask: &Ask, now: u64) -> Option<&WebCopy<T>>
         ensures { option_map (λ c. c.now) result ≡ copy_for_ask self.now.state ask.now now }
     {
@@ -71,7 +72,7 @@ impl<T: Copy + Drop, S: FloorStore> Node<T, S> {
         }
     }
 
-    /// The same, to be handed out.
+    /// The same as a copy to hand out.
     pub(crate) fn copy_to_serve(
         &self,
         ask: &Ask,
@@ -85,7 +86,7 @@ impl<T: Copy + Drop, S: FloorStore> Node<T, S> {
         }
     }
 
-    /// Puts a new copy into the store if it has a lifetime, and gives one to be handed out.
+    /// Puts a new copy into the store if it has a lifetime, and returns one to hand out.
     pub(crate) fn store_new(
         &mut self,
         copy: WebCopy<T>,

@@ -1,4 +1,4 @@
-//! A datagram comes.
+//! A datagram arrives (`specs/Datagrams` of `node_rules`).
 ghost use Rattle.std.specs.Prelude.{◌≡◌, ℕ, List, Option, None, false};
 ghost use Rattle.icp_wire.specs.declared.message.IcpOp.TheVariants as ops;
 ghost use Rattle.node_rules.specs.Texts.{HasOpcode, IsSendable};
@@ -25,11 +25,11 @@ use roster::Address;
 /// HTCP's opcode of TST.
 const TST: u8 = 1;
 
-/// HTCP's overall response for an opcode that is not implemented.
+/// HTCP's overall response to an opcode that is not implemented.
 const NOT_IMPLEMENTED: u8 = 2;
 
 impl<T: Copy + Drop, S: FloorStore> Node<T, S> {
-    /// A datagram comes.
+    /// A datagram arrives.
     #[tactic(auto, unfolding(node_rules::specs::Datagrams::datagram), using(crate::proofs::Outcomes::leads_may_close, crate::proofs::Outcomes::without_fault, crate::proofs::Outcomes::without_fault_by))]
     pub(crate) fn datagram(
         &mut self,
@@ -51,7 +51,7 @@ impl<T: Copy + Drop, S: FloorStore> Node<T, S> {
         }
     }
 
-    /// An ICP message comes.
+    /// An ICP message arrives: a QUERY, or an answer to a round.
     #[tactic(auto, unfolding(node_rules::specs::Datagrams::icp_comes))]
     fn icp(&mut self, from: Address, message: Icp, now: u64, mark: T) -> Result<Reply<T>, StepFault>
         requires answerable { IsSendable (messages.icp ops.Miss message.number message.url) }
@@ -112,7 +112,8 @@ impl<T: Copy + Drop, S: FloorStore> Node<T, S> {
         }
     }
 
-    /// An answer comes that is none of TST's: one of TST's opcode says that nothing is to be fetched.
+    /// An HTCP response arrives that is none of TST's own. If its opcode is TST, the peer serves
+    /// nothing.
     #[tactic(auto, unfolding(node_rules::specs::Datagrams::tst_refused))]
     fn tst_refused(
         &mut self,

@@ -1,4 +1,5 @@
-//! How a pending ask goes on: to a peer, to the origin, or to its end.
+//! How a pending request goes on: to a peer, to the origin, or to its end (`specs/Fetching` of
+//! `node_rules`).
 ghost use Rattle.std.specs.Prelude.{◌≡◌, ◌<◌, ◌≤◌, ◌+◌, ◌*◌, ℕ, List, Option, length, true, IfOk, IfSome, Some, None, slice_get};
 ghost use Rattle.node_rules.specs.State as state;
 ghost use Rattle.node_rules.specs.Fetching as fetching;
@@ -19,17 +20,17 @@ use peer_chooser::{Round, Source};
 use roster::{Listed, is_foreign};
 use std::alloc::{AllocError, Global};
 
-/// The most reads of the origin for one ask.
+/// The most origin reads for one request.
 const MOST_READS: u8 = 3;
 
-/// The member that a peer is told to be asked by: a foreign cache is told none.
+/// The id that a peer is told. A foreign cache is told none.
 fn own_id(id: u8, peer: u8) -> Option<u8>
     ensures { result ≡ fetching.own_id id peer }
 {
     if is_foreign(peer) { None } else { Some(id) }
 }
 
-/// Where an ask goes next: without a round there is only the origin.
+/// Where a request goes next. Without a round there is only the origin.
 fn source_of(round: &Option<Round>, floor: u32, tried: &[u8]) -> Source
     ensures { result ≡ fetching.choice_of round.now floor tried.now }
 {
@@ -39,7 +40,7 @@ fn source_of(round: &Option<Round>, floor: u32, tried: &[u8]) -> Source
     }
 }
 
-/// How far an ask is once this fetch has begun.
+/// How far a request is once this fetch has begun.
 fn fetching_from<T: Drop>(progress: Progress<T>, reads: u8, fetch: Fetch<T>) -> Progress<T>
     requires { progress.fetches < 255 }
     ensures { result ≡ record {
@@ -60,7 +61,8 @@ fn fetching_from<T: Drop>(progress: Progress<T>, reads: u8, fetch: Fetch<T>) -> 
 }
 
 impl<T: Copy + Drop, S: FloorStore> Node<T, S> {
-    /// The ask at a place, which has come so far and is not fetching, goes on as its round says, by the floor as it is now.
+    /// Goes on with the request at a place, which has come so far and has no fetch running: where
+    /// its round says, by the floor as it is now.
     pub(crate) fn go_on(
         &mut self,
         place: usize,
@@ -88,7 +90,7 @@ impl<T: Copy + Drop, S: FloorStore> Node<T, S> {
         }
     }
 
-    /// The ask at a place, which has come so far, asks a peer.
+    /// Begins a fetch from a peer for the request at a place.
     fn ask_peer(
         &mut self,
         place: usize,
@@ -126,7 +128,8 @@ impl<T: Copy + Drop, S: FloorStore> Node<T, S> {
         ))
     }
 
-    /// The ask at a place, which has come so far, goes to the origin, or ends: three reads at most, and only from an origin of the roster.
+    /// Begins an origin read for the request at a place, or ends the request: 503 after three
+    /// reads, 502 if the roster has no such origin.
     fn read_origin(
         &mut self,
         place: usize,
@@ -150,7 +153,8 @@ impl<T: Copy + Drop, S: FloorStore> Node<T, S> {
         self.begin_read(place, progress, now, mark)
     }
 
-    /// The ask at a place, which has come so far, reads the origin, under the greatest purge number seen and the step's mark.
+    /// Begins an origin read for the request at a place, with the greatest purge number seen and
+    /// the mark of the step.
     fn begin_read(
         &mut self,
         place: usize,
@@ -180,7 +184,7 @@ impl<T: Copy + Drop, S: FloorStore> Node<T, S> {
         Ok(begins(self.alloc, Begin::Read { serial, ask: asked }))
     }
 
-    /// The ask at a place ends with a bare status.
+    /// Ends the request at a place with a bare status.
     pub(crate) fn give_up(&mut self, place: usize, status: u16) -> Reply<T>
         requires place { place < length self.old.state.pending }
         ensures same { IsSameNode self.old self.new }
@@ -197,7 +201,7 @@ impl<T: Copy + Drop, S: FloorStore> Node<T, S> {
     }
 }
 
-/// The serial of a block's fetch.
+/// The serial of a fetch of a block; with 0 fetches, that of its round.
 pub(crate) fn serial_of(block: u32, fetches: u8) -> u32
     requires block { block ≤ 134217727 }
     requires fetches { fetches < 32 }
@@ -206,7 +210,8 @@ pub(crate) fn serial_of(block: u32, fetches: u8) -> u32
     32 * block + u32::from(fetches)
 }
 
-/// What an origin is asked for an ask: its key, and no stored answer where it wants none.
+/// The request that an origin is sent: for the same key, with `no-cache` if the pending request
+/// bears it.
 pub(crate) fn origin_ask(alloc: Global, ask: &Ask) -> Result<Ask, AllocError>
     ensures { IfOk result (λ made. made ≡ fetching.origin_ask ask.now) }
 {

@@ -10,9 +10,9 @@ use roster::Roster;
 use std::alloc::Global;
 use std::marker::Model;
 
-/// A node of the hierarchy, over a store of its floors.
+/// A node of the hierarchy, over a store of its floors. `T` is the type of the tags of its copies.
 ///
-/// A contract sees its roster, its id, its state, and the store.
+/// A contract sees its roster, its id, its state and the store.
 #[derive(Drop)]
 pub struct Node<T, S: FloorStore> {
     pub(crate) alloc: Global,
@@ -54,7 +54,8 @@ impl<T, S: FloorStore> Model for Node<T, S> {
 }
 
 impl<T, S: FloorStore> Node<T, S> {
-    /// Whether it is closed. While it is not, no call of its store has failed, and an honest store has committed its floors.
+    /// Whether the node is closed. While it is open, no call of its store has failed, and an honest
+    /// store has committed the node's floors.
     pub fn is_closed(&self) -> bool
         ensures value { result ≡ self.now.state.closed }
         ensures tied { IsTied self.now.state.closed self.now.state.floors (S.is_usable self.now.store) (S.is_honest self.now.store) (S.content self.now.store) }
@@ -69,14 +70,15 @@ impl<T, S: FloorStore> Node<T, S> {
         self.id
     }
 
-    /// The block of serials that comes next; 134217728 where none is left.
+    /// The next block of serials, or 134217728 if none is left.
     pub fn next(&self) -> u32
         ensures { result ≡ self.now.state.next }
     {
         self.next
     }
 
-    /// The pending ask whose last fetch has this serial, if there is one; an ask that has begun none has its round's. It takes no memory.
+    /// The pending request whose last fetch has this serial, if there is one. Before its first
+    /// fetch, a request is found by the serial of its round. Allocates nothing.
     pub fn fetching(&self, serial: u32) -> Option<&Pending<T>>
         ensures { option_map (λ p. p.now) result ≡ find (λ p. fetch_serial p == serial) self.now.state.pending }
     {
@@ -86,7 +88,8 @@ impl<T, S: FloorStore> Node<T, S> {
 }
 
 impl<T: Drop, S: FloorStore> Node<T, S> {
-    /// Closes it, as a store of floors that fails would: it has no ask pending then, and every further step is answered with `Closed`. It takes no memory.
+    /// Closes the node, as a store that fails does: no request is pending then, and every further
+    /// step gives `Closed`. Allocates nothing.
     pub fn close(&mut self)
         ensures same { IsSameNode self.old self.new }
         ensures state { self.new.state ≡ closed_node self.old.state }

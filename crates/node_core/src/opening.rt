@@ -1,4 +1,4 @@
-//! How a node begins and ends.
+//! How a node is opened, and gives its store back.
 ghost use Rattle.std.specs.Prelude.{◌≡◌, ◌≢◌, ◌≤◌, [], true, false, IfOk, Ok, Err};
 ghost use Rattle.roster.specs.Lookups.{is_member as is_member_of};
 ghost use Rattle.node_rules.specs.State.{opened};
@@ -16,13 +16,13 @@ use thiserror::Error;
 /// Why a node was not opened.
 #[derive(Clone, Copy, Debug, PartialEq, Eq, Error)]
 pub enum OpenFault {
-    /// The roster has no member of this id.
+    /// The roster has no member with this id.
     #[error("no member has this id")]
     NoSuchNode,
-    /// The store of floors did not load: an earlier call of it had failed, or there was no memory for the floors.
+    /// The store of floors did not load: an earlier call of it had failed, or an allocation failed.
     #[error("the floors were not read")]
     Floors(FloorFault),
-    /// A growth was refused.
+    /// An allocation failed.
     #[error("there was no memory")]
     NoMemory,
 }
@@ -39,7 +39,7 @@ impl From<AllocError> for OpenFault {
 }
 
 impl OpenFault {
-    /// The name that scripts print: that of the floors' fault, where they failed.
+    /// The fault's name, as scripts print it: that of the store's fault, if the store did not load.
     pub const fn name(self) -> &'static str
         ensures { result.now ≡ open_fault_name self }
     {
@@ -51,7 +51,7 @@ impl OpenFault {
     }
 }
 
-/// A store without copies, within these limits.
+/// A store without copies, within these limits. With keys, it hashes by them.
 fn empty_store<T>(
     alloc: Global,
     limits: Limits,
@@ -73,12 +73,14 @@ fn empty_store<T>(
 }
 
 impl<T, S: FloorStore + Drop> Node<T, S> {
-    /// The node of a member, with the floors that its store has, and with nothing else: no copy, no ask, and block 1 to come.
+    /// Opens the node of a member, with the floors of its store and nothing else: no copy, no
+    /// pending request, and block 1 next.
     ///
-    /// It finds its copies by hashes with fixed keys. Where strangers pick the URLs, open it by `open_with_random_keys`.
+    /// It finds copies by hashes with fixed keys. Use `open_with_random_keys` if strangers choose
+    /// the URLs.
     ///
-    /// Faults: `NoSuchNode` where the roster has no member of this id, `Floors` where the store does not load, `NoMemory`. The store is gone then, and is to be
-    /// opened again.
+    /// Faults: `NoSuchNode` if the roster has no member with this id; `Floors` if the store does
+    /// not load; `NoMemory`. The store is dropped then and must be opened again.
     pub fn open(alloc: Global, roster: Roster, id: u8, store: S) -> Result<Node<T, S>, OpenFault>
         ensures member { IfOk result (λ node. (node.roster ≡ roster) × (node.id ≡ id)) }
         ensures no_such { is_member_of roster id ≡ false → result ≡ Err OpenFault.NoSuchNode }
@@ -92,8 +94,9 @@ impl<T, S: FloorStore + Drop> Node<T, S> {
         Node::open_over(alloc, roster, id, store, None)
     }
 
-    /// The same, for URLs that strangers pick: it finds its copies by hashes with these random keys, which nobody outside knows, so that nobody can pick URLs whose
-    /// look-ups are slow. Any number of nodes may share the keys.
+    /// Opens a node as `open` does, for URLs that strangers choose. It finds copies by hashes with
+    /// these random keys; as long as they stay secret, nobody can choose URLs that are slow to look
+    /// up. Nodes may share the keys.
     pub fn open_with_random_keys(
         alloc: Global,
         roster: Roster,
@@ -113,7 +116,7 @@ impl<T, S: FloorStore + Drop> Node<T, S> {
         Node::open_over(alloc, roster, id, store, Some(keys))
     }
 
-    /// The node, with the random keys if there are any.
+    /// Opens the node, with the random keys if there are any.
     fn open_over(
         alloc: Global,
         roster: Roster,
@@ -153,7 +156,7 @@ impl<T, S: FloorStore + Drop> Node<T, S> {
 }
 
 impl<T: Drop, S: FloorStore> Node<T, S> {
-    /// The store of floors, also that of a closed node. It takes no memory.
+    /// Gives the store of floors back, also that of a closed node. Allocates nothing.
     pub fn into_floors(self) -> S
         ensures { result ≡ self.store }
     {

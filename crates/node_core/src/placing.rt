@@ -1,4 +1,4 @@
-//! Copies that are placed by hand, without an answer to a fetch.
+//! Copies that are placed by hand, without a response to a fetch. Scripts use this.
 ghost use Rattle.std.specs.Prelude.{◌≡◌, ◌≢◌, true, false, IfOk, OnOk, OnErr, Err};
 ghost use Rattle.node_core.specs.Names.{place_fault_name};
 ghost use Rattle.node_core.specs.Placed as spec;
@@ -12,13 +12,13 @@ use std::alloc::{AllocError, Global};
 use thiserror::Error;
 use url_key::Key;
 
-/// For how many seconds a placed copy stays fresh.
+/// The lifetime of a placed copy, in seconds.
 const LIFETIME: u64 = 60;
 
 /// What placing a copy did.
 #[derive(Clone, Copy, Debug, PartialEq, Eq)]
 pub enum Placed {
-    /// Its stamp is below the floor of its key. Nothing changed.
+    /// The stamp is below the floor of the key. Nothing changed.
     Old,
     /// The copy alone has more octets than the store may hold. Nothing changed.
     TooLarge,
@@ -34,7 +34,7 @@ pub enum PlaceFault {
     /// The node is closed.
     #[error("the node is closed")]
     Closed,
-    /// A growth was refused. Nothing changed.
+    /// An allocation failed. Nothing changed.
     #[error("there was no memory")]
     NoMemory,
 }
@@ -51,7 +51,7 @@ impl From<AllocError> for PlaceFault {
 }
 
 impl PlaceFault {
-    /// The name that scripts print.
+    /// The fault's name, as scripts print it.
     pub const fn name(self) -> &'static str
         ensures { result.now ≡ place_fault_name self }
     {
@@ -62,7 +62,7 @@ impl PlaceFault {
     }
 }
 
-/// A copy of an empty answer of status 200, asked for at moment 0.
+/// A copy of an empty response of status 200, requested at time 0.
 fn empty_copy<T: Drop>(
     alloc: Global,
     key: &Key,
@@ -85,7 +85,7 @@ fn empty_copy<T: Drop>(
     })
 }
 
-/// What a put did to a placed copy.
+/// What the store did with a placed copy.
 fn placed_by(put: Put) -> Placed
     ensures { result ≡ spec.put_as put }
 {
@@ -97,8 +97,10 @@ fn placed_by(put: Put) -> Placed
 }
 
 impl<T: Copy + Drop, S: FloorStore> Node<T, S> {
-    /// Puts a copy of an empty answer of status 200 into the store, asked for at moment 0 and fresh for 60 seconds, under this stamp, or under the greatest purge
-    /// number seen. A stamp below the key's floor puts nothing.
+    /// Puts a copy into the store: an empty response of status 200, requested at time 0 and fresh
+    /// for 60 seconds. Its stamp is the given one, or else the greatest purge number seen.
+    ///
+    /// A stamp below the key's floor puts nothing (`Old`). A closed node gives `Closed`.
     pub fn place(&mut self, key: &Key, stamp: Option<u32>, tag: T) -> Result<Placed, PlaceFault>
         ensures same { IsSameNode self.old self.new }
         ensures closed { self.old.state.closed ≡ true → result ≡ Err PlaceFault.Closed }

@@ -1,4 +1,4 @@
-//! Purges: an HTCP CLR comes (RFC 2756, "CLR").
+//! Purges: an HTCP CLR arrives (RFC 2756, "CLR").
 ghost use Rattle.std.specs.Prelude.{◌≡◌, ◌≤◌, ℕ, List, Option, Some, None, option_map, IfOk, false, Err};
 ghost use Rattle.node_rules.specs.State as state;
 ghost use Rattle.node_rules.specs.Datagrams as datagrams;
@@ -27,10 +27,10 @@ use url_key::Key;
 /// The opcode of CLR.
 const CLR: u8 = 4;
 
-/// HTCP's overall response for what is not allowed here.
+/// HTCP's overall response to what is not allowed here.
 const NOT_ALLOWED: u8 = 5;
 
-/// The answer to a CLR that is not allowed.
+/// The response to a CLR that is not allowed.
 fn refused<T: Drop>(
     alloc: Global,
     from: Address,
@@ -47,7 +47,8 @@ fn refused<T: Drop>(
     )
 }
 
-/// What a step answers where the store of floors answered so: of any other fault than want of memory nothing is known but that it failed.
+/// The fault of a step whose store gave this fault. Any other fault than `NoMemory` tells no more
+/// than that the store failed.
 fn step_fault_of(fault: FloorFault) -> StepFault
     ensures { result ≡ answer_to_fault fault }
 {
@@ -60,7 +61,7 @@ fn step_fault_of(fault: FloorFault) -> StepFault
 }
 
 impl<T: Copy + Drop, S: FloorStore> Node<T, S> {
-    /// A CLR comes.
+    /// A CLR arrives.
     #[tactic(auto, unfolding(node_rules::specs::Datagrams::htcp_clr, node_rules::specs::Datagrams::clr_by_line), using(crate::proofs::Outcomes::without_fault, crate::proofs::Outcomes::without_fault_by))]
     pub(crate) fn htcp_clr(
         &mut self,
@@ -84,7 +85,7 @@ impl<T: Copy + Drop, S: FloorStore> Node<T, S> {
         }
     }
 
-    /// A CLR without a number comes: the copy goes whatever its stamp, and floors stay.
+    /// A CLR without a number arrives: the copy goes whatever its stamp, and floors stay.
     #[tactic(auto, unfolding(node_rules::specs::Datagrams::plain_clr))]
     fn plain_clr(
         &mut self,
@@ -111,7 +112,8 @@ impl<T: Copy + Drop, S: FloorStore> Node<T, S> {
         Ok(reply)
     }
 
-    /// A CLR with a number comes: a good one is the master's, for a key, and its number is its TRANS-ID and at least 1.
+    /// A CLR with a number arrives. A good one comes from the master, for a URI that has a key, and
+    /// its number is its TRANS-ID and at least 1. Any other is refused.
     #[tactic(auto, unfolding(node_rules::specs::Datagrams::numbered_clr))]
     fn numbered_clr(
         &mut self,
@@ -137,7 +139,7 @@ impl<T: Copy + Drop, S: FloorStore> Node<T, S> {
         }
     }
 
-    /// Whether the key's copy is of a lesser stamp.
+    /// Whether a copy of the key with a lesser stamp is held.
     fn holds_below(&self, key: &Key, number: u32) -> bool
         ensures { result ≡ is_older_than number (copy_of key.now self.now.state.copies) }
     {
@@ -147,7 +149,8 @@ impl<T: Copy + Drop, S: FloorStore> Node<T, S> {
         }
     }
 
-    /// The key is purged: its floor is raised and committed before the copy goes and the answer is given.
+    /// Purges a key. In this order: the response is made, the floor rises in memory, the store
+    /// commits it, and an older copy goes. If the store fails, the node closes.
     #[tactic(auto, unfolding(node_rules::specs::Datagrams::purge))]
     fn purge(
         &mut self,

@@ -1,4 +1,4 @@
-//! Questions of other caches, and their answers to a round.
+//! Queries of other caches, and answers of peers to a round.
 ghost use Rattle.std.specs.Prelude.{◌≡◌, ◌<◌, ℕ, List, Option, Some, None, length, option_map, IfOk, IfSome, slice_get, false};
 ghost use Rattle.node_rules.specs.State as state;
 ghost use Rattle.node_rules.specs.Datagrams as datagrams;
@@ -26,17 +26,17 @@ use roster::{Address, Peer, Udp, is_foreign};
 use std::alloc::{AllocError, Global};
 use url_key::{Key, KeyFault};
 
-/// What a peer said: a member's word and a foreign cache's may differ.
+/// What an answer to a round says. It may differ by who sent it.
 #[derive(Clone, Copy)]
 pub(crate) struct Heard {
-    /// Where a member said it.
+    /// If a member sent it.
     pub(crate) member: Said,
-    /// Where a foreign cache said it.
+    /// If a foreign cache sent it.
     pub(crate) foreign: Said,
 }
 
 impl Heard {
-    /// The same of both.
+    /// The same, whoever sent it.
     pub(crate) fn of(said: Said) -> Heard
         ensures { result ≡ record {
           member = said;
@@ -49,7 +49,7 @@ impl Heard {
         }
     }
 
-    /// What this peer said.
+    /// What it says if this peer sent it.
     fn by(self, peer: Peer) -> Said
         ensures { result ≡ said_by self peer }
     {
@@ -83,7 +83,7 @@ fn has_key(alloc: Global, text: &[u8], key: &Key) -> Result<bool, AllocError>
     }
 }
 
-/// What an answer to a question by ICP says: an object that comes with a hit is not used.
+/// What an ICP answer says. The object of a HIT_OBJ is not used.
 fn icp_said(op: IcpOp) -> Said
     ensures { result ≡ datagrams.icp_said op }
 {
@@ -94,7 +94,8 @@ fn icp_said(op: IcpOp) -> Said
     }
 }
 
-/// What a TST's answer with these CACHE-HDRS says: only a member's stamp is trusted, and a bad line tells none.
+/// What a TST hit with these CACHE-HDRS says. Only a member's stamp is trusted, and a bad line
+/// tells none.
 pub(crate) fn hit_said(headers: &[u8]) -> Heard
     ensures { (p : PeerText) → said_by result p ≡ datagrams.tst_hit_said headers.now p }
 {
@@ -105,7 +106,7 @@ pub(crate) fn hit_said(headers: &[u8]) -> Heard
     }
 }
 
-/// Whether the peer of this id has answered.
+/// Whether the peer with this id has answered.
 fn has_told(round: &Round, id: u8) -> bool
     ensures { result ≡ has_told_in round.now.told id }
 {
@@ -113,7 +114,7 @@ fn has_told(round: &Round, id: u8) -> bool
 }
 
 impl<T: Copy + Drop, S: FloorStore> Node<T, S> {
-    /// What a QUERY is answered (RFC 2186, "ICP_OP_QUERY").
+    /// The opcode that answers a QUERY (RFC 2186, "ICP_OP_QUERY").
     fn query_answer(&self, from: Address, key: Option<&Key>, now: u64) -> IcpOp
         ensures { result ≡ datagrams.icp_answer (is_known_at self.now.roster self.now.id udp.Icp from) self.now.state now (option_map (λ k. k.now) key.entry) }
     {
@@ -129,7 +130,7 @@ impl<T: Copy + Drop, S: FloorStore> Node<T, S> {
         }
     }
 
-    /// A QUERY comes. The answer repeats number and URL, and the store keeps its order.
+    /// A QUERY arrives. The response repeats number and URL, and the store keeps its order.
     pub(crate) fn icp_query(
         &self,
         from: Address,
@@ -146,7 +147,7 @@ impl<T: Copy + Drop, S: FloorStore> Node<T, S> {
         Ok(sends(self.alloc, answer)?)
     }
 
-    /// The stamp of the copy that a SPECIFIER means, if it may be served: only GET has one.
+    /// The stamp of the copy that a SPECIFIER means, if the copy may be served. Only GET means one.
     fn stamp_meant(&self, spec: &Specifier, now: u64) -> Result<Option<u32>, AllocError>
         ensures { (key_of : List ℕ → Option (List ℕ)) → GivesKeys key_of →
             IfOk result (λ stamp. stamp ≡ option_map (λ c. c.stamp) (datagrams.copy_meant (setting_of self.now key_of) self.now.state spec.now now)) }
@@ -163,7 +164,7 @@ impl<T: Copy + Drop, S: FloorStore> Node<T, S> {
         }
     }
 
-    /// A TST comes (RFC 2756, "TST").
+    /// A TST arrives (RFC 2756, "TST"). The store keeps its order.
     pub(crate) fn htcp_tst(
         &self,
         from: Address,
@@ -185,7 +186,8 @@ impl<T: Copy + Drop, S: FloorStore> Node<T, S> {
         Ok(sends(self.alloc, tst_answer(self.alloc, from, trans, stamp)?)?)
     }
 
-    /// Another ICP message than a QUERY comes: it counts for a pending round of its number whose ask has its key.
+    /// An ICP message other than QUERY arrives. It counts for the round of its request number, if
+    /// the request there has its key.
     pub(crate) fn icp_told(
         &mut self,
         from: Address,
@@ -210,7 +212,7 @@ impl<T: Copy + Drop, S: FloorStore> Node<T, S> {
         }
     }
 
-    /// An answer to a TST comes: it counts for a pending round whose serial is its TRANS-ID.
+    /// A response to a TST arrives. It counts for the round whose serial is its TRANS-ID.
     pub(crate) fn htcp_told(
         &mut self,
         from: Address,
@@ -229,8 +231,8 @@ impl<T: Copy + Drop, S: FloorStore> Node<T, S> {
         }
     }
 
-    /// Something is said to the round of the ask at a place: it counts where a peer of the round said it, by the protocol and from the address by
-    /// which it is asked, and for the first time.
+    /// An answer arrives for the round of the request at a place. It counts if it is a peer's
+    /// first, and comes by the protocol and from the address by which that peer is queried.
     fn told(
         &mut self,
         place: usize,

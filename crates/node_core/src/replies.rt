@@ -8,7 +8,7 @@ use node_rules::{Begin, Outgoing, Reply, Serve, Served};
 use roster::Listed;
 use std::alloc::{AllocError, Global};
 
-/// A reply that serves, sends and begins nothing. It takes no memory.
+/// A reply that serves, sends and begins nothing. Allocates nothing.
 pub(crate) fn quiet<T>(alloc: Global) -> Reply<T>
     ensures { result ≡ state.quiet }
 {
@@ -19,7 +19,7 @@ pub(crate) fn quiet<T>(alloc: Global) -> Reply<T>
     }
 }
 
-/// A reply that begins something. It takes no memory.
+/// A reply that only begins this. Allocates nothing.
 pub(crate) fn begins<T>(alloc: Global, begin: Begin) -> Reply<T>
     ensures { result ≡ state.beginning begin }
 {
@@ -30,7 +30,7 @@ pub(crate) fn begins<T>(alloc: Global, begin: Begin) -> Reply<T>
     }
 }
 
-/// A reply that serves something. It takes no memory.
+/// A reply that only serves this. Allocates nothing.
 pub(crate) fn serves<T>(
     alloc: Global,
     waiter: Option<u32>,
@@ -50,7 +50,7 @@ pub(crate) fn serves<T>(
     }
 }
 
-/// A reply that sends one message.
+/// A reply that only sends one message.
 pub(crate) fn sends<T: Drop>(alloc: Global, message: Outgoing) -> Result<Reply<T>, AllocError>
     ensures { IfOk result (λ reply. reply ≡ state.sending (message ∷ [])) }
 {
@@ -63,7 +63,7 @@ pub(crate) fn sends<T: Drop>(alloc: Global, message: Outgoing) -> Result<Reply<T
     })
 }
 
-/// A reply that sends one message, where a response is desired (RFC 2756, "RD").
+/// The same, only if a response is desired (RFC 2756, "RD"); else a reply that does nothing.
 pub(crate) fn sends_if<T: Drop>(
     alloc: Global,
     desired: bool,

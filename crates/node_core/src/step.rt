@@ -1,4 +1,4 @@
-//! One step of a node, and its state.
+//! A step of a node, and a copy of its state.
 ghost use Rattle.std.specs.Prelude.{◌≡◌, ℕ, List, Option, IfOk, Err, false};
 ghost use Rattle.node_rules.specs.Relation.{Steps};
 ghost use Rattle.key_texts.specs.KeyOf.{GivesKeys};
@@ -13,7 +13,7 @@ use node_rules::{Event, NodeState, Pending, Reply, StepFault};
 use roster::Listed;
 use std::alloc::{AllocError, Global};
 
-/// The same ask once more.
+/// Copies a pending request.
 fn same_ask<T: Copy>(alloc: Global, ask: &Pending<T>) -> Result<Pending<T>, AllocError>
     ensures { IfOk result (λ made. made ≡ ask.now) }
 {
@@ -30,7 +30,7 @@ fn same_ask<T: Copy>(alloc: Global, ask: &Pending<T>) -> Result<Pending<T>, Allo
 }
 
 impl<T: Copy + Drop, S: FloorStore> Node<T, S> {
-    /// The asks that wait, once more.
+    /// Copies the pending requests.
     fn same_asks(&self) -> Result<Vec<Pending<T>>, AllocError>
         ensures { IfOk result (λ made. made.items ≡ self.now.state.pending) }
     {
@@ -41,7 +41,7 @@ impl<T: Copy + Drop, S: FloorStore> Node<T, S> {
         Ok(made)
     }
 
-    /// A copy of its state. Answers in it share their octets with those of the node.
+    /// Copies the node's state. Responses in it share their octets with those of the node.
     pub fn state(&self) -> Result<NodeState<T>, AllocError>
         ensures { IfOk result (λ state. state ≡ self.now.state) }
     {
@@ -54,11 +54,14 @@ impl<T: Copy + Drop, S: FloorStore> Node<T, S> {
         })
     }
 
-    /// Takes a step: what is to be served, sent and begun for an event. A read of the origin that the step begins bears the mark.
+    /// Takes a step: what to serve, send and begin for an event. An origin read that the step
+    /// begins bears the mark.
     ///
-    /// Faults: `Closed` (the node is closed), `UnknownSerial` (no pending ask is at this serial, with this key and this source) and `Busy` (1,024 asks wait, or no
-    /// block of serials is left) change nothing. `StoreFault` (the floor store failed) closes the node. `NoMemory` changes nothing, but closes the node where the
-    /// floor store answered it.
+    /// These faults change nothing: `Closed` (the node is closed), `UnknownSerial` (no pending
+    /// request waits at this serial, with this key and this source), `Busy` (1,024 requests are
+    /// pending, or no block of serials is left). `StoreFault` (the floor store failed) closes the
+    /// node. `NoMemory` (an allocation failed) changes nothing, but closes the node if the floor
+    /// store gave it.
     #[tactic(auto, using(crate::proofs::Outcomes::closed_steps))]
     pub fn step(&mut self, event: Event<T>, mark: T) -> Result<Reply<T>, StepFault>
         ensures same { IsSameMember self.old self.new }

@@ -1,3 +1,5 @@
+-- A new request, by whom it asks: nobody since it bears no-cache, nobody since no peer may be
+-- asked, or the peers of its round.
 use Rattle.std.proofs.Common.{ap, ◌∙◌}
 use Rattle.floor_rules.specs.Floors.{floor}
 use Rattle.node_core.specs.View.{NodeText, setting_of}

@@ -1,3 +1,5 @@
+-- The request takes one serial more and can go on, since it had read the origin less than three
+-- times.
 use Rattle.std.proofs.Common.{◌≡◌, refl}
 use Rattle.node_rules.specs.Fetching.{begin_read}
 use Rattle.node_rules.specs.State.{changed}

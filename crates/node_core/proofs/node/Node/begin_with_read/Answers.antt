@@ -1,3 +1,4 @@
+-- A new request that reads the origin, or ends with 502 at once (proofs/Asking).
 use Rattle.std.proofs.Common.{◌+◌, ◌*◌, ◌<◌, All, ap, subst, ◌∙◌}
 use Rattle.floor_rules.specs.Floors.{seen}
 use Rattle.node_rules.specs.Asks.{takes_block}

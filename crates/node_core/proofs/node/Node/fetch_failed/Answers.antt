@@ -1,3 +1,5 @@
+-- A failed fetch, by the present fetch of the request that has the serial: none, from a peer, or
+-- from the origin.
 use Rattle.std.proofs.Common.{◌≡◌, ◌==◌, ◌∙◌, Some, find, slice_get, sym}
 use Rattle.node_rules.specs.State.{fetch_serial}
 use Rattle.node_rules.specs.Arrivals.{fetch_failed}

@@ -1,3 +1,5 @@
+-- A request goes where its round says: it waits, goes to a peer, or to the origin. The chosen
+-- peer's answer was one to follow, so the request has a serial left.
 use Rattle.std.proofs.Common.{◌≡◌, ◌∙◌, Some, slice_get, refl, sym}
 use Rattle.floor_rules.specs.Floors.{floor}
 use Rattle.peer_chooser.specs.declared.said.Source.TheVariants as source

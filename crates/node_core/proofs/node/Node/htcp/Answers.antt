@@ -1,3 +1,5 @@
+-- HTCP messages that have answers to a round in them, and that none of the messages but a CLR can
+-- meet a fault of the store.
 use Rattle.std.proofs.Common.{◌≡◌}
 use Rattle.node_core.specs.View.{setting_of}
 use Rattle.node_core.proofs.SameWords.{hit, miss}

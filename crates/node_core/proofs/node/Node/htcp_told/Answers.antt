@@ -1,3 +1,4 @@
+-- A TST response: the request that is found by its TRANS-ID is the one that the rule finds.
 use Rattle.std.proofs.Common.{◌==◌, ap}
 use Rattle.roster_tables.specs.declared.plain.Udp.TheVariants as udp
 use Rattle.node_rules.specs.State.{round_serial}

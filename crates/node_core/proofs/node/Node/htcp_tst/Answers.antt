@@ -1,3 +1,5 @@
+-- A TST: no response is desired, the sender is unknown, or the response tells whether a copy may be
+-- served.
 use Rattle.std.proofs.Common.{ap}
 use Rattle.node_core.specs.View.{NodeText, setting_of}
 use Rattle.node_core.proofs.Hearing.{replied}

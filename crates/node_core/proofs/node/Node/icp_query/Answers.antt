@@ -1,3 +1,4 @@
+-- A QUERY: the answer is neither QUERY nor HIT_OBJ, and is the rule's for the key that was read.
 use Rattle.std.proofs.Common.{option_map}
 use Rattle.roster_tables.specs.declared.plain.Udp.TheVariants as udp
 use Rattle.node_rules.specs.Known.{is_known}

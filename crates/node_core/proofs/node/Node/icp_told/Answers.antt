@@ -1,3 +1,4 @@
+-- An ICP answer, by whether a round has its number and the request there has its key.
 use Rattle.std.proofs.Common.{ap}
 use Rattle.node_core.specs.View.{NodeText, setting_of}
 use Rattle.node_core.proofs.HearingRounds.{icp_tells_nobody, icp_tells_no_other, icp_tells_ask}

@@ -1,3 +1,4 @@
+-- A request that no copy serves: 504, Busy, or a new pending request.
 use Rattle.node_core.specs.View.{setting_of}
 use Rattle.node_core.proofs.Asking.{cached_only, refused_busy, begins_ask}
 use Rattle.node_core.proofs.Hearing.{leads_as, replied}

@@ -1,3 +1,4 @@
+-- An origin's response, by the request that has serial and key, and by its present fetch.
 use Rattle.std.proofs.Common.{◌≡◌, ◌∙◌, Some, find, slice_get, sym}
 use Rattle.node_rules.specs.Arrivals.{is_fetch, origin_answer}
 use Rattle.node_core.specs.View.{setting_of}

@@ -1,3 +1,4 @@
+-- The origin's response is used, or the request goes on, by the floor (proofs/Arrive).
 use Rattle.std.proofs.Common.{◌≡◌, ◌<◌, ◌≤◌, Some, slice_get}
 use Rattle.floor_rules.specs.Floors.{floor}
 use Rattle.node_rules.specs.Arrivals.{not_fetching}

@@ -1,3 +1,4 @@
+-- A peer's response, by the request that has serial and key, and by its present fetch.
 use Rattle.std.proofs.Common.{◌≡◌, ◌≢◌, ◌∙◌, ℕ, Some, find, slice_get, sym}
 use Rattle.node_rules.specs.declared.state.Fetch.TheVariants.{AtPeer}
 use Rattle.node_rules.specs.Arrivals.{is_fetch}

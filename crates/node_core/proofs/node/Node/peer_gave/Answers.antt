@@ -1,3 +1,5 @@
+-- A peer's response is used, or the peer counts as tried, by the floor and the status
+-- (proofs/Arrive).
 use Rattle.std.proofs.Common.{◌≡◌, ◌≤◌, true, false, Some, slice_get, sym}
 use Rattle.floor_rules.specs.Floors.{floor}
 use Rattle.node_rules.specs.Arrivals.{is_gateway_fault, peer_gave, try_on}

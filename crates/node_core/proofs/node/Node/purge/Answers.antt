@@ -1,3 +1,6 @@
+-- A purge that the store refused. The floor in memory had room and was raised, so the node that
+-- closes has the raise in its floors; a crash leaves the store with the floors before the raise or
+-- after it.
 use Rattle.std.proofs.Common.{◌≡◌, ◌⊎◌, inr, refl, Err, ap, subst, sym, ◌∙◌}
 use Rattle.floor_rules.specs.Floors.{FloorMap, HasRoom}
 use Rattle.floor_rules.specs.Store.{HaveRisen}

@@ -1,3 +1,5 @@
+-- An origin read, by its three cases: three reads were made, the roster has no such origin, or the
+-- read begins.
 use Rattle.std.proofs.Common.{◌≡◌, ◌∙◌, true, false, Some, slice_get, sym, arith}
 use Rattle.std.proofs.lemmas.Option.{IfSome_then}
 use Rattle.node_rules.specs.Known.{has_origin}

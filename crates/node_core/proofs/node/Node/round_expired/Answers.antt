@@ -1,3 +1,4 @@
+-- An expired round, by whether a request has the serial and still has a round.
 use Rattle.std.proofs.Common.{◌≡◌, ◌==◌, ◌∙◌, Some, None, find, slice_get, sym}
 use Rattle.node_rules.specs.State.{round_serial}
 use Rattle.node_rules.specs.Arrivals.{round_expired}

@@ -1,3 +1,4 @@
+-- A round that changed: the request goes on, or only keeps the round while a fetch runs.
 use Rattle.std.proofs.Common.{◌≡◌, ◌∙◌, Some, slice_get, refl, true, false, sym}
 use Rattle.node_rules.specs.State.{changed, is_idle}
 use Rattle.node_rules.specs.Arrivals.{with_round}

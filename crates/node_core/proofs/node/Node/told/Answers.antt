@@ -1,3 +1,5 @@
+-- An answer to the round of a request: no round, no peer of it or not its first answer, or an
+-- answer that counts (proofs/HearingRounds).
 use Rattle.std.proofs.Common.{Ok, ap}
 use Rattle.node_core.specs.Heard.{said_by}
 use Rattle.node_core.specs.View.{NodeText, setting_of}

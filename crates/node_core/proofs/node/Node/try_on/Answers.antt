@@ -1,3 +1,4 @@
+-- The peer counts as tried and the fetch has ended, so the request can go on.
 use Rattle.std.proofs.Common.{◌≡◌, [], ◌∷◌, ◌++◌, Some, slice_get}
 use Rattle.node_rules.specs.Arrivals.{try_on, not_fetching}
 use Rattle.node_waiting.specs.Changed.{progress_of}

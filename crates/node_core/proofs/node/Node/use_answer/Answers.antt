@@ -1,3 +1,5 @@
+-- The copy is stored before the request ends; the two changes touch different parts of the state,
+-- so the rule's order gives the same.
 use Rattle.std.proofs.Common.{◌≡◌, ◌∙◌, Some, slice_get, ap}
 use Rattle.reuse_rules.specs.Lifetime.{lifetime}
 use Rattle.node_rules.specs.declared.state.NodeState.{NodeState}
