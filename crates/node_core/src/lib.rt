@@ -41,10 +41,14 @@
 //! its store has failed, and an honest store has committed the node's floors (`IsTied`, its
 //! invariant).
 //!
-//! The contract of `step` has four clauses. `same`: roster and id stay. `store`: what the store has
-//! after the step, also after a crash (`specs/Closing`). `cause`: an honest store gives rise to
-//! `StoreFault` only if it counted a failure, or can count no further. `steps`: state and outcome are
-//! those of `Steps` of `node_rules`, for every function that gives the keys of texts.
+//! The contract of `step` has four clauses:
+//!
+//! - `same`: roster and id stay
+//! - `store`: what the store has after the step, also after a crash (`specs/Closing`)
+//! - `cause`: over an honest store, `StoreFault` comes only if the store counted a failure, or can
+//!   count no further
+//! - `steps`: state and outcome are those of `Steps` of `node_rules`, for every function that gives
+//!   the keys of texts
 //!
 //! Each other method says what its rule leads to (`Leads` and `MayClose` of `specs/Leads`).
 //! `specs/Heard`, `specs/Names` and `specs/Placed` have the words for answers to a round, names of

@@ -1,5 +1,5 @@
--- The request takes one serial more and can go on, since it had read the origin less than three
--- times.
+-- An origin read of a pending request. The changed request keeps its block and can go on, as the
+-- caller has shown, so the invariant holds.
 use Rattle.std.proofs.Common.{◌≡◌, refl}
 use Rattle.node_rules.specs.Fetching.{begin_read}
 use Rattle.node_rules.specs.State.{changed}

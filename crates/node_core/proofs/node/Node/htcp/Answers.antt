@@ -1,4 +1,4 @@
--- HTCP messages that have answers to a round in them, and that none of the messages but a CLR can
+-- An HTCP message by its content: a TST hit or miss says what the rule says, and only a CLR can
 -- meet a fault of the store.
 use Rattle.std.proofs.Common.{◌≡◌}
 use Rattle.node_core.specs.View.{setting_of}
