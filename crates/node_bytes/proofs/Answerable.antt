@@ -1,4 +1,6 @@
--- Each message that a codec reads can be answered.
+-- Every message that a codec decodes can be answered. An ICP payload holds the URL and a zero octet
+-- within the longest message, so an answer, which is no longer, can repeat the URL. HTCP's opcode
+-- is half an octet, so it is below 16.
 use Rattle.std.proofs.Common.{◌≡◌, ℕ, ◌≤◌, ◌<◌, ◌+◌, ◌*◌, List, [], ◌∷◌, ◌++◌, length, get_or, refl, ap, ◌∙◌, arith, length-append}
 use Rattle.byteorder.specs.Endian.{big_bytes}
 use Rattle.wire_octets.specs.Fields.{IsOctets}

@@ -1,4 +1,4 @@
--- What octets say to a node, and the octets of what it says.
+-- What octets say to a node, and the octets of what a node sends.
 use Rattle.std.specs.Prelude.{◌≡◌, ℕ, List, Option, Some, None}
 use Rattle.icp_wire.specs.declared.message.Icp.{Icp}
 use Rattle.icp_wire.specs.declared.fault.IcpFault.{IcpFault}
@@ -18,30 +18,31 @@ use Rattle.node_rules.specs.declared.message.Message.TheVariants as message
 use Rattle.node_rules.specs.declared.event.Event.{Event}
 use Rattle.node_rules.specs.declared.event.Event.TheVariants as event
 
--- the written text of a message of either codec (RFC 2186, RFC 2756)
+-- The octets of a message of either protocol (RFC 2186, RFC 2756).
 abbrev pub text_of : Message → List ℕ
 text_of (message.Icp m) = icp_text.written m
 text_of (message.Htcp m) = htcp_text.written m
 
--- the octets spell an ICP message, and this is that message
+-- The octets spell this ICP message.
 abbrev pub IsIcp : List ℕ → Message → Type 0
 IsIcp octets m = (icp : Icp) × (m ≡ message.Icp icp) × icp_grammar.Spells octets icp
 
--- the same of HTCP
+-- The octets spell this HTCP message.
 abbrev pub IsHtcp : List ℕ → Message → Type 0
 IsHtcp octets m = (htcp : Htcp) × (m ≡ message.Htcp htcp) × htcp_grammar.Spells octets htcp
 
--- the octets spell the message by this protocol
+-- The octets spell this message by this protocol.
 abbrev pub SpellsBy : Udp → List ℕ → Message → Type 0
 SpellsBy udp.Icp octets m = IsIcp octets m
 SpellsBy udp.Htcp octets m = IsHtcp octets m
 
--- the codec of this protocol has a first fault for the octets
+-- The codec of this protocol has a first fault for the octets.
 abbrev pub HasFault : Udp → List ℕ → Type 0
 HasFault udp.Icp octets = (fault : IcpFault) × (icp_faults.first_fault octets ≡ Some fault)
 HasFault udp.Htcp octets = (fault : HtcpFault) × (htcp_faults.first_fault octets ≡ Some fault)
 
--- the event of octets that came from an address at a moment: that of the message that they spell, and none where they have a fault
+-- The event of octets that arrived from an address at a time: that of the message that they spell,
+-- and none if they have a fault.
 abbrev pub IsEventOf : {X : Type 0} → Udp → Address → List ℕ → ℕ → Option (Event X) → Type 0
 IsEventOf by from octets now None = HasFault by octets
 IsEventOf by from octets now (Some e) = (m : Message) × SpellsBy by octets m × (e ≡ event.Datagram from m now)

@@ -9,7 +9,8 @@ use Rattle.node_rules.specs.Relation.{Steps}
 use Rattle.node_core.specs.View.{NodeText, IsSameMember, setting_of}
 use Rattle.node_core.specs.Closing.{KeepsStore, FailsWithCause}
 
--- It steps as its rules define: roster and id stay, the store of floors has what a crash may find, and fails with cause.
+-- It steps as its rules define: roster and id stay, the store of floors has what a crash may find,
+-- and fails only with cause.
 pub record TakesStep {S : Type 0} (honest : Type 0) (may_find : FloorMap → Type 0) (have_risen : Type 0) (before : NodeText (Unit {0}) S) (e : Event (Unit {0})) (outcome : Result (Reply (Unit {0})) StepFault) (after : NodeText (Unit {0}) S) : Type 0 where
   pub same : IsSameMember before after
   pub store : KeepsStore honest may_find before after outcome

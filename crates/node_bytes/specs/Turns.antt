@@ -1,4 +1,4 @@
--- What is done after a step, in octets.
+-- What to do after a step, in octets. The rule is `MeetsOctets`, at the end.
 use Rattle.std.specs.Prelude.{◌≡◌, ◌⊎◌, ℕ, List, [], map, Option, Some, None, Result, Ok, Err}
 use Rattle.roster_tables.specs.declared.plain.Address.{Address}
 use Rattle.roster_tables.specs.declared.plain.Udp.{Udp}
@@ -12,38 +12,40 @@ use Rattle.node_bytes.specs.declared.turns.Packet.{Packet}
 use Rattle.node_bytes.specs.declared.turns.Turn.{Turn}
 use Rattle.node_bytes.specs.Bytes.{text_of, HasFault, IsEventOf}
 
--- a message's protocol and written text, and where it goes
+-- A message with its protocol, its octets and its receiver.
 abbrev pub packet_of : Outgoing → Packet
 packet_of sent = record { by = protocol_of sent.message; to = sent.to; octets = text_of sent.message }
 
--- what is to be done after a step: the written texts of the reply's messages in order, its serve and its begin
+-- What to do after a step: the reply's messages as octets, in order, and its serve and its begin.
 abbrev pub turn_of : Reply (Unit {0}) → Turn
 turn_of reply = record { serve = reply.serve; send = map packet_of reply.send; begin = reply.begin }
 
--- nothing is to be done
+-- Nothing is to be done.
 abbrev pub idle : Turn
 idle = record { serve = None; send = []; begin = None }
 
--- After a step: what its reply says is to be done, or its fault. Want of memory for the datagrams leaves the step taken, and nothing of it to be done.
+-- After a step: what its reply says is to be done, or its fault. If memory for the datagrams is
+-- lacking, the step stands and nothing of it is done.
 abbrev pub ToldAfter : Result (Reply (Unit {0})) StepFault → Result Turn StepFault → Type 0
 ToldAfter (Ok reply) result = (result ≡ Ok (turn_of reply)) ⊎ (result ≡ Err NoMemory)
 ToldAfter (Err fault) result = result ≡ Err fault
 
--- one step with an event, taken by this relation between what stood before and after it
+-- One step with an event, taken by this relation between what stood before and after it.
 abbrev pub StepsOnce : {N : Type 0} → (N → Event (Unit {0}) → Result (Reply (Unit {0})) StepFault → N → Type 0) → Event (Unit {0}) → N → N → Result Turn StepFault → Type 0
 StepsOnce takes e before after result =
     (outcome : Result (Reply (Unit {0})) StepFault) × takes before e outcome after × ToldAfter outcome result
 
--- no event takes no step, and leaves nothing to be done
+-- Without an event no step is taken, and nothing is to be done.
 abbrev pub MeetsEvent : {N : Type 0} → (N → Event (Unit {0}) → Result (Reply (Unit {0})) StepFault → N → Type 0) → Option (Event (Unit {0})) → N → N → Result Turn StepFault → Type 0
 MeetsEvent takes None before after result = (after ≡ before) × (result ≡ Ok idle)
 MeetsEvent takes (Some e) before after result = StepsOnce takes e before after result
 
--- want of memory before a step takes none
+-- An allocation failed before the step, and none is taken.
 abbrev pub WantsMemoryBefore : {N : Type 0} → N → N → Result Turn StepFault → Type 0
 WantsMemoryBefore before after result = (after ≡ before) × (result ≡ Err NoMemory)
 
--- Octets came: one step with the event that they make, or none where they make none. Memory is lacking only where they make one.
+-- Octets arrived: one step with the event that they make, or none if they make none. Memory may be
+-- lacking only if they make one.
 abbrev pub MeetsOctets : {N : Type 0} → (N → Event (Unit {0}) → Result (Reply (Unit {0})) StepFault → N → Type 0) → Udp → Address → List ℕ → ℕ → N → N → Result Turn StepFault → Type 0
 MeetsOctets takes by from octets now before after result =
     ((e : Option (Event (Unit {0}))) × IsEventOf by from octets now e × MeetsEvent takes e before after result)

@@ -10,9 +10,13 @@ use purge_rules::MasterCall;
 use roster::{Address, Roster, Udp};
 use std::alloc::{AllocError, Global};
 
-/// The call of the master that octets make as they come to its HTCP address: an acknowledgement of that TRANS-ID and code where a member
-/// sent a response to a CLR (RFC 2756, "CLR") from its HTCP address; none where a stranger sent them, where they are another message, and
-/// where they are none. It takes memory only where a member sent them, and lacks it only where they are a message.
+/// The call of the master that a datagram makes, as it arrives at the master's HTCP address.
+///
+/// A response to a CLR from a member's HTCP address is an acknowledgement, with its TRANS-ID and
+/// code (RFC 2756, "CLR"). Any other message, octets that are none, and everything from another
+/// address make no call.
+///
+/// Only a datagram from a member allocates; `AllocError` comes only if its octets are a message.
 pub fn master_call_of(
     alloc: Global,
     roster: &Roster,

@@ -1,4 +1,4 @@
-//! Laws of the definitions. Each function does nothing: its clauses are the law.
+//! A law of the definition of a step. Its function does nothing: its contract states the law.
 ghost use Rattle.std.specs.Prelude.{Ok};
 ghost use Rattle.node_rules.specs.declared.state.NodeState.{NodeState};
 ghost use Rattle.node_rules.specs.declared.event.Event.{Event};
@@ -7,7 +7,8 @@ ghost use Rattle.node_rules.specs.State.{Setting};
 ghost use Rattle.node_rules.specs.Relation.{Steps};
 ghost use Rattle.node_bytes.specs.Stepping.{AnswersAsk};
 
-/// By the rules of a node an ask is served at once, and nothing else is done then; or it waits for what begins with it.
+/// A request is served at once, and the step does nothing else; or it waits for what the step
+/// begins.
 pub fn asks_are_answered<T>()
     ensures { (g : Setting) (s : NodeState T) (e : Event T) (mark : T) (reply : Reply T) (next : NodeState T) →
         Steps g s e mark (Ok reply) next → AnswersAsk e reply }

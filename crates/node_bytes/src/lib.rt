@@ -1,11 +1,30 @@
-//! From octets to what a node takes, and from what it sends back to octets (RFC 2186, RFC 2756).
+//! The edge of a node in octets: from a datagram to an event, and from a reply to datagrams (RFC
+//! 2186, RFC 2756).
 //!
-//! A datagram is read by the codec of the protocol at whose address it came. Each message that a codec reads can be answered, so
-//! it can be handed to a node as it is.
+//! - [`on_datagram`] is the whole way: octets that arrive take one step, and what to do after it
+//!   comes back as a [`Turn`], in octets. Octets that are no message take no step.
+//! - [`event_of`] decodes a datagram by the protocol at whose address it arrived; [`read_icp`] and
+//!   [`read_htcp`] do so by one protocol. [`octets_of`] encodes a message.
+//! - [`Stepper`] is what takes a step: a node, or a handle on a node that threads share. The same
+//!   code serves both.
+//! - [`master_call_of`] decodes what arrives at the master's address: an acknowledgement, or
+//!   nothing.
 //!
-//! `on_datagram` joins the two: octets that come take one step, and what is to be done after it comes out in octets (`specs/Turns`). What
-//! takes the step is a [`Stepper`]: a node, or a way to one that others use too. `specs/Stepping` says what each step makes of an ask.
-//! `master_call_of` gives the calls that datagrams make to the master of purges (`specs/Calls`).
+//! Where to read:
+//!
+//! - `specs/Bytes`: which octets and which message belong together, by either protocol
+//! - `specs/Turns`: what `on_datagram` does; `src/turns.rt`
+//! - `specs/Nodes`: what a node promises of its step as a `Stepper`; `src/stepper.rt`
+//! - `specs/Stepping`: what a step makes of a request; `src/laws.rt` proves it of the rules
+//! - `specs/Calls`: the master's calls; `src/calls.rt`
+//! - `src/reading.rt`, `src/writing.rt`: the codecs of `icp_wire` and `htcp_wire` as a node uses
+//!   them
+//! - `proofs/Answerable`: why every message that a codec decodes can be answered; `proofs/Asks`:
+//!   the law on requests
+//!
+//! Pure: no socket and no clock; the caller passes octets, sender and time. A contract sees a
+//! `Stepper` by its own relation `takes`. Any call that allocates may fail with `NoMemory` or
+//! `AllocError`; no contract says that memory suffices.
 #![tactic(auto)]
 
 mod calls;

@@ -1,4 +1,4 @@
-//! What octets say.
+//! Decodes datagrams.
 ghost use Rattle.std.specs.Prelude.{◌≡◌, ◌≢◌, Some, IfOk, IfErr};
 ghost use Rattle.icp_wire.specs.Faults as icp_faults;
 ghost use Rattle.htcp_wire.specs.Faults as htcp_faults;
@@ -10,9 +10,9 @@ use node_rules::{Event, Message, Received};
 use roster::{Address, Udp};
 use std::alloc::{AllocError, Global};
 
-/// The ICP message that a datagram spells (RFC 2186), as one that came, or its first fault.
+/// Decodes an ICP message (RFC 2186), or gives the first fault of the octets.
 ///
-/// A refusal takes no memory: `NoMemory` comes only where the octets spell a message.
+/// Only a message allocates: `NoMemory` comes only if the octets spell one.
 pub fn read_icp(alloc: Global, octets: &[u8]) -> Result<Received, IcpFault>
     ensures ok { IfOk result (IsIcp octets.now) }
     ensures err { IfErr result (λ fault. fault ≢ IcpFault.NoMemory → icp_faults.first_fault octets.now ≡ Some fault) }
@@ -24,9 +24,9 @@ pub fn read_icp(alloc: Global, octets: &[u8]) -> Result<Received, IcpFault>
     }
 }
 
-/// The HTCP message that a datagram spells (RFC 2756), as one that came, or its first fault.
+/// Decodes an HTCP message (RFC 2756), or gives the first fault of the octets.
 ///
-/// A refusal takes no memory: `NoMemory` comes only where the octets spell a message.
+/// Only a message allocates: `NoMemory` comes only if the octets spell one.
 pub fn read_htcp(alloc: Global, octets: &[u8]) -> Result<Received, HtcpFault>
     ensures ok { IfOk result (IsHtcp octets.now) }
     ensures err { IfErr result (λ fault. fault ≢ HtcpFault.NoMemory → htcp_faults.first_fault octets.now ≡ Some fault) }
@@ -38,8 +38,10 @@ pub fn read_htcp(alloc: Global, octets: &[u8]) -> Result<Received, HtcpFault>
     }
 }
 
-/// What a node meets as octets come from an address by a protocol, at a moment in seconds: the datagram that they spell, or none
-/// where the protocol's codec refuses them. Memory is lacking only where they spell a message.
+/// Makes the event of octets that arrived from an address by a protocol, at a time in seconds. None
+/// if the protocol's codec refuses them.
+///
+/// `AllocError` comes only if the octets spell a message.
 pub fn event_of<T>(
     alloc: Global,
     by: Udp,

@@ -10,12 +10,13 @@ use floor_rules::FloorStore;
 use node_core::Node;
 use node_rules::{Event, Reply, StepFault};
 
-/// What takes the steps of a node: the node itself, or a way to one that others use too.
+/// Takes the steps of a node: the node itself, or a handle on a node that threads share.
 pub trait Stepper {
     // A step with this event may be answered so, and leave this.
     ghost takes: { Self → Event (Unit {0}) → Result (Reply (Unit {0})) StepFault → Self → Type 0 };
 
-    /// Takes one step. An ask is served at once, and nothing else is done then; or it waits for what begins with it.
+    /// Takes one step. A request is served at once, and the step does nothing else; or it waits for
+    /// what the step begins.
     fn step(&mut self, event: Event<()>) -> Result<Reply<()>, StepFault>
         ensures takes { takes self.old event result self.new }
         ensures asks { IfOk result (AnswersAsk event) };

@@ -1,4 +1,4 @@
-//! What is done after a step, in octets.
+//! What to do after a step, in octets.
 ghost use Rattle.std.specs.Prelude.{◌≡◌, IfOk, map};
 ghost use Rattle.node_bytes.specs.Turns.{packet_of, turn_of, idle, MeetsOctets};
 
@@ -8,30 +8,30 @@ use roster::{Address, Listed, Udp};
 use std::alloc::{AllocError, Global};
 use wire_octets::Octets;
 
-/// A datagram to be sent.
+/// A datagram to send.
 #[derive(Debug, Drop)]
 pub struct Packet {
-    /// By which protocol it goes.
+    /// The protocol that carries it.
     pub by: Udp,
-    /// Where it goes.
+    /// The receiver's address.
     pub to: Address,
     /// Its octets.
     pub octets: Octets,
 }
 
-/// What is to be done after a step.
+/// What to do after a step.
 #[derive(Drop)]
 pub struct Turn {
-    /// What is to be served.
+    /// What to serve, if anything.
     pub serve: Option<Serve<()>>,
-    /// The datagrams to be sent, in order.
+    /// The datagrams to send, in order.
     pub send: Listed<Packet>,
-    /// What is to be begun.
+    /// What to begin, if anything.
     pub begin: Option<Begin>,
 }
 
 impl Turn {
-    /// Nothing is to be done. It takes no memory.
+    /// A turn in which nothing is to be done. Allocates nothing.
     pub fn idle(alloc: Global) -> Turn
         ensures { result ≡ idle }
     {
@@ -42,7 +42,8 @@ impl Turn {
         }
     }
 
-    /// What a reply says is to be done: the written texts of its messages with their addresses in order, its serve and its begin.
+    /// Makes the turn of a reply: its messages as octets with their addresses, in order, and its
+    /// serve and its begin as they are.
     pub fn of(alloc: Global, reply: Reply<()>) -> Result<Turn, AllocError>
         ensures { IfOk result (λ turn. turn ≡ turn_of reply) }
     {
@@ -55,7 +56,7 @@ impl Turn {
     }
 }
 
-/// The protocol of a message and its written text, and where it goes.
+/// Encodes one message.
 fn packet_of(alloc: Global, sent: &Outgoing) -> Result<Packet, AllocError>
     ensures { IfOk result (λ packet. packet ≡ packet_of sent.now) }
 {
@@ -66,7 +67,7 @@ fn packet_of(alloc: Global, sent: &Outgoing) -> Result<Packet, AllocError>
     })
 }
 
-/// The written texts of messages, in order.
+/// Encodes messages, in order.
 fn packets_of(alloc: Global, messages: &[Outgoing]) -> Result<Vec<Packet>, AllocError>
     ensures { IfOk result (λ packets. packets.items ≡ map packet_of messages.now) }
 {
@@ -77,11 +78,12 @@ fn packets_of(alloc: Global, messages: &[Outgoing]) -> Result<Vec<Packet>, Alloc
     Ok(packets)
 }
 
-/// Takes the step with the event that octets make as they come from an address by a protocol, at a moment in seconds, and gives what is to
-/// be done then. Octets that are no message take no step, and leave nothing to be done.
+/// Takes the step of octets that arrived from an address by a protocol, at a time in seconds, and
+/// returns what to do then. Octets that are no message take no step, and leave nothing to do.
 ///
-/// Faults are the step's. `NoMemory` may also come before the step, which is not taken then, where the octets are a message; or after it: then the step stands, and what it
-/// would have served, sent and begun is lost.
+/// Faults are those of the step. `NoMemory` may also come before the step, only if the octets are a
+/// message: no step is taken then. Or it comes after the step: the step stands, and what it would
+/// have served, sent and begun is lost.
 pub fn on_datagram<N: Stepper>(
     alloc: Global,
     node: &mut N,

@@ -1,11 +1,11 @@
-//! The octets of what is sent.
+//! Encodes datagrams.
 ghost use Rattle.std.specs.Prelude.{◌≡◌, IfOk};
 ghost use Rattle.node_bytes.specs.Bytes.{text_of};
 
 use node_rules::{Message, Outgoing};
 use std::alloc::{AllocError, Global};
 
-/// The written text of a message that is sent, by the codec of its protocol, or the want of memory for it.
+/// Encodes a message by the codec of its protocol. `AllocError` is the only fault.
 pub fn octets_of(alloc: Global, sent: &Outgoing) -> Result<Vec<u8>, AllocError>
     ensures { IfOk result (λ octets. octets.items ≡ text_of sent.now.message) }
 {
