@@ -12,7 +12,7 @@ use node_rules::{Event, Reply, StepFault};
 
 /// Takes the steps of a node: the node itself, or a handle on a node that threads share.
 pub trait Stepper {
-    // A step with this event may be answered so, and leave this.
+    // Whether a step may lead from this state, by this event, to this outcome and this state.
     ghost takes: { Self → Event (Unit {0}) → Result (Reply (Unit {0})) StepFault → Self → Type 0 };
 
     /// Takes one step. A request is served at once, and the step does nothing else; or it waits for
