@@ -1,4 +1,4 @@
--- What becomes of an ask over HTTP.
+-- What becomes of a request over HTTP. The rule is `ServesAsk`, at the end.
 use Rattle.std.specs.Prelude.{◌≡◌, ◌⊎◌, ℕ, ◌/◌, Bool, not, ◌&&◌, ◌==◌, List, [], Option, Some, None, Result, Ok, Err, MatchResult, if◌then◌else◌}
 use Rattle.std.specs.Io.KnownBytes.{Appends}
 use Rattle.text_writer.specs.Writing.{AppendsFront, AppendsProperFront}
@@ -25,88 +25,91 @@ use Rattle.node_http.specs.declared.fault.ServeFault.TheVariants.{Fetch, Step}
 use Rattle.node_http.specs.Statuses.{refusal_of, unavailable}
 use Rattle.node_http.specs.Serving.{serve_text, status_text, refusal_text}
 
--- Who asks
+-- Who sends the request
 
+-- The name of a member, if there is one.
 abbrev pub name_by : Option Member → List ℕ
 name_by None = []
 name_by (Some m) = m.cache.name
 
--- the name of a member
+-- The name of the member of this id.
 abbrev pub name_of : Tables → ℕ → List ℕ
 name_of roster id = name_by (member_of roster id)
 
--- the id is that of another member of the hierarchy
+-- The id is that of another member of the hierarchy.
 abbrev pub is_anothers_id : Tables → ℕ → ℕ → Bool
 is_anothers_id roster id member = is_member roster member && not (member == id)
 
--- the member that asks the node of this id: the one that the ask names, unless it is none of the roster or the node itself
+-- The member that sends a request to the node of this id: the one that the request names, unless it
+-- is not in the roster or is the node itself.
 abbrev pub asker_of : Tables → ℕ → Option ℕ → Option ℕ
 asker_of roster id None = None
 asker_of roster id (Some member) = if is_anothers_id roster id member then Some member else None
 
--- a client's ask, or a member's
+-- The event of a client's request, or of a member's.
 abbrev pub event_by : Option ℕ → Ask → ℕ → Event (Unit {0})
 event_by None ask now = event.Client ask now
 event_by (Some asker) ask now = event.PeerAsk asker ask now
 
 -- What waits
 
--- block b has the serials 32b to 32b + 31
+-- The block of what begins. Block b has the serials 32b to 32b + 31.
 abbrev pub block_of : Begin → ℕ
 block_of begun = serial_of begun / 32
 
--- What is written and answered. The writer held the first, and holds the second.
+-- What is written and returned. The writer held the first text, and holds the second.
 
--- the text is written; or the writer failed, and a front of it is, not all of it
+-- The response is written; or the writer failed, and a proper front of it is.
 abbrev pub IsTold : Option (List ℕ) → Option (List ℕ) → List ℕ → Result Asked ServeFault → Type 0
 IsTold old new text result =
     MatchResult result (λ asked. (asked ≡ Answered) × Appends old new text) (λ fault. (fault ≡ Fetch Io) × AppendsProperFront old new text)
 
--- this fault is answered, and a front of the text of its refusal is written: all of it unless the writer failed, but no clause can say that,
--- since a writer counts no failures
+-- This fault is returned, and a front of the refusal is written. All of it unless the writer
+-- failed, but no clause can say that: a writer counts no failures.
 abbrev pub IsRefused : Option (List ℕ) → Option (List ℕ) → List ℕ → ServeFault → Result Asked ServeFault → Type 0
 IsRefused old new text fault result = (result ≡ Err fault) × AppendsFront old new text
 
--- the reply serves the one who asks, and does nothing else: its text is written
+-- The reply serves the sender and does nothing else, and the response is written.
 pub record ToldAtOnce (old new : Option (List ℕ)) (via : List ℕ) (asker : Option ℕ) (reply : Reply (Unit {0})) (result : Result Asked ServeFault) : Type 0 where
   pub served : Served (Unit {0})
   pub alone : reply ≡ serving None asker served
   pub told : IsTold old new (serve_text asker served via) result
 
--- nothing is written, and what the reply says is handed on; or memory is wanted for its datagrams
+-- Nothing is written, and what the reply says is handed on; or memory is lacking for its datagrams.
 abbrev pub HandsOn : Option (List ℕ) → Option (List ℕ) → List ℕ → Reply (Unit {0}) → ℕ → Result Asked ServeFault → Type 0
 HandsOn old new via reply block result =
     ((result ≡ Ok (Waits block (turn_of reply))) × (new ≡ old))
     ⊎ IsRefused old new (status_text unavailable via) (Step NoMemory) result
 
--- the reply serves nobody, and the one who asks waits for what begins
+-- The reply serves nobody, and the sender waits for what begins.
 pub record WaitsFor (old new : Option (List ℕ)) (via : List ℕ) (reply : Reply (Unit {0})) (result : Result Asked ServeFault) : Type 0 where
   pub begun : Begin
   pub begins : reply.begin ≡ Some begun
   pub serves : reply.serve ≡ None
   pub hands_on : HandsOn old new via reply (block_of begun) result
 
+-- One of the two.
 abbrev pub AfterReply : Option (List ℕ) → Option (List ℕ) → List ℕ → Option ℕ → Reply (Unit {0}) → Result Asked ServeFault → Type 0
 AfterReply old new via asker reply result = ToldAtOnce old new via asker reply result ⊎ WaitsFor old new via reply result
 
--- after a step: what its reply says is done, or it was refused
+-- After a step: what its reply says is done, or it was refused.
 abbrev pub AfterStep : Option (List ℕ) → Option (List ℕ) → List ℕ → Option ℕ → Result (Reply (Unit {0})) StepFault → Result Asked ServeFault → Type 0
 AfterStep old new via asker (Ok reply) result = AfterReply old new via asker reply result
 AfterStep old new via asker (Err fault) result = IsRefused old new (status_text unavailable via) (Step fault) result
 
--- one step with the ask, taken by this relation between what stood before and after it
+-- One step with the request, taken by this relation between what stood before and after it.
 abbrev pub StepsFor : {N : Type 0} → (N → Event (Unit {0}) → Result (Reply (Unit {0})) StepFault → N → Type 0) → Option ℕ → Ask → ℕ → N → N → Option (List ℕ) → Option (List ℕ) → List ℕ → Result Asked ServeFault → Type 0
 StepsFor takes asker ask now before after old new via result =
     (outcome : Result (Reply (Unit {0})) StepFault) × takes before (event_by asker ask now) outcome after × AfterStep old new via asker outcome result
 
--- after an ask was read: one step with it; or it was not read, and no step is taken
+-- After reading: one step with the request; or it was not read, and no step is taken.
 abbrev pub AfterRead : {N : Type 0} → (N → Event (Unit {0}) → Result (Reply (Unit {0})) StepFault → N → Type 0) → Tables → ℕ → ℕ → Result Ask FetchFault → N → N → Option (List ℕ) → Option (List ℕ) → Result Asked ServeFault → Type 0
 AfterRead takes roster id now (Ok ask) before after old new result =
     StepsFor takes (asker_of roster id ask.member) ask now before after old new (name_of roster id) result
 AfterRead takes roster id now (Err fault) before after old new result =
     (after ≡ before) × IsRefused old new (refusal_text (refusal_of fault) (name_of roster id)) (Fetch fault) result
 
--- An ask is read, at most one step is taken with it, and what it is told is written, all by the node of this id.
+-- The node of this id reads a request, takes at most one step with it, and writes what it is told.
 pub record ServesAsk {N : Type 0} (takes : N → Event (Unit {0}) → Result (Reply (Unit {0})) StepFault → N → Type 0) (roster : Tables) (id now : ℕ) (before after : N) (reader_old reader_new writer_old writer_new : Option (List ℕ)) (result : Result Asked ServeFault) : Type 0 where
   pub read : Result Ask FetchFault
   pub reads : ReadsAsk reader_old reader_new read

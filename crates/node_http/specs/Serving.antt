@@ -1,4 +1,4 @@
--- The texts that are written to one who asks.
+-- The octets that are written in response to a request.
 use Rattle.std.specs.Prelude.{ℕ, List, [], Option, Some, None}
 use Rattle.fetch_messages.specs.Answer.{AnswerText}
 use Rattle.peer_writing.specs.Answer.{answer_text}
@@ -7,25 +7,25 @@ use Rattle.node_rules.specs.declared.reply.Served.{Served}
 use Rattle.node_rules.specs.declared.reply.Served.TheVariants.{Copy, Status}
 use Rattle.node_rules.specs.declared.reply.Serve.{Serve}
 
--- a stamp is told to a member of the hierarchy, and never to a client
+-- A stamp is told to a member of the hierarchy, and never to a client.
 abbrev pub stamp_for : Option ℕ → ℕ → Option ℕ
 stamp_for None stamp = None
 stamp_for (Some member) stamp = Some stamp
 
--- the answer to one who asks: a copy with its age, or a status alone
+-- The response: a copy with its age, or a bare status.
 abbrev pub answer_for : Option ℕ → Served (Unit {0}) → AnswerText
 answer_for asker (Copy c age) = served_as c.answer age (stamp_for asker c.stamp)
 answer_for asker (Status status) = bare status
 
--- the text of what is served, by the cache of this name
+-- The octets of what is served, by the cache of this name.
 abbrev pub serve_text : Option ℕ → Served (Unit {0}) → List ℕ → List ℕ
 serve_text asker served via = answer_text (answer_for asker served) via
 
--- the text of a status alone
+-- The octets of a bare status.
 abbrev pub status_text : ℕ → List ℕ → List ℕ
 status_text status via = answer_text (bare status) via
 
--- the text of a refusal
+-- The octets of a refusal; nothing without a status.
 abbrev pub refusal_text : Option ℕ → List ℕ → List ℕ
 refusal_text None via = []
 refusal_text (Some status) via = status_text status via

@@ -1,4 +1,4 @@
--- The statuses that refuse an ask (RFC 9110, section 15), and the names of faults.
+-- The statuses that refuse a request (RFC 9110, section 15), and the names of faults.
 use Rattle.std.specs.Prelude.{ℕ, List, Option, Some, None}
 use Rattle.fetch_messages.specs.declared.fault.FetchFault.{FetchFault}
 use Rattle.fetch_messages.specs.declared.fault.FetchFault.TheVariants.{Io, EndOfInput, BadHead, HeadTooLong, BadTarget, MethodNotServed, Credentials, BadBody, BodyTooLong, TooManyTurns, NoMemory}
@@ -7,7 +7,8 @@ use Rattle.node_rules.specs.Names.{step_fault_name}
 use Rattle.node_http.specs.declared.fault.ServeFault.{ServeFault}
 use Rattle.node_http.specs.declared.fault.ServeFault.TheVariants.{Fetch, Step}
 
--- The status for an ask that was not read, by what was wrong with it (431: RFC 6585, section 5). Nothing is said to one whose ask has no end.
+-- The status for a request that was not read, by its fault (431: RFC 6585, section 5). Nothing is
+-- written if the request has no end.
 abbrev pub refusal_of : FetchFault → Option ℕ
 refusal_of Io = None
 refusal_of EndOfInput = None
@@ -21,11 +22,11 @@ refusal_of BodyTooLong = Some 413
 refusal_of TooManyTurns = None
 refusal_of NoMemory = Some 503
 
--- the status where a step was refused (RFC 9110, section 15.6.4)
+-- The status if a step was refused (RFC 9110, section 15.6.4).
 abbrev pub unavailable : ℕ
 unavailable = 503
 
--- the name of the fault inside, as scripts print it
+-- The name of the fault inside, as scripts print it.
 abbrev pub serve_fault_name : ServeFault → List ℕ
 serve_fault_name (Fetch fault) = fetch_fault_name fault
 serve_fault_name (Step fault) = step_fault_name fault

@@ -1,4 +1,4 @@
-//! Asks over HTTP.
+//! A request over HTTP, from reading to writing.
 ghost use Rattle.std.specs.Prelude.{◌≡◌, ℕ, Option, true, IsTrue};
 ghost use Rattle.roster.specs.Lookups.{is_member as is_member_of};
 ghost use Rattle.peer_writing.specs.Name.{is_name as names_cache};
@@ -19,22 +19,31 @@ use std::io::{Read, Write};
 /// How many serials a block has.
 const SERIALS: u32 = 32;
 
-/// What became of an ask.
+/// What became of a request.
 #[derive(Drop)]
 pub enum Asked {
-    /// What was served is written. Nothing else is to be done.
+    /// The response is written. Nothing else is to be done.
     Answered,
-    /// It waits as the pending ask of this block, which a later step serves. This is to be done until then; it serves nobody.
+    /// The request waits as the pending request of this block, until a later step serves it. The
+    /// `Turn` is to be carried out now; it serves nobody.
     Waits(u32, Turn),
 }
 
-/// Reads an ask, takes one step with it at a moment in seconds as the node of this id, and writes what is served at once. An ask that names a
-/// member of the roster other than the node comes from that member, each other one from a client.
+/// Reads a request, takes one step with it as the node `id` at a time in seconds, and writes what
+/// is served at once.
 ///
-/// Faults, each of which is answered with a status alone where it comes before the answer: those of `read_ask`, which take no step (400 for
-/// `BadHead`, `BadTarget` and `BadBody`, 431 for `HeadTooLong`, 501 for `MethodNotServed` and `Credentials`, 503 for `NoMemory`; nothing is
-/// written for `Io`, `EndOfInput` and `TooManyTurns`); those of the step (503); `NoMemory` of the step also where it stands, and there was no
-/// memory for its datagrams, none of which is sent then (503); and `Io` where the writer failed in the answer, a front of which is written.
+/// A request that names a member of the roster other than the node comes from that member, each
+/// other one from a client. `id` must be a member's id.
+///
+/// Faults, with what is written:
+///
+/// - a fault of `read_ask`, and no step is taken: 400 for `BadHead`, `BadTarget` and `BadBody`; 413
+///   for `BodyTooLong`; 431 for `HeadTooLong`; 501 for `MethodNotServed` and `Credentials`; 503 for
+///   `NoMemory`; nothing for `Io`, `EndOfInput` and `TooManyTurns`
+/// - a fault of the step: 503
+/// - `NoMemory` of a step that stands, since its datagrams found no memory; none of them is sent:
+///   503
+/// - `Io` if the writer failed in the response: a front of it
 pub fn serve_ask<N: Stepper, R: Read, W: Write>(
     alloc: Global,
     roster: &Roster,
@@ -61,7 +70,7 @@ pub fn serve_ask<N: Stepper, R: Read, W: Write>(
     }
 }
 
-/// Takes one step with an ask, and writes what is served at once.
+/// Takes one step with a request, and writes what is served at once.
 fn answer_ask<N: Stepper, W: Write>(
     alloc: Global,
     node: &mut N,
@@ -83,7 +92,7 @@ fn answer_ask<N: Stepper, W: Write>(
     }
 }
 
-/// The event of an ask.
+/// The event of a request.
 fn event_by(asker: Option<u8>, ask: Ask, now: u64) -> Event<()>
     ensures { result ≡ event_from asker ask now }
 {
@@ -93,7 +102,7 @@ fn event_by(asker: Option<u8>, ask: Ask, now: u64) -> Event<()>
     }
 }
 
-/// Writes what a reply to an ask serves, or hands on what it begins.
+/// Writes what a reply serves, or hands on what it begins.
 fn answer_reply<W: Write>(
     alloc: Global,
     reply: Reply<()>,
@@ -120,7 +129,7 @@ fn answer_reply<W: Write>(
     }
 }
 
-/// The block of serials of what begins.
+/// The block of the serial with which something begins.
 fn block_of(begin: &Begin) -> u32
     ensures { result ≡ block_begun begin.now }
 {
@@ -131,7 +140,7 @@ fn block_of(begin: &Begin) -> u32
     }
 }
 
-/// Hands on what a reply says is to be done, or answers that there is no memory for it.
+/// Hands on what a reply says is to be done, or writes 503 if there is no memory for it.
 fn hand_on<W: Write>(
     alloc: Global,
     block: u32,

@@ -5,14 +5,14 @@ use fetch_messages::FetchFault;
 use node_rules::StepFault;
 use thiserror::Error;
 
-/// Why an ask was not served.
+/// Why a request was not served.
 #[derive(Clone, Copy, Debug, PartialEq, Eq, Error)]
 pub enum ServeFault {
-    /// The ask was not read, and no step was taken; or the answer was not written whole.
+    /// The request was not read, and no step was taken; or the response was not written whole.
     #[error("{0}")]
     Fetch(FetchFault),
-    /// The step was refused. With `NoMemory` it may also be that the step stands, and that there was no memory for its datagrams, none of
-    /// which is sent then.
+    /// The step was refused. `NoMemory` may also mean that the step stands, and that its datagrams
+    /// found no memory; none of them is sent.
     #[error("{0}")]
     Step(StepFault),
 }

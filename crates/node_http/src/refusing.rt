@@ -1,4 +1,4 @@
-//! Refusals of asks.
+//! Refusals of requests.
 ghost use Rattle.std.specs.Prelude.{◌≡◌, IsTrue};
 ghost use Rattle.text_writer.specs.Writing.{AppendsFront};
 ghost use Rattle.peer_writing.specs.Name.{is_name as names_cache};
@@ -9,10 +9,11 @@ use fetch_messages::FetchFault;
 use peer_writing::write_status;
 use std::io::Write;
 
-/// The status where a step was refused.
+/// The status if a step was refused (RFC 9110, section 15.6.4).
 pub(crate) const UNAVAILABLE: u16 = 503;
 
-/// The status for an ask that was not read (RFC 9110, section 15; 431: RFC 6585, section 5), if anything is said to the one who asks.
+/// The status for a request that was not read (RFC 9110, section 15; 431: RFC 6585, section 5).
+/// None if nothing is written.
 pub(crate) fn refusal_of(fault: FetchFault) -> Option<u16>
     ensures { result ≡ status_refusing fault }
 {
@@ -26,13 +27,14 @@ pub(crate) fn refusal_of(fault: FetchFault) -> Option<u16>
     }
 }
 
-/// Writes the refusal of an ask, if there is one, or a front of it where the writer fails. It takes no memory.
+/// Writes a status without a body, if there is one; a front of it if the writer fails. Allocates
+/// nothing.
 pub(crate) fn refuse<W: Write>(writer: &mut W, status: Option<u16>, via: &[u8])
     requires { IsTrue (names_cache via.now) }
     ensures { AppendsFront (W.contents writer.old) (W.contents writer.new) (refusal_text status via.now) }
 {
     if let Some(status) = status {
-        // The fault of the ask is answered, whether or not the one who asked could be told.
+        // The caller returns the fault of the request, whether or not the status was written.
         match write_status(writer, status, via) {
             Ok(()) | Err(_) => {}
         }

@@ -6,7 +6,7 @@ ghost use Rattle.node_http.specs.Asking.{name_of as name_in, asker_of as asker_i
 
 use roster::Roster;
 
-/// The name of the member of this id, which its answers bear in `via`.
+/// The name of the member with this id; its responses bear it in `via`. `id` must be a member's id.
 pub fn name_of(roster: &Roster, id: u8) -> &[u8]
     requires { is_member_of roster.now id ≡ true }
     ensures value { result.now ≡ name_in roster.now id }
@@ -18,7 +18,8 @@ pub fn name_of(roster: &Roster, id: u8) -> &[u8]
     }
 }
 
-/// The member that asks the node of this id: the one that the ask names, unless it is none of the roster or the node itself.
+/// The member that sends a request to the node `id`: the one that the request names, unless it is
+/// not in the roster or is the node itself.
 pub(crate) fn asker_of(roster: &Roster, id: u8, member: Option<u8>) -> Option<u8>
     ensures { result ≡ asker_in roster.now id member }
 {

@@ -1,4 +1,4 @@
-//! What is served, written.
+//! Writes what is served.
 ghost use Rattle.std.specs.Prelude.{◌≡◌, IfErr, IsTrue};
 ghost use Rattle.text_writer.specs.Writing.{Writes};
 ghost use Rattle.peer_writing.specs.Name.{is_name as names_cache};
@@ -9,9 +9,11 @@ use node_rules::{Serve, Served};
 use peer_writing::{write_served, write_status};
 use std::io::Write;
 
-/// Writes what is served, by the cache of the name in `via`: a copy's answer with its age, and with its stamp where a member of the
-/// hierarchy asked; or a status alone, with `content-length: 0`. `Io` comes where the writer failed, and is the only fault; a front of the
-/// text is written then. It takes no memory, and copies no body.
+/// Writes what is served, by the cache whose name stands in `via`. A copy is written with its age,
+/// and with its stamp if a member sent the request. A bare status has `content-length: 0`.
+///
+/// `Io` is the only fault: the writer failed, and a front of the response is written. Allocates
+/// nothing, and copies no body.
 pub fn finish<W: Write>(writer: &mut W, serve: &Serve<()>, via: &[u8]) -> Result<(), FetchFault>
     requires { IsTrue (names_cache via.now) }
     ensures written { Writes (W.contents writer.old) (W.contents writer.new) result
@@ -27,7 +29,7 @@ pub fn finish<W: Write>(writer: &mut W, serve: &Serve<()>, via: &[u8]) -> Result
     }
 }
 
-/// The stamp that one who asks is told: that of the copy where it is a member.
+/// The stamp that is told: that of the copy to a member, none to a client.
 fn stamp_for(asker: Option<u8>, stamp: u32) -> Option<u32>
     ensures { result ≡ stamp_told asker stamp }
 {
