@@ -1,5 +1,5 @@
--- What a reply to a request leads to. A reply that serves somebody serves the sender, since a
--- request that waits is served by nobody's step but a later one's.
+-- What a reply to a request leads to. By the law on requests (`AnswersAsk` of node_bytes) a step
+-- serves the sender or nobody, so whoever is served is the sender.
 use Rattle.std.proofs.Common.{◌≡◌, ℕ, inl, inr, List, Option, Some, None, Result, sym, ap, ◌∙◌, subst}
 use Rattle.std.proofs.lemmas.Option.{none-some, same_Some}
 use Rattle.fetch_messages.specs.declared.ask.Ask.{Ask}

@@ -35,15 +35,15 @@ pub enum Asked {
 /// A request that names a member of the roster other than the node comes from that member, each
 /// other one from a client. `id` must be a member's id.
 ///
-/// Faults, with what is written:
+/// Faults, with the status that is written:
 ///
-/// - a fault of `read_ask`, and no step is taken: 400 for `BadHead`, `BadTarget` and `BadBody`; 413
-///   for `BodyTooLong`; 431 for `HeadTooLong`; 501 for `MethodNotServed` and `Credentials`; 503 for
-///   `NoMemory`; nothing for `Io`, `EndOfInput` and `TooManyTurns`
+/// - a fault of `read_ask`, and no step is taken: 400 for `BadHead`, `BadTarget` and `BadBody`; 431
+///   for `HeadTooLong`; 501 for `MethodNotServed` and `Credentials`; 503 for `NoMemory`; nothing
+///   for `Io`, `EndOfInput` and `TooManyTurns`
 /// - a fault of the step: 503
 /// - `NoMemory` of a step that stands, since its datagrams found no memory; none of them is sent:
 ///   503
-/// - `Io` if the writer failed in the response: a front of it
+/// - `Io` if the writer failed in the response: a front of the response, and no status
 pub fn serve_ask<N: Stepper, R: Read, W: Write>(
     alloc: Global,
     roster: &Roster,

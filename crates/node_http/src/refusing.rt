@@ -13,7 +13,7 @@ use std::io::Write;
 pub(crate) const UNAVAILABLE: u16 = 503;
 
 /// The status for a request that was not read (RFC 9110, section 15; 431: RFC 6585, section 5).
-/// None if nothing is written.
+/// None if nothing is written. `read_ask` never gives `BodyTooLong`.
 pub(crate) fn refusal_of(fault: FetchFault) -> Option<u16>
     ensures { result ≡ status_refusing fault }
 {
