@@ -1,4 +1,4 @@
--- By cases on what is served.
+-- By the two kinds of what is served: both definitions compute to the same response.
 use Rattle.std.proofs.Common.{◌≡◌, ℕ, List, Some, refl}
 use Rattle.node_rules.specs.declared.reply.Served.{Served}
 use Rattle.node_rules.specs.declared.reply.Served.TheVariants.{Copy, Status}
