@@ -1,11 +1,11 @@
-//! Events.
+//! Copies events.
 ghost use Rattle.std.specs.Prelude.{◌≡◌, IfOk};
 
 use crate::messages::copy_of_received;
 use node_rules::Event;
 use std::alloc::{AllocError, Global};
 
-/// The same event once more, or the want of memory for it. An answer's fields and body are shared.
+/// Copies an event. The fields and the body of a response are shared.
 pub fn copy_of_event<T: Copy>(alloc: Global, event: &Event<T>) -> Result<Event<T>, AllocError>
     ensures { IfOk result (λ copy. copy ≡ event.now) }
 {

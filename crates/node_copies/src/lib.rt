@@ -1,4 +1,12 @@
-//! Second copies of what a node takes and gives: events and replies. Bodies and fields of answers are shared, not copied.
+//! Copies a node's events, replies and messages. A copy is equal to the original. Bodies and fields
+//! of responses are shared, not duplicated.
+//!
+//! - `src/events.rt`: [`copy_of_event`]
+//! - `src/replies.rt`: [`copy_of_reply`]
+//! - `src/messages.rt`: [`copy_of_received`], [`copy_of_sent`]
+//!
+//! `node_book` uses it: a book keeps its own copy of each event and hands out a copy of each reply.
+//! Pure; `AllocError` is the only fault. Tags must be `Copy`.
 #![tactic(auto)]
 
 mod events;

@@ -1,10 +1,10 @@
-//! Messages.
+//! Copies messages.
 ghost use Rattle.std.specs.Prelude.{◌≡◌, IfOk};
 
 use node_rules::{Message, Received, Sent};
 use std::alloc::{AllocError, Global};
 
-/// The same message once more.
+/// Copies a message.
 fn copy_of_message(alloc: Global, message: &Message) -> Result<Message, AllocError>
     ensures { IfOk result (λ copy. copy ≡ message.now) }
 {
@@ -14,7 +14,7 @@ fn copy_of_message(alloc: Global, message: &Message) -> Result<Message, AllocErr
     })
 }
 
-/// The same message that came once more, or the want of memory for it.
+/// Copies a received message.
 pub fn copy_of_received(alloc: Global, message: &Received) -> Result<Received, AllocError>
     ensures { IfOk result (λ copy. copy ≡ message.now) }
 {
@@ -22,7 +22,7 @@ pub fn copy_of_received(alloc: Global, message: &Received) -> Result<Received, A
     Ok(Received::new(copy))
 }
 
-/// The same message to be sent once more, or the want of memory for it.
+/// Copies a message to send.
 pub fn copy_of_sent(alloc: Global, message: &Sent) -> Result<Sent, AllocError>
     ensures { IfOk result (λ copy. copy ≡ message.now) }
 {

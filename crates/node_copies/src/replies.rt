@@ -1,4 +1,4 @@
-//! Replies.
+//! Copies replies.
 ghost use Rattle.std.specs.Prelude.{◌≡◌, IfOk};
 
 use crate::messages::copy_of_sent;
@@ -6,7 +6,7 @@ use node_rules::{Begin, Outgoing, Reply, Serve, Served};
 use roster::Listed;
 use std::alloc::{AllocError, Global};
 
-/// The same once more of what is served. A copy's fields and body are shared.
+/// Copies what is served. The fields and the body of a copy are shared.
 fn copy_of_served<T: Copy>(alloc: Global, served: &Served<T>) -> Result<Served<T>, AllocError>
     ensures { IfOk result (λ copy. copy ≡ served.now) }
 {
@@ -19,7 +19,7 @@ fn copy_of_served<T: Copy>(alloc: Global, served: &Served<T>) -> Result<Served<T
     }
 }
 
-/// The same once more of what is served to whom, if anything is.
+/// Copies what is served to whom, if anything is.
 fn copy_of_serve<T: Copy>(
     alloc: Global,
     serve: &Option<Serve<T>>,
@@ -36,7 +36,7 @@ fn copy_of_serve<T: Copy>(
     }
 }
 
-/// The same datagrams to be sent once more.
+/// Copies the datagrams to send.
 fn copy_of_send(alloc: Global, send: &[Outgoing]) -> Result<Listed<Outgoing>, AllocError>
     ensures { IfOk result (λ copy. copy ≡ send.now) }
 {
@@ -50,7 +50,7 @@ fn copy_of_send(alloc: Global, send: &[Outgoing]) -> Result<Listed<Outgoing>, Al
     Ok(Listed::new(copy))
 }
 
-/// The same once more of what begins, if anything does.
+/// Copies what begins, if anything does.
 fn copy_of_begin(alloc: Global, begin: &Option<Begin>) -> Result<Option<Begin>, AllocError>
     ensures { IfOk result (λ copy. copy ≡ begin.now) }
 {
@@ -69,7 +69,7 @@ fn copy_of_begin(alloc: Global, begin: &Option<Begin>) -> Result<Option<Begin>, 
     }
 }
 
-/// The same reply once more, or the want of memory for it. A copy that is served shares its fields and its body.
+/// Copies a reply. The fields and the body of a copy that is served are shared.
 pub fn copy_of_reply<T: Copy>(alloc: Global, reply: &Reply<T>) -> Result<Reply<T>, AllocError>
     ensures { IfOk result (λ copy. copy ≡ reply.now) }
 {
