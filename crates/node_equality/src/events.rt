@@ -1,11 +1,11 @@
-//! Events.
+//! Compares events.
 ghost use Rattle.std.specs.Prelude.{◌≡◌, ◌↔◌, IsTrue};
 
 use crate::messages::same_received;
 use crate::parts::{same_answer, same_ask, same_key};
 use node_rules::Event;
 
-/// Whether two events are the same.
+/// Whether two events are equal.
 pub fn same_event(one: &Event<()>, other: &Event<()>) -> bool
     ensures { IsTrue result ↔ (one.now ≡ other.now) }
 {

@@ -1,4 +1,17 @@
-//! Whether two of a node's events, replies and outcomes, or of what they are made of, are the same: in each field, and octet by octet. Which of the two comes first makes no difference.
+//! Compares a node's events, replies, outcomes and their parts: equal if every field is, octet by
+//! octet.
+//!
+//! - `src/events.rt`: [`same_event`]
+//! - `src/replies.rt`: [`same_outcome`], [`same_reply`], [`same_served`]
+//! - `src/messages.rt`: [`same_message`]
+//! - `src/parts.rt`: [`same_key`], [`same_ask`], [`same_answer`], [`same_fields`], [`same_copy`]
+//!
+//! Each function returns true exactly if its two arguments are equal as contracts see them. The
+//! order of the arguments does not matter. Tags are `()`: only a running node's values are
+//! compared. Pure; allocates nothing.
+//!
+//! `node_seats` uses it to compare what its threads were told with the node's book, and `run_check`
+//! to compare a recorded run with a replay.
 #![tactic(auto)]
 
 mod events;

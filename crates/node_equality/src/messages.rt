@@ -1,4 +1,4 @@
-//! Messages.
+//! Compares messages.
 ghost use Rattle.std.specs.Prelude.{◌≡◌, ◌↔◌, IsTrue};
 
 use crate::parts::same_octets;
@@ -6,6 +6,7 @@ use htcp_wire::{Content, Detail, Htcp, Specifier};
 use icp_wire::Icp;
 use node_rules::{Message, Received, Sent};
 
+/// Whether two ICP messages are equal.
 fn same_icp(one: &Icp, other: &Icp) -> bool
     ensures { IsTrue result ↔ (one.now ≡ other.now) }
 {
@@ -15,6 +16,7 @@ fn same_icp(one: &Icp, other: &Icp) -> bool
         && same_octets(&one.object, &other.object)
 }
 
+/// Whether two SPECIFIERs are equal.
 fn same_specifier(one: &Specifier, other: &Specifier) -> bool
     ensures { IsTrue result ↔ (one.now ≡ other.now) }
 {
@@ -24,6 +26,7 @@ fn same_specifier(one: &Specifier, other: &Specifier) -> bool
         && same_octets(&one.request_headers, &other.request_headers)
 }
 
+/// Whether two DETAILs are equal.
 fn same_detail(one: &Detail, other: &Detail) -> bool
     ensures { IsTrue result ↔ (one.now ≡ other.now) }
 {
@@ -32,6 +35,7 @@ fn same_detail(one: &Detail, other: &Detail) -> bool
         && same_octets(&one.cache_headers, &other.cache_headers)
 }
 
+/// Whether two HTCP contents are equal.
 fn same_content(one: &Content, other: &Content) -> bool
     ensures { IsTrue result ↔ (one.now ≡ other.now) }
 {
@@ -92,6 +96,7 @@ fn same_content(one: &Content, other: &Content) -> bool
     }
 }
 
+/// Whether two HTCP messages are equal.
 fn same_htcp(one: &Htcp, other: &Htcp) -> bool
     ensures { IsTrue result ↔ (one.now ≡ other.now) }
 {
@@ -100,7 +105,7 @@ fn same_htcp(one: &Htcp, other: &Htcp) -> bool
         && same_content(&one.content, &other.content)
 }
 
-/// Whether two messages are the same.
+/// Whether two messages are equal.
 pub fn same_message(one: &Message, other: &Message) -> bool
     ensures { IsTrue result ↔ (one.now ≡ other.now) }
 {
@@ -111,14 +116,14 @@ pub fn same_message(one: &Message, other: &Message) -> bool
     }
 }
 
-/// Whether two messages that came are the same.
+/// Whether two received messages are equal.
 pub(crate) fn same_received(one: &Received, other: &Received) -> bool
     ensures { IsTrue result ↔ (one.now ≡ other.now) }
 {
     same_message(one.message(), other.message())
 }
 
-/// Whether two messages to be sent are the same.
+/// Whether two messages to send are equal.
 pub(crate) fn same_sent(one: &Sent, other: &Sent) -> bool
     ensures { IsTrue result ↔ (one.now ≡ other.now) }
 {

@@ -1,4 +1,4 @@
-//! What events and replies are made of.
+//! Compares the parts of events and replies.
 ghost use Rattle.std.specs.Prelude.{◌≡◌, ◌↔◌, IsTrue, map};
 ghost use Rattle.fetch_messages.specs.Field.{field_text};
 
@@ -21,7 +21,7 @@ pub fn same_key(one: &Key, other: &Key) -> bool
     one.text() == other.text()
 }
 
-/// Whether two asks are the same.
+/// Whether two requests are equal.
 pub fn same_ask(one: &Ask, other: &Ask) -> bool
     ensures { IsTrue result ↔ (one.now ≡ other.now) }
 {
@@ -31,7 +31,7 @@ pub fn same_ask(one: &Ask, other: &Ask) -> bool
         && one.member == other.member
 }
 
-/// Whether two fields have the same name and value.
+/// Whether two fields have the same name and the same value.
 fn same_field(one: &Field, other: &Field) -> bool
     ensures { IsTrue result ↔ (field_text one.now ≡ field_text other.now) }
 {
@@ -53,7 +53,7 @@ pub fn same_fields(one: &[Field], other: &[Field]) -> bool
     }
 }
 
-/// Whether two answers are the same.
+/// Whether two responses are equal: status, age, stamp, fields and body.
 pub fn same_answer(one: &Answer, other: &Answer) -> bool
     ensures { IsTrue result ↔ (one.now ≡ other.now) }
 {
@@ -64,7 +64,7 @@ pub fn same_answer(one: &Answer, other: &Answer) -> bool
         && one.body() == other.body()
 }
 
-/// Whether two copies are the same.
+/// Whether two copies are equal.
 pub fn same_copy(one: &WebCopy<()>, other: &WebCopy<()>) -> bool
     ensures { IsTrue result ↔ (one.now ≡ other.now) }
 {

@@ -1,11 +1,11 @@
-//! Replies and outcomes.
+//! Compares replies and outcomes.
 ghost use Rattle.std.specs.Prelude.{◌≡◌, ◌↔◌, IsTrue};
 
 use crate::messages::same_sent;
 use crate::parts::{same_ask, same_copy};
 use node_rules::{Begin, Outgoing, Reply, Serve, Served, StepFault};
 
-/// Whether two things that are served are the same: a copy with its age, or a bare status.
+/// Whether what is served is equal: a copy with its age, or a bare status.
 pub fn same_served(one: &Served<()>, other: &Served<()>) -> bool
     ensures { IsTrue result ↔ (one.now ≡ other.now) }
 {
@@ -22,6 +22,7 @@ pub fn same_served(one: &Served<()>, other: &Served<()>) -> bool
     }
 }
 
+/// Whether the same is served to the same receiver, or nothing in both.
 fn same_serve(one: &Option<Serve<()>>, other: &Option<Serve<()>>) -> bool
     ensures { IsTrue result ↔ (one.now ≡ other.now) }
 {
@@ -36,12 +37,14 @@ fn same_serve(one: &Option<Serve<()>>, other: &Option<Serve<()>>) -> bool
     }
 }
 
+/// Whether two datagrams have the same receiver and message.
 fn same_outgoing(one: &Outgoing, other: &Outgoing) -> bool
     ensures { IsTrue result ↔ (one.now ≡ other.now) }
 {
     one.to == other.to && same_sent(&one.message, &other.message)
 }
 
+/// Whether two lists have the same datagrams in the same order.
 #[cycle(sends)]
 fn same_sends(one: &[Outgoing], other: &[Outgoing]) -> bool
     ensures { IsTrue result ↔ (one.now ≡ other.now) }
@@ -55,6 +58,7 @@ fn same_sends(one: &[Outgoing], other: &[Outgoing]) -> bool
     }
 }
 
+/// Whether the same begins, or nothing in both.
 fn same_begin(one: &Option<Begin>, other: &Option<Begin>) -> bool
     ensures { IsTrue result ↔ (one.now ≡ other.now) }
 {
@@ -84,7 +88,7 @@ fn same_begin(one: &Option<Begin>, other: &Option<Begin>) -> bool
     }
 }
 
-/// Whether two replies are the same: what is served to whom, each datagram to be sent, and what begins.
+/// Whether two replies are equal: what is served to whom, each datagram to send, and what begins.
 pub fn same_reply(one: &Reply<()>, other: &Reply<()>) -> bool
     ensures { IsTrue result ↔ (one.now ≡ other.now) }
 {
@@ -93,7 +97,7 @@ pub fn same_reply(one: &Reply<()>, other: &Reply<()>) -> bool
         && same_begin(&one.begin, &other.begin)
 }
 
-/// Whether two outcomes of a step are the same reply, or the same fault.
+/// Whether two outcomes of a step are equal: the same reply, or the same fault.
 pub fn same_outcome(
     one: &Result<Reply<()>, StepFault>,
     other: &Result<Reply<()>, StepFault>,
