@@ -5,8 +5,9 @@
 //! - `src/replies.rt`: [`copy_of_reply`]
 //! - `src/messages.rt`: [`copy_of_received`], [`copy_of_sent`]
 //!
-//! `node_book` uses it: a book keeps its own copy of each event and hands out a copy of each reply.
-//! Pure; `AllocError` is the only fault. Tags must be `Copy`.
+//! A node's book uses it (`node_book`): it keeps its own copy of each event and hands out a copy of
+//! each reply. So does the check of recorded runs. Pure; `AllocError` is the only fault. Tags must
+//! be `Copy`.
 #![tactic(auto)]
 
 mod events;
