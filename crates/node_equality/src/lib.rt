@@ -10,8 +10,8 @@
 //! order of the arguments does not matter. Tags are `()`: only a running node's values are
 //! compared. Pure; allocates nothing.
 //!
-//! `node_seats` uses it to compare what its threads were told with the node's book, and `run_check`
-//! to compare a recorded run with a replay.
+//! `node_seats` uses it to compare what its threads were told with the node's book, and the check
+//! of recorded runs to compare a record with a replay.
 #![tactic(auto)]
 
 mod events;
