@@ -1,4 +1,6 @@
--- A book with one entry more.
+-- A book with one entry more. The node's step is one of the rules for every function that gives the
+-- keys of texts, so for the one that key_texts computes; appended to a replay, it gives a longer
+-- replay.
 use Rattle.std.proofs.Common.{◌≡◌, ℕ, ◌<◌, ◌≤◌, Option, List, [], ◌∷◌, ◌++◌, length, refl, sym, subst, length-append, arith, Result, ap, ◌∙◌}
 use Rattle.key_texts.specs.KeyOf.{key_of, GivesKeys}
 use Rattle.key_texts.proofs.Outcomes.{gives_keys}

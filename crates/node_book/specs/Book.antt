@@ -14,28 +14,32 @@ use Rattle.node_book.specs.declared.book.NodeEntry.{NodeEntry}
 use Rattle.node_book.specs.declared.book.BookFault.{BookFault}
 use Rattle.node_book.specs.declared.book.BookFault.TheVariants as faults
 
--- the node, its state as the book was opened, and the entries so far
+-- What contracts see of a book: the node, its state when the book was opened, and the entries so
+-- far.
 pub record BookView (S : Type 0) : Type 0 where
   pub node : NodeText (Unit {0}) S
   pub opening : NodeState (Unit {0})
   pub entries : List NodeEntry
 
--- From the first state the entries are steps of the node, one after another, each with its own outcome, and they leave the second.
+-- From the first state the entries are steps of the node, one after another, each with its own
+-- outcome, and they lead to the second.
 abbrev pub Replays : Setting → NodeState (Unit {0}) → List NodeEntry → NodeState (Unit {0}) → Type 0
 Replays g old [] new = new ≡ old
 Replays g old (e ∷ es) new = (middle : NodeState (Unit {0})) × Steps g old e.event tt e.outcome middle × Replays g middle es new
 
--- the entries lead from the opening state to the node's state, and are at most 4,096
+-- The entries lead from the opening state to the node's state, and are at most 4,096.
 pub record IsBook (roster : Tables) (id : ℕ) (state opening : NodeState (Unit {0})) (entries : List NodeEntry) : Type 0 where
   pub most : length entries ≤ 4096
   pub replay : Replays (setting roster id) opening entries state
 
--- what is told of an outcome: the same reply, unless it could not be copied, or the same fault
+-- What the caller is told of an outcome: the same reply, unless it could not be copied, or the same
+-- fault.
 abbrev pub IsToldOf : Result (Reply (Unit {0})) StepFault → Result (Reply (Unit {0})) BookFault → Type 0
 IsToldOf (Ok reply) told = (told ≡ Ok reply) ⊎ (told ≡ Err faults.ReplyLost)
 IsToldOf (Err fault) told = told ≡ Err (faults.Step fault)
 
--- One entry stands behind the others, with the outcome that is told; the node has taken that step, and its store is as the step leaves it.
+-- One entry stands behind the others, with the outcome that is told. The node has taken that step,
+-- and its store is as the step leaves it.
 pub record IsApplied {S : Type 0} (honest : Type 0) (may_find : FloorMap → Type 0) (have_risen : Type 0) (before after : BookView S) (seat place : ℕ) (e : Event (Unit {0})) (told : Result (Reply (Unit {0})) BookFault) : Type 0 where
   pub outcome : Result (Reply (Unit {0})) StepFault
   pub entries : after.entries ≡ before.entries ++ record { seat = seat; place = place; event = e; outcome = outcome } ∷ []

@@ -20,23 +20,23 @@ use thiserror::Error;
 /// The most entries of a book.
 pub const MOST_ENTRIES: usize = 4096;
 
-/// A step of a node, and its outcome.
+/// A step of a node, with its outcome.
 #[derive(Drop)]
 pub struct NodeEntry {
-    /// Who made the step.
+    /// The seat that called, a number of the caller's.
     pub seat: u8,
-    /// The step's place, as its caller counts.
+    /// The place of the step in the run, a number of the caller's.
     pub place: u64,
     /// The event.
     pub event: Event<()>,
-    /// What the step replied, or its fault.
+    /// The reply of the step, or its fault.
     pub outcome: Result<Reply<()>, StepFault>,
 }
 
-/// Why an event was not applied, or not answered.
+/// Why an event was not applied, or its reply was not returned.
 #[derive(Clone, Copy, Debug, PartialEq, Eq, Hash, Error)]
 pub enum BookFault {
-    /// There are 4,096 entries. Nothing is entered, and nothing changes.
+    /// The book has 4,096 entries. Nothing is entered, and nothing changes.
     #[error("the book is full")]
     ShiftFull,
     /// The step was refused. It is entered with its fault.
@@ -45,14 +45,15 @@ pub enum BookFault {
     /// There was no memory for an entry. Nothing is entered, and nothing changes.
     #[error("there was no memory for an entry")]
     NoMemory,
-    /// The step stands and is entered with its reply, which could not be copied for want of memory.
+    /// The step stands and is entered with its reply, but there was no memory for a copy of the
+    /// reply.
     #[error("there was no memory for the reply")]
     ReplyLost,
 }
 
 /// A node with a book of its steps.
 ///
-/// A contract sees the node, the state that it had when the book was opened, and the entries, of which there are at most 4,096.
+/// A contract sees the node, its state when the book was opened, and the entries, at most 4,096.
 #[derive(Drop)]
 pub struct NodeBook<S: FloorStore> {
     alloc: Global,
@@ -78,7 +79,8 @@ impl<S: FloorStore> Model for NodeBook<S> {
 }
 
 impl<S: FloorStore> NodeBook<S> {
-    /// A book without entries. It copies the node's state, and gives the node back where there is no memory for it.
+    /// Opens a book without entries. It copies the node's state; if there is no memory for the
+    /// copy, the node comes back.
     pub fn open(alloc: Global, node: Node<(), S>) -> Result<NodeBook<S>, (Node<(), S>, AllocError)>
         ensures opened { IfOk result (λ book. book ≡ record { node = node; opening = node.state; entries = [] }) }
         ensures given_back { IfErr result (λ refused. refused.0 ≡ node) }
@@ -94,11 +96,15 @@ impl<S: FloorStore> NodeBook<S> {
         }
     }
 
-    /// Takes a step of the node with this event, and enters it with this seat, this place and its outcome.
+    /// Takes a step of the node with this event, and enters it with this seat, this place and its
+    /// outcome. Returns a copy of the reply.
     ///
-    /// Faults: `ShiftFull` before anything else, where there are 4,096 entries; `NoMemory` where there is no room for one more. Neither is entered, and
-    /// nothing changes. `Step` with the step's own fault, and `ReplyLost` where the reply could not be copied: both are entered.
-    /// An ask that is answered is served at once, and nothing else is done then; or it waits for what begins with it.
+    /// A request is served at once, and the step does nothing else; or it waits for what the step
+    /// begins.
+    ///
+    /// Faults that enter nothing and change nothing: `ShiftFull` if there are 4,096 entries, tested
+    /// first; `NoMemory` if there is no memory for an entry. Faults that are entered: `Step` with
+    /// the fault of the step; `ReplyLost` if the reply could not be copied.
     pub fn apply(&mut self, seat: u8, place: u64, event: Event<()>) -> Result<Reply<()>, BookFault>
         ensures full { 4096 ≤ length self.old.entries → (result ≡ Err faults.ShiftFull) × (self.new ≡ self.old) }
         ensures applied { length self.old.entries < 4096 → (result ≡ Err faults.NoMemory) × (self.new ≡ self.old)
@@ -131,7 +137,8 @@ impl<S: FloorStore> NodeBook<S> {
         self.entries.as_slice()
     }
 
-    /// Closes the book: the node, and what is kept of its steps. It copies the node's state, and gives the book back where there is no memory for it.
+    /// Closes the book, and returns the node and the record of its steps. It copies the node's
+    /// state; if there is no memory for the copy, the book comes back.
     pub fn close(self) -> Result<(Node<(), S>, Record), (NodeBook<S>, AllocError)>
         ensures closed { IfOk result (λ done. (done.0 ≡ self.node) × IsRecorded self done.1) }
         ensures given_back { IfErr result (λ refused. refused.0 ≡ self) }
@@ -164,7 +171,7 @@ impl<S: FloorStore> NodeBook<S> {
     }
 }
 
-/// Makes room for one entry more, and a copy of the event for it.
+/// Makes room for one more entry, and copies the event for it.
 fn room_for(
     alloc: Global,
     entries: &mut Vec<NodeEntry>,
@@ -185,7 +192,8 @@ fn room_for(
     copy_of_event(alloc, event).map_err(|_| BookFault::NoMemory)
 }
 
-/// Takes a step with this event, and makes its entry, of a copy of the event, and what is told of it.
+/// Takes a step with this event. Returns its entry, made of a copy of the event, and what the
+/// caller is told.
 fn stepped<N: Stepper>(
     alloc: Global,
     node: &mut N,
@@ -211,7 +219,7 @@ fn stepped<N: Stepper>(
     (entry, told)
 }
 
-/// What is told of a step's outcome: a copy of its reply, or its fault.
+/// What the caller is told of an outcome: a copy of its reply, or its fault.
 fn told_of(alloc: Global, outcome: &Result<Reply<()>, StepFault>) -> Result<Reply<()>, BookFault>
     ensures { IsToldOf outcome.now result }
 {
@@ -221,7 +229,7 @@ fn told_of(alloc: Global, outcome: &Result<Reply<()>, StepFault>) -> Result<Repl
     }
 }
 
-/// A copy of a reply, or that it is lost.
+/// Copies a reply, or says that it is lost.
 fn told_reply(alloc: Global, reply: &Reply<()>) -> Result<Reply<()>, BookFault>
     ensures { (result ≡ Ok reply.now) ⊎ (result ≡ Err faults.ReplyLost) }
 {

@@ -1,8 +1,28 @@
-//! A node with a book of its steps: each step is entered with its outcome, in their order, for a later check of the run.
+//! A node with a book of its steps: each step is entered with its outcome, in order, so that a run
+//! can be checked later.
 //!
-//! At every moment the entries lead from the node's opening state to its state, each by the rules of a node's step (the invariant of
-//! `NodeBook`). An entry shares the fields and bodies of the answers that it speaks of with the node's copies, so a history of served
-//! copies takes memory for its entries and not for the bodies.
+//! The main type is [`NodeBook`]. [`NodeBook::open`] takes a node; [`NodeBook::apply`] takes a step
+//! and enters it as a [`NodeEntry`]; [`NodeBook::close`] gives the node back, with a [`Record`] of
+//! its steps. A book has at most 4,096 entries; `node_shifts` then closes it and opens the next.
+//!
+//! Where to read:
+//!
+//! - `specs/Book`: what a replay of entries is, the invariant of a book, and what one call does
+//! - `specs/Closed`: what a record is
+//! - `src/book.rt`: the calls; `src/record.rt`: the record
+//! - `proofs/Replaying`: one step more is one entry more of a replay
+//!
+//! A contract sees a `NodeBook` as the node, the state that it had when the book was opened, and
+//! the entries. At every moment the entries lead from that state to the node's state, each by the
+//! rules of a step (its invariant).
+//!
+//! An entry shares the fields and bodies of its responses with the node's copies, so a book takes
+//! memory for its entries and not for the bodies. Seat and place of an entry are the caller's
+//! numbers; nothing is said of them here.
+//!
+//! Its only side effect is that of a step: a commit to the node's store. `apply` needs memory for
+//! the entry before the step; if it lacks memory for the reply after the step, the step stands and
+//! is entered (`ReplyLost`).
 #![tactic(auto)]
 
 mod book;

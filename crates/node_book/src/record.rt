@@ -10,7 +10,7 @@ pub struct Record {
     pub node: u8,
     /// Its state before the first entry.
     pub opening: NodeState<()>,
-    /// The steps, in their order.
+    /// The steps, in order.
     pub entries: Listed<NodeEntry>,
     /// Its state after the last entry.
     pub closing: NodeState<()>,
