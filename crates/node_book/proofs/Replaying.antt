@@ -17,7 +17,7 @@ use Rattle.node_book.specs.declared.book.NodeEntry.{NodeEntry}
 use Rattle.node_book.specs.declared.book.BookFault.{BookFault}
 use Rattle.node_book.specs.Book.{BookView, IsApplied, IsBook, IsToldOf, Replays}
 
--- one step more is replayed
+-- a replay with one more step is a replay
 replays_more : (g : Setting) (old : NodeState (Unit {0})) (es : List NodeEntry) (middle : NodeState (Unit {0})) (e : NodeEntry) (new : NodeState (Unit {0})) →
     Replays g old es middle → Steps g middle e.event tt e.outcome new → Replays g old (es ++ e ∷ []) new
 replays_more g old [] middle e new at steps = (new, subst (λ s. Steps g s e.event tt e.outcome new) at steps, refl)

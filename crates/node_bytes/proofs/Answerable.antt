@@ -39,7 +39,7 @@ size_of code version front options option_data sender payload =
 short_answer : (code number count : ℕ) (url : List ℕ) → 21 + length url ≤ 16384 → length (code ∷ 2 ∷ (big_bytes 2 count ++ big_bytes 4 number ++ icp_text.unset ++ icp_text.unset ++ icp_text.unset ++ (url ++ 0 ∷ []))) ≤ 16384
 short_answer code number count url short = omega (arith, short, length-append url (0 ∷ []))
 
--- an ICP message that octets spell has a URL that an answer can repeat
+-- the URL of an ICP message that octets spell can be repeated by an answer
 pub icp_is_answerable : (octets : List ℕ) (message : Icp) → icp.Spells octets message → icp_text.Fits (icp_message Miss message.number message.url)
 icp_is_answerable octets message spells =
     let whole : length octets ≡ 2 + 6 + length spells.options + length spells.option_data + length spells.sender + length spells.payload =
@@ -69,7 +69,7 @@ four_bits (content.Other opcode desired) section is small = omega (arith, is.0.o
 four_bits (content.Overall opcode code) section is small = tt
 four_bits (content.OtherAnswer opcode code) section is small = tt
 
--- an HTCP message that octets spell has an opcode of four bits
+-- the opcode of an HTCP message that octets spell has four bits
 pub htcp_is_answerable : (octets : List ℕ) (message : Htcp) → IsOctets octets → htcp.Spells octets message → HasOpcode message.content
 htcp_is_answerable octets message fits spells =
     four_bits message.content spells.section spells.is_content (omega (arith, fits 6, opcode_octet octets message spells))

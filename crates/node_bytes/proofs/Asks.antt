@@ -23,7 +23,7 @@ use Rattle.node_rules.specs.Step.{open_step, step_if, step}
 use Rattle.node_rules.specs.Relation.{Steps}
 use Rattle.node_bytes.specs.Stepping.{AnswersAsker, AnswersAsk}
 
--- what an outcome answers to an ask
+-- what an outcome answers to a request
 abbrev Answers : {X : Type 0} → Option ℕ → Result (Reply X) StepFault → Type 0
 Answers asker (Ok reply) = AnswersAsker asker reply
 Answers asker (Err fault) = Unit {0}

@@ -18,21 +18,21 @@ use Rattle.node_rules.specs.Fetching.{go_on, give_up}
 use Rattle.node_rules.specs.Arrivals.{unknown, new_copy, stored, use_answer, try_on, is_gateway_fault, peer_gave, from_peer, peer_answer_to, origin_gave, from_origin, origin_answer_to, fails, failure_of, not_fetching, with_round, round_moves, expires, expiry_of}
 use Rattle.node_waiting.specs.CanGoOn.{CanGoOn}
 
--- an answer becomes a copy, which is stored before its ask ends
+-- a response becomes a copy, which is stored before its request ends
 pub uses : {X : Type 0} (g : Setting) (s after : NodeState X) (p q : Pending X) (place : ℕ) (key : List ℕ) (stamp asked : ℕ) (life : Option ℕ) (answer : AnswerText) (tag : X) (now : ℕ) → slice_get s.pending place ≡ Some p → slice_get after.pending place ≡ Some q → key ≡ p.ask.key → life ≡ lifetime answer g.roster.limits.default_lifetime → after ≡ with_copies s (stored g.roster.limits (new_copy key stamp asked life answer tag) life s.copies) → use_answer g s p stamp asked answer tag now ≡ replies (with_pending after (ended q.block after.pending)) (serving (Some q.block) q.asker (Copy (new_copy key stamp asked life answer tag) (served_age (new_copy key stamp asked life answer tag) now)))
 unfolding use_answer
 uses {X} g s after p q place key stamp asked life answer tag now there later of_it by then_stored =
     let same : q ≡ p = same_Some q p (sym later ∙ ap (λ (r : NodeState X). slice_get r.pending place) then_stored ∙ there) in
     rw (same, then_stored, of_it, by)
 
--- an ask can go on whose peer is tried now, or whose read has ended
+-- a request can go on after its peer counts as tried, or its read has ended
 pub can_try_on : {X : Type 0} (p : Pending X) (peer asked : ℕ) → CanGoOn p → p.fetch ≡ AtPeer peer asked → CanGoOn (not_fetching p (p.tried ++ peer ∷ []))
 can_try_on p peer asked go at = grind (arith, common_steps)
 
 pub can_read_on : {X : Type 0} (p : Pending X) (stamp asked : ℕ) (mark : X) → CanGoOn p → p.fetch ≡ AtOrigin stamp asked mark → CanGoOn (not_fetching p p.tried)
 can_read_on p stamp asked mark go at = search rules
 
--- an ask that is not fetching goes on with its round, and another only keeps it
+-- a request that is not fetching goes on with its round; another one only keeps the round
 module _ {X : Type 0} (g : Setting) (s : NodeState X) (p : Pending X) (now : ℕ) (mark : X) where
   pub moves_on : is_idle p.fetch ≡ true → round_moves g s p now mark ≡ go_on g s p now mark
   unfolding round_moves
@@ -42,7 +42,7 @@ module _ {X : Type 0} (g : Setting) (s : NodeState X) (p : Pending X) (now : ℕ
   unfolding round_moves
   only_keeps fetches = rw fetches
 
--- a peer's answer is used, or the peer is tried
+-- a peer's response is used, or the peer counts as tried
 module _ {X : Type 0} (g : Setting) (s : NodeState X) (p : Pending X) (peer asked stamp : ℕ) (answer : AnswerText) (tag : X) (now : ℕ) (mark : X) where
   pub peer_is_used : floor s.floors p.ask.key ≤ stamp → is_gateway_fault answer.status ≡ false → peer_gave g s p peer asked stamp answer tag now mark ≡ use_answer g s p stamp asked answer tag now
   unfolding peer_gave
@@ -62,7 +62,7 @@ module _ {X : Type 0} (g : Setting) (s : NodeState X) (p : Pending X) (peer aske
       let test : nat_le (floor s.floors p.ask.key) stamp ≡ true = grind (arith, nat_tests) in
       rw (test, fault)
 
--- an origin's answer is used, or the ask goes on
+-- an origin's response is used, or the request goes on
 module _ {X : Type 0} (g : Setting) (s : NodeState X) (p : Pending X) (stamp asked : ℕ) (read_mark : X) (answer : AnswerText) (now : ℕ) (mark : X) where
   pub origin_is_used : floor s.floors p.ask.key ≤ stamp → origin_gave g s p stamp asked read_mark answer now mark ≡ use_answer g s p stamp asked answer read_mark now
   unfolding origin_gave
@@ -76,7 +76,7 @@ module _ {X : Type 0} (g : Setting) (s : NodeState X) (p : Pending X) (stamp ask
       let test : nat_le (floor s.floors p.ask.key) stamp ≡ false = grind (arith, nat_tests) in
       rw test
 
--- a peer's answer comes to the ask that asks it
+-- a peer's response comes to the request that is fetched from it
 module _ {X : Type 0} (g : Setting) (s : NodeState X) (peer stamp : ℕ) (answer : AnswerText) (tag : X) (now : ℕ) (mark : X) (found : Option (Pending X)) where
   pub none_awaits : None ≡ found → peer_answer_to g s peer stamp answer tag now mark found ≡ unknown s
   unfolding peer_answer_to
@@ -100,7 +100,7 @@ module _ {X : Type 0} (g : Setting) (s : NodeState X) (peer stamp : ℕ) (answer
   unfolding peer_answer_to
   awaits_another p is other = rw is (from_another p p.fetch other)
 
--- an origin's answer comes to the ask that reads there
+-- an origin's response comes to the request that reads it
 module _ {X : Type 0} (g : Setting) (s : NodeState X) (answer : AnswerText) (now : ℕ) (mark : X) (found : Option (Pending X)) where
   pub none_reads : None ≡ found → origin_answer_to g s answer now mark found ≡ unknown s
   unfolding origin_answer_to
@@ -120,7 +120,7 @@ module _ {X : Type 0} (g : Setting) (s : NodeState X) (answer : AnswerText) (now
   unfolding origin_answer_to
   reads_nothing p is other = rw is (from_no_read p p.fetch other)
 
--- a fetch fails, or a round's time is over
+-- a fetch fails, or a round expires
 module _ {X : Type 0} (g : Setting) (s : NodeState X) (now : ℕ) (mark : X) (found : Option (Pending X)) where
   pub none_fails : None ≡ found → failure_of g s now mark found ≡ unknown s
   unfolding failure_of

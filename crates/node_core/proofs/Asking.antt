@@ -32,7 +32,7 @@ eqb_same e = grind (arith, nat_tests)
 eqb_below : {a b : ℕ} → a < b → (a == b) ≡ false
 eqb_below l = grind (arith, nat_tests)
 
--- the last ask goes on as another of its block
+-- the last request goes on as another of its block
 pub changed_last : {X : Type 0} (asks : List (Pending X)) (p q : Pending X) → q.block ≡ p.block → All (λ r. r.block < p.block) asks → map (λ r. cond (is_of_block q.block r) q r) (asks ++ p ∷ []) ≡ asks ++ q ∷ []
 changed_last [] p q same below = ap (λ b. cond b q p ∷ []) (eqb_same (sym same))
 changed_last {X} (r ∷ asks) p q same below =
@@ -40,7 +40,7 @@ changed_last {X} (r ∷ asks) p q same below =
     ap (λ b. cond b q r ∷ map (λ r. cond (is_of_block q.block r) q r) (asks ++ p ∷ [])) (eqb_below lesser)
     ∙ ap (λ rest. r ∷ rest) (changed_last asks p q same (λ k d l. below (suc k) d (omega arith)))
 
--- the last ask ends
+-- the last request ends
 pub ended_last : {X : Type 0} (asks : List (Pending X)) (p : Pending X) → All (λ r. r.block < p.block) asks → filter (λ r. not (is_of_block p.block r)) (asks ++ p ∷ []) ≡ asks
 ended_last [] p below = ap (λ b. cond (not b) (p ∷ []) []) (eqb_same refl)
 ended_last {X} (r ∷ asks) p below =
@@ -50,7 +50,7 @@ ended_last {X} (r ∷ asks) p below =
     ∙ ap (λ rest. r ∷ rest) (ended_last asks p (λ k d l. below (suc k) d (omega arith)))
 
 module _ {X : Type 0} (g : Setting) (s : NodeState X) (asker : Option ℕ) (ask : Ask) (now : ℕ) (mark : X) (below : All (λ q. q.block < s.next) s.pending) where
-  -- without an origin it has waited for nothing
+  -- without an origin the request ends in the same step
   pub read_without_origin : (roster : Tables) → roster ≡ g.roster → false ≡ has_origin roster ask.key → (next : NodeState X) (reply : Reply X) → next ≡ takes_block s → reply ≡ serving None asker (Status 502) → read_origin g (adding (takes_block s) (new_ask s.next asker ask None)) (new_ask s.next asker ask None) None now mark ≡ replies next reply
   unfolding read_origin
   read_without_origin roster is_roster none next reply is_next is_reply =
@@ -61,7 +61,7 @@ module _ {X : Type 0} (g : Setting) (s : NodeState X) (asker : Option ℕ) (ask 
       ∙ ap (λ asks. replies (with_pending (takes_block s) asks) (serving None asker (Status 502))) (ended_last s.pending p below)
       ∙ sym (ap (λ n. replies n reply) is_next ∙ ap (λ r. replies (takes_block s) r) is_reply)
 
-  -- else it waits for its first read
+  -- else it is pending with its first read
   read_from_origin : has_origin g.roster ask.key ≡ true → read_origin g (adding (takes_block s) (new_ask s.next asker ask None)) (new_ask s.next asker ask None) None now mark ≡ replies (adding (takes_block s) (fetching (new_ask s.next asker ask None) 1 (AtOrigin (seen s.floors) now mark))) (beginning (begin.Read (32 * s.next + 1) (origin_ask ask)))
   unfolding read_origin begin_read
   read_from_origin there =
@@ -85,7 +85,7 @@ begins_round g s asker ask round next roster serial asked send is_next is_send i
     let same : serial ≡ 32 * s.next = omega arith in
     rw (is_next, is_send, is_roster, is_asked, same)
 
--- A new ask: whom it asks
+-- A new request: whom it asks
 
 not_none : (n : ℕ) → (suc n == 0) ≡ true → ⊥
 not_none n e = grind (arith, nat_tests)
@@ -129,7 +129,7 @@ module _ {X : Type 0} (g : Setting) (s : NodeState X) (asker : Option ℕ) (ask 
     pub asks_some_of : false ≡ (length asked == 0) → begin_ask g s asker ask now mark ≡ begin_round g (takes_block s) asker ask s.next round
     asks_some_of some = asks_peers ∙ by_some round asked some
 
-  -- An ask for which no copy may be served
+  -- A request for which no copy may be served
 
   pub cached_only : true ≡ is_cached_only g asker ask → not_held g s asker ask now mark ≡ replies s (serving None asker (Status 504))
   unfolding not_held
@@ -147,7 +147,7 @@ module _ {X : Type 0} (g : Setting) (s : NodeState X) (asker : Option ℕ) (ask 
       ap (λ b. cond b (replies s (serving None asker (Status 504))) (cond (is_busy s) (refuses s Busy) (begin_ask g s asker ask now mark))) (sym may)
       ∙ ap (λ b. cond b (refuses s Busy) (begin_ask g s asker ask now mark)) (sym free)
 
-  -- An ask that comes
+  -- A request that arrives
 
   pub serves_copy : (found : Option (WebCopy X)) → found ≡ copy_for s ask now → (copy : WebCopy X) → found ≡ Some copy → ask_comes g s asker ask now mark ≡ replies (with_copies s (to_front ask.key s.copies)) (serving None asker (Copy copy (served_age copy now)))
   unfolding ask_comes by_copy

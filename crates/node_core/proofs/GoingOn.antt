@@ -27,7 +27,7 @@ use Rattle.node_core.specs.View.{IsNode}
 use Rattle.node_core.specs.Leads.{Leads}
 
 module _ {X : Type 0} {roster : Tables} {id : ℕ} {held : Held X} {pending : List (Pending X)} {next : ℕ} {closed : Bool} where
-  -- the node is one still where an ask waits no longer
+  -- the invariant still holds after a request has ended
   pub ended_node : (block : ℕ) → IsNode roster id held pending next closed → IsNode roster id held (ended block pending) next closed
   ended_node block is = record {
     member = is.member;
@@ -38,7 +38,7 @@ module _ {X : Type 0} {roster : Tables} {id : ℕ} {held : Held X} {pending : Li
     none_waits = λ e. ap (ended block) (is.none_waits e);
   }
 
-  -- and where the ask at a place becomes another of its block
+  -- and after the request at a place has become another of its block
   pub changed_node : (place : ℕ) (p q : Pending X) → slice_get pending place ≡ Some p → q.block ≡ p.block → IsNode roster id held pending next closed → IsNode roster id held (changed q pending) next closed
   changed_node place p q there same is =
       let read = get_or_from_slice_get pending place p p there in
@@ -53,7 +53,7 @@ module _ {X : Type 0} {roster : Tables} {id : ℕ} {held : Held X} {pending : Li
         none_waits = λ e. ap (changed q) (is.none_waits e);
       }
 
--- What the rules of an ask that goes on come to
+-- What the rules of a request that goes on come to
 
 module _ {X : Type 0} (g : Setting) (s : NodeState X) (p : Pending X) (waiter : Option ℕ) (now : ℕ) (mark : X) where
   pub reads_no_more : 3 ≤ p.reads → read_origin g s p waiter now mark ≡ give_up s p waiter 503
@@ -74,11 +74,11 @@ module _ {X : Type 0} (g : Setting) (s : NodeState X) (p : Pending X) (waiter : 
       let test : nat_le 3 p.reads ≡ false = grind (arith, nat_tests) in
       rw (test, one)
 
--- what a rule leads to, another leads to that says the same
+-- two rules that say the same lead to the same
 pub leads_by : {X : Type 0} (to by : Stepped X) (s next : NodeState X) (out : Result (Reply X) StepFault) → to ≡ by → Leads by s out next → Leads to s out next
 leads_by to by s next out same h = subst (λ t. Leads t s out next) (sym same) h
 
--- an ask goes where its round says
+-- a request goes where its round says
 pub goes : {X : Type 0} (g : Setting) (s : NodeState X) (p : Pending X) (now : ℕ) (mark : X) (chosen : Source) → choice_of p.round (floor s.floors p.ask.key) p.tried ≡ chosen → go_on g s p now mark ≡ go_to g s p now mark chosen
 unfolding go_on
 goes g s p now mark chosen is = ap (go_to g s p now mark) is
@@ -93,7 +93,7 @@ chosen_by : (o : Option RoundText) (floor : ℕ) (tried : List ℕ) (peer : ℕ)
 chosen_by None floor tried peer cached e = cc
 chosen_by (Some r) floor tried peer cached e = record { round = r; is = refl; chosen = e }
 
--- an ask that goes to the peer that was chosen can go on
+-- a request that goes to the peer that was chosen can go on
 pub peer_can_go_on : {X : Type 0} (p : Pending X) (floor peer now : ℕ) (cached : Bool) → CanGoOn p → is_idle p.fetch ≡ true → choice_of p.round floor p.tried ≡ source.Peer peer cached → CanGoOn (fetching p p.reads (AtPeer peer now))
 peer_can_go_on p floor peer now cached go idle e =
     let by = chosen_by p.round floor p.tried peer cached e in

@@ -24,7 +24,7 @@ use Rattle.node_core.specs.View.{HasKeyOf}
 key_given : (key_of : List ℕ → Option (List ℕ)) (text read : List ℕ) (key : Option (List ℕ)) → GivesKeys key_of → HasKeyOf read key → read ≡ text → key ≡ key_of text
 key_given key_of text read key gives has same = has.2 ∙ sym (gives read has.0 has.1) ∙ ap key_of same
 
--- Questions by ICP
+-- Queries by ICP
 
 no_query_held : {X : Type 0} (copy : Option (WebCopy X)) → hit_or_miss copy ≢ op.Query
 no_query_held None e = cc
@@ -57,7 +57,7 @@ answers_query g s from m now key read text said sent reply gives has is_text is_
     let answered : said ≡ icp_answer (is_known g.roster g.id udp.Icp from) s now (g.key_of m.url) = is_said ∙ ap (icp_answer (is_known g.roster g.id udp.Icp from) s now) given in
     sym (ap (λ r. replies s r) (is_reply ∙ ap (λ o. sending (o ∷ [])) (is_sent ∙ ap (λ o. to from (icp o m.number m.url)) answered)))
 
--- Questions by HTCP
+-- Queries by HTCP
 
 content_of : {X : Type 0} (copy : Option (WebCopy X)) → tst_content (option_map (λ c. c.stamp) copy) ≡ tst_answer copy
 content_of None = refl

@@ -27,13 +27,13 @@ use Rattle.node_core.specs.Leads.{Leads}
 use Rattle.node_core.proofs.Hearing.{leads_as}
 
 module _ {X : Type 0} (g : Setting) (s : NodeState X) (by : Udp) (from : Address) (said : Peer → Said) (now : ℕ) (mark : X) (p : Pending X) where
-  -- what is said to the ask at a place, where it is this one
+  -- an answer for the request at a place, if it is this one
   pub tells_at : (place : ℕ) (asks : List (Pending X)) → asks ≡ s.pending → slice_get asks place ≡ Some p → (outcome : Result (Reply X) StepFault) (next : NodeState X) → Leads (told_to g s by from said now mark (Some p)) s outcome next → IfSome (slice_get s.pending place) (λ p. Leads (told_to g s by from said now mark (Some p)) s outcome next)
   tells_at place asks same there outcome next leads =
       let here : slice_get s.pending place ≡ Some p = ap (λ asks. slice_get asks place) (sym same) ∙ there in
       subst (λ o. IfSome o (λ p. Leads (told_to g s by from said now mark (Some p)) s outcome next)) (sym here) leads
 
-  -- without a round nothing is heard
+  -- without a round no answer counts
   pub no_round : p.round ≡ None → (reply : Reply X) → reply ≡ quiet → told_to g s by from said now mark (Some p) ≡ replies s reply
   unfolding told_to told_by
   no_round none reply is_reply = ap (λ r. told_by g s p said now mark (peer_at g by from r)) none ∙ ap (λ r. replies s r) (sym is_reply)
@@ -75,7 +75,7 @@ module _ {X : Type 0} (g : Setting) (s : NodeState X) (by : Udp) (from : Address
         tells_at place asks same there outcome next
         (leads_as _ _ _ _ _ (told_first peer is first) (subst (λ r. Leads (round_moves g s (with_round p r) now mark) s outcome next) round moved_here))
 
--- The ask of a round
+-- The request of a round
 
 pub none_found : {A : Type 0} (xs ys : List A) (test : A → Bool) (place : Option ℕ) → xs ≡ ys → option_and_then (slice_get xs) place ≡ find test xs → place ≡ None → find test ys ≡ None
 none_found xs ys test place same is none = sym (ap (find test) same) ∙ sym is ∙ ap (option_and_then (slice_get xs)) none
@@ -92,7 +92,7 @@ module _ {X : Type 0} (g : Setting) (s : NodeState X) (by : Udp) (from : Address
   tells_it outcome next None some told = absurd (some refl)
   tells_it outcome next (Some p) some told = told
 
-  -- what is said to the ask at a place
+  -- an answer for the request at a place
   pub tells_ask : (place : ℕ) (asks : List (Pending X)) → asks ≡ s.pending → place < length asks → (rest : Option (Pending X)) → rest ≡ slice_get asks place → (outcome : Result (Reply X) StepFault) (next : NodeState X) → IfSome (slice_get s.pending place) (λ p. Leads (told_to g s by from said now mark (Some p)) s outcome next) → Leads (told_to g s by from said now mark rest) s outcome next
   tells_ask place asks same below rest is outcome next told =
       let here : rest ≡ slice_get s.pending place = is ∙ ap (λ asks. slice_get asks place) same in
@@ -105,7 +105,7 @@ module _ {X : Type 0} (g : Setting) (s : NodeState X) (by : Udp) (from : Address
 
 -- An answer by ICP
 
--- everybody heard says the same
+-- an ICP answer says the same whoever sent it
 pub same_said : (h : Heard) (word : Said) → h ≡ record { member = word; foreign = word } → said_by h ≡ (λ p. word)
 same_said h word is =
     let each : (p : Peer) → said_by h p ≡ word = λ p.

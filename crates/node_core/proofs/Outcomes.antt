@@ -24,7 +24,7 @@ use Rattle.node_core.specs.Closing.{step_fault_of, KeepsStore, FailsWithCause}
 use Rattle.node_core.specs.View.{NodeText}
 use Rattle.node_core.specs.Leads.{Leads, MayClose}
 
--- what a rule leads to without closing
+-- a method that closes no node also keeps the weaker word of those that may
 pub leads_may_close : {X : Type 0} (to : Stepped X) (s : NodeState X) (purge : Option (List ℕ × ℕ)) (out : Result (Reply X) StepFault) (next : NodeState X) → Leads to s out next → MayClose to s purge out next
 leads_may_close to s purge (Ok reply) next h = h
 leads_may_close to s purge (Err fault.NoMemory) next h = inl h
@@ -33,14 +33,14 @@ leads_may_close to s purge (Err fault.Closed) next h = h
 leads_may_close to s purge (Err fault.UnknownSerial) next h = h
 leads_may_close to s purge (Err fault.Busy) next h = h
 
--- the rule that one rule is
+-- the same for an equal rule
 pub leads_by : {X : Type 0} (to by : Stepped X) (s next : NodeState X) (out : Result (Reply X) StepFault) → to ≡ by → Leads by s out next → Leads to s out next
 leads_by to by s next out e h = subst (λ t. Leads t s out next) (sym e) h
 
 pub may_close_by : {X : Type 0} (to by : Stepped X) (s next : NodeState X) (purge : Option (List ℕ × ℕ)) (out : Result (Reply X) StepFault) → to ≡ by → MayClose by s purge out next → MayClose to s purge out next
 may_close_by to by s next purge out e h = subst (λ t. MayClose t s purge out next) (sym e) h
 
--- a fault of the store of floors closes
+-- a fault of the store closes the node
 pub closes : {X : Type 0} (to : Stepped X) (s next : NodeState X) (key : List ℕ) (n : ℕ) (f : FloorFault) → IsClosed s key n next → MayClose to s (Some (key, n)) (Err (step_fault_of f)) next
 closes to s next key n floor_fault.NoMemory h = inr h
 closes to s next key n floor_fault.StoreFault h = h
@@ -69,12 +69,12 @@ pub closed_steps : {X : Type 0} (g : Setting) (s : NodeState X) (e : Event X) (m
 unfolding step step_if
 closed_steps g s e mark is_closed = ap (step_if g s e mark) is_closed
 
--- what a crash at a raise leaves, where the floors in memory were raised too
+-- what a crash at a raise leaves, if the floors in memory were raised too
 pub found_either : (stored before after found : FloorMap) (key : List ℕ) (n : ℕ) → stored ≡ before → after ≡ raised before key n → IsBeforeOrAfter stored key n found → (found ≡ before) ⊎ (found ≡ after)
 found_either stored before after found key n e raise (inl same) = inl (same ∙ e)
 found_either stored before after found key n e raise (inr (room, new)) = inr (new ∙ ap (λ f. raised f key n) e ∙ sym raise)
 
--- the node that is left, by another name of it
+-- the same for an equal node
 pub keeps_by : {X S : Type 0} (honest : S → Type 0) (may_find : S → FloorMap → Type 0) (before now after : NodeText X S) (out : Result (Reply X) StepFault) → now ≡ after →
     KeepsStore (honest after.store) (may_find after.store) before after out → KeepsStore (honest now.store) (may_find now.store) before now out
 keeps_by honest may_find before now after out e h = subst (λ v. KeepsStore (honest v.store) (may_find v.store) before v out) (sym e) h
@@ -83,7 +83,7 @@ keeps_by honest may_find before now after out e h = subst (λ v. KeepsStore (hon
 pub without_fault : {X : Type 0} (honest risen : Type 0) (to : Stepped X) (s next : NodeState X) (out : Result (Reply X) StepFault) → Leads to s out next → FailsWithCause honest risen out
 without_fault honest risen to s next out h is_fault _ = absurd (subst (λ o. Leads to s o next) is_fault h)
 
--- nor does one that rests on the keys of texts
+-- nor does a rule that takes the keys of texts as a parameter
 pub without_fault_by : {X : Type 0} (honest risen : Type 0) (to : (List ℕ → Option (List ℕ)) → Stepped X) (s next : NodeState X) (out : Result (Reply X) StepFault) →
     ((k : List ℕ → Option (List ℕ)) → GivesKeys k → Leads (to k) s out next) → FailsWithCause honest risen out
 without_fault_by honest risen to s next out h = without_fault honest risen (to key_of) s next out (h key_of gives_keys)
@@ -92,17 +92,17 @@ abbrev IsFalse : Bool → Type 0
 IsFalse false = ⊤
 IsFalse true = ⊥
 
--- a store that has what memory has is not full where memory has room
+-- a store with the same floors as memory is not full if memory has room
 pub not_full : (stored floors : FloorMap) (key : List ℕ) → stored ≡ floors → HasRoom floors key → (65536 ≤ len stored) × (get stored key ≡ None) → ⊥
 not_full stored floors key e (inl has) full = subst IsFalse (subst IsSome (ap (λ m. get m key) (sym e) ∙ full.1) has) tt
 not_full stored floors key e (inr few) full = not-le_of_lt (subst (λ m. len m < 65536) (sym e) few) full.0
 
--- whether a step is answered by the fault of the store
+-- the fault of the step is StoreFault
 abbrev pub IsStoreFault : {X : Type 0} → Result (Reply X) StepFault → Type 0
 IsStoreFault (Err fault.StoreFault) = ⊤
 IsStoreFault _ = ⊥
 
--- the fault of the store is answered for one of the store's, where the store is not full
+-- StoreFault comes of a failure of the store, since the store is not full
 pub caused : (X : Type 0) (f : FloorFault) (out : Result (Unit {0}) FloorFault) (risen : Type 0) → out ≡ Err f →
     (out ≡ Err floor_fault.StoreFault → risen) → (out ≡ Err floor_fault.BadTable → ⊥) → (out ≡ Err floor_fault.FloorsFull → ⊥) →
     IsStoreFault {X = X} (Err (step_fault_of f)) → risen
@@ -111,7 +111,7 @@ caused X floor_fault.StoreFault out risen is store bad full e = store is
 caused X floor_fault.BadTable out risen is store bad full e = absurd (bad is)
 caused X floor_fault.FloorsFull out risen is store bad full e = absurd (full is)
 
--- the node that is left, by another name of it
+-- the same for an equal node
 pub fails_by : {X S : Type 0} (honest : S → Type 0) (failed : S → ℕ) (before : ℕ) (now after : NodeText X S) (out : Result (Reply X) StepFault) → now ≡ after →
     FailsWithCause (honest after.store) (HaveRisen before (failed after.store)) out → FailsWithCause (honest now.store) (HaveRisen before (failed now.store)) out
 fails_by honest failed before now after out e h = subst (λ v. FailsWithCause (honest v.store) (HaveRisen before (failed v.store)) out) (sym e) h

@@ -26,7 +26,7 @@ either : (b : Bool) (word : Said) → cond b word word ≡ word
 either true word = refl
 either false word = refl
 
--- all said the same
+-- an answer that says the same whoever sent it
 pub of_both : (word : Said) (heard : Heard) → heard ≡ record { member = word; foreign = word } → (p : Peer) → said_by heard p ≡ word
 of_both word heard is p = ap (λ h. said_by h p) is ∙ either (is_foreign_id p.id) word
 

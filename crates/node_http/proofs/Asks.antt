@@ -11,7 +11,7 @@ use Rattle.node_http.specs.declared.fault.ServeFault.{ServeFault}
 use Rattle.node_http.specs.Serving.{serve_text}
 use Rattle.node_http.specs.Asking.{IsTold, AfterReply, event_by}
 
--- a reply to an ask that serves somebody serves the one who asks
+-- a reply to a request that serves somebody serves the sender
 pub told_at_once : (old new : Option (List ℕ)) (via : List ℕ) (asker : Option ℕ) (reply : Reply (Unit {0})) (serve : Serve (Unit {0})) (result : Result Asked ServeFault) → reply.serve ≡ Some serve →
     IsTold old new (serve_text serve.asker serve.served via) result → AnswersAsker asker reply → AfterReply old new via asker reply result
 told_at_once old new via asker reply serve result is told (inl once) =
@@ -19,7 +19,7 @@ told_at_once old new via asker reply serve result is told (inl once) =
     inl (record { served = once.served; alone = once.alone; told = subst (λ (s : Serve (Unit {0})). IsTold old new (serve_text s.asker s.served via) result) same told })
 told_at_once old new via asker reply serve result is told (inr begins) = absurd (none-some serve (sym begins.serves ∙ is))
 
--- what a step makes of the event of an ask
+-- what a step makes of the event of a request
 pub asks_by : (asker : Option ℕ) (ask : Ask) (now : ℕ) (reply : Reply (Unit {0})) → AnswersAsk (event_by asker ask now) reply → AnswersAsker asker reply
 asks_by None ask now reply h = h
 asks_by (Some member) ask now reply h = h

@@ -19,7 +19,7 @@ found_passes (n ∷ ns) id m all is =
       | inr other ↦ found_passes ns id m others (rw other at is)
     ]
 
--- the two crates mean the same by a name
+-- the two crates test names in the same way
 same_names : (name : List ℕ) → is_name name ≡ true → IsTrue (names_cache name)
 same_names name h = h
 

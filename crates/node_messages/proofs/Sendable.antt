@@ -43,7 +43,7 @@ pub no_zero : (key : List ℕ) → IsKey key → ¬ Contains key 0
 no_zero key k has =
     let seen : is_visible 0 ≡ true = All-contains (λ b. is_visible b ≡ true) key 0 (AllPass-from_list_all is_visible key (visible key k)) has in cc
 
--- Questions
+-- Queries
 
 pub icp_query_fits : (serial : ℕ) (key : List ℕ) → IsKey key → icp_text.Fits (icp_message op.Query serial key)
 icp_query_fits serial key k = record {

@@ -108,14 +108,14 @@ module _ {X : Type 0} (g : Setting) (s : NodeState X) (e : Event X) (mark : X) w
   abbrev pub Does : Stepped X → Type 0
   Does r = Effect g s e mark r
 
-  -- the state as it is while rules only change the pending asks
+  -- the state as it is while rules only change the pending requests
   abbrev pub at : List (Pending X) → ℕ → NodeState X
   at pending next = state_of s.floors s.copies s.closed pending next
 
   abbrev pub Outcome : Type 0
   Outcome = Result (Reply X) StepFault
 
-  -- an ask may stay as it is: it is not fetching, or it fetches as it did
+  -- a request may stay as it is: it is not fetching, or it fetches as it did
   abbrev pub MayStay : Pending X → Type 0
   MayStay p = (outcome : Outcome) → IsReadOf s mark outcome p
 
@@ -125,7 +125,7 @@ module _ {X : Type 0} (g : Setting) (s : NodeState X) (e : Event X) (mark : X) w
   reads_of : (pending : List (Pending X)) (outcome : Outcome) → AllByRecursion MayStay pending → AllByRecursion (IsReadOf s mark outcome) pending
   reads_of pending outcome all = all_mapped MayStay (IsReadOf s mark outcome) (λ p h. h outcome) pending all
 
-  -- asks go on waiting, and at most a bare status is served
+  -- requests stay pending, and at most a bare status is served
   stays : (pending : List (Pending X)) (next : ℕ) (outcome : Outcome) → copy_served outcome ≡ None → AllByRecursion MayStay pending → ServesBareStatus outcome → AllByRecursion (IsObedient g e s.floors) (sent outcome) → IsOwnFault outcome → Does record { state = at pending next; outcome = outcome }
   stays pending next outcome none all bare obeys plain = Stays pending next outcome none (record { reads = reads_of pending outcome all; statuses = bare; acknowledges = obeys; faults = plain })
 
@@ -166,7 +166,7 @@ module _ {X : Type 0} (g : Setting) (s : NodeState X) (e : Event X) (mark : X) w
   unfolding go_on
   go_on_does pending next all p may now = go_to_does pending next all p may now _
 
-  -- Asks
+  -- Requests
 
   query_to_obeys : (serial : ℕ) (key : List ℕ) (p : Peer) (c : Option Cache) (o : Outgoing) → option_map (λ (c : Cache). to (address_by p.by c) (query p.by serial key)) c ≡ Some o → IsObedient g e s.floors o
   query_to_obeys serial key p None o is = absurd (none-some o is)
@@ -176,7 +176,7 @@ module _ {X : Type 0} (g : Setting) (s : NodeState X) (e : Event X) (mark : X) w
   queries_obey serial key [] = tt
   queries_obey serial key (p ∷ asked) = query_first (question_to g.roster serial key p) _ (query_to_obeys serial key p (cache_of g.roster p.id)) (queries_obey serial key asked)
 
-  -- a new ask, which is not fetching, comes behind the others
+  -- a new request, which is not fetching, comes behind the others
   one_more : (block : ℕ) (asker : Option ℕ) (ask : Ask) (round : Option RoundText) → AllByRecursion MayStay (s.pending ++ new_ask block asker ask round ∷ [])
   one_more block asker ask round = all_joined MayStay s.pending (new_ask block asker ask round ∷ []) all_stay ((λ outcome. tt), tt)
 
@@ -202,7 +202,7 @@ module _ {X : Type 0} (g : Setting) (s : NodeState X) (e : Event X) (mark : X) w
 
   -- Arrivals
 
-  -- what is found waits
+  -- the request that is found is pending
   waiting : (test : Pending X → Bool) (p : Pending X) → find test s.pending ≡ Some p → Contains s.pending p
   waiting test p waits = found (Contains s.pending) test s.pending p (all_contained s.pending) waits
 
@@ -320,7 +320,7 @@ module _ {X : Type 0} (g : Setting) (s : NodeState X) (e : Event X) (mark : X) w
   unfolding htcp_told
   htcp_told_does from trans said now = told_to_does _ from said now _ _ refl
 
-  -- what is answered to a CLR that was followed is an acknowledgement
+  -- the response to a CLR that was followed is an acknowledgement
   done_does : (next : NodeState X) (from : Address) (trans : ℕ) (desired gone : Bool) → ComesFrom e from → HasRaised next.floors (purge_in g e) trans →
       ((outcome : Outcome) → copy_served outcome ≡ None → ServesBareStatus outcome → AllByRecursion (IsObedient g e next.floors) (sent outcome) → IsOwnFault outcome → Does record { state = next; outcome = outcome }) → Does (clr_done next from trans desired gone)
   done_does next from trans true true comes raised h = h _ refl tt ((comes, raised), tt) tt

@@ -44,7 +44,7 @@ use Rattle.node_rules.proofs.Cases.{branches}
 use Rattle.node_rules.proofs.Stores.{length_filter}
 use Rattle.node_rules.proofs.Stepping.{steps_case}
 
--- at most 1,024 asks wait
+-- at most 1,024 requests are pending
 pub record FewWait {X : Type 0} (s : NodeState X) : Type 0 where
   pub most : length s.pending ≤ 1024
 
@@ -61,7 +61,7 @@ neither : (a b : Bool) → (a || b) ≡ false → a ≡ false
 neither true b h = h
 neither false b h = refl
 
--- a node that is not busy has room for one ask more
+-- a node that is not busy has room for one request more
 room_of : {X : Type 0} (s : NodeState X) → is_busy s ≡ false → length s.pending < 1024
 room_of s h = leb-false 1024 (length s.pending) (neither (nat_le 1024 (length s.pending)) (nat_lt 134217727 s.next) h)
 
@@ -87,7 +87,7 @@ module _ {X : Type 0} (g : Setting) (s : NodeState X) (mark : X) (few : FewWait 
   unfolding go_on
   go_on_few p now = go_to_few p now _
 
-  -- Asks
+  -- Requests
 
   ask_around_few : length s.pending < 1024 → (asker : Option ℕ) (ask : Ask) (block now : ℕ) (round : RoundText) (peers : List Peer) → Few (ask_around g (takes_block s) asker ask block now mark round peers)
   unfolding ask_around begin_round
@@ -280,7 +280,7 @@ module _ {X : Type 0} (g : Setting) (s : NodeState X) (mark : X) (few : FewWait 
   unfolding step
   step_few e = step_if_few e s.closed
 
--- none waits at a node that has closed
+-- no request is pending at a node that has closed
 closed_few : {X : Type 0} (s : NodeState X) (o : Option (List ℕ × ℕ)) (next : NodeState X) → ClosesOn s o next → FewWait next
 closed_few s None next h = absurd h
 closed_few {X} s (Some x) next h = record { most = subst (λ (asks : List (Pending X)). length asks ≤ 1024) (sym h.pending) (omega arith) }

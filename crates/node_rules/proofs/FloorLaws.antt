@@ -53,7 +53,7 @@ room_by : (o : Option ℕ) (most rows : ℕ) → (nat_le most rows && not (is_so
 room_by (Some n) most rows free = inl refl
 room_by None most rows free = inr (leb-false most rows (sym (alone (nat_le most rows)) ∙ free))
 
--- where the floors are not full for a key, there is room for its floor
+-- if the floors are not full for a key, there is room for its floor
 pub room_for : (floors : FloorMap) (u : List ℕ) → is_full floors u ≡ false → HasRoom floors u
 room_for floors u free = room_by (get floors u) 65536 (len floors) free
 

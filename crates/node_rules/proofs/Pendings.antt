@@ -37,7 +37,7 @@ contained P [] x all (k, h, e) = absurd (omega (arith, h))
 contained P (y ∷ xs) x all (zero, h, e) = subst P e all.0
 contained P (y ∷ xs) x all (suc k, h, e) = contained P xs x all.1 (k, omega (arith, h), e)
 
--- Asks that are found, changed and ended
+-- Requests that are found, changed and ended
 
 pub found : {A : Type 0} (P : A → Type 0) (test : A → Bool) (xs : List A) (x : A) → AllByRecursion P xs → find test xs ≡ Some x → P x
 found P test [] x all e = absurd (none-some x e)
@@ -51,7 +51,7 @@ found_passes {A} test (y ∷ xs) x e =
     (branches (λ (o : Option A). o ≡ Some x → test x ≡ true) (test y) (Some y) (find test xs)
     (λ passes e. subst (λ (z : A). test z ≡ true) (same_Some y x e) passes) (λ _. found_passes test xs x)) e
 
--- where one takes the place of some, what holds of it and of the others holds of all
+-- if one element takes the place of some, what holds of it and of the others holds of all
 pub all_changed : {A : Type 0} (P : A → Type 0) (test : A → Bool) (x : A) (xs : List A) → P x → AllByRecursion P xs → AllByRecursion P (map (λ y. cond (test y) x y) xs)
 all_changed P test x [] h all = tt
 all_changed P test x (y ∷ xs) h all = (branches P (test y) x y (λ _. h) (λ _. all.0), all_changed P test x xs h all.1)
@@ -78,6 +78,6 @@ module _ {X : Type 0} (s : NodeState X) where
   pub read_of : (mark : X) (outcome : Result (Reply X) StepFault) (p : Pending X) → IsUnderWay s p → IsReadOf s mark outcome p
   read_of mark outcome p h = read_by mark outcome p p.fetch h
 
-  -- asks that waited still read what they read
+  -- requests that were pending still read what they read
   pub still_reads : (mark : X) (outcome : Result (Reply X) StepFault) (pending : List (Pending X)) → AllByRecursion (IsUnderWay s) pending → AllByRecursion (IsReadOf s mark outcome) pending
   still_reads mark outcome pending all = all_mapped (IsUnderWay s) (IsReadOf s mark outcome) (read_of mark outcome) pending all

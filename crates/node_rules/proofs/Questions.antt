@@ -37,7 +37,7 @@ module _ {X : Type 0} (g : Setting) (s : NodeState X) where
   if_desired_begins true from m = plainly _ refl refl
   if_desired_begins false from m = plainly _ refl refl
 
-  -- an ask of a sibling is cached only
+  -- a request of a sibling is answered from the store alone
   sibling_cached_only : (asker : ℕ) (ask : Ask) → names_sibling g.roster asker g.id ≡ true → is_cached_only g (Some asker) ask ≡ true
   sibling_cached_only asker ask h = or_true ask.only_if_cached (names_sibling g.roster asker g.id) h
 

@@ -18,7 +18,7 @@ use Rattle.node_rules.proofs.Kept.{closed_kept, floors_rise, above_kept, store_k
 use Rattle.node_rules.proofs.Cases.{true_not_false}
 
 module _ {X : Type 0} (g : Setting) (s : NodeState X) (e : Event X) (mark : X) where
-  -- a node is as open behind the function as before it
+  -- the function leaves a node as open or closed as it was
   pub the_function_closes_no_node : (step g s e mark).state.closed ≡ s.closed
   the_function_closes_no_node = closed_kept g s e mark _ (step_does g s mark e)
 

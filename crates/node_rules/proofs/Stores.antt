@@ -96,7 +96,7 @@ found_passes test (y ∷ xs) x e =
       | false ↦ λ is e. found_passes test xs x e
     ]) refl e
 
--- what is found leaves room, in number and in any measure
+-- without the element that is found, the list is smaller, in number and in any measure
 pub found_room : {A : Type 0} (f : A → ℕ) (test : A → Bool) (xs : List A) (x : A) → find test xs ≡ Some x → (length (filter (λ y. not (test y)) xs) + 1 ≤ length xs) × (f x + sum_by f (filter (λ y. not (test y)) xs) ≤ sum_by f xs)
 found_room f test [] x e = absurd (none-some x e)
 found_room f test (y ∷ xs) x e =

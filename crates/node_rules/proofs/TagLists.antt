@@ -18,7 +18,7 @@ use Rattle.node_rules.specs.Asks.{copy_for}
 use Rattle.node_rules.specs.Arrivals.{stored, store_of}
 use Rattle.node_rules.specs.Tags.{retag_copy, retag_pending, retag_state}
 
--- a choice between values that a function gives is the function of the choice
+-- a function of a choice is the choice of the function's values
 pub both_ways : {A B : Type 0} (h : A → B) (b : Bool) (x y : A) (x' y' : B) → x' ≡ h x → y' ≡ h y → cond b x' y' ≡ h (cond b x y)
 both_ways h true x y x' y' p q = p
 both_ways h false x y x' y' p q = q
@@ -99,7 +99,7 @@ module _ {X Y : Type 0} (f : X → Y) where
   pub copy_for-retag : (s : NodeState X) (ask : Ask) (now : ℕ) → copy_for (retag_state f s) ask now ≡ option_map (retag_copy f) (copy_for s ask now)
   copy_for-retag s ask now = both_ways (option_map (retag_copy f)) ask.no_cache None (good_copy s ask.key now) _ _ refl (good_copy-retag s ask.key now)
 
-  -- pending asks
+  -- pending requests
 
   pub adding-retag : (pending : List (Pending X)) (p : Pending X) → map (retag_pending f) pending ++ retag_pending f p ∷ [] ≡ map (retag_pending f) (pending ++ p ∷ [])
   adding-retag pending p = map_at_end (retag_pending f) pending p

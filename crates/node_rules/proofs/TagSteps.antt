@@ -73,7 +73,7 @@ module _ {X Y : Type 0} (f : X → Y) (g : Setting) where
   abbrev to : Stepped X → Stepped Y
   to r = retag_stepped f r
 
-  -- Asks that change and end
+  -- Requests that change and end
 
   changes-retag : (s : NodeState X) (p : Pending X) (reply : Reply X) → replies (changing (retag_state f s) (retag_pending f p)) (retag_reply f reply) ≡ to (replies (changing s p) reply)
   changes-retag s p reply = ap (λ ps. replies (with_pending (retag_state f s) ps) (retag_reply f reply)) (changing-retag f s.pending p)
@@ -111,7 +111,7 @@ module _ {X Y : Type 0} (f : X → Y) (g : Setting) where
   unfolding go_on
   go_on-retag s p now mark = go_to-retag s p now mark (choice_of p.round (floor s.floors p.ask.key) p.tried)
 
-  -- Asks
+  -- Requests
 
   ask_around-retag : (s : NodeState X) (asker : Option ℕ) (ask : Ask) (block now : ℕ) (mark : X) (round : RoundText) (peers : List Peer) → ask_around g (retag_state f s) asker ask block now (f mark) round peers ≡ to (ask_around g s asker ask block now mark round peers)
   unfolding ask_around begin_round

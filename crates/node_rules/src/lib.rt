@@ -1,8 +1,8 @@
 //! What a node does: the types of its state, events and replies, and the one definition of its
 //! step.
 //!
-//! This crate runs nothing. `node_core` has the code of the step, and its contract cites the
-//! definition here; so do the world of the safety proof and the checker of recorded runs.
+//! This crate runs no node. `node_core` has the code of the step, and its contract cites the
+//! definition here; so do the world of the safety proof and the rules of recorded runs.
 //!
 //! # Types
 //!
@@ -12,8 +12,8 @@
 //!   serials, and whether the node is closed.
 //! - [`Reply`] is the output: what to serve ([`Serve`]), which datagrams to send ([`Outgoing`]),
 //!   what to begin ([`Begin`]). A step that is refused gives a [`StepFault`] instead.
-//! - [`Received`] is a message that can be answered; [`Sent`] is one that can be encoded. Both are
-//!   known by their types, so no step has to check it.
+//! - [`Received`] is a message that can be answered; [`Sent`] is one that can be encoded. Their types
+//!   say so, and no step has to check it again.
 //!
 //! # The definition: `specs/`, in this order
 //!
@@ -28,8 +28,8 @@
 //! 7. `Datagrams`: an ICP or HTCP message arrives, purges included
 //! 8. `Step`: the step as a function `step` of the setting, a state, an event and a mark; it gives
 //!    the next state and the outcome
-//! 9. `Relation`: the step as a relation, `Steps`. It adds what only a running node meets: no
-//!    memory, and a floor store that fails
+//! 9. `Relation`: the step as a relation, `Steps`. It adds what only a running node meets: an
+//!    allocation that fails, and a floor store that fails
 //!
 //! The rest states laws. `Questions`: a sibling's request begins nothing. `Effect`: what a step may
 //! do to floors and copies. `Lawful`: what each step keeps. `Good`: what stays true of an open

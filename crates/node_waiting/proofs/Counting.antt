@@ -36,13 +36,13 @@ count_falls {X} p q (y ∷ xs) x weaker (suc k, l, is) holds fails =
     let more : (r : X → Bool) → count_by r (y ∷ xs) ≡ cond (r y) 1 0 + count_by r xs = λ r. sum_by-cons (λ x. cond (r x) 1 0) y xs in
     grind (arith, more p, more q)
 
--- an ask that does not fetch asks no peer
+-- a request that does not fetch asks no peer
 not_asked : {X : Type 0} (id : ℕ) (fetch : Fetch X) → is_idle fetch ≡ true → is_asked_now id fetch ≡ false
 not_asked id Nowhere idle = refl
 not_asked id (AtPeer peer asked) idle = cc
 not_asked id (AtOrigin stamp asked mark) idle = cc
 
--- an ask that goes to the peer of an answer has one answer less to follow
+-- a request that goes to the peer of an answer has one answer less to follow
 pub one_less : {X : Type 0} (p : Pending X) (r : RoundText) (t : Told) (peer now floor : ℕ) → p.round ≡ Some r → is_idle p.fetch ≡ true → Contains r.told t → t.peer.id ≡ peer → is_open floor p.tried t.peer ≡ true → untried_count (fetching p p.reads (AtPeer peer now)) + 1 ≤ untried_count p
 one_less {X} p r t peer now floor round idle answered same free_to_ask =
     let told : told_of p.round ≡ r.told = ap told_of round in

@@ -44,7 +44,7 @@ module _ {X : Type 0} (asks : List (Pending X)) (ascend : Ascend asks) (block pl
       let before = ascend k place d in
       grind (arith, at.in_range)
 
-  -- a test of asks of that block finds the ask at the place, or none
+  -- a test of requests of that block finds the request at the place, or none
   module _ (test : Pending X → Bool) (only : All (λ q. test q ≡ true → q.block ≡ block) asks) where
     pub found : HoldsAt (λ q. test q ≡ true) asks place → find test asks ≡ slice_get asks place
     found passes = find_here test asks place at.in_range passes (λ k d a b. unless _ (λ e.
@@ -57,11 +57,11 @@ module _ {X : Type 0} (asks : List (Pending X)) (ascend : Ascend asks) (block pl
         let other : test (get_or asks k d) ≡ false = rw there (fails d) in
         cc))
 
--- where no ask is of a block, no test of asks of that block finds one
+-- if no request has this block, no test of requests of this block finds one
 pub absent : {X : Type 0} (asks : List (Pending X)) (block : ℕ) → IsAbsent asks block → (test : Pending X → Bool) → All (λ q. test q ≡ true → q.block ≡ block) asks → find test asks ≡ None
 absent asks block none test only = find_none test asks (λ k d l. unless _ (λ e. none k d l (only k d l e)))
 
--- where one element at most passes a test, a second test passes it or none
+-- if at most one element passes a test, a second test lets it pass or none
 pub find_both : {X : Type 0} (p t : X → Bool) (xs : List X) → AllPairs (λ x y. p x ≡ true → p y ≡ true → ⊥) xs → find (λ x. p x && t x) xs ≡ if_passes t (find p xs)
 find_both p t [] one = refl
 find_both {X} p t (x ∷ xs) one =
@@ -96,7 +96,7 @@ pub round_where : {X : Type 0} (asks : List (Pending X)) (serial : ℕ) (o : Opt
 round_where asks serial o order found t =
     ap (if_passes t) found ∙ sym (find_both (λ p. round_serial p == serial) t asks (one_passes asks (serial / 32) (λ p. round_serial p == serial) order.ascend (only_round asks serial)))
 
--- a serial between the first ones of blocks is of no round
+-- a serial that is not the first of a block is of no round
 pub no_round : {X : Type 0} (asks : List (Pending X)) (serial : ℕ) → serial % 32 ≢ 0 → None ≡ find (λ p. round_serial p == serial) asks
 no_round asks serial odd = sym (find_none _ asks (λ k d l. grind (arith, nat_tests)))
 
@@ -129,7 +129,7 @@ fetch_other {X} asks serial place p order at is other =
 pub fetch_absent : {X : Type 0} (asks : List (Pending X)) (serial : ℕ) → AreInOrder asks → IsAbsent asks (serial / 32) → None ≡ find (λ p. fetch_serial p == serial) asks
 fetch_absent asks serial order none = sym (absent asks _ none _ (only_fetch asks serial order.can_go_on))
 
--- What a binary search by blocks says
+-- What a binary search by blocks finds
 
 pub place_found : {X : Type 0} (asks : List (Pending X)) (block place : ℕ) → place < length asks → HoldsAt (λ q. nat_cmp q.block block ≡ Equal) asks place → IsPlaceOf asks block place
 place_found asks block place l equal = record { in_range = l; is_of_it = λ d. ranked _ block _ (sym (equal d)) }

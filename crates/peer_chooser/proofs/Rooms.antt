@@ -14,7 +14,7 @@ use Rattle.peer_chooser.specs.declared.said.Told.{Told}
 use Rattle.peer_chooser.specs.Round.{RoundText, has_told, awaited, with_answer, answered}
 use Rattle.peer_chooser.specs.Room.{HasRoom, awaited_count}
 
--- one peer's part of the count
+-- 1 if this peer has not answered, else 0
 abbrev waits : List Told → Peer → ℕ
 waits told p = cond (not (has_told told p.id)) 1 0
 
@@ -46,7 +46,7 @@ waits_not told t = rw list_any-append (answered_now (has_told told t.peer.id) t.
 silent_waits : (told : List Told) (p : Peer) → has_told told p.id ≡ false → waits told p ≡ 1
 silent_waits told p silent = rw silent refl
 
--- the peer of an id that waits, and others: it waits no more once it has answered
+-- a peer that has not answered yet, and others: once it answers, the count falls
 first_waits : (q : Peer) (asked : List Peer) (told : List Told) (said : Said) → has_told told q.id ≡ false
     → awaited_count (q ∷ asked) (told ++ record { peer = q; said = said } ∷ []) + 1 ≤ awaited_count (q ∷ asked) told
 first_waits q asked told said silent =
@@ -79,9 +79,9 @@ awaited_parts told id others p is = by_cases (has_told told id) is
     by_cases true is = cc
     by_cases false is = (refl, is)
 
--- ---- an answer that counts
+-- An answer that counts
 
--- what a clause sees of a round's arrays
+-- what a contract sees of a round's arrays
 abbrev pub seen : List Peer → ℕ → List Told → ℕ → Bool → RoundText
 seen asked asked_count told told_count expired = record { asked = take asked_count asked; told = take told_count told; expired = expired }
 

@@ -24,7 +24,7 @@ module _ {X Y : Type 0} (f : X → Y) (g : Setting) (s : NodeState X) (e : Event
   purge_in-retag (event.Datagram from message now) = refl
   purge_in-retag _ = refl
 
-  -- what is closed with other tags, closed with the node's own
+  -- the closed state with the node's own tags that a closed state with other tags comes of
   abbrev shut : NodeState Y → NodeState X
   shut next = record { floors = next.floors; copies = s.copies; pending = []; next = s.next; closed = true }
 

@@ -2,7 +2,7 @@ use Rattle.std.proofs.Common.{rules, ◌≡◌, ◌≤◌, true, false, Some, No
 use Rattle.node_core.specs.View.{IsNode}
 use Rattle.node_core.proofs.node.Node.open_over.Goals as goal
 
--- src/opening.rt:146:9
+-- a node that has just opened keeps the invariant
 pub invariant_of-result : goal.invariant_of-result
 invariant_of-result g c =
     let node : IsNode c.args.roster c.args.id c.in_ok-copies.copies c.new.result 1 false = record {

@@ -41,7 +41,7 @@ returns-in-Err-clause-store g c =
       | in-None-4 w ↦ keeps_by g.S.FloorStore.is_honest g.S.FloorStore.may_find c.args.self.now _ _ (Err c.step_fault_of.result) w.self-is (inr (λ honest found. found_then g c found honest))
     ]
 
--- the store failed where it refused the raise otherwise than for want of memory
+-- the store failed where it refused the raise by another fault than NoMemory
 failed_then : (g : Over) (c : goal.Joined-reply-9 g) → FailsWithCause {X = g.row.T.Denot} (g.S.FloorStore.is_honest c.raise-2.new.self) (HaveRisen (g.S.FloorStore.failed c.args.self.now.store) (g.S.FloorStore.failed c.raise-2.new.self)) (Err c.step_fault_of.result)
 failed_then g c is_fault honest =
     let tied = c.self.invariant.1 (ap (λ n. n.state.closed) c.self.view_is ∙ c.requires.open) in
