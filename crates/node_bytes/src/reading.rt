@@ -12,7 +12,7 @@ use std::alloc::{AllocError, Global};
 
 /// Decodes an ICP message (RFC 2186), or gives the first fault of the octets.
 ///
-/// Only a message allocates: `NoMemory` comes only if the octets spell one.
+/// `NoMemory` comes only if the octets spell a message.
 pub fn read_icp(alloc: Global, octets: &[u8]) -> Result<Received, IcpFault>
     ensures ok { IfOk result (IsIcp octets.now) }
     ensures err { IfErr result (λ fault. fault ≢ IcpFault.NoMemory → icp_faults.first_fault octets.now ≡ Some fault) }
@@ -26,7 +26,7 @@ pub fn read_icp(alloc: Global, octets: &[u8]) -> Result<Received, IcpFault>
 
 /// Decodes an HTCP message (RFC 2756), or gives the first fault of the octets.
 ///
-/// Only a message allocates: `NoMemory` comes only if the octets spell one.
+/// `NoMemory` comes only if the octets spell a message.
 pub fn read_htcp(alloc: Global, octets: &[u8]) -> Result<Received, HtcpFault>
     ensures ok { IfOk result (IsHtcp octets.now) }
     ensures err { IfErr result (λ fault. fault ≢ HtcpFault.NoMemory → htcp_faults.first_fault octets.now ≡ Some fault) }

@@ -32,8 +32,9 @@
 //! 4. drop an older copy;
 //! 5. return the response, so the acknowledgement leaves only after the commit.
 //!
-//! If the store fails at 3, the node closes: it drops its pending requests and answers `Closed`
-//! from then on. The store then has the floors from before the purge or from after it.
+//! If the store fails at 3, even for lack of memory, the node closes: it drops its pending requests
+//! and answers `Closed` from then on. The store then has the floors from before the purge or from
+//! after it.
 //!
 //! # What contracts see
 //!
@@ -50,7 +51,7 @@
 //! - `steps`: state and outcome are those of `Steps` of `node_rules`, for every function that gives
 //!   the keys of texts
 //!
-//! Each other method says what its rule leads to (`Leads` and `MayClose` of `specs/Leads`).
+//! Each method that carries out a rule says so by `Leads` or `MayClose` of `specs/Leads`.
 //! `specs/Heard`, `specs/Names` and `specs/Placed` have the words for answers to a round, names of
 //! faults, and copies by hand. `proofs/Lib` gives an order for the proofs.
 //!
