@@ -3,7 +3,7 @@ use Rattle.std.specs.Prelude.{List, ℕ, codes}
 use Rattle.floor_rules.specs.declared.fault.FloorFault.{FloorFault}
 use Rattle.floor_rules.specs.declared.fault.FloorFault.TheVariants.{FloorsFull, StoreFault, BadTable, NoMemory}
 
--- a fault's name, as scripts print it
+-- the name of a fault, as scripts print it
 abbrev pub floor_fault_name : FloorFault → List ℕ
 floor_fault_name FloorsFull = codes "FloorsFull"
 floor_fault_name StoreFault = codes "StoreFault"

@@ -4,25 +4,27 @@ ghost use Rattle.floor_rules.specs.Fault.{floor_fault_name};
 use std::alloc::AllocError;
 use thiserror::Error;
 
-/// Why a call on a store of floors is refused.
+/// Why a call on a store of floors fails.
 #[derive(Clone, Copy, Debug, PartialEq, Eq, Error)]
 pub enum FloorFault {
-    /// There are 65,536 numbers, and the key has none of them. Nothing has changed. Only a raise answers so.
+    /// 65,536 keys have floors, and this key has none. Nothing has changed. Only a raise returns it.
     #[error("no key more can have a number")]
     FloorsFull,
-    /// The store failed, and `failures` rose. The store is of no use until it is opened again.
+    /// The store failed, now or earlier. `failures` rose, or stays at its maximum. Open the store
+    /// again.
     #[error("the store failed")]
     StoreFault,
-    /// The file is not that of a node. Only an open answers so.
+    /// The file is not a node's file. Only an open returns it.
     #[error("the file is not that of a node")]
     BadTable,
-    /// A growth was refused. Where a raise or an open answers so, the store is to be opened again.
+    /// An allocation failed. After a load nothing has changed. After a raise or an open, open a
+    /// store in a file again: only the file knows whether the raise was committed.
     #[error("there was no memory")]
     NoMemory,
 }
 
 impl FloorFault {
-    /// The name that scripts print.
+    /// The name of the fault, as scripts print it.
     pub const fn name(self) -> &'static str
         ensures { result.now ≡ floor_fault_name self }
     {

@@ -7,13 +7,17 @@ use std::collections::BTreeMap;
 use std::marker::Model;
 use url_key::Key;
 
-/// The most rows that a store of floors takes.
+/// The most keys that a store of floors keeps.
 pub const MOST_ROWS: usize = 65536;
 
-/// The purge number of each URL that was purged, by its key. A contract sees it as a finite map.
+/// The floor of each key that was purged.
+///
+/// A contract sees a finite map from the text of a key to its floor.
 #[derive(Debug, Drop)]
 pub struct Floors {
+    // the floor of each key, by the key's text
     rows: BTreeMap<Vec<u8>, u32>,
+    // the greatest of these floors, or 0
     seen: u32,
 }
 
@@ -33,7 +37,7 @@ impl Model for Floors {
 }
 
 impl Floors {
-    /// No URL has a number.
+    /// No key has a floor. Allocates nothing.
     pub fn new(alloc: Global) -> Floors
         ensures { result ≡ empty }
     {
@@ -43,7 +47,7 @@ impl Floors {
         }
     }
 
-    /// The key's number, or 0 where it has none. It is found by a search.
+    /// The key's floor, or 0 if it has none. Searches the tree.
     pub fn floor(&self, key: &Key) -> u32
         ensures { result ≡ floor self.now key.now }
     {
@@ -53,28 +57,28 @@ impl Floors {
         }
     }
 
-    /// The greatest number, or 0 where there is none.
+    /// The greatest floor of all keys, or 0 if there is none. Searches nothing.
     pub fn seen(&self) -> u32
         ensures { result ≡ seen self.now }
     {
         self.seen
     }
 
-    /// How many keys have a number.
+    /// How many keys have a floor.
     pub fn rows(&self) -> usize
         ensures { result ≡ len self.now }
     {
         self.rows.len()
     }
 
-    /// Whether the key has a number.
+    /// Whether the key has a floor.
     pub fn has(&self, key: &Key) -> bool
         ensures { result ≡ is_some (get self.now key.now) }
     {
         self.rows.contains_key(key.text())
     }
 
-    /// Whether the key may have a number: it has one, or there is room for one more.
+    /// Whether a store may raise the key: it has a floor, or fewer than 65,536 keys have one.
     pub fn has_room(&self, key: &Key) -> bool
         ensures yes { IsTrue result → HasRoom self.now key.now }
         ensures no { result ≡ false → IsFull self.now key.now }
@@ -82,14 +86,14 @@ impl Floors {
         self.rows() < MOST_ROWS || self.has(key)
     }
 
-    /// Whether these are the same floors: the same keys have the same numbers. It takes no memory.
+    /// Whether the same keys have the same floors in both. Allocates nothing.
     pub fn same(&self, other: &Floors) -> bool
         ensures { IsTrue result ↔ (self.now ≡ other.now) }
     {
         self.rows.len() == other.rows.len() && self.rows == other.rows
     }
 
-    /// The same floors once more.
+    /// A second copy of the floors.
     pub fn copy(&self) -> Result<Floors, AllocError>
         ensures { IfOk result (λ floors. floors ≡ self.now) }
     {
@@ -99,8 +103,8 @@ impl Floors {
         })
     }
 
-    /// Gives the key the greater of its number and this one, which is at least 1. Where there is no memory for it, nothing
-    /// changes. Whether there is room for one more row is the caller's to ask (`has_room`).
+    /// Sets the key's floor to the greater of its floor and this number, which is at least 1. If an
+    /// allocation fails, nothing changes. The caller asks `has_room` first; this call does not.
     pub fn raise(&mut self, alloc: Global, key: &Key, number: u32) -> Result<(), AllocError>
         requires { 1 ≤ number }
         ensures ok { OnOk result (self.new ≡ raised self.old key.now number) }
@@ -112,8 +116,8 @@ impl Floors {
         self.set(alloc, key, number)
     }
 
-    /// Gives the key this number, which is at least 1 and no less than its own. Where there is no memory for it, nothing changes. Whether there is
-    /// room for one more row is the caller's to ask (`has_room`).
+    /// Sets the key's floor to this number, which is at least 1 and no less than its floor now. If an
+    /// allocation fails, nothing changes. The caller asks `has_room` first; this call does not.
     pub fn set(&mut self, alloc: Global, key: &Key, number: u32) -> Result<(), AllocError>
         requires number { 1 ≤ number }
         requires order { floor self.old key.now ≤ number }

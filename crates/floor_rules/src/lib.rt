@@ -1,10 +1,30 @@
-//! Floors: the purge number of each URL that was purged, by its key; and what a store of them promises.
+//! Floors, and the contract of a store that keeps them.
 //!
-//! A node never keeps nor serves a copy below its key's floor. `Floors` is the map that look-ups take, `FloorStore` what a store does that
-//! outlives a restart, by its contracts alone, and `MemoryFloors` a store in memory.
+//! A *floor* is the greatest purge number of a key at a node, 0 if the key was never purged. A node
+//! serves no copy whose stamp is below its key's floor.
 //!
-//! No wrong body of a public function that `rt plant` tries is proved. Two of them get none from it, the `from` of `FloorFault` and
-//! `MemoryFloors::load`; `load` has a must-fail edit.
+//! - `Floors`: a map from keys to floors in memory, for look-ups.
+//! - `FloorStore`: the contract of a store whose floors outlive a restart: `load`, `raise`,
+//!   `failures`. A node knows its store by this contract alone, so no proof of a node reads a
+//!   database.
+//! - `MemoryFloors`: a store in memory, for the world and for tests. The store in a file is
+//!   `purge_numbers`.
+//! - `FloorFault`: why a call on a store fails.
+//!
+//! Read in this order:
+//!
+//! 1. `specs/Floors.antt`: the map, a raise, and when 65,536 keys fill it.
+//! 2. `src/store.rt`: the contract, in the words of `specs/Store.antt`.
+//! 3. `src/floors.rt`: the map as code. `src/memory.rt`: the store in memory.
+//! 4. `src/fault.rt`, `specs/Fault.antt`: the faults and their names.
+//! 5. `proofs/Urls.antt`, `proofs/MapLemmas.antt`, `proofs/SameRows.antt`: why a tree of texts and
+//!    numbers is that map.
+//!
+//! A contract sees `Floors` and `MemoryFloors` as a finite map (`FloorMap`). The crate touches no
+//! file, socket, clock or thread.
+//!
+//! Not promised: what a store returns after `NoMemory` from a raise. The contract says so only
+//! after `StoreFault`.
 #![tactic(auto)]
 
 mod fault;

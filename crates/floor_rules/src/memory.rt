@@ -1,4 +1,4 @@
-//! Floors in memory, for the world and for tests.
+//! A store of floors in memory, for the world and for tests.
 ghost use Rattle.std.specs.Prelude.{◌≡◌, ⊤, true};
 ghost use Rattle.std.specs.FinMap.{empty};
 
@@ -9,7 +9,9 @@ use std::alloc::Global;
 use std::marker::Model;
 use url_key::Key;
 
-/// Floors in memory, which no crash touches. They never fail. A contract sees them as a finite map.
+/// A store of floors in memory. No crash changes it, and no call returns `StoreFault`.
+///
+/// A contract sees a finite map.
 #[derive(Debug, Drop)]
 pub struct MemoryFloors {
     floors: Floors,
@@ -28,7 +30,7 @@ impl Model for MemoryFloors {
 }
 
 impl MemoryFloors {
-    /// No URL has a number.
+    /// No key has a floor. Allocates nothing.
     pub fn new(alloc: Global) -> MemoryFloors
         ensures { result ≡ empty }
     {

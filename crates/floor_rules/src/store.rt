@@ -1,4 +1,4 @@
-//! What a store of floors promises.
+//! The contract of a store of floors.
 ghost use Rattle.std.specs.Prelude.{◌≡◌, ◌≢◌, ◌⊎◌, ◌≤◌, ℕ, ◌+◌, List, Bool, false, IsTrue, IfOk, OnOk, Err};
 ghost use Rattle.floor_rules.specs.Floors.{FloorMap, HasRoom, IsFull, raised};
 ghost use Rattle.floor_rules.specs.Store.{IsBeforeOrAfter, HaveRisen};
@@ -8,30 +8,36 @@ use crate::floors::Floors;
 use std::alloc::Global;
 use url_key::Key;
 
-/// A store that keeps the floors of a node, also over a restart.
+/// A store that keeps the floors of a node over a restart.
 ///
-/// After `StoreFault` or `NoMemory` from a raise a store over a file is of no use: each later call answers `StoreFault`, until it is opened again.
+/// What is said of commits and crashes holds if the disk is honest (`is_honest`).
+///
+/// After `StoreFault` each raise returns `StoreFault` and each load fails, until the store is opened
+/// again. A store in a file does the same after `NoMemory` from a raise; this contract does not
+/// demand it.
 pub trait FloorStore {
-    // What the last commit left.
+    // The floors that the last commit left.
     ghost content: { Self → FloorMap };
 
-    // What an open after a crash at this moment may find.
+    // The floors that an open may find after a crash at this moment.
     ghost may_find: { Self → FloorMap → Type 0 };
 
-    // Nobody else has written the store, and it has returned what was written.
+    // The disk is honest: nobody else has written it, and it has returned what was written.
     ghost is_honest: { Self → Type 0 };
 
-    // No call has failed. One that has is opened again.
+    // No call has failed. Else the store must be opened again.
     ghost is_usable: { Self → Bool };
 
-    // How many calls were answered with `StoreFault`.
+    // How many calls have returned `StoreFault`.
     ghost failed: { Self → ℕ };
 
-    // Between these two the store itself refused to raise the key to the number.
+    // Between these two states the database itself refused to raise the key to the number.
     ghost has_cause: { Self → Self → List ℕ → ℕ → Type 0 };
 
-    /// A copy of the floors. It is refused with `NoMemory`, which changes nothing, and with `StoreFault` where an earlier call failed. Whatever it
-    /// answers, a crash leaves no more than it may have left before.
+    /// A copy of the floors.
+    ///
+    /// Errors: `NoMemory`, and then nothing changes; `StoreFault`, only if an earlier call failed.
+    /// Whatever it returns, an open after a crash can find nothing that it could not find before.
     fn load(&mut self, alloc: Global) -> Result<Floors, FloorFault>
         ensures floors { IfOk result (λ floors. is_honest self.new → floors ≡ content self.old) }
         ensures same { OnOk result (self.new ≡ self.old) }
@@ -45,12 +51,15 @@ pub trait FloorStore {
         ensures cause { result ≡ Err FloorFault.StoreFault → is_usable self.old ≡ false }
         ensures named { (result ≢ Err FloorFault.FloorsFull) × (result ≢ Err FloorFault.BadTable) };
 
-    /// Commits the greater of the key's number and this one, which is at least 1. Once it has answered Ok, no crash takes that back;
-    /// a crash at any other moment leaves the floors from before or after the raise, and from before it where there was no room.
+    /// Commits the greater of the key's floor and this number, which is at least 1.
     ///
-    /// `FloorsFull` comes where 65,536 keys have numbers and this one has none, and changes nothing; `StoreFault` where the store failed, in this
-    /// call or earlier; `NoMemory` where a growth was refused. A store that failed earlier answers `StoreFault` alone, and a crash then leaves no more
-    /// than it may have left before.
+    /// Once it has returned Ok, no crash undoes it. Whatever it returned on a usable store, a crash
+    /// at its end leaves the floors from before or after it; from before it if there was no room.
+    ///
+    /// Errors: `FloorsFull` if 65,536 keys have floors and this one has none, and then nothing
+    /// changes; `StoreFault` if the database refused the raise, or an earlier call failed; `NoMemory`
+    /// if an allocation failed. A store that failed earlier returns only `StoreFault`, and an open
+    /// after a crash can find nothing that it could not find before.
     fn raise(&mut self, alloc: Global, key: &Key, number: u32) -> Result<(), FloorFault>
         requires { 1 ≤ number }
         ensures honest { is_honest self.new → is_honest self.old }
@@ -70,7 +79,7 @@ pub trait FloorStore {
         ensures fault { result ≡ Err FloorFault.StoreFault → HaveRisen (failed self.old) (failed self.new) }
         ensures named { result ≢ Err FloorFault.BadTable };
 
-    /// How many calls were answered with `StoreFault`. It stays at the greatest number.
+    /// How many calls have returned `StoreFault`. At 18446744073709551615 it stays.
     fn failures(&self) -> u64
         ensures { result ≡ failed self.now };
 }

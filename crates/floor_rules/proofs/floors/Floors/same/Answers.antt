@@ -1,3 +1,5 @@
+-- Trees of the same length are the same map exactly if their rows are equal (`SameRows`); trees of
+-- different lengths are different maps.
 use Rattle.std.proofs.Common.{◌≡◌, true, eqb-true, ap, sym, ◌∙◌}
 use Rattle.std.specs.FinMap.{from_entries, len}
 use Rattle.std.specs.Ordering.{nat_cmp}
