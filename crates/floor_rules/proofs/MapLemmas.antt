@@ -1,5 +1,5 @@
--- A tree of texts and numbers as a finite map. Both are sorted by the same order, so a look-up and an
--- insertion do the same in either; two maps with the same look-ups are one.
+-- A tree of texts and numbers as a finite map. Both are sorted by the same order, so a look-up and
+-- an insertion do the same in either; two maps with the same look-ups are one.
 use Rattle.std.proofs.Common.{◌≡◌, inl, ℕ, ◌+◌, Bool, true, false, cond, List, [], ◌∷◌, map, length, Some, None, Option, refl, sym, ap, ◌∙◌, is_some, add-one, max, unwrap_or, ◌≤◌, ◌<◌, arith}
 use Rattle.std.specs.List.{AllByRecursion, AllZip}
 use Rattle.std.specs.List.Sorted.{IsStrictlySortedBy}

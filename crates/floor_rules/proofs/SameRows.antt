@@ -1,5 +1,5 @@
--- Two trees are the same finite map exactly if their rows are the same. Each tree is strictly sorted,
--- so the map's entries are its rows in its own order.
+-- Two trees are the same finite map exactly if their rows are the same. Each tree is strictly
+-- sorted, so the map's entries are its rows in its own order.
 use Rattle.std.proofs.Common.{◌≡◌, ◌↔◌, ℕ, Bool, true, false, cond, ◌&&◌, List, [], ◌∷◌, map, length, nat_eq, eqb-true, refl, sym, ap, ◌∙◌, subst, arith}
 use lib.Pointwise.{pointwise}
 use Rattle.std.specs.List.{AllByRecursion}

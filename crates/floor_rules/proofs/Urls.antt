@@ -1,5 +1,5 @@
--- Texts of keys are compared octet by octet. A text equals itself, two that compare as equal are one,
--- and two tests of which at most one holds may be made in either order.
+-- Texts of keys are compared octet by octet. A text equals itself, two that compare as equal are
+-- one, and two tests of which at most one holds may be made in either order.
 use Rattle.std.proofs.Common.{◌≡◌, ℕ, Bool, true, false, cond, List, refl}
 use Rattle.std.specs.declared.cmp.Ordering.{Ordering}
 use Rattle.std.specs.declared.cmp.Ordering.TheVariants.{Less, Equal, Greater}

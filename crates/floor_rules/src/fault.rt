@@ -7,7 +7,8 @@ use thiserror::Error;
 /// Why a call on a store of floors fails.
 #[derive(Clone, Copy, Debug, PartialEq, Eq, Error)]
 pub enum FloorFault {
-    /// 65,536 keys have floors, and this key has none. Nothing has changed. Only a raise returns it.
+    /// 65,536 keys have floors, and this key has none. Nothing has changed. Only a raise returns
+    /// it.
     #[error("no key more can have a number")]
     FloorsFull,
     /// The store failed, now or earlier. `failures` rose, or stays at its maximum. Open the store

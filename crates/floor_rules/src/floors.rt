@@ -116,8 +116,8 @@ impl Floors {
         self.set(alloc, key, number)
     }
 
-    /// Sets the key's floor to this number, which is at least 1 and no less than its floor now. If an
-    /// allocation fails, nothing changes. The caller asks `has_room` first; this call does not.
+    /// Sets the key's floor to this number, which is at least 1 and no less than its floor now. If
+    /// an allocation fails, nothing changes. The caller asks `has_room` first; this call does not.
     pub fn set(&mut self, alloc: Global, key: &Key, number: u32) -> Result<(), AllocError>
         requires number { 1 ≤ number }
         requires order { floor self.old key.now ≤ number }

@@ -12,9 +12,9 @@ use url_key::Key;
 ///
 /// What is said of commits and crashes holds if the disk is honest (`is_honest`).
 ///
-/// After `StoreFault` each raise returns `StoreFault` and each load fails, until the store is opened
-/// again. A store in a file does the same after `NoMemory` from a raise; this contract does not
-/// demand it.
+/// After `StoreFault` each raise returns `StoreFault` and each load fails, until the store is
+/// opened again. A store in a file does the same after `NoMemory` from a raise; this contract does
+/// not demand it.
 pub trait FloorStore {
     // The floors that the last commit left.
     ghost content: { Self → FloorMap };
@@ -57,9 +57,9 @@ pub trait FloorStore {
     /// at its end leaves the floors from before or after it; from before it if there was no room.
     ///
     /// Errors: `FloorsFull` if 65,536 keys have floors and this one has none, and then nothing
-    /// changes; `StoreFault` if the database refused the raise, or an earlier call failed; `NoMemory`
-    /// if an allocation failed. A store that failed earlier returns only `StoreFault`, and an open
-    /// after a crash can find nothing that it could not find before.
+    /// changes; `StoreFault` if the database refused the raise, or an earlier call failed;
+    /// `NoMemory` if an allocation failed. A store that failed earlier returns only `StoreFault`,
+    /// and an open after a crash can find nothing that it could not find before.
     fn raise(&mut self, alloc: Global, key: &Key, number: u32) -> Result<(), FloorFault>
         requires { 1 ≤ number }
         ensures honest { is_honest self.new → is_honest self.old }

@@ -1,4 +1,6 @@
--- What adding rows in turn makes, in whatever order a query shows them.
+-- Adding rows in turn makes the floors of the table, in whatever order a query shows them. For each
+-- url the count of its rows and the sum of their numbers do not depend on the order; each url has
+-- one row at most, so that sum is its floor.
 use Rattle.std.proofs.Common.{◌≡◌, inl, inr, ℕ, ◌+◌, ◌≤◌, Bool, true, false, cond, List, [], ◌∷◌, map, Some, None, Option, is_some, refl, sym, ap, ◌∙◌, arith, sum_by}
 use Rattle.std.specs.List.{AllByRecursion, list_any}
 use Rattle.std.specs.List.Sorted.{IsPermutation}

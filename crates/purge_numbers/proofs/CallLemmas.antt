@@ -1,4 +1,5 @@
--- What a call with the statement that puts a floor does to a connection.
+-- What a raise does to a connection: outside a transaction its statement commits by itself, so a
+-- crash finds the floors from before it or those with the url's new number.
 use Rattle.std.proofs.Common.{◌≡◌, ◌⊎◌, inl, inr, ℕ, List, None, Ok, Err, Result, IsTrue, sym, ap, subst, ◌∙◌, append-nil, OnOk, IfErr, arith}
 use Rattle.std.specs.FinMap.{insert}
 use Rattle.sqlite_trees.specs.Tree.{Trees}

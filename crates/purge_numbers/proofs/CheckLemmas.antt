@@ -1,4 +1,6 @@
--- The test of a number, as nodes hold it.
+-- The CHECK of `floors` as a list of nodes, each with the indices of its operands. It is the wanted
+-- term exactly if the node is AND and both operands are the wanted comparisons; with fewer than
+-- three nodes no term is so deep.
 use Rattle.std.proofs.Common.{◌≡◌, ◌≢◌, ℕ, suc, zero, ◌≤◌, ◌<◌, List, length, slice_index_or, ap, sym, ◌∙◌, arith}
 use Rattle.sqlite.specs.declared.types.Value.{Value}
 use Rattle.sqlite.specs.declared.types.Value.TheVariants.{Null}

@@ -1,4 +1,5 @@
--- What the query of all floors shows.
+-- What the two queries of an open show: each row of the table once, in some order. They have no
+-- filter, so each row gives one match; and a SELECT changes and commits nothing.
 use Rattle.std.proofs.Common.{◌≡◌, ℕ, List, [], ◌∷◌, map, drop, Ok, Err, Result, IfOk, OnOk, Vec, Global, refl, sym, ap, subst, ◌∙◌}
 use Rattle.std.specs.List.Sorted.{IsPermutation}
 use Rattle.std.specs.List.{flat_map}

@@ -1,4 +1,5 @@
--- What the rows of the floors table say of a url.
+-- What the rows of `floors` say of a url: the number of the first row that has it. One row more, or
+-- one fewer, changes the look-up of its own url alone; so it changes the map there alone.
 use Rattle.std.proofs.Common.{◌≡◌, ℕ, Bool, true, false, cond, List, [], ◌∷◌, map, filter, Some, Option, refl, sym, ap, ◌∙◌, inl, inr}
 use Rattle.std.specs.List.{AllByRecursion}
 use Rattle.std.specs.declared.cmp.Ordering.{Ordering}

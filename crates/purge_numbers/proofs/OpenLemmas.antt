@@ -1,4 +1,5 @@
--- A file that was read is ready.
+-- A file whose rows were read is a node's file and its connection is ready, since the queries
+-- change nothing. A file that is refused is no node's file, since a node's rows can all be added.
 use Rattle.std.proofs.Common.{◌≤◌, ◌≡◌, ◌≢◌, ◌<◌, length, pos, inl, inr, subst, arith, List, [], ◌∷◌, map, false, IsTrue, Ok, Err, Result, IfOk, OnOk, sym, ap, ◌∙◌}
 use Rattle.std.specs.List.{AllByRecursion}
 use Rattle.std.specs.List.Sorted.{IsPermutation}

@@ -1,4 +1,5 @@
--- A table is its fields, and a list its items.
+-- A record is its fields, and a list of one or two items is those items. So a table whose parts
+-- were compared one by one is the wanted table.
 use Rattle.std.proofs.Common.{◌≡◌, ◌≤◌, ◌<◌, List, [], ◌∷◌, length, slice_index_or, ap, ◌∙◌, sym, arith}
 use Rattle.sqlite_schema.specs.declared.schema.Index.{Index}
 use Rattle.sqlite.specs.Table.{Table}

@@ -1,4 +1,4 @@
--- How a file gets its tables.
+-- How a blank file gets its tables, which files open, and what an open finds.
 use Rattle.std.specs.Prelude.{◌≡◌, ◌≤◌, ◌⊎◌, ℕ, [], false, length, IsTrue}
 use Rattle.std.specs.FinMap.{empty}
 use Rattle.std.specs.List.{AllByRecursion}
@@ -9,37 +9,38 @@ use Rattle.purge_numbers.specs.Rows.{HasVersion, HasVersionOne, IsFloor}
 use Rattle.purge_numbers.specs.Store.{MayFind, committed_floors}
 use Rattle.purge_numbers.specs.Tables.{empty_schema, form_schema, node_schema, IsFloorTable}
 
--- nothing stands in it
+-- it is blank: no table, no index, no view
 abbrev pub IsBlank : Database → Type 0
 IsBlank db = db.schema ≡ empty_schema
 
--- it has the table of versions, without a row
+-- it has the table `form` alone, without a row
 abbrev pub IsFormed : Database → Type 0
 IsFormed db = (db.schema ≡ form_schema) × (db.trees 0 ≡ [])
 
--- it has the tables of a node, without a row
+-- it has a node's tables, without a row
 abbrev pub IsUnversioned : Database → Type 0
 IsUnversioned db = (db.schema ≡ node_schema) × (db.trees 0 ≡ []) × (db.trees 1 ≡ [])
 
--- it has the tables of a node, this one version, and no floor
+-- it has a node's tables, one row with this version, and no floor
 abbrev pub IsVersioned : ℕ → Database → Type 0
 IsVersioned version db = (db.schema ≡ node_schema) × (db.trees 1 ≡ []) × HasVersion version (db.trees 0)
 
--- it has the tables of a node, the one version 1, and no floor
+-- a new file: a node's tables, the version 1, and no floor
 abbrev pub IsUnused : Database → Type 0
 IsUnused db = IsVersioned 1 db
 
--- such a file, with all of it committed and no transaction open
+-- a new file, with all of it committed and no transaction open
 pub record IsMade (file : State) : Type 0 where
   pub autocommit : file.in_transaction ≡ false
   pub committed : file.committed ≡ file.now
   pub unused : IsUnused file.now
 
--- a step of a transaction from such a database to such a one
+-- inside a transaction, a statement leads from such a database to such another
 abbrev pub Makes : (Database → Type 0) → (Database → Type 0) → State → State → Type 0
 Makes From To old new = IsTrue old.in_transaction → From old.now → IsTrue new.in_transaction × To new.now
 
--- it has just the tables of a node, the one version 1, and at most 65,536 rows that are all floors, of different urls; no transaction is open
+-- a node's file: exactly its tables, the version 1, and at most 65,536 rows that are floors of
+-- different urls; no transaction is open
 pub record IsNodeFile (file : State) : Type 0 where
   pub autocommit : file.in_transaction ≡ false
   pub schema : file.now.schema ≡ node_schema
@@ -48,10 +49,12 @@ pub record IsNodeFile (file : State) : Type 0 where
   pub once : IsFloorTable (file.now.trees 1)
   pub few : length (file.now.trees 1) ≤ most_rows
 
--- a file with nothing in it, and no transaction open, has no floors, and a node's file has those that were committed
+-- what an open finds: no floors in a blank file without an open transaction, and in a node's file
+-- those that were committed
 abbrev pub OpensWith : State → FloorMap → Type 0
 OpensWith file floors = ((file.in_transaction ≡ false) × IsBlank file.now × (floors ≡ empty)) ⊎ (IsNodeFile file × (floors ≡ committed_floors file))
 
--- a crash leaves what it may have left before, or no floors where the file had nothing in it and no transaction was open
+-- a crash leaves what it could leave before, or no floors if the file was blank and no transaction
+-- was open
 abbrev pub LeavesNoOther : State → State → Type 0
 LeavesNoOther old new = HasCleanDisk new → (left : FloorMap) → MayFind new left → MayFind old left ⊎ ((old.in_transaction ≡ false) × IsBlank old.now × (left ≡ empty))

@@ -1,4 +1,4 @@
--- The rows of a node's file, and what reading them gives.
+-- Which rows of a node's file are floors, what a query shows of them, and what reading them gives.
 use Rattle.std.specs.Prelude.{◌≡◌, ◌≤◌, ◌<◌, ◌^◌, ◌⊎◌, ℕ, ℤ, pos, Result, IfErr, List, [], ◌∷◌, map, None}
 use Rattle.std.specs.FinMap.{get, insert}
 use Rattle.sqlite.specs.declared.types.Value.TheVariants.{Int, Text as Words}
@@ -10,41 +10,41 @@ use Rattle.floor_rules.specs.declared.fault.FloorFault.{FloorFault}
 use Rattle.floor_rules.specs.declared.fault.FloorFault.TheVariants.{BadTable, NoMemory}
 use Rattle.purge_numbers.specs.Tables.{floor_entry}
 
--- a text that is its own key
+-- the column `url` is a text that is its own key
 abbrev pub IsUrl : Row → Type 0
 IsUrl row = (column row 1 ≡ Words (floor_entry row).0) × IsKey (floor_entry row).0
 
--- a number of 1 to 4294967295
+-- the column `number` is 1 to 4294967295
 abbrev pub IsNumber : Row → Type 0
 IsNumber row = (column row 2 ≡ Int (pos (floor_entry row).1)) × (1 ≤ (floor_entry row).1) × ((floor_entry row).1 < 2 ^ 32)
 
--- a row that a floor may be: a rowid, a url and a number
+-- the row is a floor: a rowid, a url and a number
 pub record IsFloor (row : Row) : Type 0 where
   pub id : (id : ℤ) × (rowid row ≡ Int id)
   pub url : IsUrl row
   pub number : IsNumber row
 
--- each row is a floor of a url that was not there before, and is put in turn
+-- each row is a floor of a url that no row before it has; it is inserted in turn
 abbrev pub Adds : FloorMap → List Row → FloorMap → Type 0
 Adds floors [] all = all ≡ floors
 Adds floors (row ∷ rows) all = IsFloor row × (get floors (floor_entry row).0 ≡ None) × Adds (insert floors (floor_entry row).0 (floor_entry row).1) rows all
 
--- rows are refused for what they are, or for want of memory
+-- reading fails only with `BadTable` or `NoMemory`
 abbrev pub IsReadFault : {A : Type 0} → Result A FloorFault → Type 0
 IsReadFault result = IfErr result (λ fault. (fault ≡ BadTable) ⊎ (fault ≡ NoMemory))
 
--- what a query shows of a row: its rowid, its url and its number
+-- what the query shows of a row of `floors`: rowid, url, number
 abbrev pub shown_row : Row → Row
 shown_row row = rowid row ∷ column row 1 ∷ column row 2 ∷ []
 
--- and of a row of `form`: its version
+-- what the query shows of a row of `form`: the version, which is its rowid
 abbrev pub shown_version : Row → Row
 shown_version row = rowid row ∷ []
 
--- this one version stands there
+-- `form` has one row, this version
 abbrev pub HasVersion : ℕ → List Row → Type 0
 HasVersion version rows = map shown_version rows ≡ (Int (pos version) ∷ []) ∷ []
 
--- the one version that stands there is 1
+-- `form` has one row, the version 1
 abbrev pub HasVersionOne : List Row → Type 0
 HasVersionOne rows = HasVersion 1 rows

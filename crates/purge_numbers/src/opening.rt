@@ -1,4 +1,4 @@
-//! Opening a node's file.
+//! Opens a node's file: makes its tables if it is blank, checks schema and version, reads the rows.
 ghost use Rattle.std.specs.Prelude.{◌≡◌, ◌≢◌, ◌⊎◌, ◌∷◌, [], false, pos, map, IsPermutation, IsTrue, IfOk, OnOk, None, Err};
 ghost use Rattle.sqlite.specs.State.{HasCleanDisk, Survives, IsUnchanged};
 ghost use Rattle.sqlite.specs.Held.{state};
@@ -18,7 +18,7 @@ use sqlite_schema::schema::Schema;
 use sqlite_value::value::ValueRef;
 use std::alloc::Global;
 
-/// All rows of the table of versions.
+/// All rows of the table `form`.
 fn version_rows<S: Alter>(conn: &mut Connection<S>) -> Result<Vec<Row>, Error>
     requires { (state S.Store conn.old).now.schema ≡ node_schema }
     ensures rows { IfOk result (λ rows. HasCleanDisk (state S.Store conn.new) → IsPermutation (map shown_version ((state S.Store conn.old).now.trees 0)) rows.items) }
@@ -28,7 +28,7 @@ fn version_rows<S: Alter>(conn: &mut Connection<S>) -> Result<Vec<Row>, Error>
     conn.query_all("SELECT version FROM form", &[])
 }
 
-/// All rows of the table of floors.
+/// All rows of the table `floors`, in any order.
 fn floor_rows<S: Alter>(conn: &mut Connection<S>) -> Result<Vec<Row>, Error>
     requires { (state S.Store conn.old).now.schema ≡ node_schema }
     ensures rows { IfOk result (λ rows. HasCleanDisk (state S.Store conn.new) → IsPermutation (map shown_row ((state S.Store conn.old).now.trees 1)) rows.items) }
@@ -38,7 +38,7 @@ fn floor_rows<S: Alter>(conn: &mut Connection<S>) -> Result<Vec<Row>, Error>
     conn.query_all("SELECT rowid, url, number FROM floors", &[])
 }
 
-/// The one version that stands there is 1.
+/// Whether these rows are one row with the version 1.
 fn is_version_one(rows: &[Row]) -> bool
     ensures yes { IsTrue result → rows.now ≡ (Int (pos 1) ∷ []) ∷ [] }
     ensures no { result ≡ false → rows.now ≢ (Int (pos 1) ∷ []) ∷ [] }
@@ -55,7 +55,7 @@ fn is_version_one(rows: &[Row]) -> bool
     }
 }
 
-/// Refuses a file whose version is another, or that has none.
+/// Refuses a file unless `form` has one row, the version 1.
 fn check_version<S: Alter>(conn: &mut Connection<S>) -> Result<(), FloorFault>
     requires { (state S.Store conn.old).now.schema ≡ node_schema }
     ensures version { OnOk result (HasCleanDisk (state S.Store conn.new) → HasVersionOne ((state S.Store conn.old).now.trees 0)) }
@@ -71,7 +71,8 @@ fn check_version<S: Alter>(conn: &mut Connection<S>) -> Result<(), FloorFault>
     }
 }
 
-/// Reads the floors of a file that has the tables of a node, in their one version.
+/// Reads the floors, if no transaction is open and the schema is that of a node. The caller has
+/// checked the version.
 fn read_floors<S: Alter>(conn: &mut Connection<S>, alloc: Global) -> Result<Floors, FloorFault>
     requires { HasCleanDisk (state S.Store conn.old) → HasVersionOne ((state S.Store conn.old).now.trees 0) }
     ensures kept { IfOk result (λ floors. HasCleanDisk (state S.Store conn.new) → AreIn (state S.Store conn.new) floors) }
@@ -95,6 +96,7 @@ fn read_floors<S: Alter>(conn: &mut Connection<S>, alloc: Global) -> Result<Floo
     }
 }
 
+/// Makes the table `form`.
 fn create_form<S: Alter>(tx: &mut Transaction<'_, S>) -> Result<usize, Error>
     ensures same_reference { tx.new.conn.ghost_name ≡ tx.old.conn.ghost_name }
     ensures made { OnOk result (HasCleanDisk (state S.Store tx.new.conn.now) → Makes IsBlank IsFormed (state S.Store tx.old.conn.now) (state S.Store tx.new.conn.now)) }
@@ -106,6 +108,7 @@ fn create_form<S: Alter>(tx: &mut Transaction<'_, S>) -> Result<usize, Error>
     )
 }
 
+/// Makes the table `floors`.
 fn create_floors<S: Alter>(tx: &mut Transaction<'_, S>) -> Result<usize, Error>
     ensures same_reference { tx.new.conn.ghost_name ≡ tx.old.conn.ghost_name }
     ensures made { OnOk result (HasCleanDisk (state S.Store tx.new.conn.now) → Makes IsFormed IsUnversioned (state S.Store tx.old.conn.now) (state S.Store tx.new.conn.now)) }
@@ -117,7 +120,7 @@ fn create_floors<S: Alter>(tx: &mut Transaction<'_, S>) -> Result<usize, Error>
     )
 }
 
-/// Writes the one row of the table of versions.
+/// Writes the one row of `form`.
 fn name_version<S: Alter>(tx: &mut Transaction<'_, S>, version: u32) -> Result<usize, Error>
     ensures same_reference { tx.new.conn.ghost_name ≡ tx.old.conn.ghost_name }
     ensures made { OnOk result (HasCleanDisk (state S.Store tx.new.conn.now) → Makes IsUnversioned (IsVersioned version) (state S.Store tx.old.conn.now) (state S.Store tx.new.conn.now)) }
@@ -129,7 +132,7 @@ fn name_version<S: Alter>(tx: &mut Transaction<'_, S>, version: u32) -> Result<u
     )
 }
 
-/// Makes the tables of a node, with the version and no floor.
+/// Makes a node's tables with the version 1 and no floor, in the open transaction.
 fn fill<S: Alter>(tx: &mut Transaction<'_, S>) -> Result<(), Error>
     ensures same_reference { tx.new.conn.ghost_name ≡ tx.old.conn.ghost_name }
     ensures made { OnOk result (HasCleanDisk (state S.Store tx.new.conn.now) → Makes IsBlank IsUnused (state S.Store tx.old.conn.now) (state S.Store tx.new.conn.now)) }
@@ -141,7 +144,7 @@ fn fill<S: Alter>(tx: &mut Transaction<'_, S>) -> Result<(), Error>
     Ok(())
 }
 
-/// Makes the tables, in one transaction.
+/// Makes the tables and commits them, in one transaction.
 fn make_tables<S: Alter>(conn: &mut Connection<S>) -> Result<(), Error>
     ensures made { OnOk result (HasCleanDisk (state S.Store conn.new) → IsBlank (state S.Store conn.old).now → IsMade (state S.Store conn.new)) }
     ensures survives { Survives (state S.Store conn.old) (state S.Store conn.new) (λ trees. (state S.Store conn.old).now.schema ≡ empty_schema → trees 1 ≡ []) }
@@ -154,7 +157,7 @@ fn make_tables<S: Alter>(conn: &mut Connection<S>) -> Result<(), Error>
     tx.commit()
 }
 
-/// There is no table, no index and no view.
+/// Whether there is no table, no index and no view.
 fn is_blank(schema: &Schema) -> bool
     ensures yes { IsTrue result → schema.now ≡ empty_schema }
     ensures no { result ≡ false → schema.now ≢ empty_schema }
@@ -162,7 +165,7 @@ fn is_blank(schema: &Schema) -> bool
     schema.tables.is_empty() && schema.indexes.is_empty() && schema.views.is_empty()
 }
 
-/// Makes the tables in a file that has none.
+/// Makes the tables if the file is blank; else does nothing.
 fn make_where_blank<S: Alter>(conn: &mut Connection<S>) -> Result<(), FloorFault>
     requires { (state S.Store conn.old).in_transaction ≡ false }
     ensures done { OnOk result ((IsBlank (state S.Store conn.old).now × (HasCleanDisk (state S.Store conn.new) → IsMade (state S.Store conn.new))) ⊎ ((¬ IsBlank (state S.Store conn.old).now) × (conn.new ≡ conn.old))) }
@@ -180,7 +183,7 @@ fn make_where_blank<S: Alter>(conn: &mut Connection<S>) -> Result<(), FloorFault
     }
 }
 
-/// Reads the floors of a node's file.
+/// Checks schema and version, and reads the floors.
 fn read_file<S: Alter>(conn: &mut Connection<S>, alloc: Global) -> Result<Floors, FloorFault>
     ensures kept { IfOk result (λ floors. HasCleanDisk (state S.Store conn.new) → AreIn (state S.Store conn.new) floors) }
     ensures file { OnOk result (HasCleanDisk (state S.Store conn.new) → IsNodeFile (state S.Store conn.old)) }
@@ -197,7 +200,8 @@ fn read_file<S: Alter>(conn: &mut Connection<S>, alloc: Global) -> Result<Floors
     read_floors(conn, alloc)
 }
 
-/// Makes the tables where there are none, and reads the floors.
+/// Opens the file: lifts the step limit, refuses an open transaction, makes the tables if the file
+/// is blank, and reads the floors.
 pub(crate) fn open_file<S: Alter>(
     conn: &mut Connection<S>,
     alloc: Global,

@@ -1,4 +1,4 @@
-//! Reading the rows of a node's file.
+//! Reads the rows of `floors` into a map.
 ghost use Rattle.std.specs.Prelude.{◌≡◌, ◌≢◌, ℤ, false, None, Err, IsTrue, IfOk, OnOk};
 ghost use Rattle.std.specs.FinMap.{empty, get, insert};
 ghost use Rattle.sqlite.specs.declared.types.Value.TheVariants.{Int, Text as Words};
@@ -15,7 +15,7 @@ use sqlite_value::value::ValueRef;
 use std::alloc::Global;
 use url_key::{Key, KeyFault};
 
-/// The key of a text that is its own key.
+/// The key of a text. A text that is not its own key is `BadTable`.
 fn own_key(alloc: Global, text: &[u8]) -> Result<Key, FloorFault>
     ensures ok { IfOk result (λ key. (key ≡ text.now) × IsKey text.now) }
     ensures bad { result ≡ Err FloorFault.BadTable → ¬ IsKey text.now }
@@ -28,7 +28,7 @@ fn own_key(alloc: Global, text: &[u8]) -> Result<Key, FloorFault>
     }
 }
 
-/// The key in the row.
+/// The key in the column `url`, the second of the query.
 fn key_in(alloc: Global, row: &Row) -> Result<Key, FloorFault>
     ensures ok { IfOk result (λ key. IsUrl row.now × ((floor_entry row.now).0 ≡ key)) }
     ensures bad { result ≡ Err FloorFault.BadTable → ¬ IsUrl row.now }
@@ -40,7 +40,7 @@ fn key_in(alloc: Global, row: &Row) -> Result<Key, FloorFault>
     }
 }
 
-/// The number in the row.
+/// The floor in the column `number`, the third of the query: 1 to 4294967295.
 fn number_in(row: &Row) -> Result<u32, FloorFault>
     ensures ok { IfOk result (λ number. IsNumber row.now × ((floor_entry row.now).1 ≡ number)) }
     ensures bad { result ≡ Err FloorFault.BadTable → ¬ IsNumber row.now }
@@ -55,6 +55,7 @@ fn number_in(row: &Row) -> Result<u32, FloorFault>
     }
 }
 
+/// Whether the first column of the query is an integer, as a rowid is.
 fn has_rowid(row: &Row) -> bool
     ensures yes { IsTrue result → (id : ℤ) × (rowid row.now ≡ Int id) }
     ensures no { result ≡ false → ¬ ((id : ℤ) × (rowid row.now ≡ Int id)) }
@@ -62,7 +63,7 @@ fn has_rowid(row: &Row) -> bool
     matches!(row.get_ref(0), Ok(ValueRef::Int(_)))
 }
 
-/// Adds one row. A row that is no floor, and a url that comes twice, are refused.
+/// Adds one row. A row that is no floor, or whose url was read before, is `BadTable`.
 fn add_row(floors: &mut Floors, alloc: Global, row: &Row) -> Result<(), FloorFault>
     ensures ok { OnOk result (IsFloor row.now × (get floors.old (floor_entry row.now).0 ≡ None) × (floors.new ≡ insert floors.old (floor_entry row.now).0 (floor_entry row.now).1)) }
     ensures bad { result ≡ Err FloorFault.BadTable → IsFloor row.now → get floors.old (floor_entry row.now).0 ≢ None }
@@ -80,7 +81,7 @@ fn add_row(floors: &mut Floors, alloc: Global, row: &Row) -> Result<(), FloorFau
     Ok(())
 }
 
-/// The floors of all rows.
+/// The floors of all rows, each added in turn.
 pub(crate) fn floors_of(alloc: Global, rows: &[Row]) -> Result<Floors, FloorFault>
     ensures ok { IfOk result (λ floors. Adds empty rows.now floors) }
     ensures bad { result ≡ Err FloorFault.BadTable → (all : FloorMap) → ¬ Adds empty rows.now all }

@@ -1,4 +1,8 @@
-//! The tables of a node's file, as the schema of a connection has them.
+//! Whether the schema of a connection is that of a node's file (`node_schema` of `specs/Tables`).
+//!
+//! `is_node_schema`, the last, is what `opening.rt` calls; the functions before it compare the
+//! parts. In keys and tests place 0 of a row is its rowid, and its columns follow from place 1. The
+//! schema's expressions are lists of nodes, in which an operator names its operands by index.
 ghost use Rattle.std.specs.Prelude.{◌≡◌, ◌≢◌, ℕ, suc, ◌∷◌, [], true, false, not, Some, None, IsTrue, IfSome, slice_index_or};
 ghost use Rattle.sqlite.specs.declared.types.Value.TheVariants.{Null, Int};
 ghost use Rattle.sqlite.specs.Collation.TheVariants.{Binary};
@@ -15,6 +19,7 @@ use sqlite_sql::ops::{BinaryOp, CompareOp};
 use sqlite_value::keys::{Collation, Order};
 use sqlite_value::value::{Bytes, Value};
 
+/// Whether the name is this one, octet by octet.
 fn is_named(name: &Bytes, wanted: &[u8]) -> bool
     ensures yes { IsTrue result → name.now ≡ wanted.now }
     ensures no { result ≡ false → ¬ (name.now ≡ wanted.now) }
@@ -22,7 +27,7 @@ fn is_named(name: &Bytes, wanted: &[u8]) -> bool
     name.as_slice() == wanted
 }
 
-/// The one place is this.
+/// Whether the list has this column alone.
 fn is_place(places: &Items<usize>, wanted: usize) -> bool
     ensures yes { IsTrue result → places.now ≡ wanted ∷ [] }
     ensures no { result ≡ false → ¬ (places.now ≡ wanted ∷ []) }
@@ -30,7 +35,8 @@ fn is_place(places: &Items<usize>, wanted: usize) -> bool
     places.as_slice() == [wanted].as_slice()
 }
 
-/// A column of a STRICT table with no default.
+/// Whether this is such a column of a STRICT table, with no default and in the order of plain
+/// octets.
 fn is_column(column: &Column, name: &[u8], kind: Kind, not_null: bool) -> bool
     ensures yes { IsTrue result → column.now ≡ record { name = name.now; kind = kind; is_strict = true; not_null = not_null; default = Null; collation = Binary } }
     ensures no { result ≡ false → ¬ (column.now ≡ record { name = name.now; kind = kind; is_strict = true; not_null = not_null; default = Null; collation = Binary }) }
@@ -44,7 +50,8 @@ fn is_column(column: &Column, name: &[u8], kind: Kind, not_null: bool) -> bool
         && column.collation == Collation::Binary
 }
 
-/// A table with no foreign key, no computed default and no AUTOINCREMENT.
+/// Whether the table has no foreign key, no computed default, no default that reads the time and no
+/// AUTOINCREMENT.
 fn is_plain(table: &Table) -> bool
     ensures yes { IsTrue result → (table.now.references ≡ []) × (table.now.computed ≡ []) × (table.now.stamps ≡ record { places = []; terms = []; formats = [] }) × IsTrue (not table.now.is_counted) }
     ensures no { result ≡ false → ¬ ((table.now.references ≡ []) × (table.now.computed ≡ []) × (table.now.stamps ≡ record { places = []; terms = []; formats = [] }) × IsTrue (not table.now.is_counted)) }
@@ -57,6 +64,7 @@ fn is_plain(table: &Table) -> bool
         && !table.is_counted
 }
 
+/// Whether there is no expression.
 fn has_no_terms(terms: &Terms) -> bool
     ensures yes { IsTrue result → terms.now ≡ [] }
     ensures no { result ≡ false → ¬ (terms.now ≡ []) }
@@ -64,7 +72,7 @@ fn has_no_terms(terms: &Terms) -> bool
     terms.roots.is_empty()
 }
 
-/// A table with no UNIQUE and no CHECK.
+/// Whether the table has no UNIQUE and no CHECK.
 fn has_no_rules(table: &Table) -> bool
     ensures yes { IsTrue result → (table.now.uniques ≡ []) × (table.now.orders ≡ []) × (table.now.checks ≡ []) }
     ensures no { result ≡ false → ¬ ((table.now.uniques ≡ []) × (table.now.orders ≡ []) × (table.now.checks ≡ [])) }
@@ -72,7 +80,7 @@ fn has_no_rules(table: &Table) -> bool
     table.uniques.is_empty() && table.orders.is_empty() && has_no_terms(&table.checks)
 }
 
-/// The first column is the rowid.
+/// Whether the first column is the rowid (INTEGER PRIMARY KEY).
 fn is_rowid(key: Option<usize>) -> bool
     ensures yes { IsTrue result → key ≡ Some 0 }
     ensures no { result ≡ false → ¬ (key ≡ Some 0) }
@@ -80,7 +88,7 @@ fn is_rowid(key: Option<usize>) -> bool
     matches!(key, Some(0))
 }
 
-/// The only order is that of plain octets.
+/// Whether there is one order, that of plain octets.
 fn is_plain_order(orders: &Items<Order>) -> bool
     ensures yes { IsTrue result → orders.now ≡ record { digits = 0 } ∷ [] }
     ensures no { result ≡ false → ¬ (orders.now ≡ record { digits = 0 } ∷ []) }
@@ -91,7 +99,7 @@ fn is_plain_order(orders: &Items<Order>) -> bool
     order.digits == 0
 }
 
-/// The only one is of this place.
+/// Whether there is one UNIQUE, of this column alone.
 fn is_unique_place(uniques: &Items<Items<usize>>, wanted: usize) -> bool
     ensures yes { IsTrue result → uniques.now ≡ (wanted ∷ []) ∷ [] }
     ensures no { result ≡ false → ¬ (uniques.now ≡ (wanted ∷ []) ∷ []) }
@@ -102,6 +110,7 @@ fn is_unique_place(uniques: &Items<Items<usize>>, wanted: usize) -> bool
     is_place(places, wanted)
 }
 
+/// Whether the node is the column `number` of the row.
 fn is_number(node: &Op) -> bool
     ensures yes { IsTrue result → node.now ≡ op.Column 1 2 }
     ensures no { result ≡ false → ¬ (node.now ≡ op.Column 1 2) }
@@ -112,6 +121,7 @@ fn is_number(node: &Op) -> bool
     }
 }
 
+/// Whether the node is this integer.
 fn is_literal(node: &Op, number: i64) -> bool
     ensures yes { IsTrue result → node.now ≡ op.Literal (Int number) }
     ensures no { result ≡ false → ¬ (node.now ≡ op.Literal (Int number)) }
@@ -122,6 +132,7 @@ fn is_literal(node: &Op, number: i64) -> bool
     }
 }
 
+/// As `is_number`, of the node at this index; false behind the last.
 fn is_number_at(nodes: &[Op], at: usize) -> bool
     ensures yes { IsTrue result → slice_index_or nodes.now at (op.Literal Null) ≡ op.Column 1 2 }
     ensures no { result ≡ false → slice_index_or nodes.now at (op.Literal Null) ≢ op.Column 1 2 }
@@ -129,6 +140,7 @@ fn is_number_at(nodes: &[Op], at: usize) -> bool
     at < nodes.len() && is_number(&nodes[at])
 }
 
+/// As `is_literal`, of the node at this index; false behind the last.
 fn is_literal_at(nodes: &[Op], at: usize, number: i64) -> bool
     ensures yes { IsTrue result → slice_index_or nodes.now at (op.Literal Null) ≡ op.Literal (Int number) }
     ensures no { result ≡ false → slice_index_or nodes.now at (op.Literal Null) ≢ op.Literal (Int number) }
@@ -136,7 +148,7 @@ fn is_literal_at(nodes: &[Op], at: usize, number: i64) -> bool
     at < nodes.len() && is_literal(&nodes[at], number)
 }
 
-/// The places of the two operands, where this is the operator.
+/// The indices of both operands, if the node is this operator.
 fn operands(node: &Op, by: BinaryOp) -> Option<(usize, usize)>
     ensures some { IfSome result (λ places. node.now ≡ op.Binary by places.0 places.1) }
     ensures none { result ≡ None → (left right : ℕ) → node.now ≢ op.Binary by left right }
@@ -147,6 +159,7 @@ fn operands(node: &Op, by: BinaryOp) -> Option<(usize, usize)>
     }
 }
 
+/// As `operands`, of the node at this index; `None` behind the last.
 fn operands_at(nodes: &[Op], at: usize, by: BinaryOp) -> Option<(usize, usize)>
     ensures some { IfSome result (λ places. slice_index_or nodes.now at (op.Literal Null) ≡ op.Binary by places.0 places.1) }
     ensures none { result ≡ None → (left right : ℕ) → slice_index_or nodes.now at (op.Literal Null) ≢ op.Binary by left right }
@@ -158,7 +171,7 @@ fn operands_at(nodes: &[Op], at: usize, by: BinaryOp) -> Option<(usize, usize)>
     }
 }
 
-/// The comparison of the number with a bound.
+/// Whether the node at this index compares `number` with this bound.
 fn is_bound_at(nodes: &[Op], at: usize, by: CompareOp, bound: i64) -> bool
     ensures yes { IsTrue result → (depth : ℕ) → term_to nodes.now (suc (suc depth)) at ≡ op2 (Compare by Binary) (col 1 2) (lit (Int bound)) }
     ensures no { result ≡ false → (depth : ℕ) → term_to nodes.now (suc (suc depth)) at ≢ op2 (Compare by Binary) (col 1 2) (lit (Int bound)) }
@@ -170,7 +183,7 @@ fn is_bound_at(nodes: &[Op], at: usize, by: CompareOp, bound: i64) -> bool
     is_number_at(nodes, left) && is_literal_at(nodes, right, bound)
 }
 
-/// The test at this place that a number is one of 1 to 4294967295.
+/// Whether the node at this index is the test that `number` is 1 to 4294967295.
 fn is_number_check_at(nodes: &[Op], at: usize) -> bool
     ensures yes { IsTrue result → term_in nodes.now at ≡ number_check }
     ensures no { result ≡ false → term_in nodes.now at ≢ number_check }
@@ -184,7 +197,7 @@ fn is_number_check_at(nodes: &[Op], at: usize) -> bool
     is_bound_at(nodes, low, CompareOp::Ge, 1) && is_bound_at(nodes, high, CompareOp::Le, 4294967295)
 }
 
-/// The only one is the test that a number is one of 1 to 4294967295.
+/// Whether there is one CHECK, that `number` is 1 to 4294967295.
 fn is_number_check(terms: &Terms) -> bool
     ensures yes { IsTrue result → terms.now ≡ number_check ∷ [] }
     ensures no { result ≡ false → terms.now ≢ number_check ∷ [] }
@@ -195,6 +208,7 @@ fn is_number_check(terms: &Terms) -> bool
     is_number_check_at(terms.nodes.as_slice(), *root)
 }
 
+/// Whether this is the table `form`.
 fn is_form(table: &Table) -> bool
     ensures yes { IsTrue result → table.now ≡ form_table }
     ensures no { result ≡ false → ¬ (table.now ≡ form_table) }
@@ -208,6 +222,7 @@ fn is_form(table: &Table) -> bool
     is_place(&table.primary, 0) && has_no_rules(table) && is_plain(table)
 }
 
+/// Whether the columns are those of `floors`: `url` and `number`.
 fn has_floor_columns(columns: &Items<Column>) -> bool
     ensures yes { IsTrue result → columns.now ≡ floors_table.columns }
     ensures no { result ≡ false → ¬ (columns.now ≡ floors_table.columns) }
@@ -219,6 +234,7 @@ fn has_floor_columns(columns: &Items<Column>) -> bool
         && is_column(number, b"number".as_slice(), Kind::Integer, true)
 }
 
+/// Whether the column is that of `form`: `version`.
 fn has_version_column(columns: &Items<Column>) -> bool
     ensures yes { IsTrue result → columns.now ≡ form_table.columns }
     ensures no { result ≡ false → ¬ (columns.now ≡ form_table.columns) }
@@ -229,7 +245,7 @@ fn has_version_column(columns: &Items<Column>) -> bool
     is_column(version, b"version".as_slice(), Kind::Integer, false)
 }
 
-/// A table whose rows have a rowid of their own, and one text that no other row has.
+/// Whether the rows have a rowid of their own, and the first column is the primary key.
 fn has_url_key(table: &Table) -> bool
     ensures yes { IsTrue result → (table.now.key ≡ None) × (table.now.primary ≡ 1 ∷ []) × (table.now.uniques ≡ (1 ∷ []) ∷ []) × (table.now.orders ≡ record { digits = 0 } ∷ []) }
     ensures no { result ≡ false → ¬ ((table.now.key ≡ None) × (table.now.primary ≡ 1 ∷ []) × (table.now.uniques ≡ (1 ∷ []) ∷ []) × (table.now.orders ≡ record { digits = 0 } ∷ [])) }
@@ -240,6 +256,7 @@ fn has_url_key(table: &Table) -> bool
         && is_plain_order(&table.orders)
 }
 
+/// Whether this is the table `floors`.
 fn is_floors(table: &Table) -> bool
     ensures yes { IsTrue result → table.now ≡ floors_table }
     ensures no { result ≡ false → ¬ (table.now ≡ floors_table) }
@@ -253,6 +270,8 @@ fn is_floors(table: &Table) -> bool
     is_number_check(&table.checks) && is_plain(table)
 }
 
+/// Whether this is the index that SQLite makes for the primary key of `floors` (SQLite, "Database
+/// File Format", on internal indexes).
 fn is_url_index(index: &Index) -> bool
     ensures yes { IsTrue result → index.now ≡ url_index }
     ensures no { result ≡ false → ¬ (index.now ≡ url_index) }
@@ -269,7 +288,7 @@ fn is_url_index(index: &Index) -> bool
     index.is_unique
 }
 
-/// Whether these are the tables of a node's file, and there are no others.
+/// Whether the schema has the tables of a node's file and their index, and nothing else.
 pub(crate) fn is_node_schema(schema: &Schema) -> bool
     ensures yes { IsTrue result → schema.now ≡ node_schema }
     ensures no { result ≡ false → ¬ (schema.now ≡ node_schema) }

@@ -1,4 +1,4 @@
-//! The calls of the database.
+//! A raise: in the file by one statement, then in the copy in memory.
 ghost use Rattle.std.specs.Prelude.{◌≡◌, ◌≢◌, ◌⊎◌, ◌≤◌, None, IfErr, OnOk};
 ghost use Rattle.std.specs.FinMap.{get, insert, len};
 ghost use Rattle.sqlite.specs.State.{HasCleanDisk, Executes};
@@ -16,7 +16,7 @@ use sqlite_value::value::ValueRef;
 use std::alloc::Global;
 use url_key::Key;
 
-/// Gives the url this number, in one statement.
+/// Sets the number of the url in the file, in one statement that commits by itself.
 fn put<S: Alter>(conn: &mut Connection<S>, url: &[u8], number: u32) -> Result<usize, Error>
     requires { HasCleanDisk (state S.Store conn.old) → IsReady (state S.Store conn.old) }
     ensures honest { HasCleanDisk (state S.Store conn.new) → HasCleanDisk (state S.Store conn.old) }
@@ -32,7 +32,10 @@ fn put<S: Alter>(conn: &mut Connection<S>, url: &[u8], number: u32) -> Result<us
     )
 }
 
-/// Raises the key's number in the table and in the floors beside it.
+/// Raises the key's floor to this number, first in the file and then in the copy in memory.
+///
+/// Runs no statement if the number is no greater. `FloorsFull` without room, before anything has
+/// changed. `NoMemory` may come after the commit, if the copy lacks memory.
 pub(crate) fn raise<S: Alter>(
     conn: &mut Connection<S>,
     floors: &mut Floors,

@@ -1,3 +1,4 @@
+-- A query leaves the state as it was, so what was found of it before holds after it.
 use Rattle.std.proofs.Common.{Ok, Err, Result, OnOk, sym, subst, arith}
 use Rattle.sqlite.specs.State.{State, HasCleanDisk, IsUnchanged}
 use Rattle.sqlite.specs.Effect.{Database}

@@ -1,3 +1,5 @@
+-- The rows that were added are those of the table, so the file is a node's; after `BadTable` some
+-- row could not be added or there were too many, so it is none (`OpenLemmas`).
 use Rattle.std.proofs.Common.{◌≡◌, arith, ◌∙◌, not, true, false, sym, refl, Result, Ok, Err, OnOk}
 use Rattle.sqlite.specs.State.{State, HasCleanDisk, IsUnchanged}
 use Rattle.sqlite.specs.Held.{state}

@@ -1,3 +1,4 @@
+-- Each clause is what `CallLemmas` says of the statement that was run.
 use Rattle.std.proofs.Common.{arith}
 use Rattle.sqlite.specs.Held.{state}
 use Rattle.purge_numbers.proofs.CallLemmas.{put_ready, put_crash, put_fails}

@@ -1,3 +1,5 @@
+-- A number that is no greater changes nothing (`raised_same`); a greater one is what a raise sets
+-- (`raised_higher`), so the floors after the statement are the raised ones.
 use Rattle.std.proofs.Common.{◌≡◌, arith, sym, ◌∙◌, inl, inr, ◌<◌, ◌≤◌}
 use Rattle.sqlite.specs.Held.{state}
 use Rattle.floor_rules.specs.Floors.{floor}

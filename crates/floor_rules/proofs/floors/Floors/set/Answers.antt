@@ -1,5 +1,5 @@
--- The insertion in the tree is that of the map (`was_set`), and the greatest floor is the greater of
--- the old one and the new number, since no floor falls.
+-- The insertion in the tree is that of the map (`was_set`), and the greatest floor is the greater
+-- of the old one and the new number, since no floor falls.
 use Rattle.std.proofs.Common.{◌≡◌, ◌≤◌, map, arith, ap, ◌∙◌}
 use Rattle.std.specs.FinMap.{insert, from_entries}
 use Rattle.std.specs.Ordering.{nat_cmp}
