@@ -1,3 +1,5 @@
+-- `Ids` is for `MemberSet`. `Finding`, then `Changing`, are for `Purges`: the search, then marks
+-- and ends. `Listing` is for `due`, `Sendable` for the CLR.
 pub mod Ids
 pub mod Finding
 pub mod Changing

@@ -1,4 +1,5 @@
--- The message that tells of a purge has a text.
+-- The CLR of a purge has a written text of at most 16,384 octets: a key is short, and a number has
+-- ten digits at most.
 use Rattle.std.proofs.Common.{ℕ, ◌≤◌, ◌<◌, ◌^◌, List, [], ◌∷◌, ◌++◌, length, refl, codes, decimal, arith, length-append}
 use Rattle.std.proofs.lemmas.Fmt.{length-decimal-le}
 use Rattle.url_key.specs.Key.{IsKey}

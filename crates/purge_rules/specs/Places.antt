@@ -1,19 +1,20 @@
--- Where a purge is found among those that are pending, and which addition is taken back.
+-- For the contracts of `Purges`: where a purge stands in the list, which addition is undone, and
+-- what setting the last number gives.
 use Rattle.std.specs.Prelude.{◌≡◌, ◌≢◌, ℕ, ◌<◌, All, List, length}
 use Rattle.std.specs.List.{HoldsAt}
 use Rattle.purge_rules.specs.declared.purges.Purge.{Purge}
 use Rattle.purge_rules.specs.Purges.{PurgeList, AreNumbered, with_purge}
 
--- the purge at this place has this number
+-- the purge at this index has this number
 pub record IsPlaceOf (purges : List Purge) (number place : ℕ) : Type 0 where
   pub in_range : place < length purges
   pub is_of_it : HoldsAt (λ p. p.number ≡ number) purges place
 
--- none has this number
+-- no purge has this number
 abbrev pub IsAbsent : List Purge → ℕ → Type 0
 IsAbsent purges number = All (λ p. p.number ≢ number) purges
 
--- They came of such purges, whose last number is this one, by the addition of a purge.
+-- they are purges whose last number was this, with one purge added
 pub record CameBy (now : PurgeList) (last : ℕ) : Type 0 where
   pub before : PurgeList
   pub number : ℕ
@@ -22,6 +23,6 @@ pub record CameBy (now : PurgeList) (last : ℕ) : Type 0 where
   pub is : now ≡ with_purge before number key
   pub same : last ≡ before.last
 
--- the numbers up to this one were given, and those of them that are not pending are done
+-- the last number is this one; the numbers up to it that are not pending are done
 abbrev pub given_to : PurgeList → ℕ → PurgeList
 given_to purges last = record { last = last; pending = purges.pending }

@@ -1,29 +1,32 @@
--- The purges that are not done, and what becomes of them. All of it is stored.
+-- What a master stores: the last number and the pending purges. How a purge is added, marked and
+-- ended.
 use Rattle.std.specs.Prelude.{ℕ, ◌<◌, ◌≤◌, All, Bool, not, ◌==◌, List, [], ◌∷◌, ◌++◌, map, filter, find, Option, if◌then◌else◌}
 use Rattle.std.specs.List.{AllPairs}
 use Rattle.purge_rules.specs.declared.purges.Purge.{Purge}
 use Rattle.purge_rules.specs.Members.{with_id}
 
--- Purges are numbered from 1 to last; those that some member has not acknowledged stand in the order of their numbers.
+-- the last number that was given, 0 if none was, and the pending purges in the order of their
+-- numbers
 pub record PurgeList : Type 0 where
   pub last : ℕ
   pub pending : List Purge
 
--- nothing was issued
+-- no purge was issued
 abbrev pub no_purges : PurgeList
 no_purges = record { last = 0; pending = [] }
 
--- numbers ascend, from 1 to the last one, which has 32 bits
+-- the numbers of pending purges ascend, from 1 to the last number at most, which fits in 32 bits
 pub record AreNumbered (p : PurgeList) : Type 0 where
   pub ascend : AllPairs (λ a b. a.number < b.number) p.pending
   pub positive : All (λ a. 1 ≤ a.number) p.pending
   pub given : All (λ a. a.number ≤ p.last) p.pending
   pub last : p.last ≤ 4294967295
 
+-- the purge has this number
 abbrev pub is_numbered : ℕ → Purge → Bool
 is_numbered number p = p.number == number
 
--- the pending purge of a number
+-- the pending purge with this number, if there is one
 abbrev pub pending_at : PurgeList → ℕ → Option Purge
 pending_at purges number = find (is_numbered number) purges.pending
 
@@ -31,18 +34,18 @@ pending_at purges number = find (is_numbered number) purges.pending
 abbrev pub unmarked : ℕ → List ℕ → Purge
 unmarked number key = record { number = number; key = key; marked = [] }
 
--- the number is given to a purge of the key, and is the last one
+-- a purge of the key is added under this number, which is the last one now
 abbrev pub with_purge : PurgeList → ℕ → List ℕ → PurgeList
 with_purge purges number key = record { last = number; pending = purges.pending ++ unmarked number key ∷ [] }
 
--- the member has acknowledged the purge
+-- the purge, with the member marked
 abbrev pub marked_by : ℕ → Purge → Purge
 marked_by id p = record { number = p.number; key = p.key; marked = with_id id p.marked }
 
--- the member has acknowledged the purge of this number
+-- the purges, with the member marked at the purge of this number
 abbrev pub with_mark : PurgeList → ℕ → ℕ → PurgeList
 with_mark purges number id = record { last = purges.last; pending = map (λ p. if is_numbered number p then marked_by id p else p) purges.pending }
 
--- the purge of this number is pending no longer
+-- the purges without the pending purge of this number, which is done
 abbrev pub without_purge : PurgeList → ℕ → PurgeList
 without_purge purges number = record { last = purges.last; pending = filter (λ p. not (is_numbered number p)) purges.pending }

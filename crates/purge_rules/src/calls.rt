@@ -5,59 +5,62 @@ use roster_tables::Listed;
 use std::alloc::{AllocError, Global};
 use url_key::Key;
 
-/// How far a purge is.
+/// How far the purge of a number is.
 #[derive(Clone, Copy, Debug, PartialEq, Eq)]
 pub enum Status {
-    /// No purge has had this number.
+    /// The number is 0, or was not given yet.
     Unknown,
-    /// So many members have not acknowledged it.
+    /// It is pending: so many members, 0 to 16, have not acknowledged it.
     Pending(u8),
-    /// Each member has acknowledged it.
+    /// It was given, and is pending no longer.
     Done,
 }
 
 /// A call of a master.
 #[derive(Debug, Drop)]
 pub enum MasterCall {
-    /// A purge of a URL is issued.
+    /// Issue a purge of the URL with this key.
     Issue(Key),
-    /// A member responds to a CLR.
+    /// Take a member's response to a CLR (RFC 2756, section 6.5).
     Acknowledge {
         /// The member's id.
         member: u8,
         /// The response's TRANS-ID.
         trans: u32,
-        /// Its code: 0 (it was held and is gone), 1 (it stays), 2 (it was not held).
+        /// The response's code: 0 (the entity was held and is gone), 1 (it was held and stays), 2
+        /// (it was not held).
         code: u8,
     },
-    /// What is to be sent again is listed.
+    /// List what to send again.
     Due,
-    /// The status of a purge is asked.
+    /// Tell the status of the purge of this number.
     Status(u32),
 }
 
-/// Whether a CLR's response of this code acknowledges a purge (RFC 2756, section 6.5): 0, the entity was held and is gone, or 2, it was not held.
+/// Whether a response to a CLR with this code acknowledges the purge: 0 (the entity was held and is
+/// gone) and 2 (it was not held) do (RFC 2756, section 6.5).
 pub fn is_acknowledging(code: u8) -> bool
     ensures { result ≡ acknowledges code }
 {
     code == 0 || code == 2
 }
 
-/// What a master answers to a call.
+/// What a call of a master returns.
 #[derive(Debug, Drop)]
 pub enum MasterAnswer {
-    /// The number of the purge.
+    /// The number that the purge got.
     Issue(u32),
-    /// The number of the purge that is done by it, if one is.
+    /// The number of the purge that this response has made done, if any.
     Acknowledge(Option<u32>),
-    /// Each pending purge, with each member that is missing, by number and then by id.
+    /// The number of each pending purge with the id of each missing member, by number and then by
+    /// id.
     Due(Listed<(u32, u8)>),
-    /// The status.
+    /// The status of the purge.
     Status(Status),
 }
 
 impl MasterCall {
-    /// The same call once more.
+    /// A second copy of the call.
     pub fn copy(&self, alloc: Global) -> Result<MasterCall, AllocError>
         ensures { IfOk result (λ copy. copy ≡ self.now) }
     {
@@ -79,7 +82,7 @@ impl MasterCall {
 }
 
 impl MasterAnswer {
-    /// The same answer once more.
+    /// A second copy of the answer.
     pub fn copy(&self, alloc: Global) -> Result<MasterAnswer, AllocError>
         ensures { IfOk result (λ copy. copy ≡ self.now) }
     {

@@ -4,22 +4,24 @@ ghost use Rattle.purge_rules.specs.Names.{purge_fault_name, master_fault_name};
 use std::alloc::AllocError;
 use thiserror::Error;
 
-/// Why a call on a store of purges is refused.
+/// Why a call on a store of purges fails.
 #[derive(Clone, Copy, Debug, PartialEq, Eq, Error)]
 pub enum PurgeFault {
-    /// The store failed, and `failures` rose. The store is of no use until it is opened again.
+    /// The store failed, now or earlier. `failures` rose, or stays at its maximum. Open the store
+    /// again.
     #[error("the store failed")]
     StoreFault,
-    /// The file is not that of a master. Only an open answers so.
+    /// The file is not a master's file. Only an open returns it.
     #[error("the file is not that of a master")]
     BadTable,
-    /// A growth was refused. Where a call that writes or an open answers so, the store is to be opened again.
+    /// An allocation failed. After a load nothing has changed. After a call that writes or an open,
+    /// open a store in a file again: only the file knows whether the change was committed.
     #[error("there was no memory")]
     NoMemory,
 }
 
 impl PurgeFault {
-    /// The name that scripts print.
+    /// The name of the fault, as scripts print it.
     pub const fn name(self) -> &'static str
         ensures { result.now ≡ purge_fault_name self }
     {
@@ -42,32 +44,38 @@ impl From<AllocError> for PurgeFault {
     }
 }
 
-/// Why a call on a master is refused. A full book answers `ShiftFull` before all else; of the others the first whose condition holds is answered, and memory comes last.
+/// Why a call on a master fails.
+///
+/// A master tests for `Closed`, `NumbersSpent` and `TooManyPending`, in this order, and returns
+/// `StoreFault` or `NoMemory` only if none of them holds. A book tests for `ShiftFull` first, then
+/// for its own memory (`NoMemory`), and only then asks the master.
 #[derive(Clone, Copy, Debug, PartialEq, Eq, Error)]
 pub enum MasterFault {
-    /// The store has failed, or had no memory, in an earlier call. Nothing has changed; the master is to be opened again.
+    /// The store failed, or lacked memory, in an earlier call that writes. Nothing has changed.
+    /// Open the master again.
     #[error("the master is closed")]
     Closed,
-    /// The book of calls is full. Nothing has changed. Only a book answers so.
+    /// The book of calls is full. Nothing has changed. Only a book returns it.
     #[error("the book of calls is full")]
     ShiftFull,
-    /// The number 4294967295 was given. Nothing has changed.
+    /// The last number, 4294967295, was given. Nothing has changed.
     #[error("no purge number is left")]
     NumbersSpent,
     /// 1,024 purges are pending. Nothing has changed.
     #[error("1,024 purges are pending")]
     TooManyPending,
-    /// The store failed at a call that writes. The master is closed, and nothing else of it has changed; the stored purges are those from
-    /// before the call or after it.
+    /// The store failed in a call that writes. The master is closed, and nothing else of it has
+    /// changed. The stored purges are those from before the call or from after it.
     #[error("the store failed")]
     StoreFault,
-    /// A growth was refused. Nothing has changed, but that the master is closed where its store answered so.
+    /// An allocation failed. Nothing has changed, except that the master is closed if it was its
+    /// store that lacked memory; then the stored purges are those from before the call or after it.
     #[error("there was no memory")]
     NoMemory,
 }
 
 impl MasterFault {
-    /// The name that scripts print.
+    /// The name of the fault, as scripts print it.
     pub const fn name(self) -> &'static str
         ensures { result.now ≡ master_fault_name self }
     {

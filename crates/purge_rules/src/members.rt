@@ -15,7 +15,7 @@ const MOST_MEMBERS: usize = 16;
 /// A contract sees the ids, in ascending order.
 #[derive(Clone, Copy, Debug)]
 pub struct MemberSet {
-    // whether it has the id, at the place id - 1
+    // at the index id - 1: whether the set has the id
     has: [bool; 16],
 }
 
@@ -37,7 +37,7 @@ impl Model for MemberSet {
 }
 
 impl MemberSet {
-    /// No member.
+    /// The empty set.
     pub fn new() -> MemberSet
         ensures { result ≡ [] }
     {
@@ -58,7 +58,7 @@ impl MemberSet {
         MemberSet { has }
     }
 
-    /// Whether the member of this id is in the set. Where it is, the id is 1 to 16, and to insert it changes nothing.
+    /// Whether the id is in the set. If it is, it is 1 to 16, and inserting it changes nothing.
     pub fn has(self, id: u8) -> bool
         ensures value { result ≡ is_among id self }
         ensures again { IsTrue result → with_id id self ≡ self }
@@ -71,7 +71,7 @@ impl MemberSet {
         has[usize::from(id) - 1]
     }
 
-    /// The member of this id, which is 1 to 16, is in the set from now on.
+    /// Adds the id, which is 1 to 16.
     pub fn insert(&mut self, id: u8)
         requires { (1 ≤ id) × (id ≤ 16) }
         ensures { self.new ≡ with_id id self.old }
@@ -79,7 +79,7 @@ impl MemberSet {
         self.has[usize::from(id) - 1] = true;
     }
 
-    /// Whether each member of this set is in another one.
+    /// Whether each member of this set is also in the other.
     pub fn are_in(self, other: MemberSet) -> bool
         ensures { result ≡ are_among self other }
     {
@@ -91,7 +91,7 @@ impl MemberSet {
         true
     }
 
-    /// The members of this set that are not in another one.
+    /// The members of this set that are not in the other.
     pub fn missing_in(self, other: MemberSet) -> MemberSet
         ensures { result ≡ filter (λ id. not (is_among id other)) self }
     {
@@ -115,7 +115,8 @@ impl MemberSet {
         count
     }
 
-    /// Appends the number with each member, by id. Where a growth is refused, some of the pairs may stand there.
+    /// Appends a pair of the number and the id for each member, by id. If an allocation fails, some
+    /// of the pairs may have been appended.
     pub(crate) fn pair_with(self, number: u32, pairs: &mut Vec<(u32, u8)>) -> Result<(), AllocError>
         ensures { OnOk result (pairs.new.items ≡ pairs.old.items ++ map (λ id. (number, id)) self) }
     {

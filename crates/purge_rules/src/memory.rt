@@ -1,4 +1,4 @@
-//! Purges in memory, for the world and for tests.
+//! A store of purges in memory, for the world and for tests.
 ghost use Rattle.std.specs.Prelude.{◌≡◌, true};
 ghost use Rattle.purge_rules.specs.Purges.{no_purges};
 
@@ -7,7 +7,9 @@ use std::alloc::Global;
 use std::marker::Model;
 use url_key::Key;
 
-/// Purges in memory, which no crash touches. They never fail. A contract sees them as a list of purges.
+/// A store of purges in memory. No crash changes it, and no call returns `StoreFault`.
+///
+/// A contract sees the last number and the pending purges (`PurgeList`).
 #[derive(Debug, Drop)]
 pub struct MemoryPurges {
     purges: Purges,
@@ -22,7 +24,7 @@ impl Model for MemoryPurges {
 }
 
 impl MemoryPurges {
-    /// Nothing was issued. It takes no memory.
+    /// No purge was issued. Allocates nothing.
     pub fn new(alloc: Global) -> MemoryPurges
         ensures { result ≡ no_purges }
     {

@@ -1,4 +1,4 @@
-//! The purges that are not done, in memory.
+//! The pending purges, in memory, with the last number that was given.
 ghost use Rattle.std.specs.Prelude.{◌≡◌, ℕ, ◌<◌, ◌≤◌, ◌==◌, nat_le, false, List, length, option_map, MatchOption, IfOk, OnOk, OnErr};
 ghost use Rattle.purge_rules.specs.Purges.{PurgeList, AreNumbered, no_purges, pending_at, with_purge, with_mark, without_purge};
 ghost use Rattle.purge_rules.specs.Places.{IsPlaceOf, IsAbsent, CameBy, given_to};
@@ -10,23 +10,24 @@ use std::alloc::{AllocError, Global};
 use std::marker::Model;
 use url_key::Key;
 
-/// The most purges that are pending at a time.
+/// The most purges that may be pending at a time.
 pub const MOST_PENDING: usize = 1024;
 
-/// A purge that some member has not acknowledged.
+/// A pending purge.
 #[derive(Debug, Drop)]
 pub struct Purge {
-    /// Its number, which is also the TRANS-ID of its CLR.
+    /// Its number, 1 to 4294967295; also the TRANS-ID of its CLR.
     pub number: u32,
-    /// The URL that is purged.
+    /// The key of the URL that is purged.
     pub key: Key,
     /// The members that have acknowledged it.
     pub marked: MemberSet,
 }
 
-/// The last number that was given, and the purges that are pending.
+/// The last number that was given, and the pending purges.
 ///
-/// A contract sees both; the numbers of the pending ones ascend, from 1 to the last one at most.
+/// A contract sees both (`PurgeList`). The numbers of the pending purges ascend; they are at least
+/// 1 and at most the last number (`AreNumbered`).
 #[derive(Debug, Drop)]
 pub struct Purges {
     last: u32,
@@ -44,7 +45,7 @@ impl Model for Purges {
 }
 
 impl Purge {
-    /// The same purge once more.
+    /// A second copy of the purge.
     pub fn copy(&self, alloc: Global) -> Result<Purge, AllocError>
         ensures { IfOk result (λ copy. copy ≡ self.now) }
     {
@@ -57,7 +58,7 @@ impl Purge {
 }
 
 impl Purges {
-    /// Nothing was issued. It takes no memory.
+    /// No purge was issued. Allocates nothing.
     pub fn new(alloc: Global) -> Purges
         ensures { result ≡ no_purges }
     {
@@ -67,7 +68,7 @@ impl Purges {
         }
     }
 
-    /// The last number that was given, or 0.
+    /// The last number that was given, or 0 if none was.
     pub fn last(&self) -> u32
         ensures value { result ≡ self.now.last }
         ensures numbered { AreNumbered self.now }
@@ -97,7 +98,7 @@ impl Purges {
         self.pending.len() >= MOST_PENDING
     }
 
-    /// The purges that are pending, by number.
+    /// The pending purges, by number.
     pub fn pending(&self) -> &[Purge]
         ensures value { result.now ≡ self.now.pending }
         ensures numbered { AreNumbered self.now }
@@ -105,7 +106,7 @@ impl Purges {
         self.pending.as_slice()
     }
 
-    /// The place of the pending purge of a number, by a binary search.
+    /// The index of the pending purge with this number, by binary search.
     fn place_of(&self, number: u32) -> Option<usize>
         ensures numbered { AreNumbered self.now }
         ensures place { MatchOption result (IsAbsent self.now.pending number) (IsPlaceOf self.now.pending number) }
@@ -119,7 +120,7 @@ impl Purges {
         }
     }
 
-    /// The pending purge of a number, by a binary search.
+    /// The pending purge with this number, by binary search.
     pub fn find(&self, number: u32) -> Option<&Purge>
         ensures { option_map (λ p. p.now) result ≡ pending_at self.now number }
     {
@@ -127,7 +128,7 @@ impl Purges {
         Some(&self.pending[place])
     }
 
-    /// The same purges once more.
+    /// A second copy of the purges.
     pub fn copy(&self, alloc: Global) -> Result<Purges, AllocError>
         ensures { IfOk result (λ copy. copy ≡ self.now) }
     {
@@ -141,7 +142,8 @@ impl Purges {
         })
     }
 
-    /// Gives a number, which is above the last one, to a purge of the key. Where there is no memory for it, nothing changes.
+    /// Adds a pending purge of the key under this number, which is above the last one and becomes
+    /// it. If an allocation fails, nothing changes.
     pub fn add(&mut self, alloc: Global, number: u32, key: &Key) -> Result<(), AllocError>
         requires { self.old.last < number }
         ensures ok { OnOk result (self.new ≡ with_purge self.old number key.now) }
@@ -157,8 +159,8 @@ impl Purges {
         Ok(())
     }
 
-    /// The last number that was given is this one, which is no less than it was. A store uses it whose last purges are done. It takes no
-    /// memory.
+    /// Sets the last number, which does not fall. A store needs it to load purges of which the last
+    /// are done. Allocates nothing.
     pub fn give(&mut self, given: u32)
         requires { self.old.last ≤ given }
         ensures { self.new ≡ given_to self.old given }
@@ -166,7 +168,7 @@ impl Purges {
         self.last = given;
     }
 
-    /// Takes back the latest addition: the last number was this one before it. It takes no memory.
+    /// Undoes the latest `add`; the last number was this one before it. Allocates nothing.
     pub fn take_back(&mut self, last: u32)
         requires { CameBy self.old last }
         ensures { (before : PurgeList) (number : ℕ) (key : List ℕ) → self.old ≡ with_purge before number key → last ≡ before.last → self.new ≡ before }
@@ -175,8 +177,8 @@ impl Purges {
         self.last = last;
     }
 
-    /// The member of this id, which is 1 to 16, has acknowledged the pending purge of a number. Where none is pending under it,
-    /// nothing changes. The purge is found by a binary search, and no memory is taken.
+    /// Marks the member, of an id of 1 to 16, as having acknowledged the pending purge with this
+    /// number. If no such purge is pending, nothing changes. Searches by halves; allocates nothing.
     pub fn mark(&mut self, number: u32, member: u8)
         requires { (1 ≤ member) × (member ≤ 16) }
         ensures { self.new ≡ with_mark self.old number member }
@@ -187,7 +189,8 @@ impl Purges {
         }
     }
 
-    /// The purge of a number is pending no longer. It is found by a binary search, and no memory is taken.
+    /// Takes out the pending purge with this number, so that it is done. If no such purge is
+    /// pending, nothing changes. Searches by halves; allocates nothing.
     pub fn finish(&mut self, number: u32)
         ensures { self.new ≡ without_purge self.old number }
     {
@@ -196,7 +199,7 @@ impl Purges {
         }
     }
 
-    /// How far the purge of a number is, with these members. It is found by a binary search.
+    /// How far the purge with this number is, if it needs these members. Searches by halves.
     pub fn status(&self, members: MemberSet, number: u32) -> Status
         ensures { result ≡ status_of members self.now number }
     {
@@ -209,7 +212,8 @@ impl Purges {
         }
     }
 
-    /// Each pending purge with each member that is missing, by number and then by id.
+    /// The number of each pending purge with the id of each of these members that has not
+    /// acknowledged it, by number and then by id.
     pub fn due(&self, alloc: Global, members: MemberSet) -> Result<Listed<(u32, u8)>, AllocError>
         ensures { IfOk result (λ pairs. pairs ≡ due members self.now) }
     {

@@ -1,4 +1,4 @@
-//! The CLR that tells the members of a purge.
+//! The CLR of a purge.
 ghost use Rattle.std.specs.Prelude.{◌≡◌, IfOk};
 ghost use Rattle.htcp_wire.specs.Written.{Fits};
 ghost use Rattle.purge_rules.specs.Clear.{clear as clear_of, number_line};
@@ -9,8 +9,9 @@ use std::alloc::{AllocError, Global};
 use url_key::Key;
 use wire_octets::Octets;
 
-/// The CLR that tells the members of a purge of the key (RFC 2756, "CLR"): its TRANS-ID is the purge's number, and the header line
-/// `X-Purge-Number` tells it too. It has a written text.
+/// The CLR that a member gets for a purge of the key (RFC 2756, section 6.5). Its TRANS-ID is the
+/// purge's number, and so is the value of its header line `X-Purge-Number`. It desires a response,
+/// and has REASON 0. `htcp_wire::encode` can write it (`fits`).
 pub fn clear(alloc: Global, number: u32, key: &Key) -> Result<Htcp, AllocError>
     ensures value { IfOk result (λ message. message ≡ clear_of number key.now) }
     ensures fits { IfOk result Fits }
@@ -32,7 +33,7 @@ pub fn clear(alloc: Global, number: u32, key: &Key) -> Result<Htcp, AllocError>
     })
 }
 
-/// The header line that tells a purge's number.
+/// The header line with the purge's number: `X-Purge-Number`, the number in decimals, CRLF.
 fn number_line(alloc: Global, number: u32) -> Result<Octets, AllocError>
     ensures { IfOk result (λ line. line ≡ number_line number) }
 {

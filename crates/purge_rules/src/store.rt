@@ -1,4 +1,4 @@
-//! What a store of purges promises.
+//! The contract of a store of purges.
 ghost use Rattle.std.specs.Prelude.{◌≡◌, ◌≢◌, ◌⊎◌, ◌<◌, ◌≤◌, ℕ, ◌+◌, Bool, false, length, IsTrue, IfOk, OnOk, Err};
 ghost use Rattle.purge_rules.specs.Purges.{PurgeList, with_purge, with_mark, without_purge};
 ghost use Rattle.purge_rules.specs.Store.{IsEither, Misses};
@@ -8,29 +8,35 @@ use crate::{PurgeFault, Purges};
 use std::alloc::Global;
 use url_key::Key;
 
-/// A store that keeps the purges of a master, also over a restart.
+/// A store that keeps the purges of a master over a restart.
 ///
-/// After `StoreFault` or `NoMemory` from a call that writes a store over a file is of no use: each later call answers `StoreFault`, until it is
-/// opened again. Once such a call has answered Ok, no crash takes that back; a crash at any other moment leaves the purges from before
-/// the call or from after it.
+/// `add`, `mark` and `finish` write. Once one of them has returned Ok, no crash undoes it. Whatever
+/// it returned on a usable store, a crash at its end leaves the purges from before it or from after
+/// it. What is said of commits and crashes holds if the disk is honest (`is_honest`).
+///
+/// After `StoreFault` each call that writes returns `StoreFault` and each load fails, until the
+/// store is opened again. A store in a file does the same after `NoMemory` from a call that writes;
+/// this contract does not demand it.
 pub trait PurgeStore {
-    // What the last commit left.
+    // The purges that the last commit left.
     ghost content: { Self → PurgeList };
 
-    // What an open after a crash at this moment may find.
+    // The purges that an open may find after a crash at this moment.
     ghost may_find: { Self → PurgeList → Type 0 };
 
-    // Nobody else has written the store, and it has returned what was written.
+    // The disk is honest: nobody else has written it, and it has returned what was written.
     ghost is_honest: { Self → Type 0 };
 
-    // No call has failed. One that has is opened again.
+    // No call has failed. Else the store must be opened again.
     ghost is_usable: { Self → Bool };
 
-    // How many calls were answered with `StoreFault`.
+    // How many calls have returned `StoreFault`.
     ghost failed: { Self → ℕ };
 
-    /// A copy of the purges. It is refused with `NoMemory`, which changes nothing, and with `StoreFault` where an earlier call failed. Whatever it
-    /// answers, a crash leaves no more than it may have left before.
+    /// A copy of the purges.
+    ///
+    /// Errors: `NoMemory`, and then nothing changes; `StoreFault`, only if an earlier call failed.
+    /// Whatever it returns, an open after a crash can find nothing that it could not find before.
     fn load(&mut self, alloc: Global) -> Result<Purges, PurgeFault>
         ensures purges { IfOk result (λ purges. is_honest self.new → purges ≡ content self.old) }
         ensures same { OnOk result (self.new ≡ self.old) }
@@ -44,11 +50,13 @@ pub trait PurgeStore {
         ensures cause { result ≡ Err PurgeFault.StoreFault → is_usable self.old ≡ false }
         ensures named { result ≢ Err PurgeFault.BadTable };
 
-    /// Commits a purge of the key under this number, which is above the last one and becomes it. Before it fewer than 1,024 purges are pending
-    /// (`Purges::is_full`), since a file with more than 1,024 does not open.
+    /// Commits a pending purge of the key under this number, which is above the last one and
+    /// becomes it. The caller sees to it that fewer than 1,024 purges are pending before
+    /// (`Purges::is_full`): a file with more than 1,024 does not open.
     ///
-    /// `StoreFault` comes where the store failed, in this call or earlier; `NoMemory` where a growth was refused. A store that failed earlier answers
-    /// `StoreFault` alone, and a crash then leaves no more than it may have left before.
+    /// Errors: `StoreFault` if the store failed, in this call or earlier; `NoMemory` if an
+    /// allocation failed. A store that failed earlier returns only `StoreFault`, and an open after
+    /// a crash can find nothing that it could not find before.
     fn add(&mut self, alloc: Global, number: u32, key: &Key) -> Result<(), PurgeFault>
         requires above { is_honest self.old → (content self.old).last < number }
         requires room { is_honest self.old → length (content self.old).pending < 1024 }
@@ -65,9 +73,10 @@ pub trait PurgeStore {
         ensures fault { result ≡ Err PurgeFault.StoreFault → HaveRisen (failed self.old) (failed self.new) }
         ensures named { result ≢ Err PurgeFault.BadTable };
 
-    /// Commits that the member, of an id of 1 to 16, has acknowledged the pending purge of this number, which it had not.
+    /// Commits that the member, of an id of 1 to 16, has acknowledged the pending purge with this
+    /// number. Before, the purge is pending and the member has not acknowledged it.
     ///
-    /// The faults are those of `add`.
+    /// Errors as for `add`.
     fn mark(&mut self, alloc: Global, number: u32, member: u8) -> Result<(), PurgeFault>
         requires id { (1 ≤ member) × (member ≤ 16) }
         requires missing { is_honest self.old → Misses (content self.old) number member }
@@ -84,9 +93,10 @@ pub trait PurgeStore {
         ensures fault { result ≡ Err PurgeFault.StoreFault → HaveRisen (failed self.old) (failed self.new) }
         ensures named { result ≢ Err PurgeFault.BadTable };
 
-    /// Commits that the purge of this number is pending no longer. Where no purge of this number is pending, nothing changes.
+    /// Commits that the purge with this number is pending no longer. If no such purge is pending,
+    /// nothing changes.
     ///
-    /// The faults are those of `add`.
+    /// Errors as for `add`.
     fn finish(&mut self, alloc: Global, number: u32) -> Result<(), PurgeFault>
         ensures honest { is_honest self.new → is_honest self.old }
         ensures committed { OnOk result (is_honest self.new → content self.new ≡ without_purge (content self.old) number) }
@@ -101,7 +111,7 @@ pub trait PurgeStore {
         ensures fault { result ≡ Err PurgeFault.StoreFault → HaveRisen (failed self.old) (failed self.new) }
         ensures named { result ≢ Err PurgeFault.BadTable };
 
-    /// How many calls were answered with `StoreFault`. It stays at the greatest number.
+    /// How many calls have returned `StoreFault`. At 18446744073709551615 it stays.
     fn failures(&self) -> u64
         ensures { result ≡ failed self.now };
 }

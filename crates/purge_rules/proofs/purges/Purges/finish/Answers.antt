@@ -1,3 +1,5 @@
+-- The purge at the index found is removed (`removed`); if none was found, no purge has the number
+-- and nothing changes (`none_removed`).
 use Rattle.std.proofs.Common.{ap, sym, ◌∙◌}
 use Rattle.purge_rules.specs.Purges.{PurgeList}
 use Rattle.purge_rules.specs.Places.{IsPlaceOf}
