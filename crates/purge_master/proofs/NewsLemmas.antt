@@ -1,4 +1,6 @@
--- What an acknowledgement changes, by what is known of its purge.
+-- What an acknowledgement changes, in each case of `IsNews`. The purge that is found has the
+-- number, and no other has it; so a mark that stands already changes nothing, and a purge that no
+-- member misses is the one that goes.
 use Rattle.std.proofs.Common.{◌≡◌, ℕ, suc, ◌<◌, ◌==◌, Bool, true, false, cond, not, ◌||◌, List, [], ◌∷◌, map, find, Some, None, refl, sym, ap, ◌∙◌, arith}
 use Rattle.std.specs.List.{AllPairs}
 use Rattle.std.proofs.lemmas.Bool.Decides.{nat_tests}

@@ -10,18 +10,22 @@ use Rattle.floor_rules.specs.Store.{HaveRisen}
 use Rattle.purge_rules.specs.Calls.{Calls, called}
 use Rattle.purge_master.specs.View.{MasterView, writes}
 
--- What a store says of itself at a moment: nobody else has written it, what an open after a crash may find, and how many calls were
--- answered with a store's fault.
+-- what a store says of itself at a moment: whether its disk is honest, what an open may find after
+-- a crash, and how many calls have returned `StoreFault`
 pub record Witness : Type 1 where
   pub is_honest : Type 0
   pub may_find : PurgeList → Type 0
   pub failed : ℕ
 
+-- these three as one
 abbrev pub witness : Type 0 → (PurgeList → Type 0) → ℕ → Witness
 witness is_honest may_find failed = record { is_honest = is_honest; may_find = may_find; failed = failed }
 
--- An honest store was honest before. A call that writes nothing leaves it. After one that writes and is answered, a crash leaves the purges as they are now. After
--- one that is refused, the store is as it was, or a crash leaves the purges from before the call or after it. A store's fault comes from the store.
+-- what a call leaves of the store. If the disk is honest now, it was before. A call that writes
+-- nothing leaves the store as it was. After a write that succeeded, a crash leaves the purges as
+-- they are now. After a call that failed, the store is as it was, or a crash leaves the purges from
+-- before the call or from after it. `StoreFault` comes only if the count of failures has risen or
+-- stands at its maximum.
 pub record KeepsStore {S : Type 0} (was now : Witness) (before after : MasterView S) (c : MasterCall) (out : Result MasterAnswer MasterFault) : Type 0 where
   pub honest : now.is_honest → was.is_honest
   pub untouched : writes before c ≡ false → after.store ≡ before.store
@@ -29,7 +33,7 @@ pub record KeepsStore {S : Type 0} (was now : Witness) (before after : MasterVie
   pub crash : OnErr out ((after.store ≡ before.store) ⊎ (now.is_honest → (found : PurgeList) → now.may_find found → IsEither before.state.purges (called before.members before.state c).state.purges found))
   pub fault : out ≡ Err fault.StoreFault → HaveRisen was.failed now.failed
 
--- The master has answered the call so, and is left so.
+-- the master has made the call with this outcome, and is left so, with the same members
 pub record IsCalled {S : Type 0} (was now : Witness) (before after : MasterView S) (c : MasterCall) (out : Result MasterAnswer MasterFault) : Type 0 where
   pub members : after.members ≡ before.members
   pub call : Calls before.members before.state c out after.state

@@ -1,4 +1,4 @@
-//! The book of a master's calls.
+//! A master with a book of its calls.
 ghost use Rattle.std.specs.Prelude.{◌≡◌, ◌⊎◌, ◌<◌, ◌≤◌, [], length, IfOk, IfSome, Err};
 ghost use Rattle.purge_rules.specs.declared.fault.MasterFault.TheVariants as faults;
 ghost use Rattle.htcp_wire.specs.Written.{Fits};
@@ -16,20 +16,20 @@ use std::mem::replace;
 /// The most entries of a book.
 pub const MOST_ENTRIES: usize = 4096;
 
-/// A call of a master, and what it answered.
+/// An entry of the book: a call, and what it returned.
 #[derive(Debug, Drop)]
 pub struct MasterEntry {
-    /// The call's place, as its caller counts.
+    /// The place of the call, as its caller counts places.
     pub place: u64,
     /// The call.
     pub call: MasterCall,
-    /// What it answered, a fault too.
+    /// What the call returned, an answer or a fault.
     pub answer: Result<MasterAnswer, MasterFault>,
 }
 
-/// A master with a book of its calls: each call is entered with its answer, in their order.
+/// A master with a book: each call is entered with its place and what it returned, in order.
 ///
-/// A contract sees the master and the entries, of which there are at most 4,096.
+/// A contract sees the master and the entries, at most 4,096.
 #[derive(Drop)]
 pub struct MasterBook<S: PurgeStore> {
     alloc: Global,
@@ -52,7 +52,7 @@ impl<S: PurgeStore> Model for MasterBook<S> {
 }
 
 impl<S: PurgeStore> MasterBook<S> {
-    /// A book without entries.
+    /// A book of this master, without entries. Allocates nothing.
     pub fn open(master: Master<S>) -> MasterBook<S>
         ensures { result ≡ record { master = master; entries = [] } }
     {
@@ -64,10 +64,11 @@ impl<S: PurgeStore> MasterBook<S> {
         }
     }
 
-    /// Makes a call of the master, and enters it with this place and with what it answers.
+    /// Makes the call of the master, and enters it with this place and what it returned.
     ///
-    /// Faults: `ShiftFull` before anything else, where there are 4,096 entries; `NoMemory` where there is no room for one more. Neither is entered, and nothing
-    /// changes. Any other is the master's (`Master::issue`, `acknowledge`, `due`), and is entered.
+    /// Errors: `ShiftFull` before anything else, if there are 4,096 entries; then `NoMemory`, if an
+    /// entry lacks memory. Neither is entered, and nothing changes. Any other error is the master's
+    /// (`Master::issue`, `acknowledge`, `due`), also its own `NoMemory`; it is entered.
     pub fn call(&mut self, place: u64, call: MasterCall) -> Result<MasterAnswer, MasterFault>
         ensures full { 4096 ≤ length self.old.entries → (result ≡ Err faults.ShiftFull) × (self.new ≡ self.old) }
         ensures entered { length self.old.entries < 4096 → (result ≡ Err faults.NoMemory) × (self.new ≡ self.old)
@@ -88,7 +89,7 @@ impl<S: PurgeStore> MasterBook<S> {
         told
     }
 
-    /// The entries since the book was opened or they were last taken.
+    /// The entries since the book was opened, or since they were last taken.
     pub fn entries(&self) -> &[MasterEntry]
         ensures value { result.now ≡ self.now.entries }
         ensures most { length self.now.entries ≤ 4096 }
@@ -96,7 +97,7 @@ impl<S: PurgeStore> MasterBook<S> {
         self.entries.as_slice()
     }
 
-    /// Takes the entries, so that none is left. It takes no memory.
+    /// Takes all entries out of the book. Allocates nothing.
     pub fn take_entries(&mut self) -> Vec<MasterEntry>
         ensures taken { result.items ≡ self.old.entries }
         ensures left { self.new ≡ record { master = self.old.master; entries = [] } }
@@ -104,7 +105,8 @@ impl<S: PurgeStore> MasterBook<S> {
         replace(&mut self.entries, Vec::new(self.alloc))
     }
 
-    /// The CLR of the pending purge of a number, if there is one, as `Master::message`. It is no call, and makes no entry.
+    /// The CLR of the pending purge with this number, as `Master::message` gives it. This is no
+    /// call, and is not entered.
     pub fn message(&self, number: u32) -> Result<Option<Htcp>, AllocError>
         ensures value { IfOk result (λ message. message ≡ message_of self.now.master.state.purges number) }
         ensures fits { IfOk result (λ message. IfSome message Fits) }
@@ -112,7 +114,7 @@ impl<S: PurgeStore> MasterBook<S> {
         self.master.message(number)
     }
 
-    /// The master. The entries are gone.
+    /// The master. The entries are dropped.
     pub fn into_master(self) -> Master<S>
         ensures { result ≡ self.master }
     {

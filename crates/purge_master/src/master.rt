@@ -17,12 +17,13 @@ use std::alloc::{AllocError, Global};
 use std::marker::Model;
 use url_key::Key;
 
-/// The greatest number of a purge.
+/// The last number that a purge can get.
 const LAST_NUMBER: u32 = 4294967295;
 
 /// A master of purges, over a store of them.
 ///
-/// A contract sees its members, its state, and the store.
+/// A contract sees its members, its state (the purges, and whether it is closed) and its store.
+/// While it is open, no call of its store has failed, and an honest store has committed its purges.
 #[derive(Drop)]
 pub struct Master<S: PurgeStore> {
     pub(crate) alloc: Global,
@@ -45,7 +46,7 @@ impl<S: PurgeStore> Model for Master<S> {
     ghost invariant = { λ m. IsTied m.closed m.purges (S.is_usable m.store) (S.is_honest m.store) (S.content m.store) };
 }
 
-/// What a call answers where the store answered so. A call that writes is never answered with `BadTable`.
+/// The fault of a call whose store returned this one. A store never returns `BadTable` to a write.
 fn fault_of(fault: PurgeFault) -> MasterFault
     ensures { result ≡ answer_to_fault fault }
 {
@@ -56,10 +57,13 @@ fn fault_of(fault: PurgeFault) -> MasterFault
 }
 
 impl<S: PurgeStore> Master<S> {
-    /// Gives a number to a purge of the key, and commits it. The members are told by `message`.
+    /// Gives the next number to a purge of the key, commits it, and returns the number. `message`
+    /// then gives the CLR to send.
     ///
-    /// Faults, in this order: `Closed`; `NumbersSpent` after the number 4294967295; `TooManyPending` where 1,024 purges are pending;
-    /// `StoreFault`, which closes the master; `NoMemory`, which closes it where the store answered it.
+    /// Errors: `Closed`, `NumbersSpent` after the number 4294967295, `TooManyPending` if 1,024
+    /// purges are pending; the first that holds, and nothing changes. Else `NoMemory` if an
+    /// allocation failed, which closes the master if it was the store's; or `StoreFault`, which
+    /// closes it.
     pub fn issue(&mut self, key: &Key) -> Result<u32, MasterFault>
         ensures { IsCalled (witness (S.is_honest self.old.store) (S.may_find self.old.store) (S.failed self.old.store))
             (witness (S.is_honest self.new.store) (S.may_find self.new.store) (S.failed self.new.store))
@@ -87,11 +91,15 @@ impl<S: PurgeStore> Master<S> {
         }
     }
 
-    /// A member responds to a CLR, with this TRANS-ID and this code. It answers with the purge that is done by it, if one is: the last
-    /// missing member has acknowledged it. A response of a stranger, of another code than 0 and 2, or for no pending purge changes
-    /// nothing, and neither does one that comes again; where no member is missing any more, as in a file of a larger roster, any of them makes the purge done.
+    /// Takes a member's response to a CLR, with its TRANS-ID and code (RFC 2756, section 6.5).
+    /// Commits what it changes, and returns the number of the purge that it has made done, if any.
     ///
-    /// Faults: `Closed`; `StoreFault`, which closes the master; `NoMemory`, which the store answers, and which closes the master.
+    /// It counts if the code is 0 or 2, the member is in the roster, and a purge with the number
+    /// TRANS-ID is pending. A member that was missing is marked; if then no member is missing, the
+    /// purge is done. A response that comes again changes nothing; but if no member is missing any
+    /// more, as in a file of a larger roster, it makes the purge done.
+    ///
+    /// Errors: `Closed`; `StoreFault` or `NoMemory` of the store, which close the master.
     pub fn acknowledge(
         &mut self,
         member: u8,
@@ -136,9 +144,10 @@ impl<S: PurgeStore> Master<S> {
         }
     }
 
-    /// Each pending purge with each member that is missing, by number and then by id: who is to be told again.
+    /// The number of each pending purge with the id of each missing member, by number and then by
+    /// id: the CLRs to send again. Changes nothing.
     ///
-    /// Faults: `Closed`, and `NoMemory`. Nothing changes.
+    /// Errors: `Closed`; `NoMemory` if an allocation failed.
     pub fn due(&self) -> Result<Listed<(u32, u8)>, MasterFault>
         ensures { Calls self.now.members self.now.state calls.Due (due_outcome result) self.now.state }
     {
@@ -148,7 +157,7 @@ impl<S: PurgeStore> Master<S> {
         Ok(self.purges.due(self.alloc, self.members)?)
     }
 
-    /// How far the purge of a number is, also of a closed master. It takes no memory.
+    /// How far the purge with this number is. A closed master tells it too. Allocates nothing.
     pub fn status(&self, number: u32) -> Status
         ensures value { result ≡ status_of self.now.members self.now.state.purges number }
         ensures call { Calls self.now.members self.now.state (calls.Status number) (Ok (answers.Status result)) self.now.state }
@@ -156,7 +165,8 @@ impl<S: PurgeStore> Master<S> {
         self.purges.status(self.members, number)
     }
 
-    /// The CLR of the pending purge of a number, if there is one, also of a closed master. It has a written text.
+    /// The CLR of the pending purge with this number, if there is one. A closed master gives it
+    /// too. `htcp_wire::encode` can write it (`fits`).
     pub fn message(&self, number: u32) -> Result<Option<Htcp>, AllocError>
         ensures value { IfOk result (λ message. message ≡ message_of self.now.state.purges number) }
         ensures fits { IfOk result (λ message. IfSome message Fits) }

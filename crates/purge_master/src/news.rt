@@ -1,21 +1,23 @@
-//! What an acknowledgement that counts changes.
+//! What the acknowledgement of a member of the roster changes.
 ghost use Rattle.std.specs.Prelude.{◌≤◌};
 ghost use Rattle.purge_master.specs.News.{IsNews};
 
 use purge_rules::{MemberSet, Purges};
 
-/// What an acknowledgement of a member of the roster changes.
+/// What the acknowledgement changes.
 #[derive(Clone, Copy)]
 pub(crate) enum News {
-    /// No purge is pending under its number, or the member had acknowledged it and others are missing.
+    /// Nothing: no purge with its number is pending, or the member is marked and others are
+    /// missing.
     Nothing,
-    /// The member was missing, and others are.
+    /// The member is marked now, and others are missing.
     Mark,
-    /// No member is missing any more.
+    /// No member is missing any more: the purge is done.
     Done,
 }
 
-/// What the acknowledgement of the purge of a number by a member, of an id of 1 to 16, changes.
+/// What it changes that this member, of an id of 1 to 16, acknowledges the purge with this number.
+/// Changes nothing itself.
 pub(crate) fn news_of(purges: &Purges, members: MemberSet, member: u8, number: u32) -> News
     requires { (1 ≤ member) × (member ≤ 16) }
     ensures { IsNews members purges.now member number result }

@@ -11,22 +11,23 @@ use roster::Roster;
 use std::alloc::Global;
 use thiserror::Error;
 
-/// Why a master was not opened.
+/// Why a master was not opened: what its store returned to the load.
 #[derive(Clone, Copy, Debug, PartialEq, Eq, Error)]
 pub enum MasterOpenFault {
-    /// The store failed.
+    /// The store failed, in an earlier call.
     #[error("the store failed")]
     StoreFault,
-    /// The store's file is not that of a master.
+    /// The store's file is not a master's file. `Master::open` never returns it, since a load does
+    /// not.
     #[error("the file is not that of a master")]
     BadTable,
-    /// A growth was refused.
+    /// An allocation failed.
     #[error("there was no memory")]
     NoMemory,
 }
 
 impl MasterOpenFault {
-    /// The name that scripts print.
+    /// The name of the fault, as scripts print it.
     pub const fn name(self) -> &'static str
         ensures { result.now ≡ open_fault_name self }
     {
@@ -38,7 +39,7 @@ impl MasterOpenFault {
     }
 }
 
-/// What an open answers where the store answered so.
+/// The fault of an open whose store returned this one.
 fn open_fault_of(fault: PurgeFault) -> MasterOpenFault
     ensures { result ≡ answer_to_fault fault }
 {
@@ -50,9 +51,10 @@ fn open_fault_of(fault: PurgeFault) -> MasterOpenFault
 }
 
 impl<S: PurgeStore + Drop> Master<S> {
-    /// The master of a roster's members, with the purges that its store has.
+    /// An open master of the roster's members, with the purges that its store loads.
     ///
-    /// Faults: those that the store answers to its load. The store is gone then, and is to be opened again.
+    /// Errors: `StoreFault`, only if an earlier call of the store failed; `NoMemory` if an
+    /// allocation failed. The store is dropped then.
     pub fn open(alloc: Global, roster: &Roster, mut store: S) -> Result<Master<S>, MasterOpenFault>
         ensures members { IfOk result (λ master. master.members ≡ members_of roster.now) }
         ensures state { IfOk result (λ master. S.is_honest master.store → master.state ≡ opened (S.content store)) }
@@ -75,14 +77,15 @@ impl<S: PurgeStore + Drop> Master<S> {
 }
 
 impl<S: PurgeStore> Master<S> {
-    /// Whether it is closed.
+    /// Whether the master is closed: a store that failed, or lacked memory for a write, has closed
+    /// it.
     pub fn is_closed(&self) -> bool
         ensures { result ≡ self.now.state.closed }
     {
         self.closed
     }
 
-    /// The store of purges, also that of a closed master. It takes no memory.
+    /// The store of its purges. A closed master gives it too. Allocates nothing.
     pub fn into_store(self) -> S
         ensures value { result ≡ self.store }
         ensures tied { IsTied self.state.closed self.state.purges (S.is_usable self.store) (S.is_honest self.store) (S.content self.store) }

@@ -1,4 +1,4 @@
-//! A master's calls, with each answer twice: for the caller and for the book.
+//! The calls of a master, each answer twice: for the caller and for the book.
 ghost use Rattle.std.specs.Prelude.{◌≡◌, ◌≢◌, Err};
 ghost use Rattle.purge_rules.specs.declared.calls.MasterCall.TheVariants as calls;
 ghost use Rattle.purge_rules.specs.declared.fault.MasterFault.TheVariants as faults;
@@ -10,11 +10,11 @@ use purge_rules::{MasterAnswer, MasterCall, MasterFault, PurgeStore};
 use roster_tables::Listed;
 use std::alloc::Global;
 
-/// What a call answers.
+/// What a call returns.
 type Outcome = Result<MasterAnswer, MasterFault>;
 
 impl<S: PurgeStore> Master<S> {
-    /// Makes a call, and answers twice the same.
+    /// Makes the call, and returns its outcome twice.
     pub(crate) fn outcome(&mut self, call: &MasterCall) -> (Outcome, Outcome)
         ensures same { result.1 ≡ result.0 }
         ensures called { IsCalled (witness (S.is_honest self.old.store) (S.may_find self.old.store) (S.failed self.old.store))
@@ -51,7 +51,7 @@ impl<S: PurgeStore> Master<S> {
         }
     }
 
-    /// What is due, twice. Where there is no memory for the second list, nothing is answered but that.
+    /// What is due, twice. If either list lacks memory, both outcomes are `NoMemory`.
     fn due_outcome(&self) -> (Outcome, Outcome)
         ensures same { result.1 ≡ result.0 }
         ensures call { Calls self.now.members self.now.state calls.Due result.0 self.now.state }

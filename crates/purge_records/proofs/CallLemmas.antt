@@ -1,4 +1,5 @@
--- What the calls that write do to a connection.
+-- What the writing calls do to a connection. A commit leaves what the transaction held, and `mark`
+-- commits by itself; so a crash finds the purges from before the call or from after it.
 use Rattle.std.proofs.Common.{◌≡◌, inl, inr, ℕ, false, [], None, Ok, Err, Result, IsTrue, OnOk, sym, ap, subst, ◌∙◌, append-nil, arith, ◌≤◌}
 use Rattle.sqlite_trees.specs.Tree.{Trees}
 use Rattle.sqlite_trees.specs.declared.store.Store.{Ghosts}

@@ -1,4 +1,5 @@
--- The test of an id, as nodes hold it.
+-- The CHECK of `last` as a list of nodes, each with the indices of its operands. It is the wanted
+-- term exactly if its operands are the wanted column and literal.
 use Rattle.std.proofs.Common.{◌≡◌, ℕ, suc, zero, ◌≤◌, List, length, slice_index_or, ap, sym, ◌∙◌, arith}
 use Rattle.sqlite.specs.declared.types.Value.{Value}
 use Rattle.sqlite.specs.declared.types.Value.TheVariants.{Null}

@@ -1,4 +1,6 @@
--- The rows of a master's file can be read.
+-- The rows of a master's file can all be read, so a row that cannot be read shows another file.
+-- Rows come in the order of their rowids, and no two have the same; so each is above the one before
+-- it.
 use Rattle.std.proofs.Common.{◌≡◌, inl, inr, ℕ, ℤ, suc, pos, ◌+◌, ◌<◌, ◌≤◌, Bool, true, false, List, [], ◌∷◌, map, find, get_or, Option, Some, None, refl, sym, ap, subst, ◌∙◌, arith}
 use Rattle.std.specs.List.{AllByRecursion, list_any}
 use Rattle.std.specs.List.Sorted.{IsSorted}

@@ -1,4 +1,5 @@
--- What the queries of an open show.
+-- What the four queries of an open show: each row of the table once, in the order asked for, if
+-- any. They have no filter, so each row gives one match; and a SELECT changes and commits nothing.
 use Rattle.std.proofs.Common.{◌≡◌, ℕ, ◌+◌, ◌<◌, false, List, [], ◌∷◌, map, drop, length, get_or, All, Ok, Err, Result, IfOk, OnOk, Vec, Global, refl, sym, ap, subst, ◌∙◌, arith}
 use Rattle.std.specs.List.Sorted.{IsPermutation, IsSorted}
 use Rattle.std.specs.Ordering.{is_lt, ordering_then}

@@ -1,4 +1,5 @@
--- What the statements that make the tables do.
+-- The statements that make the tables lead, one by one, from a blank file to a new master's file.
+-- Each text defines the table of `specs/Tables`, and a new table has no rows.
 use Rattle.std.proofs.Common.{◌≡◌, ℕ, pos, List, [], ◌∷◌, map, false, None, Ok, Err, Result, OnOk, IsTrue, refl, sym, ap, subst, ◌∙◌, arith}
 use Rattle.sqlite.specs.declared.types.Value.TheVariants.{Null, Int}
 use Rattle.sqlite_value.specs.Order.{Row}

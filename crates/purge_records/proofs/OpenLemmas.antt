@@ -1,4 +1,6 @@
--- A file that was read is ready, and one that is refused is no master's.
+-- A file that was read is a master's, and its connection is ready, since queries change nothing. A
+-- file that is refused is no master's, since the rows of a master's file can be read
+-- (`ExistLemmas`).
 use Rattle.std.proofs.Common.{◌≡◌, ◌≢◌, ◌<◌, ◌≤◌, ℕ, length, pos, inl, inr, subst, arith, List, [], ◌∷◌, map, None, Ok, Err, Result, IfOk, OnErr, IsErrAnd, sym}
 use Rattle.std.specs.List.Sorted.{IsPermutation}
 use Rattle.std.proofs.lemmas.List.Sorted.{IsPermutation-sym, length_permutation}

@@ -1,4 +1,5 @@
--- Purges in the order of their numbers.
+-- Purges sorted by number (`by_number`): sorting commutes with adding a purge above all others,
+-- with a change that keeps numbers, and with a filter; and it keeps the same purges.
 use Rattle.std.proofs.Common.{◌≡◌, ◌⊎◌, inl, inr, ◌<◌, ◌≤◌, nat_lt, Bool, true, false, cond, List, [], ◌∷◌, ◌++◌, map, filter, refl, sym, ap, ◌∙◌, arith}
 use Rattle.std.specs.List.{AllByRecursion}
 use Rattle.std.proofs.lemmas.Bool.{cases_Bool, lt-ltb, le-ltb, ltb-true, ltb-false}

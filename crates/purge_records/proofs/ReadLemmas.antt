@@ -1,4 +1,6 @@
--- What reading the rows in turn makes.
+-- Reading the rows in turn makes the purges that the tables mean. Numbers ascend, so two lists of
+-- the same purges are one list (`climbs_same`), in whatever order rows stand in the table. Each
+-- acknowledgement read marks its purge once, so at the end the marks are those of all rows.
 use Rattle.std.proofs.Common.{◌≡◌, ◌⊎◌, inl, inr, ℕ, ℤ, pos, ◌<◌, ◌≤◌, ◌==◌, nat_lt, Bool, true, false, ◌&&◌, ◌||◌, List, [], ◌∷◌, ◌++◌, map, Option, Some, None, refl, sym, ap, subst, ◌∙◌, append-nil, append_assoc, arith}
 use Rattle.std.specs.List.{AllByRecursion, list_any, IsDistinct}
 use Rattle.std.specs.List.Sorted.{IsPermutation}

@@ -1,4 +1,6 @@
--- What a row more or less makes of the purges.
+-- What one row more or less makes of the purges: a new last number, a purge, an acknowledgement,
+-- and their removal. Each keeps the rows valid and is the change of `purge_rules` (`with_purge`,
+-- `with_mark`, `without_purge`).
 use Rattle.std.proofs.Common.{◌≡◌, inl, inr, ℕ, ℤ, pos, ◌<◌, ◌≤◌, ◌==◌, Bool, true, false, not, ◌&&◌, ◌||◌, cond, List, [], ◌∷◌, ◌++◌, map, filter, Option, Some, None, refl, sym, ap, subst, ◌∙◌, arith}
 use Rattle.std.specs.List.{AllByRecursion, list_any}
 use Rattle.std.specs.Ordering.{is_eq, match_ordering, int_cmp}

@@ -1,4 +1,5 @@
--- What the parts of a statement do to the trees.
+-- What an INSERT, UPDATE or DELETE leaves: one edit of one table, since no foreign key acts and no
+-- table counts its rowids (AUTOINCREMENT).
 use Rattle.std.proofs.Common.{◌≡◌, ℕ, false, List, [], None, Option, Ok, IsTrue, sym, ap, subst, ◌∙◌}
 use Rattle.sqlite_value.specs.Order.{Row}
 use Rattle.sqlite_trees.specs.Tree.{Trees}

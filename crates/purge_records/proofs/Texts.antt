@@ -1,4 +1,5 @@
--- What the texts mean.
+-- What SQLite understands by each text of a statement: the parser, run on the text, gives the
+-- command or the table stated here. Each holds by computing (`refl`).
 use Rattle.std.proofs.Common.{◌≡◌, ℕ, pos, negsuc, List, [], ◌∷◌, codes, false, None, Ok, refl}
 use Rattle.sqlite.specs.declared.types.Value.TheVariants.{Null, Int}
 use Rattle.sqlite.specs.Term.{lit, col, op2}

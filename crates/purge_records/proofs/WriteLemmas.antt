@@ -1,4 +1,5 @@
--- What the statements that write purges do to a master's database.
+-- What the statements of `add`, `mark` and `finish` do to a master's file: each edits one table and
+-- leaves the others (`StepLemmas`), and the rows after it mean the changed purges (`RowLemmas`).
 use Rattle.std.proofs.Common.{◌≡◌, ℕ, ℤ, pos, ◌<◌, ◌≤◌, ◌==◌, ◌^◌, Bool, true, false, not, ◌&&◌, cond, List, [], ◌∷◌, map, filter, length, Option, None, Ok, Err, Result, OnOk, IsTrue, refl, sym, ap, subst, ◌∙◌, arith}
 use Rattle.std.specs.List.{AllByRecursion}
 use Rattle.std.specs.List.Sorted.{IsPermutation}

@@ -1,11 +1,11 @@
--- What errors of the database are told as.
+-- Errors of the database as faults of the store.
 use Rattle.sqlite.specs.declared.error.ErrorCode.TheVariants as code
 use Rattle.sqlite.specs.declared.error.Error.{Error}
 use Rattle.sqlite.specs.declared.error.Error.TheVariants.{SqliteFailure}
 use Rattle.purge_rules.specs.declared.fault.PurgeFault.{PurgeFault}
 use Rattle.purge_rules.specs.declared.fault.PurgeFault.TheVariants.{StoreFault, NoMemory}
 
--- want of memory, and anything else as a failure of the store
+-- `NoMemory` if the database lacked memory; any other error is `StoreFault`
 abbrev pub told_as : Error → PurgeFault
 told_as (SqliteFailure code.OutOfMemory) = NoMemory
 told_as _ = StoreFault

@@ -1,4 +1,4 @@
--- What reading the rows of a master's file gives.
+-- What a query shows of the rows of a master's file, and what reading them in turn gives.
 use Rattle.std.specs.Prelude.{◌≡◌, ◌≤◌, ◌<◌, ◌⊎◌, ℤ, pos, Option, Some, None, Result, IfErr, List, [], ◌∷◌, map, length, IsPermutation, IsSorted, ⊤}
 use Rattle.std.specs.declared.cmp.Ordering.TheVariants.{Less}
 use Rattle.sqlite.specs.declared.types.Value.TheVariants.{Int, Text as Words}
@@ -12,11 +12,11 @@ use Rattle.purge_rules.specs.declared.fault.PurgeFault.{PurgeFault}
 use Rattle.purge_rules.specs.declared.fault.PurgeFault.TheVariants.{BadTable, NoMemory}
 use Rattle.purge_records.specs.Tables.{number_of, url_of, ack_number, ack_member, purges_in, IsLast, AreTables}
 
--- rows are refused for what they are, or for want of memory
+-- reading fails only with `BadTable` or `NoMemory`
 abbrev pub IsReadFault : {A : Type 0} → Result A PurgeFault → Type 0
 IsReadFault result = IfErr result (λ fault. (fault ≡ BadTable) ⊎ (fault ≡ NoMemory))
 
--- a row that a purge may be: a number of 1 to 4294967295, and a url that is its own key's text
+-- the row is a purge: a number of 1 to 4294967295, and a url that is its own key
 pub record IsPurgeRow (row : Row) : Type 0 where
   pub number : rowid row ≡ Int (pos (number_of row))
   pub low : 1 ≤ number_of row
@@ -24,12 +24,12 @@ pub record IsPurgeRow (row : Row) : Type 0 where
   pub url : column row 2 ≡ Words (url_of row)
   pub key : IsKey (url_of row)
 
--- each row is a purge's, with a number above each before it, and is added in turn
+-- each row is a purge with a number above each before it; it is added in turn
 abbrev pub Adds : PurgeList → List Row → PurgeList → Type 0
 Adds purges [] all = all ≡ purges
 Adds purges (row ∷ rows) all = IsPurgeRow row × (purges.last < number_of row) × Adds (with_purge purges (number_of row) (url_of row)) rows all
 
--- a row that an ack may be: a rowid, a number and a member
+-- the row is an acknowledgement: a number and a member of 1 to 16
 pub record IsAckRow (row : Row) : Type 0 where
   pub number : column row 1 ≡ Int (pos (ack_number row))
   pub given : ack_number row ≤ 4294967295
@@ -37,32 +37,33 @@ pub record IsAckRow (row : Row) : Type 0 where
   pub low : 1 ≤ ack_member row
   pub high : ack_member row ≤ 16
 
--- the rowid is above this one, if there is one
+-- the rowid is above this one, if one is given
 abbrev pub IsAbove : Option ℤ → Row → Type 0
 IsAbove None row = ⊤
 IsAbove (Some low) row = value_cmp (Int low) (rowid row) ≡ Less
 
--- each row is an ack that a pending purge misses, with a rowid above those before it
+-- each row is an acknowledgement that its pending purge misses, with a rowid above each before it;
+-- it is marked in turn
 abbrev pub Marks : Option ℤ → PurgeList → List Row → PurgeList → Type 0
 Marks low purges [] all = all ≡ purges
 Marks low purges (row ∷ rows) all =
     (id : ℤ) × (rowid row ≡ Int id) × IsAbove low row × IsAckRow row × Misses purges (ack_number row) (ack_member row)
     × Marks (Some id) (with_mark purges (ack_number row) (ack_member row)) rows all
 
--- what a query shows of a row of `pending`: its number twice, and its url
+-- what the query shows of a row of `pending`: its number twice (it is the rowid), and its url
 abbrev pub shown_pending : Row → Row
 shown_pending row = rowid row ∷ rowid row ∷ column row 2 ∷ []
 
--- and of a row of `acks`: its rowid, its number and its member
+-- what the query shows of a row of `acks`: rowid, number, member
 abbrev pub shown_ack : Row → Row
 shown_ack row = rowid row ∷ column row 1 ∷ column row 2 ∷ []
 
--- the rows in an order in which their rowids do not fall
+-- the rows of the table, in an order in which rowids do not fall
 pub record RisesFrom (table rows : List Row) : Type 0 where
   pub same : IsPermutation table rows
   pub rises : IsSorted (λ a b. value_cmp (rowid a) (rowid b)) rows
 
--- the rows of `pending` are these purges, with no member marked
+-- the rows of `pending` are these purges, at most 1,024, with no member marked
 abbrev pub HasAdded : List Row → PurgeList → Type 0
 HasAdded table purges = (rows : List Row) × RisesFrom (map shown_pending table) rows × Adds no_purges rows purges × (length table ≤ 1024)
 
@@ -75,11 +76,11 @@ pub record HasUnmarked (trees : Trees) (purges : PurgeList) : Type 0 where
   pub high : purges.last ≤ 4294967295
   pub is : purges ≡ given_to added purges.last
 
--- the rows of `acks` mark the purges so
+-- the rows of `acks` mark the first purges so that the second result
 abbrev pub HasMarked : List Row → PurgeList → PurgeList → Type 0
 HasMarked table before after = (rows : List Row) × RisesFrom (map shown_ack table) rows × Marks None before rows after
 
--- the tables are those of a master with these purges, at most 1,024
+-- the tables are a master's, with these purges, at most 1,024
 pub record IsRead (trees : Trees) (purges : PurgeList) : Type 0 where
   pub tables : AreTables trees
   pub few : length (trees 2) ≤ 1024

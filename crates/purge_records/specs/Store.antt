@@ -1,4 +1,4 @@
--- A connection over a master's file.
+-- A connection over a master's file, and the store as contracts see it.
 use Rattle.std.specs.Prelude.{◌≡◌, ℕ, Bool, false, List, IsTrue, refl}
 use Rattle.std.specs.Coded.{Coded, code_by, coded×, coded_ℕ, coded_bool, coded_list}
 use Rattle.sqlite_trees.specs.Tree.{Trees}
@@ -11,13 +11,13 @@ use Rattle.purge_rules.specs.Purges.{PurgeList}
 use Rattle.purge_numbers.specs.Rows.{HasVersionOne}
 use Rattle.purge_records.specs.Tables.{master_schema, purges_in, AreTables}
 
--- it has just the tables of a master, in version 1, with rows of a master
+-- it has exactly a master's tables, the version 1, and valid rows
 pub record IsMaster (db : Database) : Type 0 where
   pub schema : db.schema ≡ master_schema
   pub version : HasVersionOne (db.trees 0)
   pub tables : AreTables db.trees
 
--- it is open, outside a transaction, and holds a master's purges
+-- it is open, outside a transaction, with nothing uncommitted, and holds a master's purges
 pub record IsReady (s : State) : Type 0 where
   pub is_open : IsTrue s.is_open
   pub autocommit : s.in_transaction ≡ false
@@ -28,18 +28,19 @@ pub record IsReady (s : State) : Type 0 where
 abbrev pub committed_purges : State → PurgeList
 committed_purges s = purges_in s.committed.trees
 
--- an open after a crash at this moment may find these purges
+-- an open may find these purges after a crash at this moment
 abbrev pub MayFind : State → PurgeList → Type 0
 MayFind s purges = (trees : Trees) × s.may_leave trees × (purges ≡ purges_in trees)
 
--- the durable purges: a connection, the copy of its purges in memory, whether no call has failed, and how many calls were answered with `StoreFault`
+-- the store as contracts see it: the connection, the copy of its purges in memory, whether no call
+-- has failed, and how many calls have returned `StoreFault`
 pub record Durable (S : Type 0) : Type 0 where
   pub conn : Held S
   pub purges : PurgeList
   pub is_usable : Bool
   pub failures : ℕ
 
--- a purge as a code
+-- a purge as a code, which a contract's type needs
 abbrev pub purge_code : Coded Purge
 purge_code = code_by (ℕ × (List ℕ × List ℕ)) (coded× coded_ℕ (coded× (coded_list coded_ℕ) (coded_list coded_ℕ)))
     (λ p. (p.number, (p.key, p.marked))) (λ c. record { number = c.0; key = c.1.0; marked = c.1.1 }) (λ _. refl)
@@ -48,13 +49,13 @@ purge_code = code_by (ℕ × (List ℕ × List ℕ)) (coded× coded_ℕ (coded×
 abbrev pub purges_code : Coded PurgeList
 purges_code = code_by (ℕ × List Purge) (coded× coded_ℕ (coded_list purge_code)) (λ p. (p.last, p.pending)) (λ c. record { last = c.0; pending = c.1 }) (λ _. refl)
 
--- durable purges as a code
+-- the store as a code
 abbrev pub durable_code : {S : Type 0} → Coded S → Coded (Durable S)
 durable_code {S} store =
     code_by (Held S × (PurgeList × (Bool × ℕ))) (coded× (held_code store) (coded× purges_code (coded× coded_bool coded_ℕ)))
     (λ d. (d.conn, (d.purges, (d.is_usable, d.failures)))) (λ p. record { conn = p.0; purges = p.1.0; is_usable = p.1.1.0; failures = p.1.1.1 }) (λ _. refl)
 
--- the connection is ready, and the purges are those that it committed
+-- the connection is ready, and these purges are the committed ones
 pub record AreIn (s : State) (purges : PurgeList) : Type 0 where
   pub ready : IsReady s
   pub same : purges ≡ committed_purges s

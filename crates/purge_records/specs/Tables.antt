@@ -1,4 +1,6 @@
--- The tables of a master's file.
+-- The tables of a master's file, as SQLite's schema has them; the purges that their rows mean;
+-- which rows may stand there. The text of the tables stands in `src/making.rt`; `form` is that of
+-- `purge_numbers`.
 use Rattle.std.specs.Prelude.{◌≡◌, ◌≤◌, ℕ, ℤ, pos, Bool, true, false, ◌&&◌, ◌==◌, nat_lt, List, [], ◌∷◌, map, filter, Some, None, codes, if◌then◌else◌}
 use Rattle.std.specs.List.{AllByRecursion, list_any}
 use Rattle.std.specs.Ordering.{is_eq}
@@ -21,11 +23,11 @@ use Rattle.purge_rules.specs.Members.{possible_ids}
 use Rattle.purge_rules.specs.Purges.{PurgeList}
 use Rattle.purge_numbers.specs.Tables.{form_table}
 
--- the id is 1
+-- the CHECK of `last`: the id is 1
 abbrev pub id_check : Term
 id_check = op2 (Compare Eq Binary) (col 1 0) (lit (Int (pos 1)))
 
--- the last number that was given
+-- `last`: the last number that was given
 abbrev pub last_table : Table
 last_table = record {
   name = codes "last";
@@ -43,7 +45,7 @@ last_table = record {
   is_counted = false;
 }
 
--- the purges that are not done; the number is the rowid
+-- `pending`: the number of a pending purge, which is the rowid, and its url
 abbrev pub pending_table : Table
 pending_table = record {
   name = codes "pending";
@@ -61,7 +63,7 @@ pending_table = record {
   is_counted = false;
 }
 
--- which member has acknowledged which of them
+-- `acks`: which member has acknowledged which pending purge
 abbrev pub acks_table : Table
 acks_table = record {
   name = codes "acks";
@@ -79,25 +81,26 @@ acks_table = record {
   is_counted = false;
 }
 
--- the index that keeps each pair of a number and a member once
+-- the index that SQLite makes for the primary key of `acks`; it keeps each pair of number and
+-- member once
 abbrev pub ack_index : Index
 ack_index = automatic acks_table 0 (1 ∷ 2 ∷ []) 4
 
--- the first two tables
+-- a file with `form` and `last`
 abbrev pub last_schema : Schema
 last_schema = record { tables = form_table ∷ last_table ∷ []; indexes = []; views = [] }
 
--- the first three tables
+-- a file with `form`, `last` and `pending`
 abbrev pub pending_schema : Schema
 pending_schema = record { tables = form_table ∷ last_table ∷ pending_table ∷ []; indexes = []; views = [] }
 
--- all tables of a master's file
+-- a master's file: all four tables and the index
 abbrev pub master_schema : Schema
 master_schema = record { tables = form_table ∷ last_table ∷ pending_table ∷ acks_table ∷ []; indexes = ack_index ∷ []; views = [] }
 
 -- ---- what the rows say
 
--- the number in the row of `last`
+-- the number in the first row of `last`, 0 if there is none
 abbrev pub last_in : List Row → ℕ
 last_in [] = 0
 last_in (row ∷ rows) = number_in (column row 2)
@@ -110,27 +113,27 @@ number_of row = number_in (rowid row)
 abbrev pub url_of : Row → List ℕ
 url_of row = bytes (column row 2)
 
--- the number of the purge that an ack is for
+-- the number of the purge that a row of `acks` is for
 abbrev pub ack_number : Row → ℕ
 ack_number row = number_in (column row 1)
 
--- the member that an ack is from
+-- the member that a row of `acks` is from
 abbrev pub ack_member : Row → ℕ
 ack_member row = number_in (column row 2)
 
--- the row is this member's ack of the purge of this number
+-- the row is this member's acknowledgement of the purge of this number
 abbrev pub is_ack : ℕ → ℕ → Row → Bool
 is_ack number member row = (ack_number row == number) && (ack_member row == member)
 
--- the members that have acknowledged a purge, by id
+-- the members that have acknowledged the purge of this number, by id
 abbrev pub marks_in : List Row → ℕ → List ℕ
 marks_in acks number = filter (λ id. list_any (is_ack number id) acks) possible_ids
 
--- the purge of a row of `pending`
+-- the purge that a row of `pending` means, with these acknowledgements
 abbrev pub purge_in : List Row → Row → Purge
 purge_in acks row = record { number = number_of row; key = url_of row; marked = marks_in acks (number_of row) }
 
--- the purges, and one more before the first that has a higher number
+-- the purges with one more, before the first that has a higher number
 abbrev pub in_place : Purge → List Purge → List Purge
 in_place p [] = p ∷ []
 in_place p (q ∷ qs) = if nat_lt p.number q.number then p ∷ q ∷ qs else q ∷ in_place p qs
@@ -140,25 +143,25 @@ abbrev pub by_number : List Purge → List Purge
 by_number [] = []
 by_number (p ∷ ps) = in_place p (by_number ps)
 
--- the purges of the rows of `last`, `pending` and `acks`
+-- the purges that the rows of `last`, `pending` and `acks` mean
 abbrev pub purges_of : List Row → List Row → List Row → PurgeList
 purges_of last pending acks = record { last = last_in last; pending = by_number (map (purge_in acks) pending) }
 
--- the purges that a file's trees hold: none where there are no tables
+-- the purges in the trees of a file: none if there are no tables
 abbrev pub purges_in : Trees → PurgeList
 purges_in trees = purges_of (trees 1) (trees 2) (trees 3)
 
 -- ---- which rows may stand there
 
--- what a query shows of the row of `last`: its id and its number
+-- what the query shows of a row of `last`: id, which is the rowid, and number
 abbrev pub shown_last : Row → Row
 shown_last row = rowid row ∷ column row 2 ∷ []
 
--- the one row of `last` has the id 1 and this number
+-- `last` has one row, of id 1 with this number
 abbrev pub IsLast : ℕ → List Row → Type 0
 IsLast number rows = map shown_last rows ≡ (Int (pos 1) ∷ Int (pos number) ∷ []) ∷ []
 
--- a number from 1 to the last one, and a url that is its own key's text
+-- the row is a pending purge: a number of 1 to the last one, and a url that is its own key
 pub record IsPending (last : ℕ) (row : Row) : Type 0 where
   pub number : rowid row ≡ Int (pos (number_of row))
   pub low : 1 ≤ number_of row
@@ -170,7 +173,7 @@ pub record IsPending (last : ℕ) (row : Row) : Type 0 where
 abbrev pub is_purge : ℕ → Row → Bool
 is_purge number row = number_of row == number
 
--- a rowid, the number of a pending purge and a member's id
+-- the row is an acknowledgement: a rowid, the number of a pending purge, and a member of 1 to 16
 pub record IsAck (pending : List Row) (row : Row) : Type 0 where
   pub id : (id : ℤ) × (rowid row ≡ Int id)
   pub number : column row 1 ≡ Int (pos (ack_number row))
@@ -183,11 +186,11 @@ pub record IsAck (pending : List Row) (row : Row) : Type 0 where
 abbrev pub HasOwnIds : List Row → Type 0
 HasOwnIds = IsAscending (λ a b. is_eq (value_cmp (rowid a) (rowid b)) ≡ false)
 
--- no two rows are the same ack
+-- no two rows have the same number and member
 abbrev pub HasOwnAcks : List Row → Type 0
 HasOwnAcks = IsAscending (λ a b. is_ack (ack_number a) (ack_member a) b ≡ false)
 
--- the rows of `last`, `pending` and `acks` are those of a master
+-- the rows of `last`, `pending` and `acks` are valid rows of a master's file
 pub record AreRows (one rows marks : List Row) : Type 0 where
   pub last : IsLast (last_in one) one
   pub high : last_in one ≤ 4294967295
@@ -197,6 +200,6 @@ pub record AreRows (one rows marks : List Row) : Type 0 where
   pub ids : HasOwnIds marks
   pub once : HasOwnAcks marks
 
--- the tables in a file's trees are those of a master
+-- the trees of a file hold valid rows of a master's file
 abbrev pub AreTables : Trees → Type 0
 AreTables trees = AreRows (trees 1) (trees 2) (trees 3)

@@ -1,4 +1,4 @@
-//! Purges in a file of SQLite.
+//! The store of purges in a SQLite file.
 ghost use Rattle.std.specs.Prelude.{◌≡◌, ◌≢◌, false, None, IsTrue, IfOk, IfErr};
 ghost use Rattle.sqlite.specs.State.{HasCleanDisk};
 ghost use Rattle.sqlite.specs.Held.{state};
@@ -14,9 +14,11 @@ use std::alloc::Global;
 use std::marker::Model;
 use url_key::Key;
 
-/// Purges in the tables of a connection, with a copy in memory that a load hands out.
+/// Purges in the tables of a connection, with a copy in memory.
 ///
-/// A contract sees the connection, that copy, whether no call has failed, and how many calls were answered with `StoreFault`.
+/// A contract sees the connection, the copy, whether no call has failed, and how many calls have
+/// returned `StoreFault`. While no call has failed and the disk is honest, the copy is what the
+/// last commit left.
 #[derive(Drop)]
 pub struct SqlitePurges<S: Alter> {
     conn: Connection<S>,
@@ -38,13 +40,22 @@ impl<S: Alter> Model for SqlitePurges<S> {
 }
 
 impl<S: Alter> SqlitePurges<S> {
-    /// Opens a master's file: makes the tables where there are none, and reads the purges.
+    /// Opens a master's file: makes the tables if the file is blank, and reads the purges. A blank
+    /// file has no table, index or view. Lifts the connection's step limit, if it has one.
     ///
-    /// `BadTable` comes where the connection has an open transaction, where the tables are not those of a master, where the
-    /// version is not 1, where there is no row with the last number (0 to 4294967295), where a row is no pending purge (a number
-    /// of 1 to the last one, a text that is its own key) or no ack (the number of a pending purge, a member of 1 to 16), and where
-    /// there are more than 1,024 purges. A file with nothing in it is never answered so, unless a transaction is open.
-    /// `StoreFault` and `NoMemory` come where the connection fails so. A limit on steps that the connection had is lifted.
+    /// Errors, with the connection:
+    ///
+    /// - `BadTable`: the connection has an open transaction; the tables are not exactly a master's;
+    ///   the version is not 1; `last` is not one row of id 1 with a number of 0 to 4294967295; a
+    ///   row of `pending` is no purge (a number of 1 to the last one, a text that is its own key);
+    ///   a row of `acks` is no acknowledgement (the number of a pending purge, a member of 1 to 16,
+    ///   no rowid or pair twice); or there are more than 1,024 purges. Never for a blank file
+    ///   without an open transaction.
+    /// - `StoreFault`: the database failed.
+    /// - `NoMemory`: an allocation failed, here or in the database.
+    ///
+    /// After either outcome a crash leaves what it could leave before, or no purges if the file was
+    /// blank.
     pub fn open(
         alloc: Global,
         mut conn: Connection<S>,
@@ -68,7 +79,7 @@ impl<S: Alter> SqlitePurges<S> {
         }
     }
 
-    /// The connection, which can be closed or opened again.
+    /// The connection, to close it or to open the file again.
     pub fn into_connection(self) -> Connection<S>
         ensures { result ≡ self.conn }
     {

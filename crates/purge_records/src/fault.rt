@@ -1,11 +1,11 @@
-//! Faults of the store.
+//! Errors of the database as faults of the store.
 ghost use Rattle.std.specs.Prelude.{◌≡◌, ◌⊎◌};
 ghost use Rattle.purge_records.specs.Faults.{told_as};
 
 use purge_rules::PurgeFault;
 use sqlite::{Error, ErrorCode};
 
-/// What a failure of the connection is told as.
+/// `NoMemory` if the database lacked memory, else `StoreFault`.
 pub(crate) fn fault_of(error: Error) -> PurgeFault
     ensures told { result ≡ told_as error }
     ensures named { (result ≡ PurgeFault.NoMemory) ⊎ (result ≡ PurgeFault.StoreFault) }

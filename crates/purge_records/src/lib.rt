@@ -1,4 +1,54 @@
-//! The purges of a master in a file of SQLite, which outlives a restart.
+//! The purges of a master in a SQLite file: `SqlitePurges`, a store by the contract `PurgeStore` of
+//! `purge_rules`.
+//!
+//! `SqlitePurges` owns a connection of the kit's `sqlite`, over any storage that it can write
+//! (`Alter`), and keeps a copy of the purges in memory beside it. It reads the file in `open`
+//! alone. Later `load` returns a copy of that copy, and only a change runs statements.
+//!
+//! | Call | Statements that it runs |
+//! |---|---|
+//! | `open` of a blank file | makes four tables and two rows in one transaction, then reads |
+//! | `open` of a master's file | one SELECT of each of the four tables |
+//! | `add` | in one transaction: UPDATE of the last number, INSERT of the purge |
+//! | `mark` | INSERT of the acknowledgement, which commits by itself |
+//! | `finish` | in one transaction: DELETE of the acknowledgements, DELETE of the purge |
+//! | `load`, `failures`, `into_connection` | none |
+//!
+//! No transaction stays open between calls; a connection with an open one is refused. If a
+//! statement fails, its transaction rolls back. A change is made in the copy first and then
+//! committed. If that fails, the copy may be ahead of the file. So after `StoreFault`, or
+//! `NoMemory` from a call that writes, each call but `failures` and `into_connection` returns
+//! `StoreFault` until the file is opened again.
+//!
+//! The file has four STRICT tables: `form` for the version, `last`, `pending` and `acks`;
+//! `docs/FORMATS.md` has their text. A purge that is done has no row. The table `form` is that of a
+//! node's file: its definitions and the proof that makes it come from `purge_numbers`
+//! (`form_table`, `HasVersionOne`, `IsFormed`, `Makes`; `proofs/MakeLemmas`), its text stands in
+//! `src/making.rt`.
+//!
+//! Read in this order:
+//!
+//! 1. `specs/Tables.antt`: the tables, the purges that rows mean (`purges_in`), and which rows may
+//!    stand there (`AreTables`). `specs/Rows.antt`: what a query shows of rows, and reading in
+//!    turn.
+//! 2. `specs/Store.antt`: a connection over a master's file. `specs/Making.antt`: how a blank file
+//!    gets its tables, which files open, and what an open finds.
+//! 3. `specs/Writing.antt`: what holds between the statements of a transaction.
+//!    `specs/Faults.antt`: how errors of the database are reported.
+//! 4. `src/durable.rt`: the store. `src/opening.rt`: opens and reads the file. `src/making.rt`:
+//!    makes it. `src/tables.rt`: compares its schema. `src/rows.rt`: reads its rows.
+//!    `src/writing.rt`: `add`, `mark` and `finish`. `src/fault.rt`: errors of the database as
+//!    faults.
+//! 5. `proofs/Lib.antt`: the proofs, in order.
+//!
+//! A second form of the file goes into `specs/Tables`, `specs/Making`, `src/making.rt` and
+//! `src/opening.rt` with their statements (`proofs/Texts`), and its schema into `src/tables.rt`.
+//!
+//! A contract sees a `SqlitePurges` as its connection, the copy, whether no call has failed, and
+//! the count of failures (`Durable`). The crate touches nothing but the connection.
+//!
+//! Not promised: that `StoreFault` from a write has its cause in the database. The contract demands
+//! only that `failures` rises or stands at its maximum.
 #![tactic(auto)]
 
 mod durable;

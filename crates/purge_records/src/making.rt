@@ -1,4 +1,5 @@
-//! Making the tables of a master's file.
+//! Makes the tables of a master's file, in one transaction. Each function states what its statement
+//! leads from and to, by `specs/Making`.
 ghost use Rattle.std.specs.Prelude.{◌≡◌, ◌≢◌, ◌⊎◌, false, IsTrue, OnOk, Err};
 ghost use Rattle.sqlite.specs.State.{HasCleanDisk, Survives};
 ghost use Rattle.sqlite.specs.Held.{state};
@@ -13,6 +14,7 @@ use purge_rules::PurgeFault;
 use sqlite::{Alter, Connection, Error, Transaction};
 use sqlite_schema::schema::Schema;
 
+/// Makes the table `form`, as in a node's file.
 fn create_form<S: Alter>(tx: &mut Transaction<'_, S>) -> Result<usize, Error>
     ensures same_reference { tx.new.conn.ghost_name ≡ tx.old.conn.ghost_name }
     ensures made { OnOk result (HasCleanDisk (state S.Store tx.new.conn.now) → Makes IsBlank IsFormed (state S.Store tx.old.conn.now) (state S.Store tx.new.conn.now)) }
@@ -24,6 +26,7 @@ fn create_form<S: Alter>(tx: &mut Transaction<'_, S>) -> Result<usize, Error>
     )
 }
 
+/// Makes the table `last`.
 fn create_last<S: Alter>(tx: &mut Transaction<'_, S>) -> Result<usize, Error>
     ensures same_reference { tx.new.conn.ghost_name ≡ tx.old.conn.ghost_name }
     ensures made { OnOk result (HasCleanDisk (state S.Store tx.new.conn.now) → Makes IsFormed HasLast (state S.Store tx.old.conn.now) (state S.Store tx.new.conn.now)) }
@@ -35,6 +38,7 @@ fn create_last<S: Alter>(tx: &mut Transaction<'_, S>) -> Result<usize, Error>
     )
 }
 
+/// Makes the table `pending`.
 fn create_pending<S: Alter>(tx: &mut Transaction<'_, S>) -> Result<usize, Error>
     ensures same_reference { tx.new.conn.ghost_name ≡ tx.old.conn.ghost_name }
     ensures made { OnOk result (HasCleanDisk (state S.Store tx.new.conn.now) → Makes HasLast HasPending (state S.Store tx.old.conn.now) (state S.Store tx.new.conn.now)) }
@@ -46,6 +50,7 @@ fn create_pending<S: Alter>(tx: &mut Transaction<'_, S>) -> Result<usize, Error>
     )
 }
 
+/// Makes the table `acks`.
 fn create_acks<S: Alter>(tx: &mut Transaction<'_, S>) -> Result<usize, Error>
     ensures same_reference { tx.new.conn.ghost_name ≡ tx.old.conn.ghost_name }
     ensures made { OnOk result (HasCleanDisk (state S.Store tx.new.conn.now) → Makes HasPending IsUnversioned (state S.Store tx.old.conn.now) (state S.Store tx.new.conn.now)) }
@@ -57,7 +62,7 @@ fn create_acks<S: Alter>(tx: &mut Transaction<'_, S>) -> Result<usize, Error>
     )
 }
 
-/// Writes the one row of the table of versions.
+/// Writes the one row of `form`, the version 1.
 fn name_version<S: Alter>(tx: &mut Transaction<'_, S>) -> Result<usize, Error>
     ensures same_reference { tx.new.conn.ghost_name ≡ tx.old.conn.ghost_name }
     ensures made { OnOk result (HasCleanDisk (state S.Store tx.new.conn.now) → Makes IsUnversioned IsUnnumbered (state S.Store tx.old.conn.now) (state S.Store tx.new.conn.now)) }
@@ -66,7 +71,7 @@ fn name_version<S: Alter>(tx: &mut Transaction<'_, S>) -> Result<usize, Error>
     tx.execute("INSERT INTO form (version) VALUES (1)", &[])
 }
 
-/// Writes the one row of the table of the last number.
+/// Writes the one row of `last`, the number 0.
 fn start_numbers<S: Alter>(tx: &mut Transaction<'_, S>) -> Result<usize, Error>
     ensures same_reference { tx.new.conn.ghost_name ≡ tx.old.conn.ghost_name }
     ensures made { OnOk result (HasCleanDisk (state S.Store tx.new.conn.now) → Makes IsUnnumbered IsUnused (state S.Store tx.old.conn.now) (state S.Store tx.new.conn.now)) }
@@ -75,7 +80,7 @@ fn start_numbers<S: Alter>(tx: &mut Transaction<'_, S>) -> Result<usize, Error>
     tx.execute("INSERT INTO last (id, number) VALUES (1, 0)", &[])
 }
 
-/// Makes the first three tables.
+/// Makes `form`, `last` and `pending`.
 fn make_first<S: Alter>(tx: &mut Transaction<'_, S>) -> Result<(), Error>
     ensures same_reference { tx.new.conn.ghost_name ≡ tx.old.conn.ghost_name }
     ensures made { OnOk result (HasCleanDisk (state S.Store tx.new.conn.now) → Makes IsBlank HasPending (state S.Store tx.old.conn.now) (state S.Store tx.new.conn.now)) }
@@ -87,7 +92,7 @@ fn make_first<S: Alter>(tx: &mut Transaction<'_, S>) -> Result<(), Error>
     Ok(())
 }
 
-/// Makes the last table, and the rows that a new file has.
+/// Makes `acks`, and the rows of a new file.
 fn make_rest<S: Alter>(tx: &mut Transaction<'_, S>) -> Result<(), Error>
     ensures same_reference { tx.new.conn.ghost_name ≡ tx.old.conn.ghost_name }
     ensures made { OnOk result (HasCleanDisk (state S.Store tx.new.conn.now) → Makes HasPending IsUnused (state S.Store tx.old.conn.now) (state S.Store tx.new.conn.now)) }
@@ -99,7 +104,8 @@ fn make_rest<S: Alter>(tx: &mut Transaction<'_, S>) -> Result<(), Error>
     Ok(())
 }
 
-/// Makes the tables of a master, with the version, the last number 0 and no purge.
+/// Makes a master's tables with the version 1, the last number 0 and no purge, in the open
+/// transaction.
 fn fill<S: Alter>(tx: &mut Transaction<'_, S>) -> Result<(), Error>
     ensures same_reference { tx.new.conn.ghost_name ≡ tx.old.conn.ghost_name }
     ensures made { OnOk result (HasCleanDisk (state S.Store tx.new.conn.now) → Makes IsBlank IsUnused (state S.Store tx.old.conn.now) (state S.Store tx.new.conn.now)) }
@@ -109,7 +115,7 @@ fn fill<S: Alter>(tx: &mut Transaction<'_, S>) -> Result<(), Error>
     make_rest(tx)
 }
 
-/// Makes the tables, in one transaction.
+/// Makes the tables and commits them, in one transaction.
 fn make_tables<S: Alter>(conn: &mut Connection<S>) -> Result<(), Error>
     ensures made { OnOk result (HasCleanDisk (state S.Store conn.new) → IsBlank (state S.Store conn.old).now → IsMade (state S.Store conn.new)) }
     ensures survives { Survives (state S.Store conn.old) (state S.Store conn.new) (λ trees. (state S.Store conn.old).now.schema ≡ empty_schema → purges_in trees ≡ no_purges) }
@@ -122,7 +128,7 @@ fn make_tables<S: Alter>(conn: &mut Connection<S>) -> Result<(), Error>
     tx.commit()
 }
 
-/// There is no table, no index and no view.
+/// Whether there is no table, no index and no view.
 fn is_blank(schema: &Schema) -> bool
     ensures yes { IsTrue result → schema.now ≡ empty_schema }
     ensures no { result ≡ false → schema.now ≢ empty_schema }
@@ -130,7 +136,7 @@ fn is_blank(schema: &Schema) -> bool
     schema.tables.is_empty() && schema.indexes.is_empty() && schema.views.is_empty()
 }
 
-/// Makes the tables in a file that has none.
+/// Makes the tables if the file is blank; else does nothing.
 pub(crate) fn make_where_blank<S: Alter>(conn: &mut Connection<S>) -> Result<(), PurgeFault>
     requires { (state S.Store conn.old).in_transaction ≡ false }
     ensures done { OnOk result ((IsBlank (state S.Store conn.old).now × (HasCleanDisk (state S.Store conn.new) → IsMade (state S.Store conn.new))) ⊎ ((¬ IsBlank (state S.Store conn.old).now) × (conn.new ≡ conn.old))) }

@@ -1,4 +1,5 @@
-//! Opening a master's file.
+//! Opens a master's file: has its tables made if it is blank, checks schema and version, reads the
+//! rows.
 ghost use Rattle.std.specs.Prelude.{◌≡◌, ◌≢◌, ◌≤◌, ◌∷◌, [], ℕ, false, pos, map, IsPermutation, IsTrue, IfOk, IfSome, OnOk, None, Err};
 ghost use Rattle.sqlite.specs.State.{HasCleanDisk, Survives, IsUnchanged};
 ghost use Rattle.sqlite.specs.Held.{state};
@@ -20,7 +21,7 @@ use sqlite::{Alter, Connection, Error, Row};
 use sqlite_value::value::ValueRef;
 use std::alloc::Global;
 
-/// All rows of the table of versions.
+/// All rows of `form`.
 fn version_rows<S: Alter>(conn: &mut Connection<S>) -> Result<Vec<Row>, Error>
     requires { HasCleanDisk (state S.Store conn.old) → (state S.Store conn.old).now.schema ≡ master_schema }
     ensures rows { IfOk result (λ rows. HasCleanDisk (state S.Store conn.new) → IsPermutation (map shown_version ((state S.Store conn.old).now.trees 0)) rows.items) }
@@ -30,7 +31,7 @@ fn version_rows<S: Alter>(conn: &mut Connection<S>) -> Result<Vec<Row>, Error>
     conn.query_all("SELECT version FROM form", &[])
 }
 
-/// All rows of the table of the last number.
+/// All rows of `last`.
 fn last_rows<S: Alter>(conn: &mut Connection<S>) -> Result<Vec<Row>, Error>
     requires { HasCleanDisk (state S.Store conn.old) → (state S.Store conn.old).now.schema ≡ master_schema }
     ensures rows { IfOk result (λ rows. HasCleanDisk (state S.Store conn.new) → IsPermutation (map shown_last ((state S.Store conn.old).now.trees 1)) rows.items) }
@@ -40,7 +41,7 @@ fn last_rows<S: Alter>(conn: &mut Connection<S>) -> Result<Vec<Row>, Error>
     conn.query_all("SELECT id, number FROM last", &[])
 }
 
-/// All rows of the table of pending purges, by number.
+/// All rows of `pending`, by number.
 fn pending_rows<S: Alter>(conn: &mut Connection<S>) -> Result<Vec<Row>, Error>
     requires { HasCleanDisk (state S.Store conn.old) → (state S.Store conn.old).now.schema ≡ master_schema }
     ensures rows { IfOk result (λ rows. HasCleanDisk (state S.Store conn.new) → RisesFrom (map shown_pending ((state S.Store conn.old).now.trees 2)) rows.items) }
@@ -53,7 +54,7 @@ fn pending_rows<S: Alter>(conn: &mut Connection<S>) -> Result<Vec<Row>, Error>
     )
 }
 
-/// All rows of the table of acks, by rowid.
+/// All rows of `acks`, by rowid.
 fn ack_rows<S: Alter>(conn: &mut Connection<S>) -> Result<Vec<Row>, Error>
     requires { HasCleanDisk (state S.Store conn.old) → (state S.Store conn.old).now.schema ≡ master_schema }
     ensures rows { IfOk result (λ rows. HasCleanDisk (state S.Store conn.new) → RisesFrom (map shown_ack ((state S.Store conn.old).now.trees 3)) rows.items) }
@@ -63,7 +64,7 @@ fn ack_rows<S: Alter>(conn: &mut Connection<S>) -> Result<Vec<Row>, Error>
     conn.query_all("SELECT rowid, number, member FROM acks ORDER BY rowid", &[])
 }
 
-/// The one version that stands there is 1.
+/// Whether these rows are one row with the version 1.
 fn is_version_one(rows: &[Row]) -> bool
     ensures yes { IsTrue result → rows.now ≡ (Int (pos 1) ∷ []) ∷ [] }
     ensures no { result ≡ false → rows.now ≢ (Int (pos 1) ∷ []) ∷ [] }
@@ -80,7 +81,7 @@ fn is_version_one(rows: &[Row]) -> bool
     }
 }
 
-/// The number of the one row that stands there, which has the id 1.
+/// The number, of 32 bits, if these rows are one row of id 1.
 fn last_of(rows: &[Row]) -> Option<u32>
     ensures some { IfSome result (λ number. rows.now ≡ (Int (pos 1) ∷ Int (pos number) ∷ []) ∷ []) }
     ensures none { result ≡ None → (number : ℕ) → number ≤ 4294967295 → rows.now ≢ (Int (pos 1) ∷ Int (pos number) ∷ []) ∷ [] }
@@ -97,7 +98,7 @@ fn last_of(rows: &[Row]) -> Option<u32>
     }
 }
 
-/// Refuses a file whose version is another, or that has none.
+/// Refuses a file unless `form` has one row, the version 1.
 fn check_version<S: Alter>(conn: &mut Connection<S>) -> Result<(), PurgeFault>
     requires { HasCleanDisk (state S.Store conn.old) → (state S.Store conn.old).now.schema ≡ master_schema }
     ensures version { OnOk result (HasCleanDisk (state S.Store conn.new) → HasVersionOne ((state S.Store conn.old).now.trees 0)) }
@@ -112,7 +113,7 @@ fn check_version<S: Alter>(conn: &mut Connection<S>) -> Result<(), PurgeFault>
     }
 }
 
-/// Reads the last number that was given.
+/// Reads the last number. `BadTable` unless `last` has one row, of id 1 with a number of 32 bits.
 fn read_last<S: Alter>(conn: &mut Connection<S>) -> Result<u32, PurgeFault>
     requires { HasCleanDisk (state S.Store conn.old) → (state S.Store conn.old).now.schema ≡ master_schema }
     ensures last { IfOk result (λ number. HasCleanDisk (state S.Store conn.new) → IsLast number ((state S.Store conn.old).now.trees 1)) }
@@ -129,7 +130,7 @@ fn read_last<S: Alter>(conn: &mut Connection<S>) -> Result<u32, PurgeFault>
     }
 }
 
-/// Reads the pending purges, with no member marked.
+/// Reads the pending purges, with no member marked yet.
 fn read_pending<S: Alter>(conn: &mut Connection<S>, alloc: Global) -> Result<Purges, PurgeFault>
     requires { HasCleanDisk (state S.Store conn.old) → (state S.Store conn.old).now.schema ≡ master_schema }
     ensures added { IfOk result (λ purges. HasCleanDisk (state S.Store conn.new) → HasAdded ((state S.Store conn.old).now.trees 2) purges) }
@@ -144,7 +145,8 @@ fn read_pending<S: Alter>(conn: &mut Connection<S>, alloc: Global) -> Result<Pur
     }
 }
 
-/// Reads the last number and the pending purges, with no member marked.
+/// Reads the last number and the pending purges, with no member marked yet. A purge above the last
+/// number is `BadTable`.
 fn read_unmarked<S: Alter>(conn: &mut Connection<S>, alloc: Global) -> Result<Purges, PurgeFault>
     requires { HasCleanDisk (state S.Store conn.old) → (state S.Store conn.old).now.schema ≡ master_schema }
     ensures unmarked { IfOk result (λ purges. HasCleanDisk (state S.Store conn.new) → HasUnmarked (state S.Store conn.old).now.trees purges) }
@@ -161,7 +163,7 @@ fn read_unmarked<S: Alter>(conn: &mut Connection<S>, alloc: Global) -> Result<Pu
     Ok(purges)
 }
 
-/// Reads the acks, and marks the members of the purges by them.
+/// Reads the acknowledgements, and marks the purges by them.
 fn read_acks<S: Alter>(conn: &mut Connection<S>, purges: &mut Purges) -> Result<(), PurgeFault>
     requires { HasCleanDisk (state S.Store conn.old) → (state S.Store conn.old).now.schema ≡ master_schema }
     ensures marked { OnOk result (HasCleanDisk (state S.Store conn.new) → HasMarked ((state S.Store conn.old).now.trees 3) purges.old purges.new) }
@@ -176,7 +178,7 @@ fn read_acks<S: Alter>(conn: &mut Connection<S>, purges: &mut Purges) -> Result<
     }
 }
 
-/// Reads the purges.
+/// Reads `last`, `pending` and `acks`.
 fn read_purges<S: Alter>(conn: &mut Connection<S>, alloc: Global) -> Result<Purges, PurgeFault>
     requires { HasCleanDisk (state S.Store conn.old) → (state S.Store conn.old).now.schema ≡ master_schema }
     ensures read { IfOk result (λ purges. HasCleanDisk (state S.Store conn.new) → IsRead (state S.Store conn.old).now.trees purges) }
@@ -189,7 +191,7 @@ fn read_purges<S: Alter>(conn: &mut Connection<S>, alloc: Global) -> Result<Purg
     Ok(purges)
 }
 
-/// Reads the purges of a file that has the tables of a master, in their one version.
+/// Checks the version, and reads the purges. The caller has checked the schema.
 fn read_tables<S: Alter>(conn: &mut Connection<S>, alloc: Global) -> Result<Purges, PurgeFault>
     requires { HasCleanDisk (state S.Store conn.old) → (state S.Store conn.old).now.schema ≡ master_schema }
     ensures read { IfOk result (λ purges. HasCleanDisk (state S.Store conn.new) → HasVersionOne ((state S.Store conn.old).now.trees 0) × IsRead (state S.Store conn.old).now.trees purges) }
@@ -201,7 +203,7 @@ fn read_tables<S: Alter>(conn: &mut Connection<S>, alloc: Global) -> Result<Purg
     read_purges(conn, alloc)
 }
 
-/// Reads the purges of a master's file.
+/// Refuses an open transaction or another schema; else checks the version and reads the purges.
 fn read_file<S: Alter>(conn: &mut Connection<S>, alloc: Global) -> Result<Purges, PurgeFault>
     ensures kept { IfOk result (λ purges. HasCleanDisk (state S.Store conn.new) → AreIn (state S.Store conn.new) purges) }
     ensures file { OnOk result (HasCleanDisk (state S.Store conn.new) → IsMasterFile (state S.Store conn.old)) }
@@ -218,7 +220,8 @@ fn read_file<S: Alter>(conn: &mut Connection<S>, alloc: Global) -> Result<Purges
     read_tables(conn, alloc)
 }
 
-/// Makes the tables where there are none, and reads the purges.
+/// Opens the file: lifts the step limit, refuses an open transaction, makes the tables if the file
+/// is blank, and reads the purges.
 pub(crate) fn open_file<S: Alter>(
     conn: &mut Connection<S>,
     alloc: Global,

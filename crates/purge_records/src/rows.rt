@@ -1,4 +1,5 @@
-//! Reading the rows of a master's file.
+//! Reads the rows of a master's file: purges by ascending number, then acknowledgements by
+//! ascending rowid. So one pass sees a number, a rowid or an acknowledgement that stands twice.
 ghost use Rattle.std.specs.Prelude.{◌≡◌, ◌≢◌, ◌≤◌, ◌<◌, ℕ, ℤ, pos, List, false, None, Some, Err, IsTrue, IfOk, IfSome, OnOk, OnErr};
 ghost use Rattle.sqlite.specs.declared.types.Value.TheVariants.{Int, Text as Words};
 ghost use Rattle.sqlite_value.specs.Order.{column};
@@ -15,7 +16,7 @@ use sqlite_value::value::ValueRef;
 use std::alloc::Global;
 use url_key::{Key, KeyFault};
 
-/// The key of a text that is its own key.
+/// The key of a text. A text that is not its own key is `BadTable`.
 fn own_key(alloc: Global, text: &[u8]) -> Result<Key, PurgeFault>
     ensures ok { IfOk result (λ key. (key ≡ text.now) × IsKey text.now) }
     ensures bad { result ≡ Err PurgeFault.BadTable → ¬ IsKey text.now }
@@ -28,7 +29,7 @@ fn own_key(alloc: Global, text: &[u8]) -> Result<Key, PurgeFault>
     }
 }
 
-/// The key in the third column.
+/// The key in the column `url`, the third of the query.
 fn key_in(alloc: Global, row: &Row) -> Result<Key, PurgeFault>
     ensures ok { IfOk result (λ key. (column row.now 2 ≡ Words key) × IsKey key) }
     ensures bad { result ≡ Err PurgeFault.BadTable → (url : List ℕ) → IsKey url → column row.now 2 ≢ Words url }
@@ -40,7 +41,7 @@ fn key_in(alloc: Global, row: &Row) -> Result<Key, PurgeFault>
     }
 }
 
-/// The number of 32 bits in the column.
+/// The number in this column, if it is one of 0 to 4294967295.
 pub(crate) fn number_in(row: &Row, at: usize) -> Option<u32>
     ensures some { IfSome result (λ number. column row.now at ≡ Int (pos number)) }
     ensures none { result ≡ None → (number : ℕ) → number ≤ 4294967295 → column row.now at ≢ Int (pos number) }
@@ -51,7 +52,8 @@ pub(crate) fn number_in(row: &Row, at: usize) -> Option<u32>
     }
 }
 
-/// Adds the purge of one row. Its number is above each before it.
+/// Adds the purge of one row. A row that is no purge, or whose number is not above each before it,
+/// is `BadTable`.
 fn add_row(purges: &mut Purges, alloc: Global, row: &Row) -> Result<(), PurgeFault>
     ensures ok { OnOk result (IsPurgeRow row.now × (purges.old.last < number_of row.now) × (purges.new ≡ with_purge purges.old (number_of row.now) (url_of row.now))) }
     ensures bad { result ≡ Err PurgeFault.BadTable → IsPurgeRow row.now → ¬ (purges.old.last < number_of row.now) }
@@ -68,7 +70,7 @@ fn add_row(purges: &mut Purges, alloc: Global, row: &Row) -> Result<(), PurgeFau
     Ok(())
 }
 
-/// The purges of all rows, in the order of their numbers.
+/// The purges of all rows, each added in turn.
 pub(crate) fn purges_of(alloc: Global, rows: &[Row]) -> Result<Purges, PurgeFault>
     ensures ok { IfOk result (λ purges. Adds no_purges rows.now purges) }
     ensures bad { result ≡ Err PurgeFault.BadTable → (all : PurgeList) → ¬ Adds no_purges rows.now all }
@@ -81,7 +83,7 @@ pub(crate) fn purges_of(alloc: Global, rows: &[Row]) -> Result<Purges, PurgeFaul
     Ok(purges)
 }
 
-/// Whether the purge of the number is pending, and the member has not acknowledged it.
+/// Whether the purge with this number is pending, and the member has not acknowledged it.
 pub(crate) fn is_missed(purges: &Purges, number: u32, member: u8) -> bool
     ensures yes { IsTrue result → Misses purges.now number member }
     ensures no { result ≡ false → ¬ Misses purges.now number member }
@@ -92,7 +94,7 @@ pub(crate) fn is_missed(purges: &Purges, number: u32, member: u8) -> bool
     }
 }
 
-/// The id of a member in the third column.
+/// The member in the third column, if it is one of 1 to 16.
 fn member_in(row: &Row) -> Option<u8>
     ensures some { IfSome result (λ member. (column row.now 2 ≡ Int (pos member)) × (1 ≤ member) × (member ≤ 16)) }
     ensures none { result ≡ None → (member : ℕ) → 1 ≤ member → member ≤ 16 → column row.now 2 ≢ Int (pos member) }
@@ -106,7 +108,7 @@ fn member_in(row: &Row) -> Option<u8>
     u8::try_from(member).ok()
 }
 
-/// The rowid in the first column, which is above the one before it.
+/// The rowid in the first column, if it is above the one before it.
 fn next_id(row: &Row, low: Option<i64>) -> Option<i64>
     ensures some { IfSome result (λ id. (rowid row.now ≡ Int id) × IsAbove low row.now) }
     ensures none { result ≡ None → IsAbove low row.now → (id : ℤ) → rowid row.now ≢ Int id }
@@ -120,7 +122,8 @@ fn next_id(row: &Row, low: Option<i64>) -> Option<i64>
     }
 }
 
-/// Marks the member of one row, and answers its rowid.
+/// Marks the member of one row, and returns its rowid. `BadTable` for a row that is no
+/// acknowledgement of a pending purge, or stands twice.
 fn mark_row(purges: &mut Purges, low: Option<i64>, row: &Row) -> Result<i64, PurgeFault>
     ensures ok { IfOk result (λ id. (rowid row.now ≡ Int id) × IsAbove low row.now × IsAckRow row.now × Misses purges.old (ack_number row.now) (ack_member row.now) × (purges.new ≡ with_mark purges.old (ack_number row.now) (ack_member row.now))) }
     ensures bad { OnErr result ((id : ℤ) → rowid row.now ≡ Int id → IsAbove low row.now → IsAckRow row.now → ¬ Misses purges.old (ack_number row.now) (ack_member row.now)) }
@@ -139,7 +142,7 @@ fn mark_row(purges: &mut Purges, low: Option<i64>, row: &Row) -> Result<i64, Pur
     Ok(id)
 }
 
-/// Marks the members of all rows, whose rowids rise.
+/// Marks the members of all rows, whose rowids ascend.
 pub(crate) fn mark_all(purges: &mut Purges, rows: &[Row]) -> Result<(), PurgeFault>
     ensures ok { OnOk result (Marks None purges.old rows.now purges.new) }
     ensures bad { OnErr result ((all : PurgeList) → ¬ Marks None purges.old rows.now all) }

@@ -1,4 +1,9 @@
-//! The tables of a master's file, as the schema of a connection has them.
+//! Whether the schema of a connection is that of a master's file (`master_schema` of
+//! `specs/Tables`).
+//!
+//! `is_master_schema`, the last, is what `opening.rt` calls; the functions before it compare the
+//! parts. In keys and tests place 0 of a row is its rowid, and its columns follow from place 1. The
+//! schema's expressions are lists of nodes, in which an operator names its operands by index.
 ghost use Rattle.std.specs.Prelude.{◌≡◌, ◌≢◌, ℕ, pos, ◌∷◌, [], true, false, not, Some, None, IsTrue, IfSome, slice_index_or};
 ghost use Rattle.sqlite.specs.declared.types.Value.TheVariants.{Null, Int};
 ghost use Rattle.sqlite.specs.Collation.TheVariants.{Binary};
@@ -15,6 +20,7 @@ use sqlite_sql::ops::{BinaryOp, CompareOp};
 use sqlite_value::keys::{Collation, Order};
 use sqlite_value::value::{Bytes, Value};
 
+/// Whether the name is this one, octet by octet.
 fn is_named(name: &Bytes, wanted: &[u8]) -> bool
     ensures yes { IsTrue result → name.now ≡ wanted.now }
     ensures no { result ≡ false → ¬ (name.now ≡ wanted.now) }
@@ -22,7 +28,7 @@ fn is_named(name: &Bytes, wanted: &[u8]) -> bool
     name.as_slice() == wanted
 }
 
-/// The one place is this.
+/// Whether the list has this column alone.
 fn is_place(places: &Items<usize>, wanted: usize) -> bool
     ensures yes { IsTrue result → places.now ≡ wanted ∷ [] }
     ensures no { result ≡ false → ¬ (places.now ≡ wanted ∷ []) }
@@ -30,7 +36,7 @@ fn is_place(places: &Items<usize>, wanted: usize) -> bool
     places.as_slice() == [wanted].as_slice()
 }
 
-/// The two places are 1 and 2.
+/// Whether the list has the first two columns alone.
 fn is_pair(places: &Items<usize>) -> bool
     ensures yes { IsTrue result → places.now ≡ 1 ∷ 2 ∷ [] }
     ensures no { result ≡ false → ¬ (places.now ≡ 1 ∷ 2 ∷ []) }
@@ -38,7 +44,8 @@ fn is_pair(places: &Items<usize>) -> bool
     places.as_slice() == [1usize, 2].as_slice()
 }
 
-/// A column of a STRICT table with no default.
+/// Whether this is such a column of a STRICT table, with no default and in the order of plain
+/// octets.
 fn is_column(column: &Column, name: &[u8], kind: Kind, not_null: bool) -> bool
     ensures yes { IsTrue result → column.now ≡ record { name = name.now; kind = kind; is_strict = true; not_null = not_null; default = Null; collation = Binary } }
     ensures no { result ≡ false → ¬ (column.now ≡ record { name = name.now; kind = kind; is_strict = true; not_null = not_null; default = Null; collation = Binary }) }
@@ -52,7 +59,8 @@ fn is_column(column: &Column, name: &[u8], kind: Kind, not_null: bool) -> bool
         && column.collation == Collation::Binary
 }
 
-/// A table with no foreign key, no computed default and no AUTOINCREMENT.
+/// Whether the table has no foreign key, no computed default, no default that reads the time and no
+/// AUTOINCREMENT.
 fn is_plain(table: &Table) -> bool
     ensures yes { IsTrue result → (table.now.references ≡ []) × (table.now.computed ≡ []) × (table.now.stamps ≡ record { places = []; terms = []; formats = [] }) × IsTrue (not table.now.is_counted) }
     ensures no { result ≡ false → ¬ ((table.now.references ≡ []) × (table.now.computed ≡ []) × (table.now.stamps ≡ record { places = []; terms = []; formats = [] }) × IsTrue (not table.now.is_counted)) }
@@ -65,6 +73,7 @@ fn is_plain(table: &Table) -> bool
         && !table.is_counted
 }
 
+/// Whether there is no expression.
 fn has_no_terms(terms: &Terms) -> bool
     ensures yes { IsTrue result → terms.now ≡ [] }
     ensures no { result ≡ false → ¬ (terms.now ≡ []) }
@@ -72,7 +81,7 @@ fn has_no_terms(terms: &Terms) -> bool
     terms.roots.is_empty()
 }
 
-/// A table whose rows are keyed by a rowid that is their first column, and with no UNIQUE.
+/// Whether the first column is the rowid and the primary key, and there is no UNIQUE.
 fn has_rowid_key(table: &Table) -> bool
     ensures yes { IsTrue result → (table.now.key ≡ Some 0) × (table.now.primary ≡ 0 ∷ []) × (table.now.uniques ≡ []) × (table.now.orders ≡ []) }
     ensures no { result ≡ false → ¬ ((table.now.key ≡ Some 0) × (table.now.primary ≡ 0 ∷ []) × (table.now.uniques ≡ []) × (table.now.orders ≡ [])) }
@@ -83,7 +92,7 @@ fn has_rowid_key(table: &Table) -> bool
         && table.orders.is_empty()
 }
 
-/// The first column is the rowid.
+/// Whether the first column is the rowid (INTEGER PRIMARY KEY).
 fn is_rowid(key: Option<usize>) -> bool
     ensures yes { IsTrue result → key ≡ Some 0 }
     ensures no { result ≡ false → ¬ (key ≡ Some 0) }
@@ -91,7 +100,7 @@ fn is_rowid(key: Option<usize>) -> bool
     matches!(key, Some(0))
 }
 
-/// The only order is that of plain octets.
+/// Whether there is one order, that of plain octets.
 fn is_plain_order(orders: &Items<Order>) -> bool
     ensures yes { IsTrue result → orders.now ≡ record { digits = 0 } ∷ [] }
     ensures no { result ≡ false → ¬ (orders.now ≡ record { digits = 0 } ∷ []) }
@@ -102,7 +111,7 @@ fn is_plain_order(orders: &Items<Order>) -> bool
     order.digits == 0
 }
 
-/// The only one is that of both columns.
+/// Whether there is one UNIQUE, of the first two columns.
 fn is_unique_pair(uniques: &Items<Items<usize>>) -> bool
     ensures yes { IsTrue result → uniques.now ≡ (1 ∷ 2 ∷ []) ∷ [] }
     ensures no { result ≡ false → ¬ (uniques.now ≡ (1 ∷ 2 ∷ []) ∷ []) }
@@ -113,6 +122,7 @@ fn is_unique_pair(uniques: &Items<Items<usize>>) -> bool
     is_pair(places)
 }
 
+/// Whether the node is the rowid of the row, the column `id`.
 fn is_id(node: &Op) -> bool
     ensures yes { IsTrue result → node.now ≡ op.Column 1 0 }
     ensures no { result ≡ false → ¬ (node.now ≡ op.Column 1 0) }
@@ -123,6 +133,7 @@ fn is_id(node: &Op) -> bool
     }
 }
 
+/// Whether the node is the integer 1.
 fn is_one(node: &Op) -> bool
     ensures yes { IsTrue result → node.now ≡ op.Literal (Int (pos 1)) }
     ensures no { result ≡ false → ¬ (node.now ≡ op.Literal (Int (pos 1))) }
@@ -133,6 +144,7 @@ fn is_one(node: &Op) -> bool
     }
 }
 
+/// As `is_id`, of the node at this index; false behind the last.
 fn is_id_at(nodes: &[Op], at: usize) -> bool
     ensures yes { IsTrue result → slice_index_or nodes.now at (op.Literal Null) ≡ op.Column 1 0 }
     ensures no { result ≡ false → slice_index_or nodes.now at (op.Literal Null) ≢ op.Column 1 0 }
@@ -140,6 +152,7 @@ fn is_id_at(nodes: &[Op], at: usize) -> bool
     at < nodes.len() && is_id(&nodes[at])
 }
 
+/// As `is_one`, of the node at this index; false behind the last.
 fn is_one_at(nodes: &[Op], at: usize) -> bool
     ensures yes { IsTrue result → slice_index_or nodes.now at (op.Literal Null) ≡ op.Literal (Int (pos 1)) }
     ensures no { result ≡ false → slice_index_or nodes.now at (op.Literal Null) ≢ op.Literal (Int (pos 1)) }
@@ -147,7 +160,7 @@ fn is_one_at(nodes: &[Op], at: usize) -> bool
     at < nodes.len() && is_one(&nodes[at])
 }
 
-/// The places of the two operands, where this is a test for equality.
+/// The indices of both operands, if the node is a test for equality.
 fn operands(node: &Op) -> Option<(usize, usize)>
     ensures some { IfSome result (λ places. node.now ≡ op.Binary (BinaryOp.Compare CompareOp.Eq Binary) places.0 places.1) }
     ensures none { result ≡ None → (left right : ℕ) → node.now ≢ op.Binary (BinaryOp.Compare CompareOp.Eq Binary) left right }
@@ -161,6 +174,7 @@ fn operands(node: &Op) -> Option<(usize, usize)>
     }
 }
 
+/// As `operands`, of the node at this index; `None` behind the last.
 fn operands_at(nodes: &[Op], at: usize) -> Option<(usize, usize)>
     ensures some { IfSome result (λ places. slice_index_or nodes.now at (op.Literal Null) ≡ op.Binary (BinaryOp.Compare CompareOp.Eq Binary) places.0 places.1) }
     ensures none { result ≡ None → (left right : ℕ) → slice_index_or nodes.now at (op.Literal Null) ≢ op.Binary (BinaryOp.Compare CompareOp.Eq Binary) left right }
@@ -172,7 +186,7 @@ fn operands_at(nodes: &[Op], at: usize) -> Option<(usize, usize)>
     }
 }
 
-/// The test at this place that the id is 1.
+/// Whether the node at this index is the test that the id is 1.
 fn is_id_check_at(nodes: &[Op], at: usize) -> bool
     ensures yes { IsTrue result → term_in nodes.now at ≡ id_check }
     ensures no { result ≡ false → term_in nodes.now at ≢ id_check }
@@ -186,7 +200,7 @@ fn is_id_check_at(nodes: &[Op], at: usize) -> bool
     is_id_at(nodes, left) && is_one_at(nodes, right)
 }
 
-/// The only one is the test that the id is 1.
+/// Whether there is one CHECK, that the id is 1.
 fn is_id_check(terms: &Terms) -> bool
     ensures yes { IsTrue result → terms.now ≡ id_check ∷ [] }
     ensures no { result ≡ false → terms.now ≢ id_check ∷ [] }
@@ -197,6 +211,7 @@ fn is_id_check(terms: &Terms) -> bool
     is_id_check_at(terms.nodes.as_slice(), *root)
 }
 
+/// Whether the column is that of `form`: `version`.
 fn has_version_column(columns: &Items<Column>) -> bool
     ensures yes { IsTrue result → columns.now ≡ form_table.columns }
     ensures no { result ≡ false → ¬ (columns.now ≡ form_table.columns) }
@@ -207,6 +222,7 @@ fn has_version_column(columns: &Items<Column>) -> bool
     is_column(version, b"version".as_slice(), Kind::Integer, false)
 }
 
+/// Whether this is the table `form`.
 fn is_form(table: &Table) -> bool
     ensures yes { IsTrue result → table.now ≡ form_table }
     ensures no { result ≡ false → ¬ (table.now ≡ form_table) }
@@ -220,6 +236,7 @@ fn is_form(table: &Table) -> bool
     has_no_terms(&table.checks) && is_plain(table)
 }
 
+/// Whether the columns are those of `last`: `id` and `number`.
 fn has_last_columns(columns: &Items<Column>) -> bool
     ensures yes { IsTrue result → columns.now ≡ last_table.columns }
     ensures no { result ≡ false → ¬ (columns.now ≡ last_table.columns) }
@@ -231,6 +248,7 @@ fn has_last_columns(columns: &Items<Column>) -> bool
         && is_column(number, b"number".as_slice(), Kind::Integer, true)
 }
 
+/// Whether this is the table `last`.
 fn is_last(table: &Table) -> bool
     ensures yes { IsTrue result → table.now ≡ last_table }
     ensures no { result ≡ false → ¬ (table.now ≡ last_table) }
@@ -244,6 +262,7 @@ fn is_last(table: &Table) -> bool
     is_id_check(&table.checks) && is_plain(table)
 }
 
+/// Whether the columns are those of `pending`: `number` and `url`.
 fn has_pending_columns(columns: &Items<Column>) -> bool
     ensures yes { IsTrue result → columns.now ≡ pending_table.columns }
     ensures no { result ≡ false → ¬ (columns.now ≡ pending_table.columns) }
@@ -255,6 +274,7 @@ fn has_pending_columns(columns: &Items<Column>) -> bool
         && is_column(url, b"url".as_slice(), Kind::Text, true)
 }
 
+/// Whether this is the table `pending`.
 fn is_pending(table: &Table) -> bool
     ensures yes { IsTrue result → table.now ≡ pending_table }
     ensures no { result ≡ false → ¬ (table.now ≡ pending_table) }
@@ -268,6 +288,7 @@ fn is_pending(table: &Table) -> bool
     has_no_terms(&table.checks) && is_plain(table)
 }
 
+/// Whether the columns are those of `acks`: `number` and `member`.
 fn has_ack_columns(columns: &Items<Column>) -> bool
     ensures yes { IsTrue result → columns.now ≡ acks_table.columns }
     ensures no { result ≡ false → ¬ (columns.now ≡ acks_table.columns) }
@@ -279,7 +300,7 @@ fn has_ack_columns(columns: &Items<Column>) -> bool
         && is_column(member, b"member".as_slice(), Kind::Integer, true)
 }
 
-/// A table whose rows have a rowid of their own, and one pair that no other row has.
+/// Whether the rows have a rowid of their own, and both columns are the primary key.
 fn has_pair_key(table: &Table) -> bool
     ensures yes { IsTrue result → (table.now.key ≡ None) × (table.now.primary ≡ 1 ∷ 2 ∷ []) × (table.now.uniques ≡ (1 ∷ 2 ∷ []) ∷ []) × (table.now.orders ≡ record { digits = 0 } ∷ []) }
     ensures no { result ≡ false → ¬ ((table.now.key ≡ None) × (table.now.primary ≡ 1 ∷ 2 ∷ []) × (table.now.uniques ≡ (1 ∷ 2 ∷ []) ∷ []) × (table.now.orders ≡ record { digits = 0 } ∷ [])) }
@@ -290,6 +311,7 @@ fn has_pair_key(table: &Table) -> bool
         && is_plain_order(&table.orders)
 }
 
+/// Whether this is the table `acks`.
 fn is_acks(table: &Table) -> bool
     ensures yes { IsTrue result → table.now ≡ acks_table }
     ensures no { result ≡ false → ¬ (table.now ≡ acks_table) }
@@ -303,6 +325,8 @@ fn is_acks(table: &Table) -> bool
     has_no_terms(&table.checks) && is_plain(table)
 }
 
+/// Whether this is the index that SQLite makes for the primary key of `acks` (SQLite, "Database
+/// File Format", on internal indexes).
 fn is_ack_index(index: &Index) -> bool
     ensures yes { IsTrue result → index.now ≡ ack_index }
     ensures no { result ≡ false → ¬ (index.now ≡ ack_index) }
@@ -319,7 +343,7 @@ fn is_ack_index(index: &Index) -> bool
     index.is_unique
 }
 
-/// Whether these are the tables of a master's file, and there are no others.
+/// Whether the schema has the tables of a master's file and their index, and nothing else.
 pub(crate) fn is_master_schema(schema: &Schema) -> bool
     ensures yes { IsTrue result → schema.now ≡ master_schema }
     ensures no { result ≡ false → ¬ (schema.now ≡ master_schema) }

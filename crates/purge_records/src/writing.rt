@@ -1,4 +1,7 @@
-//! The calls of the database that write purges.
+//! The writes: `add`, `mark` and `finish`, in the copy in memory and then in the file.
+//!
+//! Functions that take a transaction state what each statement leads from and to, by
+//! `specs/Writing`.
 ghost use Rattle.std.specs.Prelude.{◌≡◌, ◌≢◌, ◌≤◌, ◌<◌, OnOk, Err};
 ghost use Rattle.sqlite.specs.State.{HasCleanDisk, Survives};
 ghost use Rattle.sqlite.specs.Held.{state};
@@ -19,7 +22,7 @@ use sqlite_value::value::ValueRef;
 use std::alloc::Global;
 use url_key::Key;
 
-/// Makes the number the last one that was given.
+/// Sets the number in `last`.
 fn give_number<S: Alter>(tx: &mut Transaction<'_, S>, number: u32) -> Result<usize, Error>
     ensures same_reference { tx.new.conn.ghost_name ≡ tx.old.conn.ghost_name }
     ensures made { OnOk result (HasCleanDisk (state S.Store tx.new.conn.now) → (before : PurgeList) → before.last < number → Makes (Holds before) (HasGiven before number) (state S.Store tx.old.conn.now) (state S.Store tx.new.conn.now)) }
@@ -28,7 +31,7 @@ fn give_number<S: Alter>(tx: &mut Transaction<'_, S>, number: u32) -> Result<usi
     tx.execute("UPDATE last SET number = ?1", &[number.to_sql()])
 }
 
-/// Adds the purge of the last number.
+/// Inserts the row of the purge, whose number is the last one.
 fn put_purge<S: Alter>(tx: &mut Transaction<'_, S>, number: u32, url: &[u8]) -> Result<usize, Error>
     ensures same_reference { tx.new.conn.ghost_name ≡ tx.old.conn.ghost_name }
     ensures made { OnOk result (HasCleanDisk (state S.Store tx.new.conn.now) → (before : PurgeList) → 1 ≤ number → IsKey url.now → Makes (HasGiven before number) (Holds (with_purge before number url.now)) (state S.Store tx.old.conn.now) (state S.Store tx.new.conn.now)) }
@@ -40,7 +43,7 @@ fn put_purge<S: Alter>(tx: &mut Transaction<'_, S>, number: u32, url: &[u8]) -> 
     )
 }
 
-/// Gives the number to a purge of the url.
+/// Adds a purge of the url under the number, in the open transaction.
 fn write_purge<S: Alter>(tx: &mut Transaction<'_, S>, number: u32, url: &[u8]) -> Result<(), Error>
     ensures same_reference { tx.new.conn.ghost_name ≡ tx.old.conn.ghost_name }
     ensures made { OnOk result (HasCleanDisk (state S.Store tx.new.conn.now) → (before : PurgeList) → before.last < number → IsKey url.now → Makes (Holds before) (Holds (with_purge before number url.now)) (state S.Store tx.old.conn.now) (state S.Store tx.new.conn.now)) }
@@ -51,7 +54,7 @@ fn write_purge<S: Alter>(tx: &mut Transaction<'_, S>, number: u32, url: &[u8]) -
     Ok(())
 }
 
-/// Commits a purge of the url under the number, in one transaction.
+/// Adds a purge of the url under the number and commits it, in one transaction.
 fn add_purge<S: Alter>(conn: &mut Connection<S>, number: u32, url: &[u8]) -> Result<(), Error>
     ensures made { OnOk result (HasCleanDisk (state S.Store conn.new) → (before : PurgeList) → before.last < number → IsKey url.now → Holds before (state S.Store conn.old).now → Commits (with_purge before number url.now) (state S.Store conn.new)) }
     ensures survives { Survives (state S.Store conn.old) (state S.Store conn.new) (λ trees. (before : PurgeList) → before.last < number → IsKey url.now → Holds before (state S.Store conn.old).now → purges_in trees ≡ with_purge before number url.now) }
@@ -64,7 +67,7 @@ fn add_purge<S: Alter>(conn: &mut Connection<S>, number: u32, url: &[u8]) -> Res
     tx.commit()
 }
 
-/// Commits that the member has acknowledged the purge, in one statement.
+/// Inserts the acknowledgement, in one statement that commits by itself.
 fn put_mark<S: Alter>(conn: &mut Connection<S>, number: u32, member: u8) -> Result<usize, Error>
     requires ready { HasCleanDisk (state S.Store conn.old) → IsReady (state S.Store conn.old) }
     requires missing { HasCleanDisk (state S.Store conn.old) → Misses (committed_purges (state S.Store conn.old)) number member }
@@ -81,7 +84,7 @@ fn put_mark<S: Alter>(conn: &mut Connection<S>, number: u32, member: u8) -> Resu
     )
 }
 
-/// Takes out the acks of the purge.
+/// Deletes the acknowledgements of the purge.
 fn clear_acks<S: Alter>(tx: &mut Transaction<'_, S>, number: u32) -> Result<usize, Error>
     ensures same_reference { tx.new.conn.ghost_name ≡ tx.old.conn.ghost_name }
     ensures made { OnOk result (HasCleanDisk (state S.Store tx.new.conn.now) → (before : PurgeList) → Makes (Holds before) (HasNoAcks before number) (state S.Store tx.old.conn.now) (state S.Store tx.new.conn.now)) }
@@ -90,7 +93,7 @@ fn clear_acks<S: Alter>(tx: &mut Transaction<'_, S>, number: u32) -> Result<usiz
     tx.execute("DELETE FROM acks WHERE number = ?1", &[number.to_sql()])
 }
 
-/// Takes out the purge, which has no ack.
+/// Deletes the row of the purge, which has no acknowledgement any more.
 fn drop_purge<S: Alter>(tx: &mut Transaction<'_, S>, number: u32) -> Result<usize, Error>
     ensures same_reference { tx.new.conn.ghost_name ≡ tx.old.conn.ghost_name }
     ensures made { OnOk result (HasCleanDisk (state S.Store tx.new.conn.now) → (before : PurgeList) → Makes (HasNoAcks before number) (Holds (without_purge before number)) (state S.Store tx.old.conn.now) (state S.Store tx.new.conn.now)) }
@@ -99,7 +102,7 @@ fn drop_purge<S: Alter>(tx: &mut Transaction<'_, S>, number: u32) -> Result<usiz
     tx.execute("DELETE FROM pending WHERE number = ?1", &[number.to_sql()])
 }
 
-/// Takes out the purge with its acks.
+/// Deletes the purge with its acknowledgements, in the open transaction.
 fn erase<S: Alter>(tx: &mut Transaction<'_, S>, number: u32) -> Result<(), Error>
     ensures same_reference { tx.new.conn.ghost_name ≡ tx.old.conn.ghost_name }
     ensures made { OnOk result (HasCleanDisk (state S.Store tx.new.conn.now) → (before : PurgeList) → Makes (Holds before) (Holds (without_purge before number)) (state S.Store tx.old.conn.now) (state S.Store tx.new.conn.now)) }
@@ -110,7 +113,7 @@ fn erase<S: Alter>(tx: &mut Transaction<'_, S>, number: u32) -> Result<(), Error
     Ok(())
 }
 
-/// Commits that the purge is pending no longer, in one transaction.
+/// Deletes the purge with its acknowledgements and commits that, in one transaction.
 fn erase_purge<S: Alter>(conn: &mut Connection<S>, number: u32) -> Result<(), Error>
     ensures made { OnOk result (HasCleanDisk (state S.Store conn.new) → (before : PurgeList) → Holds before (state S.Store conn.old).now → Commits (without_purge before number) (state S.Store conn.new)) }
     ensures survives { Survives (state S.Store conn.old) (state S.Store conn.new) (λ trees. (before : PurgeList) → Holds before (state S.Store conn.old).now → purges_in trees ≡ without_purge before number) }
@@ -123,7 +126,8 @@ fn erase_purge<S: Alter>(conn: &mut Connection<S>, number: u32) -> Result<(), Er
     tx.commit()
 }
 
-/// Adds the purge in the file and in the purges beside it.
+/// Adds the purge to the copy and to the file. `StoreFault` if the number is not above the last one
+/// in the copy, which on an honest disk cannot be.
 pub(crate) fn add<S: Alter>(
     conn: &mut Connection<S>,
     purges: &mut Purges,
@@ -150,7 +154,8 @@ pub(crate) fn add<S: Alter>(
     }
 }
 
-/// Marks the purge in the file and in the purges beside it.
+/// Marks the purge in the copy and in the file. `StoreFault` if the copy has no such purge or the
+/// member is marked, which on an honest disk cannot be.
 pub(crate) fn mark<S: Alter>(
     conn: &mut Connection<S>,
     purges: &mut Purges,
@@ -177,7 +182,7 @@ pub(crate) fn mark<S: Alter>(
     }
 }
 
-/// Takes the purge out of the file and of the purges beside it.
+/// Takes the purge out of the copy and of the file.
 pub(crate) fn finish<S: Alter>(
     conn: &mut Connection<S>,
     purges: &mut Purges,

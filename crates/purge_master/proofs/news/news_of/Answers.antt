@@ -1,3 +1,5 @@
+-- One goal for each branch: no such number was given; no member is missing (`Done`); the member was
+-- marked (`Nothing`); it was not (`Mark`).
 use Rattle.std.proofs.Common.{◌≡◌, ◌<◌, true, false, ap, sym, ◌∙◌, arith}
 use Rattle.purge_rules.specs.Members.{with_id, are_among}
 use Rattle.purge_master.proofs.NewsLemmas.{done_is, nothing_is, mark_is, not_given}

@@ -1,3 +1,5 @@
+-- Rowids are compared as integers; the order of values agrees with that of integers
+-- (`value_cmp-Int`).
 use Rattle.std.proofs.Common.{rules, ◌≡◌, ℤ, Option, Some, true, false, int_le, arith, sym, ◌∙◌}
 use Rattle.std.specs.Ordering.{int_cmp}
 use Rattle.std.specs.declared.cmp.Ordering.TheVariants.{Less}

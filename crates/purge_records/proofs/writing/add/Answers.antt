@@ -1,3 +1,5 @@
+-- The commit holds the purges with the new one, and the copy was changed in the same way; so the
+-- copy is what was committed. The text of a key is its own key.
 use Rattle.std.proofs.Common.{arith, sym, ap, subst, ◌∙◌}
 use Rattle.sqlite.specs.State.{HasCleanDisk}
 use Rattle.sqlite.specs.Held.{state}

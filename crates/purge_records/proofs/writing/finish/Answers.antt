@@ -1,3 +1,5 @@
+-- The commit holds the purges without this one, and the copy was changed in the same way; so the
+-- copy is what was committed.
 use Rattle.std.proofs.Common.{arith, sym, ap, ◌∙◌}
 use Rattle.sqlite.specs.State.{HasCleanDisk}
 use Rattle.sqlite.specs.Held.{state}
