@@ -66,9 +66,10 @@ impl<S: PurgeStore> MasterBook<S> {
 
     /// Makes the call of the master, and enters it with this place and what it returned.
     ///
-    /// Errors: `ShiftFull` before anything else, if there are 4,096 entries; then `NoMemory`, if an
-    /// entry lacks memory. Neither is entered, and nothing changes. Any other error is the master's
-    /// (`Master::issue`, `acknowledge`, `due`), also its own `NoMemory`; it is entered.
+    /// Errors: `ShiftFull` before anything else, if there are 4,096 entries; then `NoMemory`, if
+    /// the entry cannot be allocated. Neither is entered, and nothing changes. Any other error is
+    /// the master's (`Master::issue`, `acknowledge`, `due`), also its own `NoMemory`; it is
+    /// entered.
     pub fn call(&mut self, place: u64, call: MasterCall) -> Result<MasterAnswer, MasterFault>
         ensures full { 4096 ≤ length self.old.entries → (result ≡ Err faults.ShiftFull) × (self.new ≡ self.old) }
         ensures entered { length self.old.entries < 4096 → (result ≡ Err faults.NoMemory) × (self.new ≡ self.old)

@@ -26,8 +26,8 @@
 //! store; a `MasterBook` as its master and its entries. The crate touches its store alone: no
 //! socket, clock or thread.
 //!
-//! Not promised: that a call that writes leaves the master open if memory lacks that is not the
-//! store's, though this code does; nor that `StoreFault` has its cause in the database.
+//! Not promised: that a write leaves the master open if an allocation of its own fails, not of the
+//! store, though this code does; nor that `StoreFault` has its cause in the database.
 #![tactic(auto)]
 
 mod book;

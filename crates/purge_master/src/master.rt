@@ -27,8 +27,11 @@ const LAST_NUMBER: u32 = 4294967295;
 #[derive(Drop)]
 pub struct Master<S: PurgeStore> {
     pub(crate) alloc: Global,
+    // the members that each purge needs
     pub(crate) members: MemberSet,
+    // the copy of what the store has committed
     pub(crate) purges: Purges,
+    // a write failed in the store
     pub(crate) closed: bool,
     pub(crate) store: S,
 }
@@ -97,7 +100,7 @@ impl<S: PurgeStore> Master<S> {
     /// It counts if the code is 0 or 2, the member is in the roster, and a purge with the number
     /// TRANS-ID is pending. A member that was missing is marked; if then no member is missing, the
     /// purge is done. A response that comes again changes nothing; but if no member is missing any
-    /// more, as in a file of a larger roster, it makes the purge done.
+    /// more, as in a file from a larger roster, it makes the purge done.
     ///
     /// Errors: `Closed`; `StoreFault` or `NoMemory` of the store, which close the master.
     pub fn acknowledge(

@@ -77,8 +77,7 @@ impl<S: PurgeStore + Drop> Master<S> {
 }
 
 impl<S: PurgeStore> Master<S> {
-    /// Whether the master is closed: a store that failed, or lacked memory for a write, has closed
-    /// it.
+    /// Whether the master is closed: a write failed in its store, by `StoreFault` or `NoMemory`.
     pub fn is_closed(&self) -> bool
         ensures { result ≡ self.now.state.closed }
     {

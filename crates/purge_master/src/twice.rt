@@ -51,7 +51,7 @@ impl<S: PurgeStore> Master<S> {
         }
     }
 
-    /// What is due, twice. If either list lacks memory, both outcomes are `NoMemory`.
+    /// What is due, twice. If either list cannot be allocated, both outcomes are `NoMemory`.
     fn due_outcome(&self) -> (Outcome, Outcome)
         ensures same { result.1 ≡ result.0 }
         ensures call { Calls self.now.members self.now.state calls.Due result.0 self.now.state }

@@ -5,7 +5,7 @@ use Rattle.sqlite.specs.declared.error.Error.TheVariants.{SqliteFailure}
 use Rattle.floor_rules.specs.declared.fault.FloorFault.{FloorFault}
 use Rattle.floor_rules.specs.declared.fault.FloorFault.TheVariants.{StoreFault, NoMemory}
 
--- `NoMemory` if the database lacked memory; any other error is `StoreFault`
+-- `OutOfMemory` is `NoMemory`; any other error is `StoreFault`
 abbrev pub told_as : Error → FloorFault
 told_as (SqliteFailure code.OutOfMemory) = NoMemory
 told_as _ = StoreFault

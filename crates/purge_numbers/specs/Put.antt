@@ -15,6 +15,6 @@ put_text = codes "INSERT INTO floors (url, number) VALUES (?1, ?2) ON CONFLICT (
 abbrev pub put_params : List ℕ → ℕ → Row
 put_params url number = Text url ∷ Int (pos number) ∷ []
 
--- the database ran the statement and returned an error other than lack of memory
+-- the database ran the statement and returned an error other than `OutOfMemory`
 abbrev pub FailsToPut : State → State → List ℕ → ℕ → Type 0
 FailsToPut old new url number = (e : Error) × (told_as e ≡ StoreFault) × Executes put_text (put_params url number) old new (Err e)

@@ -22,8 +22,11 @@ use url_key::Key;
 #[derive(Drop)]
 pub struct SqliteFloors<S: Alter> {
     conn: Connection<S>,
+    // the copy of what is committed
     floors: Floors,
+    // no call has failed
     is_usable: bool,
+    // how many calls have returned `StoreFault`
     failures: u64,
 }
 
@@ -45,12 +48,13 @@ impl<S: Alter> SqliteFloors<S> {
     ///
     /// Errors, with the connection:
     ///
-    /// - `BadTable`: the connection has an open transaction; the tables are not exactly a node's;
-    ///   the version is not 1; a row is no floor (a text that is its own key, a number of 1 to
-    ///   4294967295); or there are more than 65,536 rows. Never for a blank file without an open
-    ///   transaction.
-    /// - `StoreFault`: the database failed.
-    /// - `NoMemory`: an allocation failed, here or in the database.
+    /// - `BadTable` if one of these holds, but never for a blank file without an open transaction:
+    ///   - the connection has an open transaction;
+    ///   - the tables are not exactly a node's, or the version is not 1;
+    ///   - a row is no floor: a text that is its own key, and a number of 1 to 4294967295;
+    ///   - a url stands twice, or there are more than 65,536 rows.
+    /// - `StoreFault` if the database failed.
+    /// - `NoMemory` if an allocation failed, here or in the database.
     ///
     /// After either outcome a crash leaves what it could leave before, or no floors if the file was
     /// blank.

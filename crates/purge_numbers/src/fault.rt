@@ -5,7 +5,7 @@ ghost use Rattle.purge_numbers.specs.Faults.{told_as};
 use floor_rules::FloorFault;
 use sqlite::{Error, ErrorCode};
 
-/// `NoMemory` if the database lacked memory, else `StoreFault`.
+/// `NoMemory` for `OutOfMemory`, `StoreFault` for any other error.
 pub(crate) fn fault_of(error: Error) -> FloorFault
     ensures told { result ≡ told_as error }
     ensures named { (result ≡ FloorFault.NoMemory) ⊎ (result ≡ FloorFault.StoreFault) }

@@ -14,7 +14,7 @@
 //! | `load`, `failures`, `into_connection` | none |
 //!
 //! No transaction stays open between calls; a connection with an open one is refused. A raise
-//! commits first and then changes the copy. If memory lacks for the copy, it returns `NoMemory`
+//! commits first and then changes the copy. If the copy cannot grow, it returns `NoMemory`
 //! although the floor is committed. After `StoreFault`, or `NoMemory` from a raise, each raise and
 //! load returns `StoreFault` until the file is opened again.
 //!

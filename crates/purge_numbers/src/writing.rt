@@ -35,7 +35,7 @@ fn put<S: Alter>(conn: &mut Connection<S>, url: &[u8], number: u32) -> Result<us
 /// Raises the key's floor to this number, first in the file and then in the copy in memory.
 ///
 /// Runs no statement if the number is no greater. `FloorsFull` without room, before anything has
-/// changed. `NoMemory` may come after the commit, if the copy lacks memory.
+/// changed. `NoMemory` may come after the commit, if the copy cannot grow.
 pub(crate) fn raise<S: Alter>(
     conn: &mut Connection<S>,
     floors: &mut Floors,

@@ -5,7 +5,7 @@ use Rattle.sqlite.specs.declared.error.Error.TheVariants.{SqliteFailure}
 use Rattle.purge_rules.specs.declared.fault.PurgeFault.{PurgeFault}
 use Rattle.purge_rules.specs.declared.fault.PurgeFault.TheVariants.{StoreFault, NoMemory}
 
--- `NoMemory` if the database lacked memory; any other error is `StoreFault`
+-- `OutOfMemory` is `NoMemory`; any other error is `StoreFault`
 abbrev pub told_as : Error → PurgeFault
 told_as (SqliteFailure code.OutOfMemory) = NoMemory
 told_as _ = StoreFault

@@ -22,8 +22,11 @@ use url_key::Key;
 #[derive(Drop)]
 pub struct SqlitePurges<S: Alter> {
     conn: Connection<S>,
+    // the copy of what is committed
     purges: Purges,
+    // no call has failed
     is_usable: bool,
+    // how many calls have returned `StoreFault`
     failures: u64,
 }
 
@@ -45,14 +48,17 @@ impl<S: Alter> SqlitePurges<S> {
     ///
     /// Errors, with the connection:
     ///
-    /// - `BadTable`: the connection has an open transaction; the tables are not exactly a master's;
-    ///   the version is not 1; `last` is not one row of id 1 with a number of 0 to 4294967295; a
-    ///   row of `pending` is no purge (a number of 1 to the last one, a text that is its own key);
-    ///   a row of `acks` is no acknowledgement (the number of a pending purge, a member of 1 to 16,
-    ///   no rowid or pair twice); or there are more than 1,024 purges. Never for a blank file
-    ///   without an open transaction.
-    /// - `StoreFault`: the database failed.
-    /// - `NoMemory`: an allocation failed, here or in the database.
+    /// - `BadTable` if one of these holds, but never for a blank file without an open transaction:
+    ///   - the connection has an open transaction;
+    ///   - the tables are not exactly a master's, or the version is not 1;
+    ///   - `last` is not one row of id 1 with a number of 0 to 4294967295;
+    ///   - a row of `pending` is no purge: a number of 1 to the last one, and a text that is its own
+    ///     key;
+    ///   - a row of `acks` is no acknowledgement: the number of a pending purge, and a member of 1 to
+    ///     16;
+    ///   - a rowid or an acknowledgement stands twice, or there are more than 1,024 purges.
+    /// - `StoreFault` if the database failed.
+    /// - `NoMemory` if an allocation failed, here or in the database.
     ///
     /// After either outcome a crash leaves what it could leave before, or no purges if the file was
     /// blank.

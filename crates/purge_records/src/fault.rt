@@ -5,7 +5,7 @@ ghost use Rattle.purge_records.specs.Faults.{told_as};
 use purge_rules::PurgeFault;
 use sqlite::{Error, ErrorCode};
 
-/// `NoMemory` if the database lacked memory, else `StoreFault`.
+/// `NoMemory` for `OutOfMemory`, `StoreFault` for any other error.
 pub(crate) fn fault_of(error: Error) -> PurgeFault
     ensures told { result ≡ told_as error }
     ensures named { (result ≡ PurgeFault.NoMemory) ⊎ (result ≡ PurgeFault.StoreFault) }

@@ -1,5 +1,5 @@
 -- What each call of a master returns, and the state that it leaves: as a function (`called`), and
--- as a relation (`Calls`) that also lets memory lack and the store fail.
+-- as a relation (`Calls`) in which allocations and the store may also fail.
 use Rattle.std.specs.Prelude.{◌≡◌, ℕ, ◌+◌, Bool, true, false, not, ◌&&◌, ◌||◌, ◌==◌, nat_le, nat_lt, List, ◌⊎◌, map, filter, length, is_none, Option, Some, None, Result, Ok, Err, if◌then◌else◌}
 use Rattle.std.specs.List.{flat_map}
 use Rattle.htcp_wire.specs.Clearing.{is_acknowledging}
@@ -103,7 +103,7 @@ abbrev pub closed_call : List ℕ → MasterState → MasterCall → Called
 closed_call members s (call.Status number) = answers s (answer.Status (status_of members s.purges number))
 closed_call members s _ = refuses s fault.Closed
 
--- what a call returns and leaves if neither memory lacks nor the store fails
+-- what a call returns and leaves if no allocation and no store fails
 abbrev pub called : List ℕ → MasterState → MasterCall → Called
 called members s c = if s.closed then closed_call members s c else open_call members s.purges c
 
@@ -127,8 +127,8 @@ is_due _ = false
 abbrev pub closing : MasterState → MasterState
 closing s = record { purges = s.purges; closed = true }
 
--- what `NoMemory` leaves: the same state, or a closed master if the store lacked memory. Only a
--- call that writes or makes a list takes memory.
+-- what `NoMemory` leaves: the same state, or a closed master if a write failed so. Only a call
+-- that writes or makes a list allocates.
 abbrev pub WantsMemory : List ℕ → MasterState → MasterCall → MasterState → Type 0
 WantsMemory members s c next =
     ((is_written members s.purges c || is_due c) ≡ true) × (next ≡ s)

@@ -48,10 +48,10 @@ impl From<AllocError> for PurgeFault {
 ///
 /// A master tests for `Closed`, `NumbersSpent` and `TooManyPending`, in this order, and returns
 /// `StoreFault` or `NoMemory` only if none of them holds. A book tests for `ShiftFull` first, then
-/// for its own memory (`NoMemory`), and only then asks the master.
+/// allocates an entry (`NoMemory`), and only then calls the master.
 #[derive(Clone, Copy, Debug, PartialEq, Eq, Error)]
 pub enum MasterFault {
-    /// The store failed, or lacked memory, in an earlier call that writes. Nothing has changed.
+    /// An earlier write failed in the store, by `StoreFault` or `NoMemory`. Nothing has changed.
     /// Open the master again.
     #[error("the master is closed")]
     Closed,
@@ -68,8 +68,8 @@ pub enum MasterFault {
     /// changed. The stored purges are those from before the call or from after it.
     #[error("the store failed")]
     StoreFault,
-    /// An allocation failed. Nothing has changed, except that the master is closed if it was its
-    /// store that lacked memory; then the stored purges are those from before the call or after it.
+    /// An allocation failed. Nothing has changed, except that the master is closed if the store
+    /// returned it; then the stored purges are those from before the call or from after it.
     #[error("there was no memory")]
     NoMemory,
 }

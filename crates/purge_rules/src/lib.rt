@@ -21,7 +21,7 @@
 //! 1. `specs/Purges.antt`: what is stored, and how a purge is added, marked and ended.
 //!    `specs/Members.antt`: sets of members.
 //! 2. `specs/Calls.antt`: what each call returns and leaves, as a function (`called`); then the
-//!    relation `Calls`, which also lets memory lack and the store fail.
+//!    relation `Calls`, in which allocations and the store may also fail.
 //! 3. `specs/Clear.antt`: the CLR. `specs/Names.antt`: the names of the faults.
 //! 4. `src/calls.rt`, `src/fault.rt`: the types of calls, answers and faults.
 //! 5. `src/store.rt` with `specs/Store.antt`: the contract of a store. `src/memory.rt`: the store

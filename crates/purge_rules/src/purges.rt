@@ -30,7 +30,9 @@ pub struct Purge {
 /// 1 and at most the last number (`AreNumbered`).
 #[derive(Debug, Drop)]
 pub struct Purges {
+    // the last number that was given, 0 if none was
     last: u32,
+    // by number
     pending: Vec<Purge>,
 }
 
@@ -178,7 +180,7 @@ impl Purges {
     }
 
     /// Marks the member, of an id of 1 to 16, as having acknowledged the pending purge with this
-    /// number. If no such purge is pending, nothing changes. Searches by halves; allocates nothing.
+    /// number. If no such purge is pending, nothing changes. Binary search; allocates nothing.
     pub fn mark(&mut self, number: u32, member: u8)
         requires { (1 ≤ member) × (member ≤ 16) }
         ensures { self.new ≡ with_mark self.old number member }
@@ -190,7 +192,7 @@ impl Purges {
     }
 
     /// Takes out the pending purge with this number, so that it is done. If no such purge is
-    /// pending, nothing changes. Searches by halves; allocates nothing.
+    /// pending, nothing changes. Binary search; allocates nothing.
     pub fn finish(&mut self, number: u32)
         ensures { self.new ≡ without_purge self.old number }
     {
@@ -199,7 +201,7 @@ impl Purges {
         }
     }
 
-    /// How far the purge with this number is, if it needs these members. Searches by halves.
+    /// How far the purge with this number is, if it needs these members. Binary search.
     pub fn status(&self, members: MemberSet, number: u32) -> Status
         ensures { result ≡ status_of members self.now number }
     {
