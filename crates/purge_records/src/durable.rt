@@ -52,10 +52,10 @@ impl<S: Alter> SqlitePurges<S> {
     ///   - the connection has an open transaction;
     ///   - the tables are not exactly a master's, or the version is not 1;
     ///   - `last` is not one row of id 1 with a number of 0 to 4294967295;
-    ///   - a row of `pending` is no purge: a number of 1 to the last one, and a text that is its own
-    ///     key;
-    ///   - a row of `acks` is no acknowledgement: the number of a pending purge, and a member of 1 to
-    ///     16;
+    ///   - a row of `pending` is no purge: a number of 1 to the last one, and a text that is its
+    ///     own key;
+    ///   - a row of `acks` is no acknowledgement: the number of a pending purge, and a member of 1
+    ///     to 16;
     ///   - a rowid or an acknowledgement stands twice, or there are more than 1,024 purges.
     /// - `StoreFault` if the database failed.
     /// - `NoMemory` if an allocation failed, here or in the database.
