@@ -1,4 +1,5 @@
--- Beginnings of lists, and the order of the steps.
+-- Why first in, first out stays true: a put adds a job behind all others, a take removes the job that waited longest,
+-- and beginnings of one list are ordered by their length.
 use Rattle.std.proofs.Common.{◌≡◌, ◌⊎◌, inl, inr, ⊎_elim, List, [], ◌∷◌, ◌++◌, sym, refl, ap, ◌∙◌, subst, append_assoc, append-nil}
 use Rattle.std.proofs.lemmas.List.{append_cancel_left}
 use Rattle.job_queue.specs.declared.order.Sight.{Sight}

@@ -1,4 +1,5 @@
--- Each move keeps the rule of the queue.
+-- Each move of a pass (the start, a put, a take, a look, a split, a join) keeps the rule of the queue. Parts are never
+-- made or lost, so a pass that has all 1,024 is alone: every other pass knows nothing, and it has seen every step.
 use Rattle.std.proofs.Common.{◌≡◌, ◌≢◌, ⊎_elim, ℕ, zero, suc, ◌<◌, List, [], ◌∷◌, ◌++◌, length, map, set, sym, refl, ap, ◌∙◌, subst, arith}
 use Rattle.std.proofs.lemmas.List.{map-append}
 use mathlib.Core.Option.{some, some-injective, some-ne-none}

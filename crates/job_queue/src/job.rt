@@ -2,30 +2,30 @@
 use mio::net::TcpStream;
 use roster_tables::{Address, Udp};
 
-/// A datagram that came, a stream whose request's head has come, or a round of questions that has waited long enough.
+/// A datagram, a connection whose request head has come, or a round of queries whose time is over.
 #[derive(Drop)]
 pub enum Job {
-    /// A datagram, and where it came from.
+    /// A datagram that came over one of the two UDP sockets.
     Datagram {
-        /// By which socket it came.
+        /// The protocol of the socket that it came over.
         udp: Udp,
-        /// Who sent it.
+        /// The address and port of its sender.
         from: Address,
-        /// Its octets.
+        /// The octets of the datagram.
         octets: Vec<u8>,
     },
-    /// A stream that a client opened.
+    /// A connection that a client opened.
     Stream {
-        /// How many streams were accepted before it. The count wraps.
+        /// How many connections were accepted before it; after 2^64 - 1 comes 0.
         number: u64,
-        /// The stream itself.
+        /// The connection itself.
         stream: TcpStream,
-        /// What was read of it.
+        /// The octets that were read from it so far.
         octets: Vec<u8>,
     },
-    /// The time of a round of questions is over (RFC 2187, section 5.3.3).
+    /// The time for answers to a round of queries is over (RFC 2187, section 5.3.3).
     Timer {
-        /// The round's serial.
+        /// The serial of the round.
         serial: u32,
     },
 }

@@ -1,4 +1,4 @@
-//! The queue, and what a thread carries to use it.
+//! The queue, and the pass that a thread carries to use it.
 ghost use Rattle.std.specs.Prelude.{◌≡◌, ◌<◌, [], MatchOption, MatchResult};
 ghost use Rattle.crossbeam_queue.specs.Passes.{view as known, ruled_capacity};
 ghost use Rattle.job_queue.specs.Order.{kept_part, cut_part, joined, put, took, Follows, HeldOnce};
@@ -10,10 +10,10 @@ use crossbeam_queue::RuledArrayQueue;
 use std::marker::{Model, PhantomData};
 use std::sync::Wait;
 
-/// How many jobs the queue holds.
+/// How many jobs the queue holds at most.
 pub const CAPACITY: usize = 256;
 
-/// The queue of jobs of this name.
+/// The queue of jobs that the type `Q` names.
 #[derive(Drop)]
 pub struct Jobs<Q: QueueName> {
     queue: RuledArrayQueue<Job, View, FirstInFirstOut>,
@@ -22,7 +22,8 @@ pub struct Jobs<Q: QueueName> {
     ghost holds_256: { ruled_capacity queue ≡ 256 },
 }
 
-/// What a thread carries to use the queue of this name. A contract sees it as what it knows of the queue's steps.
+/// The right of one thread to use the queue that the type `Q` names. A contract sees it as what the
+/// thread knows of the queue's steps (`View`).
 #[derive(Drop)]
 pub struct Pass<Q: QueueName> {
     pass: crossbeam_queue::Pass<Job, View>,
@@ -65,7 +66,8 @@ impl<Q: QueueName> Jobs<Q> {
         }
     }
 
-    /// Puts a job at the back. It comes back only where the queue held 256 jobs at some moment of the call; the pass is then as it was.
+    /// Puts a job at the back. The job comes back only where the queue held 256 jobs at some moment
+    /// of the call; the pass is then unchanged.
     pub fn put<R: Wait>(&self, rt: &R, pass: Pass<Q>, job: Job) -> (Pass<Q>, Result<(), Job>)
         ensures { MatchResult result.1
             (λ _. Follows pass (put job) result.0)
@@ -76,7 +78,8 @@ impl<Q: QueueName> Jobs<Q> {
         (Pass { pass, of }, answer)
     }
 
-    /// Takes the job at the front. There is none only where the queue was empty at some moment of the call; the pass is then as it was.
+    /// Takes the job at the front. There is none only where the queue was empty at some moment of
+    /// the call; the pass is then unchanged.
     pub fn take<R: Wait>(&self, rt: &R, pass: Pass<Q>) -> (Pass<Q>, Option<Job>)
         ensures { MatchOption result.1
             ((result.0 ≡ pass) × HeldOnce pass 0)
@@ -87,7 +90,8 @@ impl<Q: QueueName> Jobs<Q> {
         (Pass { pass, of }, answer)
     }
 
-    /// Two passes, each of which has seen what the pass had. The second has one part of it, so a pass of n parts can be cut into n.
+    /// Makes two passes of one; each has seen what the pass had seen. The second has one part, so a
+    /// pass of n parts can be cut into n.
     pub fn split<R: Wait>(&self, _rt: &R, pass: Pass<Q>) -> (Pass<Q>, Pass<Q>)
         requires { 1 < pass.parts }
         ensures left { result.0 ≡ kept_part pass }
@@ -104,7 +108,8 @@ impl<Q: QueueName> Jobs<Q> {
         )
     }
 
-    /// One pass, which has seen what either had.
+    /// Makes one pass of two. It has seen what either had seen, and has the parts and the own steps
+    /// of both.
     pub fn join<R: Wait>(&self, _rt: &R, pass: Pass<Q>, other: Pass<Q>) -> Pass<Q>
         ensures { result ≡ joined pass other }
     {

@@ -1,13 +1,31 @@
-//! The queue of jobs between the thread that reads a node's sockets and its workers.
+//! The bounded queue of jobs between a node's event loop and its workers.
 //!
-//! A [`Jobs`] is first in, first out, holds at most 256 jobs, and is used by any number of threads at once. Each thread carries a
-//! [`Pass`], which a contract sees as what the thread knows: the steps of the queue that it has seen (`seen`), in the order in which
-//! they happened, and its own among them (`own`). `specs/Order` has the rule: at every moment there is one list of all steps, in which
-//! the jobs taken are a prefix of the jobs put; each pass has seen a front of it, and each step is one pass's own, once. So no job is
-//! given twice and none is lost.
+//! The thread of the event loop puts each [`Job`]: a datagram, a connection whose request head has
+//! come, or the timeout of a round of queries. Workers take the jobs. [`Jobs`] is first in, first
+//! out, and has 256 places ([`CAPACITY`]). Any number of threads use it at once, without a lock.
+//! [`Jobs::put`] does not wait for a place: a full queue gives the job back. [`Jobs::take`] does
+//! not wait for a job: an empty queue gives none.
 //!
-//! That `take` gives none only where the queue was empty, and `put` gives a job back only where it held 256, is said of one moment of the
-//! call: others may put and take meanwhile.
+//! Each thread carries a [`Pass`]. A contract sees it as what the thread knows: the steps of the
+//! queue that it has seen (`seen`), in the order in which they happened, and its own steps among
+//! them (`own`). The first pass has 1,024 parts; [`Jobs::split`] cuts one part off for another
+//! thread, and [`Jobs::join`] puts two passes together.
+//!
+//! The rule stands in `specs/Order.antt`: one list has all puts and takes, and at every moment the
+//! jobs taken are a prefix of the jobs put. Each pass has seen a beginning of that list, and each
+//! step is the own step of one pass, once. So no job is taken twice, and none is lost.
+//!
+//! Order of reading: `specs/Order.antt`; `src/job.rt` (what a job is); `src/jobs.rt` (the calls);
+//! `src/names.rt` (a type names each queue, so that a pass which comes back from a thread is known
+//! to be of that queue); `src/order.rt` (the types that contracts speak of; no value of them is
+//! made); `proofs/Rule.antt` (each call keeps the rule).
+//!
+//! The crate opens no socket, file or thread. The streams in its jobs are passed through.
+//!
+//! What it does not promise: that `take` gives no job only where the queue was empty, and that
+//! `put` gives a job back only where the queue held 256, is said of one moment of the call; other
+//! threads may put and take meanwhile. Contracts see a stream as its number alone. No contract says
+//! how soon a job is taken.
 #![tactic(auto)]
 
 mod job;

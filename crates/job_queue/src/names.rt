@@ -1,4 +1,4 @@
-//! Queues by their names.
+//! Types that name queues, and a new queue before it has a name.
 ghost use Rattle.std.specs.Prelude.{◌≡◌, IfOk};
 ghost use Rattle.crossbeam_queue.specs.Passes.{IsPassOf, view as known, ruled_capacity};
 ghost use Rattle.job_queue.specs.Order.{newcomer};
@@ -10,7 +10,8 @@ use crossbeam_queue::RuledArrayQueue;
 use std::alloc::{AllocError, Global};
 use std::marker::{Brand, Model};
 
-/// Names one queue by a type, so that a pass that comes back from a thread is known to be of that queue.
+/// A type that names one queue, so that a pass which comes back from a thread is known to be of
+/// that queue.
 pub trait QueueName {
     ghost use Rattle.atomic_table.specs.Seated.{TableId};
 
@@ -23,7 +24,8 @@ impl QueueName for Brand {
     ghost table = { no_table };
 }
 
-/// An empty queue that nobody uses yet, and its first pass. A contract sees it as what its name has to be.
+/// An empty queue that nobody uses yet, with its first pass. A contract sees it as the identity of
+/// its table, which the name that it gets has to have.
 #[derive(Drop)]
 pub struct NewJobs {
     queue: RuledArrayQueue<Job, View, FirstInFirstOut>,
@@ -46,13 +48,14 @@ impl Model for NewJobs {
 }
 
 impl NewJobs {
-    /// An empty queue. `AllocError` comes where there is no memory for its 256 places.
+    /// Makes an empty queue of 256 places. `AllocError` comes where there is no memory for them.
     pub fn new(alloc: Global) -> Result<NewJobs, AllocError> {
         let (queue, pass) = RuledArrayQueue::ruled(alloc, CAPACITY)?;
         Ok(NewJobs { queue, pass })
     }
 
-    /// The queue by this name, and the pass that knows all of it.
+    /// Gives the queue this name, together with its first pass, which has all 1,024 parts and knows
+    /// every step.
     pub fn name<Q: QueueName>(self) -> (Jobs<Q>, Pass<Q>)
         requires { self ≡ Q.table }
         ensures { result.1 ≡ newcomer }

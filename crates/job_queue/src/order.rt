@@ -1,30 +1,32 @@
-//! What the threads know of the queue: the order of its steps. No value of these types is made.
+//! What threads know of the queue: the order of its steps. These types are for contracts; no value
+//! of them is made.
 use crate::job::Job;
 use crossbeam_queue::protocol::{Join, Lesson, Outcome, Protocol, Split};
 use roster_tables::{Address, Udp};
 use std::collections::LinkedList;
 
-/// A job as contracts see it: a stream is its number alone.
+/// A job as contracts see it: of a stream, its number alone.
 pub enum Sight {
     Datagram(Udp, Address, LinkedList<u8>),
     Stream(u64),
     Timer(u32),
 }
 
-/// One step of the queue.
+/// One step of the queue: a job was put, or a job was taken.
 pub enum Step {
     Put(Sight),
     Took(Sight),
 }
 
-/// What a pass knows: its parts of the right to know the whole, the steps that it has seen, and its own among them.
+/// What a pass knows: how many of the 1,024 parts it has, the steps that it has seen, and its own
+/// steps among them. A pass with all parts has seen every step.
 pub struct View {
     pub parts: u64,
     pub seen: LinkedList<Step>,
     pub own: LinkedList<Step>,
 }
 
-/// The rule of the queue.
+/// The rule of the queue (`Kept` of `specs/Order`), as the lock-free queue underneath takes it.
 pub struct FirstInFirstOut;
 
 impl Protocol<Job, View> for FirstInFirstOut {
@@ -35,7 +37,7 @@ impl Protocol<Job, View> for FirstInFirstOut {
     ghost first = { newcomer };
 }
 
-/// A job joins at the back, or the queue is full.
+/// The two ends of a put: the job is at the back, or the queue was full.
 pub struct Puts;
 
 impl Outcome<Job, View> for Puts {
@@ -50,7 +52,7 @@ impl Lesson<Job, View> for Puts {
     ghost fact = { Finds };
 }
 
-/// A job leaves at the front, or the queue is empty.
+/// The two ends of a take: the job at the front is taken, or the queue was empty.
 pub struct Takes;
 
 impl Outcome<Job, View> for Takes {
@@ -65,7 +67,7 @@ impl Lesson<Job, View> for Takes {
     ghost fact = { Finds };
 }
 
-/// One part is cut off.
+/// How passes are split and joined: one part is cut off; joined passes add up.
 pub struct OnePart;
 
 impl Split<View> for OnePart {
