@@ -1,4 +1,5 @@
--- Rounds in the order in which their times are over.
+-- Rounds stay in the order of their deadlines: one that is added gets the latest deadline so far or a later one, and
+-- only the first is taken out.
 use Rattle.std.proofs.Common.{◌≡◌, ◌≤◌, ◌<◌, ℕ, List, [], ◌∷◌, ◌++◌, length, get_or, length-append, arith}
 use Rattle.std.specs.List.{All}
 use Rattle.std.proofs.lemmas.List.Elements.{All-nil, All-push, All-head, All-tail, All-weaker}

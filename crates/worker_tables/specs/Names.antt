@@ -3,6 +3,7 @@ use Rattle.std.specs.Prelude.{ℕ, List, codes}
 use Rattle.worker_tables.specs.declared.fault.TableFault.{TableFault}
 use Rattle.worker_tables.specs.declared.fault.TableFault.TheVariants.{Taken, Full, NoMemory}
 
+-- the name of a fault: that of its variant
 abbrev pub table_fault_name : TableFault → List ℕ
 table_fault_name Taken = codes "Taken"
 table_fault_name Full = codes "Full"

@@ -1,20 +1,20 @@
-//! Where threads wait for jobs of a queue that has no lock.
+//! The bell: where threads wait for jobs of a queue that has no lock.
 ghost use Rattle.std.specs.Prelude.{◌≡◌, ◌≢◌, ◌↔◌, IsTrue};
 ghost use Rattle.worker_tables.specs.Waiting.{HasMovedPast};
 
 use std::sync::{Condvar, Mutex, Wait};
 
-/// How often a bell was rung, and whether it is over.
+/// How often a bell was rung, and whether its threads are to end.
 #[derive(Clone, Copy, Debug, PartialEq, Eq)]
 pub struct Moves {
-    /// Rings so far; behind the greatest number comes 0.
+    /// Rings so far; after 2^64 - 1 comes 0.
     pub count: u64,
     /// No job comes any more.
     pub is_over: bool,
 }
 
 impl Moves {
-    /// One ring more.
+    /// Counts one ring more.
     fn ring(&mut self)
         ensures count { self.new.count ≢ self.old.count }
         ensures over { self.new.is_over ≡ self.old.is_over }
@@ -22,7 +22,7 @@ impl Moves {
         self.count = self.count.wrapping_add(1);
     }
 
-    /// Whether there was a ring since this count, or it is over.
+    /// Whether the count is no longer this one, or no job comes any more.
     fn has_moved_past(&self, seen: u64) -> bool
         ensures { IsTrue result ↔ HasMovedPast self.now seen }
     {
@@ -30,7 +30,9 @@ impl Moves {
     }
 }
 
-/// A count beside a queue. A thread looks at it, looks for a job, and waits for the count to move; so no job that was put after the look is slept through.
+/// A count of rings beside a queue. A thread looks at the count, looks for a job, and, where there
+/// is none, waits for the count to move. So it does not sleep through a job that was put after its
+/// look.
 #[derive(Drop)]
 pub struct Bell {
     moves: Mutex<Moves>,
@@ -38,7 +40,7 @@ pub struct Bell {
 }
 
 impl Bell {
-    /// It was never rung.
+    /// A bell that was never rung.
     pub fn new() -> Bell {
         Bell {
             moves: Mutex::new(Moves {
@@ -49,24 +51,24 @@ impl Bell {
         }
     }
 
-    /// What a thread remembers before it looks for a job.
+    /// The count of rings, which a thread remembers before it looks for a job.
     pub fn look<R: Wait>(&self, rt: &R) -> Moves {
         *self.moves.lock(rt)
     }
 
-    /// There may be jobs. Wakes all threads that wait.
+    /// Says that there may be jobs, and wakes all threads that wait.
     pub fn ring<R: Wait>(&self, rt: &R) {
         self.moves.lock(rt).ring();
         self.has_moved.notify_all();
     }
 
-    /// No job comes any more. Wakes all threads that wait.
+    /// Says that no job comes any more, and wakes all threads that wait.
     pub fn end<R: Wait>(&self, rt: &R) {
         self.moves.lock(rt).is_over = true;
         self.has_moved.notify_all();
     }
 
-    /// Waits until the bell was rung since this count, or it is over.
+    /// Waits until the bell has been rung since this count, or no job comes any more.
     pub fn wait_past<R: Wait>(&self, rt: &R, seen: u64) {
         let _moves = self.has_moved.wait_while(
             rt,

@@ -1,4 +1,4 @@
-//! What some threads leave to others.
+//! What some threads of a node leave to others.
 ghost use Rattle.std.specs.Prelude.{◌≡◌, ◌↔◌, [], false, IsTrue, OnOk, OnErr};
 ghost use Rattle.worker_tables.specs.Waiting.{Takes, with_last, ended};
 
@@ -7,9 +7,8 @@ use std::collections::VecDeque;
 use std::marker::Model;
 use std::sync::{Condvar, Mutex, Wait};
 
-/// A row of what is to be done, first in, first out, until it is over.
-///
-/// A contract sees the list of what waits, and whether it is over.
+/// A queue of what is to be done, first in, first out, until it is ended. A contract sees the list
+/// of what waits, and whether it is ended.
 #[derive(Drop)]
 pub struct Row<T> {
     items: VecDeque<T>,
@@ -25,7 +24,7 @@ impl<T> Model for Row<T> {
 }
 
 impl<T: Drop> Row<T> {
-    /// Nothing waits. It takes no memory.
+    /// An empty row. It takes no memory.
     pub fn new(alloc: Global) -> Row<T>
         ensures { result ≡ record { items = []; over = false } }
     {
@@ -35,7 +34,8 @@ impl<T: Drop> Row<T> {
         }
     }
 
-    /// Puts one behind those that wait. Where there is no memory for it, it is dropped, and nothing changes.
+    /// Puts an item behind those that wait. Where there is no memory for it, the item is dropped,
+    /// and nothing changes.
     pub fn put(&mut self, item: T) -> Result<(), AllocError>
         ensures ok { OnOk result (self.new ≡ with_last self.old item) }
         ensures err { OnErr result (self.new ≡ self.old) }
@@ -44,7 +44,8 @@ impl<T: Drop> Row<T> {
         Ok(())
     }
 
-    /// Takes out what has waited longest, if anything waits and it is not over.
+    /// Takes out the item that has waited longest. There is none where nothing waits, or where the
+    /// row is ended.
     pub fn take(&mut self) -> Option<T>
         ensures { Takes self.old result self.new }
     {
@@ -54,14 +55,14 @@ impl<T: Drop> Row<T> {
         self.items.pop_front()
     }
 
-    /// It is over: what waits stays undone.
+    /// Ends the row: what still waits is never taken.
     pub fn end(&mut self)
         ensures { self.new ≡ ended self.old }
     {
         self.is_over = true;
     }
 
-    /// Whether nothing can be taken yet, and something may come.
+    /// Whether a thread that takes has to wait: the row is empty, and not ended.
     pub fn waits(&self) -> bool
         ensures { IsTrue result ↔ ((self.now.items ≡ []) × (self.now.over ≡ false)) }
     {
@@ -69,7 +70,7 @@ impl<T: Drop> Row<T> {
     }
 }
 
-/// A [`Row`] under a lock, where threads wait for what is put there.
+/// A [`Row`] under a lock, with a condition variable where threads wait for items.
 #[derive(Drop)]
 pub struct Errands<T: Drop> {
     row: Mutex<Row<T>>,
@@ -77,7 +78,7 @@ pub struct Errands<T: Drop> {
 }
 
 impl<T: Drop> Errands<T> {
-    /// Nothing waits. It takes no memory.
+    /// No errands yet. It takes no memory.
     pub fn new(alloc: Global) -> Errands<T> {
         Errands {
             row: Mutex::new(Row::new(alloc)),
@@ -92,7 +93,8 @@ impl<T: Drop> Errands<T> {
         Ok(())
     }
 
-    /// [`Row::take`] under the lock, once something can be taken or it is over.
+    /// Waits until there is an item or the row is ended, and then does [`Row::take`] under the
+    /// lock.
     pub fn take<R: Wait>(&self, rt: &R) -> Option<T> {
         self.has_moved
             .wait_while(rt, self.row.lock(rt), |row| row.waits())

@@ -3,22 +3,22 @@ ghost use Rattle.worker_tables.specs.Names.{table_fault_name};
 
 use thiserror::Error;
 
-/// Why a client or an answer does not stay.
+/// Why a client or an answer is not kept in [`Waiters`](crate::Waiters).
 #[derive(Clone, Copy, Debug, PartialEq, Eq, Error)]
 pub enum TableFault {
-    /// Another one is there at this block.
+    /// Another client, or another answer, is kept under this block.
     #[error("another one waits at this block")]
     Taken,
-    /// 1,056 are there.
+    /// 1,056 clients, or 1,056 answers, are kept already.
     #[error("too many wait")]
     Full,
-    /// A growth was refused.
+    /// There was no memory.
     #[error("there was no memory")]
     NoMemory,
 }
 
 impl TableFault {
-    /// The name that scripts print.
+    /// The name that scripts print: that of the variant.
     pub const fn name(self) -> &'static str
         ensures { result.now ≡ table_fault_name self }
     {
@@ -30,11 +30,11 @@ impl TableFault {
     }
 }
 
-/// What is handed back, and why.
+/// A client or an answer that is handed back, with the reason.
 #[derive(Debug, Drop)]
 pub struct Refused<T> {
     /// The client or the answer.
     pub back: T,
-    /// Why it does not stay.
+    /// Why it is not kept.
     pub fault: TableFault,
 }

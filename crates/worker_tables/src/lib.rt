@@ -1,14 +1,28 @@
-//! What a node's workers share beside the node: clients that wait, answers that came first, rounds that wait, and what is left to others.
+//! What the threads of a node share beside the node: waiting clients, early answers, waiting
+//! rounds, errands, and a bell.
 //!
-//! A step by one worker may serve an ask that another worker has taken. [`Waiters`] is where the two meet: the client is put there by the block of serials
-//! of its ask, the answer comes by the same block, and whichever of the two is the second gets the other one. [`Rounds`] has the rounds of questions
-//! in the order in which their times are over. [`Tables`] has both, each under a lock of its own.
+//! One thread may take a request and another take the step that serves it. [`Waiters`] is where the
+//! two meet: the client is left there under the block of serials of its request, the answer comes
+//! under the same block, and whichever is second gets the other. [`Rounds`] has the rounds of
+//! queries that wait for answers, in the order of their deadlines. [`Tables`] has both, each under
+//! a lock of its own.
 //!
-//! [`Row`] has what one thread leaves to another, and [`Errands`] is a row under a lock, at which threads wait for what is put there. Jobs of a queue that has no lock are waited for at a [`Bell`].
+//! [`Row`] is a queue of what one thread leaves to another. [`Errands`] is a row under a lock with
+//! a condition variable, where threads wait for what is put there. The job queue has no lock to
+//! wait at: workers wait for its jobs at a [`Bell`], which counts how often jobs may have come.
 //!
-//! A contract sees no value under a lock. So all that is said of them is said of `Waiters`, `Rounds`, `Row` and `Moves`, and each function of `Tables`, `Errands` and `Bell` is one call of
-//! theirs under the lock; that a thread which waits is woken is tested. Want of memory counts no bytes, so a body that always answers `NoMemory` where there is room meets the contracts; that ample memory succeeds
-//! is tested.
+//! Order of reading: `specs/Waiting.antt` (all definitions); `src/waiters.rt`, `src/rounds.rt`,
+//! `src/errands.rt`, `src/bell.rt` (the types that contracts see); `src/tables.rt` (the two tables
+//! under their locks); `src/fault.rt`.
+//!
+//! The crate waits at its own locks and condition variables, and touches no socket, file or clock:
+//! its caller passes moments in.
+//!
+//! A contract sees no value under a lock. So everything is said of `Waiters`, `Rounds`, `Row` and
+//! `Moves`, and each function of `Tables`, `Errands` and `Bell` is one call of theirs under the
+//! lock. That a waiting thread is woken is tested. No contract says that memory is there, so a body
+//! that always answers `NoMemory` where there is room meets the contracts; that calls succeed with
+//! ample memory is tested.
 #![tactic(auto)]
 
 mod bell;

@@ -1,4 +1,4 @@
-//! Rounds that wait.
+//! Rounds of queries that wait for their answers.
 ghost use Rattle.std.specs.Prelude.{◌≡◌, ◌≤◌, ◌<◌, ◌++◌, ◌∷◌, [], length, max, MatchOption, OnOk, OnErr};
 ghost use Rattle.worker_tables.specs.Waiting.{IsDue, NoneIsDue, added};
 
@@ -6,21 +6,22 @@ use std::alloc::{AllocError, Global};
 use std::collections::VecDeque;
 use std::marker::Model;
 
-/// The most rounds that wait.
+/// How many rounds wait at most.
 pub const MOST_ROUNDS: usize = 65_536;
 
-/// A round of questions that waits.
+/// A round of queries that waits.
 #[derive(Clone, Copy, Debug, PartialEq, Eq)]
 pub struct WaitingRound {
-    /// The moment at which its time is over, in milliseconds.
+    /// Its deadline, in milliseconds.
     pub until: u64,
-    /// Its serial.
+    /// The serial of the round.
     pub serial: u32,
 }
 
-/// Rounds that wait, in the order in which their times are over. A round waits no shorter than one that began before it.
+/// Rounds that wait, in the order of their deadlines. A round never ends before one that began
+/// earlier: where its deadline is earlier, it waits until that one's.
 ///
-/// A contract sees the list of them, at most 65,536, and the latest of their moments so far.
+/// A contract sees the list of rounds, at most 65,536, and the latest deadline so far.
 #[derive(Drop)]
 pub struct Rounds {
     rounds: VecDeque<WaitingRound>,
@@ -39,7 +40,7 @@ impl Model for Rounds {
 }
 
 impl Rounds {
-    /// No round waits. It takes no memory.
+    /// No rounds yet. It takes no memory.
     pub fn new(alloc: Global) -> Rounds
         ensures { result ≡ record { rounds = []; latest = 0 } }
     {
@@ -49,8 +50,9 @@ impl Rounds {
         }
     }
 
-    /// A round waits from now on, until a moment in milliseconds, and until those that began before it are over. `AllocError` comes where 65,536 wait, and
-    /// where there is no memory; nothing changes then.
+    /// Has a round wait until this moment, in milliseconds, and at least as long as those that
+    /// began before it. `AllocError` comes where 65,536 rounds wait, or where there is no memory;
+    /// nothing changes then.
     pub fn begin(&mut self, until: u64, serial: u32) -> Result<(), AllocError>
         ensures ok { OnOk result (self.new ≡ added self.old until serial) }
         ensures few { OnOk result (length self.old.rounds < 65536) }
@@ -65,7 +67,8 @@ impl Rounds {
         Ok(())
     }
 
-    /// Takes the first round out where its time is over at this moment, in milliseconds: its serial. There is none only where no round's time is over.
+    /// Takes out the first round if its deadline has come at this moment, in milliseconds, and
+    /// gives its serial. There is none only where no deadline has come.
     pub fn due(&mut self, now: u64) -> Option<u32>
         ensures { MatchOption result (NoneIsDue now self.old self.new) (IsDue now self.old self.new) }
     {

@@ -1,12 +1,12 @@
-//! The tables that a node's workers share.
+//! The two tables that the threads of a node share, each under its lock.
 use crate::fault::Refused;
 use crate::rounds::Rounds;
 use crate::waiters::Waiters;
 use std::alloc::{AllocError, Global};
 use std::sync::{Mutex, Wait};
 
-/// The clients that wait at a node, the answers that came before theirs, and the rounds that wait, each under a lock of its own. No lock is held but
-/// within a call.
+/// The waiting clients with the early answers, and the waiting rounds, each under a lock of its
+/// own. Each function holds one lock for one call.
 #[derive(Drop)]
 pub struct Tables<C: Drop, A: Drop> {
     waiters: Mutex<Waiters<C, A>>,
@@ -14,7 +14,7 @@ pub struct Tables<C: Drop, A: Drop> {
 }
 
 impl<C: Drop, A: Drop> Tables<C, A> {
-    /// Nobody and nothing waits. It takes no memory.
+    /// Empty tables. It takes no memory.
     pub fn new(alloc: Global) -> Tables<C, A> {
         Tables {
             waiters: Mutex::new(Waiters::new(alloc)),

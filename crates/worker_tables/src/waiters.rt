@@ -1,4 +1,4 @@
-//! Clients that wait, and answers that came before their clients.
+//! Clients that wait for their answers, and answers that came before their clients.
 ghost use Rattle.std.specs.Prelude.{◌≡◌, ◌≤◌, [], length, MatchOption, MatchResult};
 ghost use Rattle.worker_tables.specs.Waiting.{Answers, IsPut, IsRefused, Leaves, TakesClient};
 
@@ -7,10 +7,12 @@ use std::alloc::Global;
 use std::collections::BTreeMap;
 use std::marker::Model;
 
-/// The most clients that wait, and the most answers. 1,024 asks are pending at a node at most, and of each of its 17 threads one whose ask has just ended there may still be here.
+/// How many clients, and how many answers, are kept at most. A node has 1,024 pending requests at
+/// most, and each of its 17 threads may hold one more whose request has just ended.
 pub const MOST_WAITING: usize = 1056;
 
-/// Clients that wait for their answers, and answers that came before their clients, each by the block of serials of its ask.
+/// Clients that wait for their answers, and answers that came before their clients, each under the
+/// block of serials of its request.
 ///
 /// A contract sees both in the order of their blocks, at most 1,056 of each.
 #[derive(Drop)]
@@ -49,8 +51,10 @@ impl<C: Drop, A: Drop> Waiters<C, A> {
         self.clients.len()
     }
 
-    /// Puts a client at the block of its ask; or gives it back with its answer, where that has come. It is handed back with the first of these faults, and nothing
-    /// changes then: `Taken` where a client waits at this block, `Full` where 1,056 wait, `NoMemory`.
+    /// Leaves a client under the block of its request; where the answer has come already, gives
+    /// back both. Else the client is handed back with the first of these faults that holds, and
+    /// nothing changes: `Taken` where a client waits under this block, `Full` where 1,056 wait,
+    /// `NoMemory`.
     pub fn leave(&mut self, block: u32, client: C) -> Result<Option<(C, A)>, Refused<C>>
         ensures { Leaves block client self.old result self.new }
     {
@@ -63,8 +67,10 @@ impl<C: Drop, A: Drop> Waiters<C, A> {
         }
     }
 
-    /// Puts an answer at the block of its ask; or gives it back with the client that waits for it. It is handed back with the first of these faults, and nothing
-    /// changes then: `Taken` where an answer is at this block, `Full` where 1,056 are there, `NoMemory`.
+    /// Leaves an answer under the block of its request; where the client waits already, gives back
+    /// both. Else the answer is handed back with the first of these faults that holds, and nothing
+    /// changes: `Taken` where an answer is kept under this block, `Full` where 1,056 are kept,
+    /// `NoMemory`.
     pub fn answer(&mut self, block: u32, answer: A) -> Result<Option<(C, A)>, Refused<A>>
         ensures { Answers block answer self.old result self.new }
     {
@@ -77,7 +83,7 @@ impl<C: Drop, A: Drop> Waiters<C, A> {
         }
     }
 
-    /// Takes the client at the least block out, if one waits.
+    /// Takes out the waiting client with the least block, if a client waits.
     pub fn take_first(&mut self) -> Option<C>
         ensures { MatchOption result ((self.old.clients ≡ []) × (self.new ≡ self.old)) (TakesClient self.old self.new) }
     {
@@ -88,7 +94,7 @@ impl<C: Drop, A: Drop> Waiters<C, A> {
     }
 }
 
-/// Puts one at a block where none is.
+/// Puts one item under a block that has none.
 fn put<T: Drop>(row: &mut BTreeMap<u32, T>, block: u32, one: T) -> Result<(), Refused<T>>
     ensures put { MatchResult result (λ _. IsPut row.old.entries block one row.new.entries) (IsRefused row.old.entries block one row.new.entries) }
     ensures most { length row.old.entries ≤ 1056 → length row.new.entries ≤ 1056 }
