@@ -1,4 +1,4 @@
-//! A stream with a moment at which it ends.
+//! A stream with a deadline.
 ghost use Rattle.std.specs.Io.{ReadsAtMost, WritesAtMost};
 
 use crate::waiter::Waiter;
@@ -7,13 +7,14 @@ use mio::net::TcpStream;
 use std::io::{self, Error, ErrorKind, Read, Write};
 use std::time::{Clock, Duration, Instant};
 
-/// After how many waits that brought nothing a call is refused, as if its time were over.
+/// After how many polls that brought nothing a call fails with `TimedOut`, whatever the clock says.
 const MOST_WAITS: u32 = 1000;
 
-/// How often what is kept is written on at most: each octet, and each wait.
+/// How many writes and polls are made at most to send what is kept. (It is greater than the number
+/// of octets that are kept.)
 const MOST_WRITES: u32 = 20_000;
 
-/// A stream that is read and written until a moment at most.
+/// A stream that is read and written until a deadline.
 #[derive(Drop)]
 pub struct Timed<'w, 's, C: Clock> {
     clock: &'w C,
@@ -23,8 +24,9 @@ pub struct Timed<'w, 's, C: Clock> {
 }
 
 impl<'w, 's, C: Clock> Timed<'w, 's, C> {
-    /// The stream, for so long from now on at most. What is written is kept and sent in large pieces, so `flush` has to follow the last one; what an earlier message
-    /// left is forgotten. An error comes where the system has no clock.
+    /// The stream, for this long from now on at most. What is written is kept and sent in large
+    /// pieces, so the caller has to call `flush` after the last piece; what an earlier message left
+    /// in the waiter is dropped. An error comes where the system refuses the clock.
     pub fn new(
         clock: &'w C,
         waiter: &'w mut Waiter,
@@ -34,7 +36,8 @@ impl<'w, 's, C: Clock> Timed<'w, 's, C> {
         let now = Instant::now(clock)?;
         let until = now.checked_add(most).unwrap_or(now);
         waiter.kept.clear();
-        // (where the system does not take it, a short piece may wait for the one before it to be acknowledged)
+        // (where the system refuses this, a short piece may wait until the one before it is
+        // acknowledged)
         match stream.set_nodelay(true) {
             Ok(()) | Err(_) => {}
         }
@@ -46,7 +49,7 @@ impl<'w, 's, C: Clock> Timed<'w, 's, C> {
         })
     }
 
-    /// Waits until the stream may be ready, or refuses with `TimedOut` where its time is over.
+    /// Polls until the stream may be ready. `TimedOut` comes where the deadline has passed.
     fn wait(&mut self, interest: Interest) -> io::Result<()> {
         let left = self
             .until
@@ -59,6 +62,7 @@ impl<'w, 's, C: Clock> Timed<'w, 's, C> {
 }
 
 impl<C: Clock> Read for Timed<'_, '_, C> {
+    /// Reads what is there, after a poll where nothing is. `TimedOut` comes at the deadline.
     fn read(&mut self, buffer: &mut [u8]) -> io::Result<usize> {
         for _ in 0..MOST_WAITS {
             match self.stream.read(buffer) {
@@ -73,7 +77,8 @@ impl<C: Clock> Read for Timed<'_, '_, C> {
 }
 
 impl<C: Clock> Timed<'_, '_, C> {
-    /// Sends octets at once, as many as the system takes, which is some.
+    /// Sends a front of the octets past the buffer, as many as the system takes, after a poll where
+    /// it takes none.
     fn send(&mut self, octets: &[u8]) -> io::Result<usize>
         ensures { WritesAtMost result octets.now }
     {
@@ -88,7 +93,7 @@ impl<C: Clock> Timed<'_, '_, C> {
         Err(Error::from(ErrorKind::TimedOut))
     }
 
-    /// Sends what is kept. After an error nothing of it is.
+    /// Sends what is kept. After an error none of it is kept any more.
     fn send_kept(&mut self) -> io::Result<()> {
         let sent = self.send_all_kept();
         self.waiter.kept.clear();
@@ -103,6 +108,7 @@ impl<C: Clock> Timed<'_, '_, C> {
         }
     }
 
+    /// Sends all that is kept, with polls where the system takes nothing.
     fn send_all_kept(&mut self) -> io::Result<()> {
         let mut sent = 0usize;
         for _ in 0..MOST_WRITES {
@@ -123,7 +129,8 @@ impl<C: Clock> Timed<'_, '_, C> {
 }
 
 impl<C: Clock> Write for Timed<'_, '_, C> {
-    /// Keeps the octets until 16,384 are there or `flush` is called; a longer piece is sent at once, behind what is kept.
+    /// Keeps the octets until 16,384 are there or `flush` is called. A piece that is longer than
+    /// 16,384 octets is sent at once, after what is kept.
     fn write(&mut self, octets: &[u8]) -> io::Result<usize> {
         if !self.waiter.has_room(octets.len()) {
             self.send_kept()?;
@@ -135,6 +142,7 @@ impl<C: Clock> Write for Timed<'_, '_, C> {
         Ok(octets.len())
     }
 
+    /// Sends what is kept.
     fn flush(&mut self) -> io::Result<()> {
         self.send_kept()
     }

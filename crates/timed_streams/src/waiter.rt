@@ -1,4 +1,4 @@
-//! What a thread waits on.
+//! The poll instance of a thread.
 ghost use Rattle.std.specs.Prelude.{◌≤◌};
 
 use mio::net::TcpStream;
@@ -8,10 +8,11 @@ use std::io;
 use std::net::Net;
 use std::time::Duration;
 
-/// How many octets are kept before they are sent.
+/// How many octets are kept at most before they are sent.
 const KEPT: usize = 16_384;
 
-/// What one thread waits on for its streams, one at a time, and where it keeps what is written to one of them until it is sent.
+/// What one thread polls for its streams, one stream at a time, and the buffer where it keeps what
+/// is written to one of them.
 #[derive(Drop)]
 pub struct Waiter {
     poll: Poll,
@@ -20,7 +21,8 @@ pub struct Waiter {
 }
 
 impl Waiter {
-    /// What a thread waits on. An error comes where the system gives none, or there is no memory for it.
+    /// A waiter for a thread. An error comes where the system gives no poll instance, or there is
+    /// no memory.
     pub fn new<N: Net>(net: &N, alloc: Global) -> io::Result<Waiter> {
         Ok(Waiter {
             poll: Poll::new(net)?,
@@ -29,12 +31,12 @@ impl Waiter {
         })
     }
 
-    /// Whether so many octets more have room among those that are kept.
+    /// Whether this many octets have room beside those that are kept.
     pub(crate) fn has_room(&self, count: usize) -> bool {
         count <= KEPT.saturating_sub(self.kept.len())
     }
 
-    /// Waits until the stream may be ready, for so long at most.
+    /// Polls until the stream may be ready, for this long at most.
     pub(crate) fn wait(
         &mut self,
         stream: &mut TcpStream,
