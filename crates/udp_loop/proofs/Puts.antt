@@ -1,4 +1,5 @@
--- What passes have put: nothing, one job, and first some jobs and then others.
+-- A pass that puts nothing, one job, or first some jobs and then others, has only put jobs that came over a socket. So
+-- each loop of a turn keeps HasPut, and so does the turn.
 use Rattle.std.proofs.Common.{Result, Ok, Err, MatchResult, ◌≡◌, List, [], ◌∷◌, ◌++◌, map, sym, refl, ap, ◌∙◌, append_assoc, append-nil, subst}
 use Rattle.std.proofs.lemmas.List.{map-append}
 use Rattle.std.proofs.lemmas.List.Elements.{All-nil, All-cons, All-append}

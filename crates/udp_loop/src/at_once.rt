@@ -1,12 +1,15 @@
-//! Datagrams that need no worker.
+//! Datagrams that are answered without a job.
 use roster_tables::{Address, Udp};
 use std::sync::Wait;
 use std::time::Clock;
 
-/// What may answer a datagram at once, on the thread at the sockets: no job is made of it then, and no worker is woken. It must wait for no socket and for no client. It may wait for a lock that others hold for a
-/// step, as a node's is, also while what the step changed is written to a file; meanwhile nothing is read, and what comes waits at the sockets.
+/// Answers datagrams on the thread of the event loop, without queueing a job and without waking a
+/// worker. It must not wait for a socket or a client. It may wait for a lock that others hold for
+/// one step, such as the node's, also while what the step changed is written to a file. Meanwhile
+/// the loop reads nothing, and datagrams wait in the sockets' buffers.
 pub trait AtOnce {
-    /// Whether this datagram, which came by this protocol from this address, is dealt with.
+    /// Answers this datagram, which came by this protocol from this address, and returns true; or
+    /// returns false, and the loop queues a job for it.
     fn deals_with<R: Wait + Clock>(
         &mut self,
         rt: &R,
@@ -15,12 +18,13 @@ pub trait AtOnce {
         octets: &[u8],
     ) -> bool;
 
-    /// A turn has read the datagrams that were ready: what was held back since the last call, as answers that are to be sent together, is done now. It is called once in each turn, and waits no more than
-    /// `deals_with` does.
+    /// Sends what was held back since the last call, such as answers that are sent together. The
+    /// loop calls it once in each turn, after it has read the datagrams that were ready. It waits
+    /// for no more than `deals_with` does.
     fn finish(&mut self);
 }
 
-/// Deals with no datagram.
+/// Answers no datagram: each is queued.
 #[derive(Clone, Copy, Debug, PartialEq, Eq)]
 pub struct Never;
 

@@ -1,4 +1,4 @@
-//! Datagrams, from the sockets into the queue.
+//! From the UDP sockets into the job queue.
 ghost use Rattle.std.specs.Prelude.{IfOk};
 ghost use Rattle.udp_loop.specs.Turns.{HasPut, IsSound};
 
@@ -14,10 +14,11 @@ use std::mem::replace;
 use std::sync::{Arc, Wait};
 use std::time::Clock;
 
-/// The longest datagram that is read: none of IPv4 is longer.
+/// The size of the receive buffer in octets. No datagram of IPv4 is longer.
 const LONGEST: usize = 65_536;
 
-/// How many datagrams of a protocol a turn reads at most, so that each source has its turn.
+/// How many datagrams of one protocol a turn reads at most, so that each socket gets its share of a
+/// turn.
 const MOST_AT_ONCE: usize = 256;
 
 /// Reads the datagrams of a node.
@@ -32,6 +33,8 @@ pub(crate) struct Datagrams {
 }
 
 impl Datagrams {
+    /// Reads these sockets, from the first turn on. `AllocError` comes where there is no
+    /// memory for the receive buffer.
     pub(crate) fn new(
         alloc: Global,
         sockets: Arc<Sockets, Global>,
@@ -46,7 +49,7 @@ impl Datagrams {
         })
     }
 
-    /// There is something to read by this protocol, or nothing more.
+    /// Notes whether the socket of a protocol may have datagrams to read.
     pub(crate) fn set_ready(&mut self, udp: Udp, is_ready: bool) {
         match udp {
             Udp::Icp => self.icp_is_ready = is_ready,
@@ -54,11 +57,12 @@ impl Datagrams {
         }
     }
 
-    /// Whether a datagram had a job since this was asked the last time.
+    /// Whether a datagram has had a job since this was last called.
     pub(crate) fn had_jobs(&mut self) -> bool {
         replace(&mut self.had_jobs, false)
     }
 
+    /// Whether the socket of a protocol may have datagrams to read.
     fn is_ready(&self, udp: Udp) -> bool {
         match udp {
             Udp::Icp => self.icp_is_ready,
@@ -66,7 +70,8 @@ impl Datagrams {
         }
     }
 
-    /// The next datagram of a protocol, if one is there, which is dealt with at once or has a job.
+    /// Reads the next datagram of a protocol, if one is there. It is answered at once, or has a
+    /// job. Where there is no memory for its octets it is lost.
     fn next<A: AtOnce, R: Wait + Clock>(
         &mut self,
         rt: &R,
@@ -91,7 +96,8 @@ impl Datagrams {
         }
     }
 
-    /// Deals with what is ready of a protocol at once, or puts it, 256 datagrams at most. Whether there may be more.
+    /// Reads what is ready of a protocol, 256 datagrams at most, and puts the jobs. Returns whether
+    /// there may be more.
     pub(crate) fn put_ready<Q: QueueName, A: AtOnce, R: Wait + Clock>(
         &mut self,
         rt: &R,

@@ -5,19 +5,20 @@ use std::alloc::AllocError;
 use std::io;
 use thiserror::Error;
 
-/// Why a call on a node's sockets is refused.
+/// Why a call on a node's sockets fails.
 #[derive(Clone, Copy, Debug, PartialEq, Eq, Error)]
 pub enum LoopFault {
-    /// The system refused to open a socket, to wait, to read, to accept or to send.
+    /// The system refused to open a socket, to poll, to read, to accept or to send, or refused the
+    /// clock.
     #[error("a socket could not be used")]
     Io,
-    /// A growth was refused.
+    /// There was no memory.
     #[error("there was no memory")]
     NoMemory,
 }
 
 impl LoopFault {
-    /// The name that scripts print.
+    /// The name that scripts print: that of the variant.
     pub const fn name(self) -> &'static str
         ensures { result.now ≡ loop_fault_name self }
     {

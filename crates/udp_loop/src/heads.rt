@@ -1,4 +1,4 @@
-//! Streams whose requests have not come yet.
+//! Connections whose request head has not come whole.
 ghost use Rattle.std.specs.Prelude.{IfSome};
 ghost use Rattle.job_queue.specs.Order.{sight_of};
 ghost use Rattle.udp_loop.specs.Turns.{HasCome};
@@ -11,13 +11,15 @@ use std::io::{self, ErrorKind, Read};
 use std::net::Shutdown;
 use std::time::Instant;
 
-/// The most octets of a stream that are read before a worker has it: no head of a request is longer.
+/// How many octets of a connection are read at most before a worker gets it. No request head is
+/// longer.
 const LONGEST: usize = 16_384;
 
-/// For how many seconds a request's head may come.
+/// How many seconds a request head may take, from when the connection was accepted.
 const PATIENCE: u64 = 5;
 
-/// How many octets of empty lines stand in front of a request line, which counts them for nothing (RFC 9112, section 2.2); so many are known to.
+/// How many octets of empty lines stand before the request line; they do not count (RFC 9112,
+/// section 2.2). The first `known` octets are known to be such.
 fn front_of(octets: &[u8], known: usize) -> usize {
     let rest = octets.get(known..).unwrap_or_default();
     let more = rest
@@ -27,8 +29,9 @@ fn front_of(octets: &[u8], known: usize) -> usize {
     known.saturating_add(more)
 }
 
-/// Whether a head that begins at this place ends among the octets, of which so many are new: with an empty line behind its request line, by CRLF or by LF
-/// alone (RFC 9112, section 2.2).
+/// Whether the head that begins at `front` ends in these octets, of which the last `new` have just
+/// come: there is an empty line after its first line. A line ends with CRLF or LF alone (RFC 9112,
+/// section 2.2).
 fn ends_in(octets: &[u8], front: usize, new: usize) -> bool {
     let old = octets.len().saturating_sub(new).saturating_sub(2);
     let last = octets.get(front.max(old)..).unwrap_or_default();
@@ -36,17 +39,17 @@ fn ends_in(octets: &[u8], front: usize, new: usize) -> bool {
         || last.windows(3).any(|triple| triple == b"\n\r\n".as_slice())
 }
 
-/// What became of a stream that was read.
+/// What became of a connection that was read.
 pub(crate) enum Reading {
-    /// Its client has to send more.
+    /// More of the head has to come.
     Waits,
-    /// A worker can read the request without waiting.
+    /// A worker can read the request without waiting for the head.
     Came,
-    /// It failed, or ended before anything came.
+    /// It failed, or ended before anything came, or there was no memory for what came.
     Gone,
 }
 
-/// A stream, and what was read of it.
+/// A connection, and what was read of it.
 #[derive(Drop)]
 pub(crate) struct Head {
     number: u64,
@@ -57,7 +60,7 @@ pub(crate) struct Head {
 }
 
 impl Head {
-    /// A stream that is accepted now, before anything is read of it.
+    /// A connection that was accepted at this moment, before anything is read of it.
     pub(crate) fn new(alloc: Global, number: u64, stream: TcpStream, since: Instant) -> Head {
         Head {
             number,
@@ -68,7 +71,7 @@ impl Head {
         }
     }
 
-    /// Takes in octets that came; whether the head has come, or is too long.
+    /// Adds octets that came. Returns whether the head has come whole, or is too long.
     fn take_in(&mut self, piece: &[u8]) -> Result<bool, AllocError> {
         self.octets.extend_from_slice(piece)?;
         let octets = self.octets.as_slice();
@@ -76,7 +79,7 @@ impl Head {
         Ok(octets.len() >= LONGEST || ends_in(octets, self.front, piece.len()))
     }
 
-    /// Reads what is there, without waiting, until the head has come.
+    /// Reads what is there, without waiting, until the head has come whole.
     pub(crate) fn read(&mut self) -> Reading {
         let mut piece = [0; 2048];
         for _ in 0..LONGEST {
@@ -96,7 +99,7 @@ impl Head {
         Reading::Came
     }
 
-    /// Asks to be told, under this key, when more has come.
+    /// Has the poll tell, under this key, when more has come.
     pub(crate) fn register(&mut self, registry: &Registry, key: usize) -> io::Result<()> {
         registry.register(&mut self.stream, Token(key), Interest::READABLE)
     }
@@ -106,24 +109,25 @@ impl Head {
         self.octets.is_empty()
     }
 
-    /// Whether its time is over.
+    /// Whether its five seconds have passed.
     pub(crate) fn is_late(&self, now: Instant) -> bool {
         now.saturating_duration_since(self.since).as_secs() >= PATIENCE
     }
 
-    /// Nothing more is read of it than has come by now.
+    /// Shuts down its reading side: a worker reads no more of it than has come by now.
     pub(crate) fn end(&mut self) {
-        // (a stream that its client has reset cannot be shut down, and has ended)
+        // (a stream that its client has reset cannot be shut down; it has ended anyway)
         let _ = self.stream.shutdown(Shutdown::Read);
     }
 
-    /// The loop is told of it no more.
+    /// Takes it out of the poll.
     pub(crate) fn deregister(&mut self, registry: &Registry) {
-        // (the system forgets a stream that is closed; one that it does not forget is told of by a key that has none)
+        // (where this fails, the poll forgets the stream once it is closed; until then it may tell
+        // of a key under which none waits)
         let _ = registry.deregister(&mut self.stream);
     }
 
-    /// The job of a worker.
+    /// Makes it a job for a worker.
     pub(crate) fn into_job(self) -> Job
         ensures { HasCome (sight_of result) }
     {

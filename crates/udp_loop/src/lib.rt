@@ -1,13 +1,30 @@
-//! The thread at a node's sockets: it reads what comes and puts it into the queue of jobs.
+//! The event loop of a node: one thread that polls the node's sockets and queues a job for what
+//! comes.
 //!
-//! A [`NodeLoop`] has the node's two UDP sockets and its listener. Each [`NodeLoop::turn`] waits until something is ready, for a while at
-//! most, and puts a job for each datagram, and for each stream whose request can be read without waiting for its client: its head has come
-//! whole, it is as long as a head may be, its client sends no more, or five seconds are over since it was accepted (RFC 9112, section 9.5).
-//! Until then the stream waits in the loop, so clients that send slowly or nothing keep no worker busy. What finds the queue full is dropped, and the
-//! same goes for a stream where 1,024 wait: nothing grows in a flood. [`Senders`] send on the same UDP sockets, from any thread. A datagram that [`AtOnce`] deals with needs no job; it is told when a turn has read all that it reads.
+//! A [`NodeLoop`] has the node's two UDP sockets (ICP and HTCP) and its HTTP listener. Each
+//! [`NodeLoop::turn`] polls once and waits for a limited time. It then reads the datagrams that are
+//! ready, 256 of each protocol at most, accepts 256 connections at most, and puts a job for each
+//! datagram and for each connection whose request can be read without waiting for its client. That
+//! is so once its head has come whole, is as long as a head may be (16,384 octets), or its client
+//! sends no more, or once five seconds have passed since it was accepted (RFC 9112, section 9.5).
+//! Until then the connection waits in the loop, so slow and silent clients occupy no worker. A
+//! connection of which nothing has come by then is closed.
 //!
-//! What a contract says of a turn is what it does to the queue (`specs/Turns`): it puts jobs that came over a socket, and takes none. That what comes to a
-//! socket is put is the system's to keep, and tested; that a turn goes on at once with what the one before it left is a matter of speed alone.
+//! In a flood nothing grows: what finds the queue full is dropped, and so is a connection where
+//! 1,024 wait already. A datagram that an [`AtOnce`] answers on this thread needs no job; `AtOnce`
+//! is told when a turn has read its datagrams. [`Senders`] send on the same UDP sockets from any
+//! thread.
+//!
+//! Order of reading: `specs/Turns.antt` (what a turn does to the queue); `src/node_loop.rt` (the
+//! turn); `src/datagrams.rt` and `src/streams.rt` (its two parts); `src/heads.rt` (a connection
+//! whose head has not come whole); `src/putting.rt` (how a job is put); `src/at_once.rt`,
+//! `src/sockets.rt`, `src/fault.rt`; `proofs/Puts.antt` (puts add up over a turn).
+//!
+//! The crate opens sockets, polls them, and reads the clock. It starts no thread.
+//!
+//! A contract says of a turn only what it does to the queue: it puts datagrams and streams, puts no
+//! timer, and takes nothing. That what comes to a socket is put, and when, is tested. That a turn
+//! goes on at once with what the one before it left concerns speed alone.
 #![tactic(auto)]
 
 mod at_once;

@@ -1,4 +1,4 @@
-//! The loop at a node's sockets.
+//! The event loop of a node.
 ghost use Rattle.udp_loop.specs.Turns.{HasPut};
 
 use crate::at_once::AtOnce;
@@ -15,20 +15,23 @@ use std::net::Net;
 use std::sync::{Arc, Wait};
 use std::time::{Clock, Duration, Instant};
 
-/// The tokens of the node's own sockets. A stream's is its key, and there are fewer of those.
+/// The poll tokens of the node's own sockets. The token of a connection is its key, and keys are
+/// less than 1,024.
 const ICP: Token = Token(usize::MAX);
 
+/// See `ICP`.
 const HTCP: Token = Token(usize::MAX - 1);
 
+/// See `ICP`.
 const LISTENER: Token = Token(usize::MAX - 2);
 
-/// How many events are told at once.
+/// How many events one poll tells at most.
 const MOST_EVENTS: usize = 1024;
 
-/// For how many milliseconds a turn waits at most, where nothing else is said.
+/// How many milliseconds a turn waits at most, unless `set_wait` says otherwise.
 const WAIT: u64 = 100;
 
-/// Reads a node's sockets. One thread has it.
+/// The event loop of a node. One thread has it.
 #[derive(Drop)]
 pub struct NodeLoop {
     poll: Poll,
@@ -40,8 +43,9 @@ pub struct NodeLoop {
 }
 
 impl NodeLoop {
-    /// Opens the sockets of a member at its addresses: UDP for ICP and for HTCP, and a listener for HTTP. `Io` comes where an address is in use or not this
-    /// machine's, or the system refuses in another way, and `NoMemory` where there is no memory; nothing is open then.
+    /// Opens the sockets of a member at its addresses: UDP for ICP and for HTCP, and a listener for
+    /// HTTP. `Io` comes where an address is in use or is not this machine's, or the system refuses
+    /// in another way. `NoMemory` comes where there is no memory. After a fault nothing is open.
     pub fn open<N: Net + Clock>(
         rt: &N,
         alloc: Global,
@@ -68,18 +72,18 @@ impl NodeLoop {
         Ok((opened, senders))
     }
 
-    /// From now on a turn waits for so long at most; 100 milliseconds where this is never called.
+    /// Sets how long a turn waits at most; 100 milliseconds if this is never called.
     pub fn set_wait(&mut self, most: Duration) {
         self.wait = most;
     }
 
-    /// Whether a turn had a job for the queue since this was asked the last time; also one for which the queue had no place.
+    /// Whether a turn has had a job since this was last called, also one that found the queue full.
     pub fn had_jobs(&mut self) -> bool {
         let datagrams = self.datagrams.had_jobs();
         self.streams.had_jobs() || datagrams
     }
 
-    /// Waits until something is ready, and notes what is.
+    /// Polls until something is ready, for the time of a turn at most, and notes what is ready.
     fn wait_for_sockets(&mut self) -> Result<(), LoopFault> {
         let most = if self.has_more {
             Duration::ZERO
@@ -98,9 +102,13 @@ impl NodeLoop {
         Ok(())
     }
 
-    /// Waits until something is ready, or for as long as a turn may, and puts a job for each datagram that is not dealt with at once, and for each stream whose request has come; of each source some
-    /// at most, and the rest with the next turn. `Io` comes where the system refuses the clock, a wait, a read or an accept, and `NoMemory` where there is no memory for
-    /// what was read; what is ready is then read by a later turn. Other sources have been read all the same.
+    /// Polls until something is ready, for the time of a turn at most. Then puts a job for each
+    /// datagram that is not answered at once, and for each connection whose request has come. It
+    /// takes a limited share of each source, and leaves the rest to the next turn.
+    ///
+    /// `Io` comes where the system refuses the clock, a poll, a read or an accept, and `NoMemory`
+    /// where there is no memory for what was read, which is then lost. The other sources have been
+    /// read all the same, and a later turn reads what is still ready.
     pub fn turn<Q: QueueName, A: AtOnce, R: Wait + Clock>(
         &mut self,
         rt: &R,
@@ -125,7 +133,7 @@ impl NodeLoop {
         )
     }
 
-    /// Puts the streams whose requests have come. Whether there may be more to accept.
+    /// Puts the connections whose requests have come. Returns whether there may be more to accept.
     fn put_streams<Q: QueueName, R: Wait + Clock>(
         &mut self,
         rt: &R,

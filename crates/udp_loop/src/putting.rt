@@ -1,4 +1,4 @@
-//! How a job goes into the queue.
+//! How a job is put into the queue.
 ghost use Rattle.std.specs.Prelude.{IfSome};
 ghost use Rattle.job_queue.specs.Order.{sight_of};
 ghost use Rattle.udp_loop.specs.Turns.{HasCome, HasPut};
@@ -6,15 +6,17 @@ ghost use Rattle.udp_loop.specs.Turns.{HasCome, HasPut};
 use job_queue::{Job, Jobs, Pass, QueueName};
 use std::sync::Wait;
 
-/// What a look at a socket gave.
+/// What one read of a socket, or one accept, gave.
 pub(crate) enum Come {
-    /// Something came, with its job if there is one: a stream whose request is not there has none, nor has a datagram that was answered.
+    /// Something came, with its job if it has one. A connection whose request is not there yet has
+    /// none, nor has a datagram that was answered at once.
     Taken(Option<Job>),
     /// Nothing is there.
     Nothing,
 }
 
-/// Puts a job that came over a socket, if there is one, or drops it where the queue is full: a stream is closed by that.
+/// Puts a job that came over a socket, if there is one. Where the queue is full the job is dropped,
+/// which closes its stream.
 pub(crate) fn put<Q: QueueName, R: Wait>(
     rt: &R,
     jobs: &Jobs<Q>,
@@ -30,6 +32,7 @@ pub(crate) fn put<Q: QueueName, R: Wait>(
     }
 }
 
+/// Puts one job, or drops it where the queue is full.
 fn put_one<Q: QueueName, R: Wait>(rt: &R, jobs: &Jobs<Q>, pass: Pass<Q>, job: Job) -> Pass<Q>
     requires { HasCome (sight_of job) }
     ensures { HasPut pass result }

@@ -8,12 +8,12 @@ use std::io;
 use std::net::{Ipv4Addr, Net, SocketAddr};
 use std::sync::Arc;
 
-/// An address as the system takes it.
+/// An address of a roster as the system takes it.
 pub(crate) fn socket_address(address: Address) -> SocketAddr {
     SocketAddr::from((Ipv4Addr::from(address.ip), address.port))
 }
 
-/// Where a datagram came from. A sender that is not reached by IPv4, which a socket of IPv4 has none of, is told as 0.0.0.0.
+/// The address of a sender. An IPv6 sender, which an IPv4 socket never has, is given as 0.0.0.0.
 pub(crate) fn address_of(from: SocketAddr) -> Address {
     match from {
         SocketAddr::V4(from) => Address {
@@ -35,7 +35,7 @@ pub(crate) struct Sockets {
 }
 
 impl Sockets {
-    /// The sockets at a cache's addresses, registered under these tokens.
+    /// Binds the sockets at a cache's addresses, and has them polled under these tokens.
     pub(crate) fn open<N: Net>(
         net: &N,
         registry: &Registry,
@@ -58,7 +58,7 @@ impl Sockets {
     }
 }
 
-/// Sends datagrams on the sockets of a loop, from any thread.
+/// Sends datagrams on the loop's UDP sockets, from any thread.
 #[derive(Drop)]
 pub struct Senders {
     sockets: Arc<Sockets, Global>,
@@ -69,13 +69,14 @@ impl Senders {
         Senders { sockets }
     }
 
-    /// The same senders for another thread. `AllocError` comes where there is no room to count one more.
+    /// The same senders for another thread. `AllocError` comes where one more owner cannot be
+    /// counted.
     pub fn try_clone(&self) -> Result<Senders, AllocError> {
         Ok(Senders::of(Arc::try_clone(&self.sockets)?))
     }
 
-    /// Sends a datagram by a protocol, without waiting. `Io` comes where the system does not take it whole; it is then lost, as a datagram may
-    /// be on its way.
+    /// Sends a datagram by a protocol, without waiting. `Io` comes where the system does not take
+    /// it whole; it is then lost, as any datagram may be lost on its way.
     pub fn send(&self, udp: Udp, to: Address, octets: &[u8]) -> Result<(), LoopFault> {
         let count = self.sockets.by(udp).send_to(octets, socket_address(to))?;
         if count == octets.len() {

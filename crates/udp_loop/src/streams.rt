@@ -1,4 +1,4 @@
-//! Streams, from the listener into the queue.
+//! From the listener into the job queue.
 ghost use Rattle.std.specs.Prelude.{IfOk, IfSome};
 ghost use Rattle.job_queue.specs.Order.{sight_of};
 ghost use Rattle.udp_loop.specs.Turns.{HasCome, HasPut, IsSound};
@@ -16,19 +16,20 @@ use std::mem::replace;
 use std::sync::Wait;
 use std::time::Instant;
 
-/// How many streams wait at most.
+/// How many connections wait in the loop at most.
 const MOST_HEADS: usize = 1024;
 
-/// How many streams a turn accepts at most, so that each source has its turn.
+/// How many connections a turn accepts at most, so that each source gets its share of a turn.
 const MOST_AT_ONCE: usize = 256;
 
-/// How many streams whose time is over are put at a look, so that they leave room in the queue.
+/// How many connections whose five seconds have passed are put at one look, so that the queue keeps
+/// room for others.
 const MOST_LATE: usize = 64;
 
-/// After how many milliseconds streams whose time is over are looked for again.
+/// How many milliseconds pass between two looks for connections whose five seconds have passed.
 const BETWEEN_LOOKS: u128 = 100;
 
-/// Accepts a node's streams, and keeps those whose requests have not come.
+/// Accepts a node's connections, and keeps those whose requests have not come.
 #[derive(Drop)]
 pub(crate) struct Streams {
     alloc: Global,
@@ -42,6 +43,8 @@ pub(crate) struct Streams {
 }
 
 impl Streams {
+    /// Accepts from this listener. `AllocError` comes where there is no memory for 1,024 waiting
+    /// connections.
     pub(crate) fn new(
         alloc: Global,
         listener: TcpListener,
@@ -59,22 +62,23 @@ impl Streams {
         })
     }
 
-    /// The listener has streams to accept.
+    /// Notes that the listener may have connections to accept.
     pub(crate) fn set_ready(&mut self) {
         self.is_ready = true;
     }
 
-    /// Whether a stream had a job since this was asked the last time.
+    /// Whether a connection has had a job since this was last called.
     pub(crate) fn had_jobs(&mut self) -> bool {
         replace(&mut self.had_jobs, false)
     }
 
-    /// More has come of the stream under this key. `AllocError` comes where there is no room to note it; the stream then waits until its time is over.
+    /// Notes that more has come of the connection under this key. `AllocError` comes where there is
+    /// no room to note it; the connection then waits for more octets, or for its five seconds.
     pub(crate) fn note(&mut self, key: usize) -> Result<(), AllocError> {
         Ok(self.came.push(key)?)
     }
 
-    /// The job of the stream under this key, which waits no more.
+    /// Takes out the connection under this key, as a job.
     fn take(&mut self, registry: &Registry, key: usize) -> Option<Job>
         ensures { IfSome result (λ job. HasCome (sight_of job)) }
     {
@@ -84,7 +88,8 @@ impl Streams {
         Some(head.into_job())
     }
 
-    /// Reads what has come of the stream under this key; its job, if a worker can have it.
+    /// Reads what has come of the connection under this key. Returns its job, if a worker can have
+    /// it.
     fn read_on(&mut self, registry: &Registry, key: usize) -> Option<Job>
         ensures { IfSome result (λ job. HasCome (sight_of job)) }
     {
@@ -102,7 +107,7 @@ impl Streams {
         }
     }
 
-    /// Puts the streams that were noted and whose requests have come.
+    /// Puts the connections that were noted and whose requests have come.
     pub(crate) fn put_noted<Q: QueueName, R: Wait>(
         &mut self,
         rt: &R,
@@ -123,7 +128,8 @@ impl Streams {
         pass
     }
 
-    /// The job of the stream under this key, if its time is over; nothing more is read of it than has come by then. One of which nothing came is closed.
+    /// The job of the connection under this key, if its five seconds have passed; no more is read
+    /// of it than has come by then. A connection of which nothing has come is closed.
     fn take_late(&mut self, registry: &Registry, key: usize, now: Instant) -> Option<Job>
         ensures { IfSome result (λ job. HasCome (sight_of job)) }
     {
@@ -141,7 +147,8 @@ impl Streams {
         self.take(registry, key)
     }
 
-    /// Puts the streams whose time is over, 64 at most, a while after they were last looked for.
+    /// Puts the connections whose five seconds have passed, 64 at most, at intervals of 100
+    /// milliseconds.
     pub(crate) fn put_late<Q: QueueName, R: Wait>(
         &mut self,
         rt: &R,
@@ -169,7 +176,8 @@ impl Streams {
         pass
     }
 
-    /// Keeps a stream until more has come of it; or closes it where 1,024 wait.
+    /// Keeps a connection until more has come of it, or closes it where 1,024 wait or the poll does
+    /// not take it.
     fn keep(&mut self, registry: &Registry, head: Head) {
         if self.heads.len() >= MOST_HEADS {
             return;
@@ -186,7 +194,7 @@ impl Streams {
         }
     }
 
-    /// Takes in a stream that was accepted; its job, if its request is there.
+    /// Reads a connection that was just accepted. Returns its job, if its request is there.
     fn begin(&mut self, registry: &Registry, stream: TcpStream, now: Instant) -> Option<Job>
         ensures { IfSome result (λ job. HasCome (sight_of job)) }
     {
@@ -205,7 +213,7 @@ impl Streams {
         }
     }
 
-    /// Accepts a stream, if there is one.
+    /// Accepts a connection, if there is one.
     fn accept(&mut self, registry: &Registry, now: Instant) -> Result<Come, LoopFault>
         ensures { IfOk result IsSound }
     {
@@ -217,7 +225,8 @@ impl Streams {
         }
     }
 
-    /// Accepts what is there, 256 streams at most, and puts those whose requests have come. Whether there may be more.
+    /// Accepts what is there, 256 connections at most, and puts those whose requests have come.
+    /// Returns whether there may be more.
     pub(crate) fn put_accepted<Q: QueueName, R: Wait>(
         &mut self,
         rt: &R,
