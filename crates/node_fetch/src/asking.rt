@@ -1,4 +1,4 @@
-//! An ask and its answer.
+//! A request and its response, over a connection of their own.
 ghost use Rattle.std.specs.Prelude.{IsTrue};
 ghost use Rattle.peer_writing.specs.Name.{is_name as names_cache};
 
@@ -13,12 +13,16 @@ use std::net::{Ipv4Addr, Net, SocketAddr};
 use std::time::{Clock, Duration};
 use timed_streams::{Timed, Waiter};
 
-/// For how many seconds a peer or an origin may take to be connected, asked and read.
+/// How many seconds an exchange may take: to connect, to write the request and to read the
+/// response.
 const PATIENCE: u64 = 5;
 
-/// Asks whoever serves HTTP at this address, under the name of the cache that asks, and reads the answer: within five seconds in all, over a stream of its own.
+/// Asks whoever serves HTTP at this address, under the name of the cache that asks, and reads the
+/// response: within five seconds in all, over a connection of its own. `form` is the form of the
+/// request target (RFC 9112, section 3.2).
 ///
-/// Faults: `Io` where the system refuses, the stream fails or its time is over, and those of `read_answer`.
+/// Faults: `Io` where the system refuses, the connection fails or its time is over; and those of
+/// `read_answer`.
 pub fn exchange<R: Net + Clock>(
     rt: &R,
     alloc: Global,
@@ -36,10 +40,12 @@ pub fn exchange<R: Net + Clock>(
     }
 }
 
+/// Begins to connect, without waiting.
 fn connected<R: Net>(rt: &R, at: Address) -> io::Result<TcpStream> {
     TcpStream::connect(rt, SocketAddr::from((Ipv4Addr::from(at.ip), at.port)))
 }
 
+/// Writes the request to a stream that is connected or still connecting, and reads the response.
 fn asked<C: Clock>(
     clock: &C,
     alloc: Global,

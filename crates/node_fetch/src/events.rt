@@ -1,4 +1,4 @@
-//! What a node meets at the end of a fetch.
+//! The event that a node gets at the end of a fetch.
 ghost use Rattle.std.specs.Prelude.{◌≡◌};
 ghost use Rattle.node_fetch.specs.Fetched.{event_of_answer, event_of_fetch, is_told as may_be_told};
 ghost use Rattle.node_rules.specs.Arrivals.{is_gateway_fault as is_gateways};
@@ -7,7 +7,7 @@ use fetch_messages::Answer;
 use node_rules::Event;
 use url_key::Key;
 
-/// Where an answer is fetched from.
+/// Where a response comes from.
 #[derive(Clone, Copy, Debug, PartialEq, Eq)]
 pub enum Source {
     /// The member of this id, 1 to 16.
@@ -18,14 +18,15 @@ pub enum Source {
     Origin,
 }
 
-/// Whether a status is a gateway's fault (RFC 9110, sections 15.6.3 to 15.6.5): the fetch of the one who answers failed.
+/// Whether a status says that the fetch of the peer itself failed: 502, 503 or 504 (RFC 9110,
+/// sections 15.6.3 to 15.6.5).
 fn is_gateway_fault(status: u16) -> bool
     ensures { result ≡ is_gateways status }
 {
     [502, 503, 504].contains(&status)
 }
 
-/// Whether a node is told of the answer.
+/// Whether the node gets the response, and not a failure.
 fn is_told(source: Source, answer: &Answer) -> bool
     ensures { result ≡ may_be_told source answer.now }
 {
@@ -36,7 +37,8 @@ fn is_told(source: Source, answer: &Answer) -> bool
     }
 }
 
-/// The event of a fetch that ended at this moment, in seconds, with an answer or without one.
+/// The event of a fetch with this serial and key that ended at this moment, in seconds, with a
+/// response or without one.
 pub fn fetched(source: Source, serial: u32, key: Key, answer: Option<Answer>, now: u64) -> Event<()>
     ensures { result ≡ event_of_fetch source serial key answer now }
 {
@@ -46,7 +48,7 @@ pub fn fetched(source: Source, serial: u32, key: Key, answer: Option<Answer>, no
     }
 }
 
-/// The event of an answer that a node is told of.
+/// The event of a response that the node gets.
 fn came(source: Source, serial: u32, key: Key, answer: Answer, now: u64) -> Event<()>
     ensures { result ≡ event_of_answer source serial key answer now }
 {
