@@ -1,4 +1,5 @@
--- A shift that is closed.
+-- A shift that is closed: its record is that of the desk, and the count under the lock is the sum of the shares of all
+-- seats, once these are merged.
 use Rattle.std.proofs.Common.{◌≡◌, ℕ, List, sym, subst, ap, ◌∙◌}
 use Rattle.std.specs.List.{All}
 use Rattle.node_core.specs.View.{NodeText}

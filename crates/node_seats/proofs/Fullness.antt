@@ -1,4 +1,5 @@
--- What a caller is told where the book is not full.
+-- A caller is told ShiftFull only where the book has 4,096 entries: with fewer, the book answers NoMemory or has taken
+-- a step, and no answer of a step reads as a full book.
 use Rattle.std.proofs.Common.{◌≡◌, ℕ, ◌≤◌, ◌<◌, ◌⊎◌, Result, Ok, Err, inl, inr, sym, ◌∙◌, arith}
 use Rattle.node_rules.specs.declared.reply.Reply.{Reply}
 use Rattle.node_rules.specs.declared.reply.StepFault.{StepFault}

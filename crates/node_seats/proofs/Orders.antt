@@ -1,4 +1,5 @@
--- Seats in the order of their numbers, and their parts.
+-- Seats that are looked at one by one, in the order of their numbers: each has its place, and their parts add up to all
+-- parts, since seat 0 has what the others do not have.
 use Rattle.std.proofs.Common.{◌≡◌, ◌<◌, ◌≤◌, ℕ, zero, suc, ◌+◌, List, length, take, slice_index_or, refl, sym, subst, arith}
 use Rattle.std.proofs.lemmas.List.Elements.{at_read}
 use Rattle.std.proofs.lemmas.List.Sums.{sum_by_more}

@@ -1,4 +1,5 @@
--- What a caller is told is an outcome of the node's rules.
+-- What a caller is told is an outcome of the rules: the book applies each event by a step of its node, the answer tells
+-- the outcome of that step, and the caller is given that answer or told that the reply was lost.
 use Rattle.std.proofs.Common.{◌≡◌, ◌⊎◌, ℕ, Option, Some, None, Result, Ok, Err, refl, sym, ap, subst, inl, inr}
 use Rattle.key_texts.specs.KeyOf.{key_of}
 use Rattle.key_texts.proofs.Outcomes.{gives_keys}

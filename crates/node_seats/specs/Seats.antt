@@ -1,4 +1,4 @@
--- What a seat carries, and what a call by it changes.
+-- What a seat has, and what a call by it changes.
 use Rattle.std.specs.Prelude.{◌≡◌, ◌≤◌, ◌⊎◌, ℕ, zero, suc, ◌+◌, ◌-◌, ◌^◌, ◌==◌, List, [], ◌∷◌, ◌++◌, length, if◌then◌else◌, Result, Ok, Err, Option, Some, None}
 use Rattle.node_rules.specs.declared.event.Event.{Event}
 use Rattle.node_rules.specs.declared.reply.Reply.{Reply}
@@ -23,15 +23,16 @@ pub record SeatView : Type 0 where
   pub parts : ℕ
   pub amount : ℕ
 
--- the parts of a seat's share: each has one, and seat 0 the rest
+-- the parts of a seat's share: each seat has one, and seat 0 has all others
 abbrev pub parts_of : ℕ → ℕ → ℕ → ℕ
 parts_of all seats zero = all - (seats - 1)
 parts_of all seats (suc number) = 1
 
+-- a call by its event and what was told of it
 abbrev pub made_call : Event (Unit {0}) → Told → Made
 made_call event told = record { event = event; told = told }
 
--- the list is longer by one call, and the share by one
+-- the list of the seat is longer by one call, and its share of the count by one
 pub record Lists (old : SeatView) (event : Event (Unit {0})) (told : Told) (new : SeatView) : Type 0 where
   pub number : new.number ≡ old.number
   pub seats : new.seats ≡ old.seats
@@ -39,7 +40,7 @@ pub record Lists (old : SeatView) (event : Event (Unit {0})) (told : Told) (new 
   pub parts : new.parts ≡ old.parts
   pub amount : new.amount ≡ old.amount + 1
 
--- what is listed of an answer: the outcome, or that it is unknown; nothing where no step was taken
+-- what a seat lists of an answer: the outcome, or that it is unknown; nothing where no step was taken
 abbrev pub told_of : Result (Reply (Unit {0})) BookFault → Option Told
 told_of (Ok reply) = Some (Known (Ok reply))
 told_of (Err (Step fault)) = Some (Known (Err fault))
@@ -47,28 +48,30 @@ told_of (Err ReplyLost) = Some Unknown
 told_of (Err ShiftFull) = None
 told_of (Err NoMemory) = None
 
--- the list with that call, and by how much the count rises
+-- the list after a call, by what is told of it
 abbrev pub listed : List Made → Event (Unit {0}) → Option Told → List Made
 listed made event (Some told) = made ++ made_call event told ∷ []
 listed made event None = made
 
+-- by how much the count rises
 abbrev pub counted : Option Told → ℕ
 counted (Some told) = 1
 counted None = 0
 
--- what a call leaves of the seat, by what is listed of its answer
+-- what a call leaves of the seat, by what is told of it
 abbrev pub Leaves : SeatView → Event (Unit {0}) → Option Told → SeatView → Type 0
 Leaves old event (Some told) new = Lists old event told new
 Leaves old event None new = new ≡ old
 
+-- what a call leaves of the seat, by its answer
 abbrev pub Called : SeatView → Event (Unit {0}) → Result (Reply (Unit {0})) BookFault → SeatView → Type 0
 Called old event answer new = Leaves old event (told_of answer) new
 
--- a node that goes by the rules may answer the event so, in some state
+-- a node that keeps to the rules may answer the event with this outcome, in some state
 abbrev pub MayAnswer : Event (Unit {0}) → Result (Reply (Unit {0})) StepFault → Type 0
 MayAnswer event outcome = (g : Setting) × (old : NodeState (Unit {0})) × (new : NodeState (Unit {0})) × Steps g old event tt outcome new
 
--- what is told of a call is such an outcome, where one is known
+-- what is told of a call, where it is known, is an outcome that the rules allow for the event
 abbrev pub IsRightlyTold : Event (Unit {0}) → Option Told → Type 0
 IsRightlyTold event (Some (Known outcome)) = MayAnswer event outcome
 IsRightlyTold event (Some Unknown) = Unit {0}
@@ -79,7 +82,7 @@ abbrev pub IsTold : Told → Result (Reply (Unit {0})) StepFault → Type 0
 IsTold (Known told) outcome = told ≡ outcome
 IsTold Unknown outcome = Unit {0}
 
--- the calls are those of the entries, one for one, with their answers
+-- the calls are the entries, one for one, with their answers
 abbrev pub Agree : List Made → List NodeEntry → Type 0
 Agree [] [] = Unit {0}
 Agree [] (e ∷ entries) = ⊥
@@ -95,12 +98,12 @@ entries_of number (e ∷ entries) = if e.seat == number then e ∷ entries_of nu
 abbrev pub Agrees : List NodeEntry → SeatView → Type 0
 Agrees entries seat = Agree seat.made (entries_of seat.number entries)
 
--- a node's book, and the count of calls when the shift began
+-- a node's book, and the count of calls before this shift
 pub record DeskView (S : Type 0) : Type 0 where
   pub book : BookView S
   pub before : ℕ
 
--- the count of calls
+-- the count of all calls so far
 abbrev pub count_of : {S : Type 0} → DeskView S → ℕ
 count_of desk = desk.before + length desk.book.entries
 
@@ -108,7 +111,7 @@ count_of desk = desk.before + length desk.book.entries
 abbrev pub IsSpent : {S : Type 0} → DeskView S → Type 0
 IsSpent desk = (4096 ≤ length desk.book.entries) ⊎ (2 ^ 64 - 1 ≤ count_of desk)
 
--- the caller is given the book's answer, or told that its reply was lost
+-- the caller is given the book's answer, or is told that its reply was lost
 abbrev pub IsGiven : Result (Reply (Unit {0})) BookFault → Result (Reply (Unit {0})) BookFault → Type 0
 IsGiven answer given = (given ≡ answer) ⊎ ((reply : Reply (Unit {0})) × (answer ≡ Ok reply) × (given ≡ Err ReplyLost))
 

@@ -1,4 +1,4 @@
-//! Whether the seats' own lists are what the book says.
+//! The comparison of the seats' own lists with the book.
 ghost use Rattle.std.specs.Prelude.{◌≡◌, ◌≤◌, ◌<◌, ◌↔◌, IsTrue};
 ghost use Rattle.std.specs.List.{All};
 ghost use Rattle.node_seats.specs.Seats.{Agree, Agrees, IsTold, entries_of, parts_of};
@@ -9,7 +9,7 @@ use node_book::NodeEntry;
 use node_equality::{same_event, same_outcome};
 use node_rules::{Reply, StepFault};
 
-/// Whether what was told is the outcome, where it is known.
+/// Whether what was told is the outcome, or is unknown.
 fn is_told(told: &Told, outcome: &Result<Reply<()>, StepFault>) -> bool
     ensures { IsTrue result ↔ IsTold told.now outcome.now }
 {
@@ -19,6 +19,7 @@ fn is_told(told: &Told, outcome: &Result<Reply<()>, StepFault>) -> bool
     }
 }
 
+/// Whether a call is this entry: the same event, and what was told of it.
 fn is_call_of(made: &Made, entry: &NodeEntry) -> bool
     ensures { IsTrue result ↔ ((made.now.event ≡ entry.now.event) × IsTold made.now.told entry.now.outcome) }
 {
@@ -56,7 +57,7 @@ pub(crate) fn all_agree<L: Calls>(seats: &[Seat<L>], entries: &[NodeEntry]) -> b
     true
 }
 
-/// Whether this is the seat of so many that has this number.
+/// Whether this is the seat with this number, of a shift with `count` seats.
 fn is_seat_of<L: Calls>(seat: &Seat<L>, count: u8, number: usize) -> bool
     ensures seat { IsTrue result ↔ IsSeatOf count number seat.now }
     ensures parts { IsTrue result → seat.now.parts ≡ parts_of L.all count number }
@@ -64,7 +65,7 @@ fn is_seat_of<L: Calls>(seat: &Seat<L>, count: u8, number: usize) -> bool
     seat.seats == count && usize::from(seat.number) == number
 }
 
-/// Whether these are all seats of a shift with so many, in the order of their numbers.
+/// Whether these are all `count` seats of a shift, in the order of their numbers.
 pub(crate) fn are_all<L: Calls>(seats: &[Seat<L>], count: u8) -> bool
     requires { (0 < count) × (count ≤ L.all) }
     ensures all { IsTrue result ↔ AreAll count seats.now }

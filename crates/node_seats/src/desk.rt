@@ -1,4 +1,4 @@
-//! The locked book of a node.
+//! What the lock of a shared node holds.
 ghost use Rattle.std.specs.Prelude.{◌≡◌, ◌+◌, ◌≤◌, ◌<◌, ◌⊎◌, ◌↔◌, length, vec_len, vec_capacity, Some, None, Ok, Err, IfOk, IsTrue};
 ghost use Rattle.floor_rules.specs.Store.{HaveRisen};
 ghost use Rattle.node_book.specs.declared.book.BookFault.TheVariants as faults;
@@ -17,7 +17,8 @@ use std::alloc::{AllocError, Global};
 use std::marker::Model;
 use std::sync::ledger::{Book, Share};
 
-/// A node's book under its lock: its ledger's count is that of the shift's opening and the number of entries.
+/// A node's book with the ledger of its calls. The ledger's count is the number of calls before
+/// this shift and the number of entries, added.
 #[derive(Drop)]
 pub(crate) struct Desk<S: FloorStore, L: Calls> {
     pub(crate) alloc: Global,
@@ -45,8 +46,10 @@ impl<S: FloorStore, L: Calls> Model for Desk<S, L> {
 }
 
 impl<S: FloorStore, L: Calls> Desk<S, L> {
-    /// One call by a seat. `ShiftFull` comes exactly where the desk is spent, before all else. At `ShiftFull` and `NoMemory` nothing changes; else the book has one entry more, of this event and the
-    /// seat's number, with the outcome that is told, or that of `ReplyLost` is unknown.
+    /// Makes one call by a seat. `ShiftFull` comes exactly where the book has 4,096 entries or the
+    /// count is at its greatest, before anything else. After `ShiftFull` and `NoMemory` nothing is
+    /// changed. Else the book has one entry more, of this event and the number of the seat, with
+    /// the outcome that is told; after `ReplyLost` the outcome is not told.
     pub(crate) fn call(
         &mut self,
         seat: &mut Seat<L>,
@@ -88,7 +91,7 @@ impl<S: FloorStore, L: Calls> Desk<S, L> {
     }
 }
 
-/// Makes room for one call more, and a copy of its event for the list.
+/// Makes room in the list for one call more, and a copy of its event.
 fn room_for(
     alloc: Global,
     made: &mut Vec<Made>,
@@ -103,7 +106,7 @@ fn room_for(
     Ok((event, listed))
 }
 
-/// Applies an event for a seat: what the caller is given, and what the seat lists of it.
+/// Applies an event for a seat. Returns what the caller is given, and what the seat lists of it.
 fn post<S: FloorStore>(
     alloc: Global,
     book: &mut NodeBook<S>,
@@ -123,7 +126,7 @@ fn post<S: FloorStore>(
     given(alloc, answer)
 }
 
-/// What a caller is given of an answer, and what its seat lists of it: a copy of the reply. Where there is no memory for that, the reply is lost.
+/// What a caller is given of the book's answer, and what its seat lists of it.
 fn given(
     alloc: Global,
     answer: Result<Reply<()>, BookFault>,
@@ -139,6 +142,8 @@ fn given(
     }
 }
 
+/// A reply, and a copy of it for the list. Where there is no memory for the copy, the reply is
+/// lost.
 fn given_reply(alloc: Global, reply: Reply<()>) -> (Result<Reply<()>, BookFault>, Option<Told>)
     ensures given { IsGiven (Ok reply) result.0 }
     ensures told { result.1 ≡ told_of result.0 }
@@ -149,7 +154,7 @@ fn given_reply(alloc: Global, reply: Reply<()>) -> (Result<Reply<()>, BookFault>
     }
 }
 
-/// Lists a call where something is told of it, for which there is room, and counts it.
+/// Lists and counts a call of which something is told; the list has room for it.
 fn list<L: Calls>(
     calls: &mut Book<L>,
     made: &mut Vec<Made>,

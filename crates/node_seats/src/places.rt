@@ -3,7 +3,8 @@ use std::alloc::{AllocError, Global};
 use std::sync::Arc;
 use std::sync::atomic::{AtomicU64, Ordering};
 
-/// Gives numbers from 1 upwards, each to one caller until 2^64 were given. It promises nothing of them: a check of a run tests them.
+/// Gives the numbers from 1 upwards, each to one caller until 2^64 were given. No contract says so:
+/// the check of a run tests the places that it finds.
 #[derive(Drop)]
 pub struct Places {
     next: Arc<AtomicU64, Global>,
@@ -18,7 +19,8 @@ impl Places {
         }
     }
 
-    /// The same counter for another caller. `AllocError` comes where its owners cannot be counted any more.
+    /// The same counter for another caller. `AllocError` comes where one more owner cannot be
+    /// counted.
     pub fn copy(&self) -> Result<Places, AllocError> {
         Ok(Places {
             next: Arc::try_clone(&self.next)?,

@@ -1,13 +1,13 @@
-//! A seat: the right to call the node, with a list of the calls made by it.
+//! A seat: one thread's right to call a node, with a list of the calls made by it.
 ghost use Rattle.std.specs.Prelude.{◌≡◌, ℕ, length};
 
 use node_rules::{Event, Reply, StepFault};
 use std::marker::{Brand, Model};
 use std::sync::ledger::{Ledger, Share};
 
-/// The ledger of one node's calls.
+/// The type that names the ledger of one node, in which its calls are counted.
 pub trait Calls: Ledger {
-    /// All its parts.
+    /// All its parts, which the seats share.
     ghost all: { ℕ };
 }
 
@@ -18,9 +18,9 @@ impl Calls for Brand {
 /// What a seat was told of a step.
 #[derive(Drop)]
 pub enum Told {
-    /// Its outcome.
+    /// The outcome of the step.
     Known(Result<Reply<()>, StepFault>),
-    /// The step stands, and its reply was lost for want of memory.
+    /// The step stands, but there was no memory for a copy of its reply, so the reply was lost.
     Unknown,
 }
 
@@ -29,13 +29,15 @@ pub enum Told {
 pub struct Made {
     /// The event.
     pub event: Event<()>,
-    /// What was told of it.
+    /// What the seat was told of it.
     pub told: Told,
 }
 
-/// The right to call a node, and the list of the calls made by it. Seat 0 has the parts that the others do not have, which have one each.
+/// The right of one thread to call a node, and the list of the calls made by it. Each seat has one
+/// part of the ledger, and seat 0 has all other parts.
 ///
-/// A contract sees its number, how many seats there are, the calls made by it in their order, and its share of the count.
+/// A contract sees its number, how many seats there are, the calls made by it in their order, and
+/// its share of the count.
 #[derive(Drop)]
 pub struct Seat<L: Calls> {
     pub(crate) number: u8,

@@ -1,4 +1,4 @@
-//! A node that threads share.
+//! The node that threads share.
 ghost use Rattle.std.specs.Prelude.{◌≡◌, ◌≤◌, ◌<◌, [], length, vec_capacity, MatchResult, IfOk};
 ghost use Rattle.node_bytes.specs.Stepping.{AnswersAsk};
 ghost use Rattle.node_seats.specs.Seats.{Called, IsRightlyTold, parts_of, told_of};
@@ -24,7 +24,8 @@ pub struct SharedNode<S: FloorStore, L: Calls> {
 }
 
 impl<S: FloorStore, L: Calls> SharedNode<S, L> {
-    /// Shares a book that has no entry, by so many seats. All is given back where there is no memory for the seats.
+    /// Shares a book without entries among this many seats. Where there is no memory for the seats,
+    /// everything is given back.
     pub fn open(
         alloc: Global,
         book: NodeBook<S>,
@@ -54,11 +55,14 @@ impl<S: FloorStore, L: Calls> SharedNode<S, L> {
         Ok((SharedNode { desk, seats }, row))
     }
 
-    /// Makes one call by a seat, which comes back with the call in its list, or as it was where no step was taken.
+    /// Makes one call by a seat. The seat comes back with the call in its list, or unchanged where
+    /// no step was taken. A request that is answered is served at once, and nothing else is done
+    /// then; or it waits for what begins with it.
     ///
-    /// Faults: `ShiftFull` where the book has 4,096 entries, or the count of calls is at its greatest, and then `NoMemory` where there is no room for the call: nothing changes
-    /// then. `Step` with the step's fault. `ReplyLost` where the step stands, and there was no memory for a copy of its reply. An ask that is answered is served at once, and nothing else is
-    /// done then; or it waits for what begins with it.
+    /// Faults: `ShiftFull` where the book has 4,096 entries or the count of calls is at its
+    /// greatest, and else `NoMemory` where there is no room for the call; both change nothing.
+    /// `Step` with the fault of the step. `ReplyLost` where the step stands but there was no memory
+    /// for a copy of its reply.
     pub fn call<R: Wait>(
         &self,
         rt: &R,
@@ -74,7 +78,7 @@ impl<S: FloorStore, L: Calls> SharedNode<S, L> {
     }
 }
 
-/// Seats for a share of all parts: the first has its amount, and the others nothing.
+/// Makes seats of a share of all parts: the first gets its amount, and the others an amount of 0.
 pub(crate) fn seated<L: Calls>(
     alloc: Global,
     mut row: Vec<Seat<L>>,
@@ -98,6 +102,7 @@ pub(crate) fn seated<L: Calls>(
     }
 }
 
+/// A seat by which no call was made.
 fn new_seat<L: Calls>(alloc: Global, number: u8, seats: u8, share: Share<L>) -> Seat<L>
     requires number { (number < seats) × (seats ≤ L.all) }
     requires parts { share.parts ≡ parts_of L.all seats number }

@@ -1,4 +1,4 @@
-//! The end of a shift: all seats come back, and what they were told is compared with the book.
+//! The end of a shift: all seats come back, and their lists are compared with the book.
 ghost use Rattle.std.specs.Prelude.{◌≡◌, ◌≤◌, ◌<◌, length, MatchResult, IfOk, IfErr};
 ghost use Rattle.node_seats.specs.Seats.{count_of};
 ghost use Rattle.node_seats.specs.Shifts.{Closes, Opens, IsCause, IsRecordOf, new_desk, parts_in, amount_in};
@@ -17,7 +17,7 @@ use std::sync::Mutex;
 use std::sync::ledger::{Book, Share};
 use thiserror::Error;
 
-/// A node between two shifts, with the record of the last.
+/// A node between two shifts, with the record of the shift that ended.
 ///
 /// A contract sees the record, the node, and the count of all calls so far.
 #[derive(Drop)]
@@ -54,7 +54,7 @@ pub enum CloseFault {
     /// These are not all seats of the node, in the order of their numbers.
     #[error("a seat is missing")]
     SeatMissing,
-    /// A seat's own list of calls and answers is not what the book has of it.
+    /// A seat's own list of calls and answers differs from the book.
     #[error("a seat's list differs from the book")]
     Mismatch,
     /// There is no memory for the closing state.
@@ -62,14 +62,15 @@ pub enum CloseFault {
     NoMemory,
 }
 
-/// A node and the seats that were to close it, and why they did not.
+/// A node and its seats that were not closed, and why.
 pub type Refused<S, L> = (SharedNode<S, L>, Vec<Seat<L>>, CloseFault);
 
-/// A record, and the node and the seats of the shift after it.
+/// The record of a shift, and the node and seats of the shift after it.
 pub type Opened<S, L> = (Record, SharedNode<S, L>, Vec<Seat<L>>);
 
-/// Closes the shift, where each seat's own list is what the book has of it. Else the node and the seats are given back as they were, with the first of these
-/// faults: `SeatMissing`, `Mismatch`, `NoMemory`.
+/// Closes the shift, where each seat's own list is what the book has of it. Else the node and the
+/// seats are given back as they were, with the first of these faults that holds: `SeatMissing`,
+/// `Mismatch`, `NoMemory`.
 pub fn close<S: FloorStore, L: Calls>(
     node: SharedNode<S, L>,
     seats: Vec<Seat<L>>,
@@ -90,7 +91,7 @@ pub fn close<S: FloorStore, L: Calls>(
     }
 }
 
-/// Closes the shift of a desk that is out of its lock, so that a contract can name its book.
+/// Closes the shift of a desk that is out of its lock, so that a contract can speak of its book.
 fn close_desk<S: FloorStore, L: Calls>(
     desk: Desk<S, L>,
     count: u8,
@@ -124,7 +125,7 @@ struct ClosedDesk<S: FloorStore, L: Calls> {
     places: Places,
 }
 
-/// Closes the desk's book, or gives the desk back where there is no memory for its closing state.
+/// Closes the desk's book, or gives the desk back where there is no memory for the closing state.
 fn shut<S: FloorStore, L: Calls>(desk: Desk<S, L>) -> Result<ClosedDesk<S, L>, Desk<S, L>>
     ensures ok { IfOk result (λ done. (done.node ≡ desk.book.node) × (done.last.opening ≡ desk.book.opening) × (done.last.entries ≡ desk.book.entries) × (done.count ≡ count_of desk)) }
     ensures record_of { IfOk result (λ done. IsRecordOf done.last done.node) }
@@ -158,7 +159,7 @@ fn shut<S: FloorStore, L: Calls>(desk: Desk<S, L>) -> Result<ClosedDesk<S, L>, D
     }
 }
 
-/// Puts the seats' shares together, which shows that the count is their sum.
+/// Merges the seats' shares, which shows that the count is their sum.
 fn merged_shift<S: FloorStore, L: Calls>(desk: ClosedDesk<S, L>, seats: Vec<Seat<L>>) -> Shift<S, L>
     requires all { (parts_in seats.items ≡ L.all) × (L.all ≡ L.parts) × (0 < L.all) }
     requires record_of { IsRecordOf desk.last desk.node }
@@ -187,7 +188,7 @@ fn merged_shift<S: FloorStore, L: Calls>(desk: ClosedDesk<S, L>, seats: Vec<Seat
     }
 }
 
-/// One share of all that the seats have.
+/// Merges the shares of all seats into one.
 fn merged<L: Calls>(mut seats: Vec<Seat<L>>) -> Share<L>
     requires { 0 < parts_in seats.items }
     ensures parts { result.parts ≡ parts_in seats.items }
@@ -205,15 +206,16 @@ fn merged<L: Calls>(mut seats: Vec<Seat<L>>) -> Share<L>
 }
 
 impl<S: FloorStore, L: Calls> Shift<S, L> {
-    /// The record of the shift.
+    /// The record of the shift that ended.
     pub fn record(&self) -> &Record
         ensures { result.now ≡ self.now.record_of }
     {
         &self.record
     }
 
-    /// The next shift, by so many seats: its book opens with the state at which the last one ended, and its count goes on. The shift is given back where there is no memory for
-    /// the seats or the opening state.
+    /// Opens the next shift with this many seats: its book begins at the closing state of the last
+    /// one, and the count goes on. Where there is no memory for the seats or the opening state, the
+    /// shift is given back.
     pub fn next(self, seats: u8) -> Result<Opened<S, L>, (Shift<S, L>, AllocError)>
         requires { (0 < seats) × (seats ≤ L.all) }
         ensures { MatchResult result (λ opened. Opens self opened.0 seats opened.2.items) (λ refused. refused.0 ≡ self) }
@@ -253,7 +255,7 @@ impl<S: FloorStore, L: Calls> Shift<S, L> {
     }
 }
 
-/// A desk with no entry, which goes on with the count.
+/// A desk without entries, whose count goes on.
 fn desk_of<S: FloorStore, L: Calls>(
     alloc: Global,
     node: Node<(), S>,
