@@ -1,4 +1,5 @@
--- How many calls the seats of a row have made.
+-- How many calls the seats of a row have made: a seat more adds its own calls, and the sum of the first seats is at
+-- most that of all.
 use Rattle.std.proofs.Common.{◌≡◌, ◌≤◌, ◌<◌, ℕ, ◌+◌, List, length, take, slice_index_or, sym, subst}
 use Rattle.std.proofs.lemmas.List.Sums.{sum_by_more, sum_by_more_le}
 use Rattle.node_seats.specs.Seats.{SeatView}

@@ -1,4 +1,6 @@
--- A shift that ends, and the next one that begins.
+-- A shift that ends, and the next one that begins: an open shift becomes that of its seats, a closed one stays the one
+-- that ended, and either is followed by the same opening. So a turn, and what takes records out after a turn, say the
+-- same of both.
 use Rattle.std.proofs.Common.{◌≡◌, List, [], Option, Some, None, IsSome, MatchOption, refl, sym, ap, subst, ◌∙◌, true≢false}
 use Rattle.node_book.specs.declared.record.Record.{Record}
 use Rattle.node_seats.specs.Seats.{SeatView}

@@ -1,7 +1,8 @@
 /// What becomes of the records of shifts that are closed.
 #[derive(Clone, Copy, Debug, PartialEq, Eq)]
 pub enum History {
-    /// So many are kept at most. Where there would be one more, all of them are dropped, and none is kept from then on.
+    /// This many are kept at most. Where there would be one more, all of them are dropped, and none
+    /// is kept from then on.
     UpTo(u32),
     /// They are dropped.
     Dropped,

@@ -1,12 +1,27 @@
-//! A node's shifts: how those who share a node call it, and what becomes of the record when a shift ends.
+//! A node from shift to shift: a shift that is full ends, and the next one opens, within a call.
 //!
-//! A book has room for 4,096 calls. [`Shifts`] has a shared node with all its seats: each call is made by the seat of its caller, and where the book is full, or its events have brought so many
-//! octets along ([`octets_of`]) that it would take much memory, the shift is closed
-//! (`node_seats::close`), its record is kept or dropped, and the next one is opened before the call. So whoever calls needs to know nothing of shifts, and a shift ends while fetches
-//! are under way and clients wait. Threads share it under a lock that each holds for one call ([`AtSeat`], a [`Stepper`](node_bytes::Stepper)).
+//! A shift is the life of a node's book. It has room for 4,096 calls, and until its events have
+//! brought 4 MiB along ([`octets_of`]), which bounds the memory of its entries. [`Shifts`] has a
+//! shared node with all its seats. Each call is made by the seat of its caller. Where the shift has
+//! no room, it is closed (`node_seats::close`), its record is kept or dropped ([`History`]), and
+//! the next one is opened before the call. So callers need to know nothing of shifts, and a shift
+//! ends while fetches are under way and clients wait. Threads share a `Shifts` under a lock, which
+//! each holds for one call; [`AtSeat`] takes a node's steps that way, as a
+//! [`Stepper`](node_bytes::Stepper).
 //!
-//! What passes: `turn`, `take_records` and `into_records` may answer `SeatMissing` or `Mismatch` at once. No contract sees the book under its lock between two calls, so none can say that what a
-//! seat lists is what the book has; tests close shifts behind calls of all seats.
+//! Order of reading: `specs/Shifts.antt` (a call, and the change of shifts), `specs/Weight.antt`
+//! (what an event brings along); `src/shifts.rt`, `src/at_seat.rt`, `src/history.rt`,
+//! `src/weight.rt`; `proofs/Turns.antt`, `proofs/Rows.antt`.
+//!
+//! A contract sees of a `Shifts` the seats of the open shift, or the closed one, and the records
+//! that are kept. The crate waits at locks. It touches no socket, clock or thread; files are
+//! touched by the node's store of floors, which is passed in with the node.
+//!
+//! What it does not promise: `turn`, `take_records` and `into_records` may answer `SeatMissing` or
+//! `Mismatch` at once. No contract sees the book under its lock between two calls, so none can say
+//! that what a seat lists is what the book has. Tests close shifts after calls by all seats. The
+//! contract of a step by `AtSeat` cannot name the shifts under the lock either: it says that some
+//! shifts go on so.
 #![tactic(auto)]
 
 mod at_seat;

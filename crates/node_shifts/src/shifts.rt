@@ -17,15 +17,17 @@ use std::mem::replace;
 use std::sync::Wait;
 use std::sync::ledger::Blank;
 
-/// Once the events of a shift have brought so many octets along, it has no room for more: what its entries keep in memory is bounded by that.
+/// Once the events of a shift have brought this many octets along, it has no room for another call.
+/// This bounds what its entries keep in memory.
 const MOST_OCTETS: u64 = 4_194_304;
 
 /// What is given back where there is no memory for the seats.
 pub type Refused<S> = (NodeBook<S>, Blank, Places, AllocError);
 
-/// A node with the seats of all who call it, from shift to shift.
+/// A node with the seats of all its callers, from shift to shift.
 ///
-/// A contract sees the seats of the shift that is open, or what is left of one that is closed; and the records that are kept.
+/// A contract sees the seats of the open shift, or the shift that is closed where none is open, and
+/// the records that are kept.
 #[derive(Drop)]
 pub struct Shifts<S: FloorStore, L: Calls> {
     alloc: Global,
@@ -58,7 +60,8 @@ impl<S: FloorStore, L: Calls> Model for Shifts<S, L> {
 }
 
 impl<S: FloorStore + Drop, L: Calls> Shifts<S, L> {
-    /// The first shift of a book that has no entry, with so many seats. All is given back where there is no memory for the seats.
+    /// Opens the first shift of a book without entries, with this many seats. Where there is no
+    /// memory for the seats, everything is given back.
     pub fn open(
         alloc: Global,
         book: NodeBook<S>,
@@ -90,11 +93,16 @@ impl<S: FloorStore + Drop, L: Calls> Shifts<S, L> {
         }
     }
 
-    /// Makes one call by the seat of this number, or by the last one where there are not so many. Where the shift has no room or none is open, the next shift is opened first: a shift has room
-    /// for 4,096 calls, and until its events have brought 4,194,304 octets along.
+    /// Makes one call by the seat of this number, or by the last seat where there are not so many.
+    /// Where the shift has no room, or none is open, the next shift is opened first. A shift has
+    /// room for 4,096 calls, and until its events have brought 4,194,304 octets along. A request
+    /// that is answered is served at once, and nothing else is done then; or it waits for what
+    /// begins with it.
     ///
-    /// Faults: those of the step; and `NoMemory` where there is no memory for the call, for its reply (the step stands then), or for closing a shift or opening one: the call is not made
-    /// then, and the next one tries again. An ask that is answered is served at once, and nothing else is done then; or it waits for what begins with it.
+    /// Faults: those of the step; and `NoMemory` where there is no memory for the call, for its
+    /// reply (the step stands then), or to close a shift or open one (the call is not made then,
+    /// and the next call tries again). `NoMemory` also comes where a shift is not closed for
+    /// another reason.
     pub fn call<R: Wait>(
         &mut self,
         rt: &R,
@@ -118,7 +126,7 @@ impl<S: FloorStore + Drop, L: Calls> Shifts<S, L> {
         self.closed.is_some() || MOST_OCTETS <= self.octets || are_spent(self.row.as_slice())
     }
 
-    /// Makes one call in the shift that is open.
+    /// Makes one call in the open shift.
     fn call_now<R: Wait>(
         &mut self,
         rt: &R,
@@ -134,10 +142,12 @@ impl<S: FloorStore + Drop, L: Calls> Shifts<S, L> {
         call_at(rt, &self.node, &mut self.row, place, event)
     }
 
-    /// Ends the shift that is open, keeps its record or drops it, and opens the next.
+    /// Ends the open shift, keeps its record or drops it, and opens the next.
     ///
-    /// Faults: `SeatMissing` and `Mismatch` where the seats' lists are not what the book has, and `NoMemory` where there is none to close the shift: it goes on then. `NoMemory` where there is none to
-    /// open the next: none is open then, and it is opened by the next call of this or of `call`.
+    /// Faults: `SeatMissing` and `Mismatch` where the seats' lists are not what the book has, and
+    /// `NoMemory` where there is no memory to close the shift: the shift goes on then. `NoMemory`
+    /// also where there is none to open the next: then none is open, and the next `turn` or `call`
+    /// opens it.
     #[tactic(auto, using(crate::proofs::Turns::turned))]
     pub fn turn(&mut self) -> Result<(), CloseFault>
         ensures { MatchResult result (λ _. IsTurned self.old self.new) (λ _. IsLeft self.old self.new) }
@@ -149,7 +159,7 @@ impl<S: FloorStore + Drop, L: Calls> Shifts<S, L> {
         }
     }
 
-    /// Closes the shift that is open, if one is.
+    /// Closes the open shift, if one is open.
     #[tactic(auto, using(crate::proofs::Turns::ended_open, crate::proofs::Turns::ended_closed))]
     fn end(&mut self) -> Result<(), CloseFault>
         ensures ended { IfOk result (λ _. IsEnded self.old self.new) }
@@ -172,7 +182,7 @@ impl<S: FloorStore + Drop, L: Calls> Shifts<S, L> {
         }
     }
 
-    /// Opens the shift after the one that is closed, if one is.
+    /// Opens the shift after the closed one, if one is closed.
     fn begin(&mut self) -> Result<(), AllocError>
         ensures begun { IfOk result (λ _. IsBegun self.old self.new) }
         ensures refused { IfErr result (λ _. self.new ≡ self.old) }
@@ -194,8 +204,9 @@ impl<S: FloorStore + Drop, L: Calls> Shifts<S, L> {
         }
     }
 
-    /// Ends the shift that is open, opens the next, and takes the records out that are kept, the oldest first; or none, where the history is dropped. The faults are those of
-    /// [`Shifts::turn`]: the records stay then.
+    /// Ends the open shift, opens the next, and takes out the records that are kept, oldest first;
+    /// or none, where the history is dropped. The faults are those of [`Shifts::turn`]; the records
+    /// stay then.
     #[tactic(auto, using(crate::proofs::Turns::taken_out))]
     pub fn take_records(&mut self) -> Result<Option<Vec<Record>>, CloseFault>
         ensures { MatchResult result (λ taken. IsTakenOut self.old (option_map (λ records. records.items) taken) self.new) (λ _. IsLeft self.old self.new) }
@@ -208,7 +219,8 @@ impl<S: FloorStore + Drop, L: Calls> Shifts<S, L> {
         }
     }
 
-    /// Ends the last shift, and gives the records that are kept, the oldest first. The faults are those of [`Shifts::turn`]; the records are lost then.
+    /// Ends the last shift, and gives the records that are kept, oldest first. The faults are those
+    /// of [`Shifts::turn`]; the records are lost then.
     #[tactic(auto, using(crate::proofs::Turns::handed_out))]
     pub fn into_records(mut self) -> Result<Vec<Record>, CloseFault>
         ensures { IfOk result (λ records. IsHandedOut self records.items) }
@@ -218,7 +230,7 @@ impl<S: FloorStore + Drop, L: Calls> Shifts<S, L> {
     }
 }
 
-/// Whether seats have made all calls for which a book has room.
+/// Whether the seats have made 4,096 calls, for which a book has room.
 #[tactic(auto, using(crate::proofs::Rows::calls_so_far, crate::proofs::Rows::calls_with))]
 fn are_spent<L: Calls>(row: &[Seat<L>]) -> bool
     ensures { IsTrue result ↔ (4096 ≤ calls_in row.now) }
@@ -257,7 +269,8 @@ fn call_at<S: FloorStore, L: Calls, R: Wait>(
     }
 }
 
-/// What a step is answered: the book's answer, and `NoMemory` where the book is full, and where the reply was lost.
+/// What a step is answered: the answer of the book; `NoMemory` where the book is full, or the reply
+/// was lost.
 fn answered(answer: Result<Reply<()>, BookFault>) -> Result<Reply<()>, StepFault>
     ensures { result ≡ outcome_of answer }
 {
@@ -270,10 +283,10 @@ fn answered(answer: Result<Reply<()>, BookFault>) -> Result<Reply<()>, StepFault
     }
 }
 
-/// A node and the seats of a shift that is open.
+/// A node and the seats of an open shift.
 type Open<S, L> = (SharedNode<S, L>, Vec<Seat<L>>);
 
-/// Whether one record more is kept beside so many.
+/// Whether one record more is kept beside this many.
 fn has_place(history: History, kept: usize) -> bool
     ensures { result ≡ keeps history kept }
 {
@@ -283,8 +296,8 @@ fn has_place(history: History, kept: usize) -> bool
     }
 }
 
-/// Opens the shift after one that is closed, by so many seats, and keeps the record of the closed one or drops it. Where there is no memory the closed shift is given back, and no record
-/// is kept.
+/// Opens the shift after a closed one, with this many seats, and keeps the record of the closed one
+/// or drops it. Where there is no memory the closed shift is given back, and no record is kept.
 fn open_next<S: FloorStore, L: Calls>(
     shift: Shift<S, L>,
     seats: u8,

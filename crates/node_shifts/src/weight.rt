@@ -6,9 +6,10 @@ use htcp_wire::{Content, Detail, Specifier};
 use node_rules::{Event, Message};
 use wire_octets::Octets;
 
-/// The longest text of a message (RFC 2756, "COUNTSTR").
+/// The longest text of a message that was read, in octets (RFC 2756, "COUNTSTR").
 const LONGEST_TEXT: usize = 65_535;
 
+/// The octets of one text of a message.
 fn text_octets(text: &Octets) -> u64
     ensures value { result ≡ octets_of_text text.now }
     ensures bound { result ≤ 65535 }
@@ -16,6 +17,7 @@ fn text_octets(text: &Octets) -> u64
     text.len().min(LONGEST_TEXT) as u64
 }
 
+/// The octets of a SPECIFIER: method, URI, version and request headers.
 fn specifier_octets(spec: &Specifier) -> u64
     ensures value { result ≡ octets_of_specifier spec.now }
     ensures bound { result ≤ 262140 }
@@ -26,6 +28,7 @@ fn specifier_octets(spec: &Specifier) -> u64
         + text_octets(&spec.request_headers)
 }
 
+/// The octets of a DETAIL: response, entity and cache headers.
 fn detail_octets(detail: &Detail) -> u64
     ensures value { result ≡ octets_of_detail detail.now }
     ensures bound { result ≤ 262140 }
@@ -35,6 +38,7 @@ fn detail_octets(detail: &Detail) -> u64
         + text_octets(&detail.cache_headers)
 }
 
+/// The octets of the texts in what an HTCP message says.
 fn content_octets(content: &Content) -> u64
     ensures value { result ≡ octets_of_content content.now }
     ensures bound { result ≤ 262140 }
@@ -47,6 +51,7 @@ fn content_octets(content: &Content) -> u64
     }
 }
 
+/// The octets of the texts in a datagram.
 fn message_octets(message: &Message) -> u64
     ensures value { result ≡ octets_of_message message.now }
     ensures bound { result ≤ 262140 }
@@ -57,7 +62,8 @@ fn message_octets(message: &Message) -> u64
     }
 }
 
-/// How many octets an event brings along, at most 262,140: those of a datagram's texts, or of an answer as a store counts them.
+/// How many octets an event brings along: those of the texts of a datagram, or the size of an
+/// answer as a store counts it; 0 for any other event. At most 262,140.
 pub fn octets_of(event: &Event<()>) -> u64
     ensures value { result ≡ octets_of_event event.now }
     ensures bound { result ≤ 262140 }
