@@ -1,4 +1,4 @@
--- Where a fetch goes.
+-- Where a peer is asked.
 use Rattle.std.specs.Prelude.{ℕ, ◌==◌, find, Option, Some, None}
 use Rattle.roster_tables.specs.declared.plain.Address.{Address}
 use Rattle.roster_tables.specs.declared.plain.Cache.{Cache}
@@ -8,11 +8,12 @@ use Rattle.roster.specs.Lookups.{member_of}
 use Rattle.node_fetch.specs.declared.events.Source.{Source}
 use Rattle.node_fetch.specs.declared.events.Source.TheVariants.{Member, Foreign}
 
--- a peer is a member or a foreign cache, and serves HTTP at its address
+-- a peer is a member or a foreign cache, and serves HTTP at its own address
 abbrev pub source_by : ℕ → Option MemberEntry → Option Cache → Option (Source × Address)
 source_by id (Some member) foreign = Some (Member id, member.cache.http)
 source_by id None (Some cache) = Some (Foreign id, cache.http)
 source_by id None None = None
 
+-- what the peer with this id is, and where it serves HTTP
 abbrev pub peer_source : Tables → ℕ → Option (Source × Address)
 peer_source roster id = source_by id (member_of roster id) (find (λ (c : Cache). c.id == id) roster.foreign)

@@ -13,14 +13,15 @@ use std::net::Net;
 use std::sync::Wait;
 use std::time::Clock;
 
-/// One who asks peers and origins.
+/// A thread that asks peers and origins.
 #[derive(Drop)]
 pub struct Fetcher<'a, N: Stepper + Drop, G: Gate + Drop, R> {
+    /// Its seat at the node, and what it needs to do what steps ask for.
     pub seated: Seated<'a, N, G, R>,
 }
 
 impl<N: Stepper + Drop, G: Gate + Drop, R: Net + Wait + Clock> Fetcher<'_, N, G, R> {
-    /// Does an errand, and what the steps at the end of its fetches begin.
+    /// Does an errand, and then whatever the steps at the end of its fetches begin.
     pub fn do_errand(&mut self, errand: Turn) {
         let mut next = Some(errand);
         for _ in 0..MOST_FURTHER_STEPS {
@@ -31,7 +32,8 @@ impl<N: Stepper + Drop, G: Gate + Drop, R: Net + Wait + Clock> Fetcher<'_, N, G,
         }
     }
 
-    /// Does what a step says. What it begins ends with another step, unless it is a round that waits.
+    /// Does what a step asks for. What the step begins ends with another step, unless it is a round
+    /// that waits.
     fn follow(&mut self, turn: Turn) -> Option<Turn> {
         match self.seated.carry_out(turn)? {
             Begin::Round { serial } => self.seated.begin_round(serial),
@@ -40,6 +42,7 @@ impl<N: Stepper + Drop, G: Gate + Drop, R: Net + Wait + Clock> Fetcher<'_, N, G,
         }
     }
 
+    /// Asks a peer, and takes the step at the end of that.
     fn ask_peer(&mut self, serial: u32, peer: u8, ask: Ask) -> Option<Turn> {
         match source_of(&self.seated.station.roster, peer) {
             Some((source, at)) => self.fetch(source, serial, at, ask, AskForm::Absolute),
@@ -47,6 +50,8 @@ impl<N: Stepper + Drop, G: Gate + Drop, R: Net + Wait + Clock> Fetcher<'_, N, G,
         }
     }
 
+    /// Reads an origin, after the gate, and takes the step at the end of that. Where the roster has
+    /// no such origin the fetch fails.
     fn read_origin(&mut self, serial: u32, ask: Ask) -> Option<Turn> {
         let station = self.seated.station;
         station.gate.before_read(self.seated.rt, serial);

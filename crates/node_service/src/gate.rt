@@ -2,13 +2,13 @@
 use std::sync::Wait;
 use std::time::Clock;
 
-/// Is told of each read of an origin before it begins, and may hold it up.
+/// Is told of each read of an origin before it begins, and may delay it.
 pub trait Gate {
-    /// Is called before an origin is read for the fetch of this serial, with no lock held.
+    /// Is called before an origin is read for the fetch with this serial, while no lock is held.
     fn before_read<R: Wait + Clock>(&self, rt: &R, serial: u32);
 }
 
-/// Holds nothing up.
+/// Delays nothing.
 #[derive(Clone, Copy, Debug, PartialEq, Eq)]
 pub struct NoGate;
 

@@ -1,10 +1,28 @@
-//! What the threads of a node do with what comes to it.
+//! What the threads of a node do with datagrams, requests, timers and fetches.
 //!
-//! A [`Worker`] does jobs: it hands a datagram, an ask over a stream or a timer to the node, sends the datagrams that the step says, and answers its client or leaves it in the tables. A [`Fetcher`] does errands:
-//! it asks a peer or an origin, takes the step at the end of the fetch, and does what that begins. [`Questions`] are those of other caches whether the node has a copy, which the thread at the sockets answers
-//! itself. All three take the node's steps by whatever takes them ([`Stepper`](node_bytes::Stepper)), and share a [`Station`]. No lock is held while a socket is waited for.
+//! - A [`Worker`] does jobs. It hands a datagram, an HTTP request or a timer to the node, sends the
+//!   datagrams that the step asks for, and answers its client or leaves it in the tables. It leaves
+//!   each fetch to the fetchers.
+//! - A [`Fetcher`] does errands. It asks a peer or an origin, takes the step at the end of the
+//!   fetch, and does what that step begins.
+//! - [`Questions`] answers ICP queries and HTCP TST requests on the thread of the event loop,
+//!   without a job.
 //!
-//! A contract says which octets are a question and where a peer is asked. What is done with sockets no contract can say, and tests show it.
+//! All three take the node's steps through a [`Stepper`](node_bytes::Stepper), so this crate does
+//! not stand on the seats. They share a [`Station`]: the tables, the bell, the errands, the roster
+//! and the senders. A [`Gate`] is told of each read of an origin before it begins. No lock is held
+//! while a socket is waited for.
+//!
+//! Order of reading: `src/station.rt` (what is shared); `src/worker.rt`, `src/fetcher.rt`,
+//! `src/questions.rt`; `src/seated.rt` (what workers and fetchers do with a step); `src/telling.rt`
+//! (how a client is answered); `src/tools.rt`, `src/gate.rt`; `specs/Questions.antt`,
+//! `specs/Addresses.antt`.
+//!
+//! The crate reads and writes sockets, opens connections (`node_fetch`), reads the clock, and waits
+//! at the station's locks. It starts no thread and opens no listener.
+//!
+//! Contracts say which octets are a question (`is_question`) and where a peer is asked
+//! (`source_of`). No contract says what is done over sockets: tests show it.
 #![tactic(auto)]
 
 mod fetcher;

@@ -1,4 +1,4 @@
-//! Questions of other caches, which the thread at the sockets answers itself.
+//! ICP queries and HTCP TST requests, which are answered on the thread of the event loop.
 ghost use Rattle.std.specs.Prelude.{◌≡◌};
 ghost use Rattle.node_service.specs.Questions.{is_question as asks};
 
@@ -10,15 +10,17 @@ use std::sync::Wait;
 use std::time::Clock;
 use udp_loop::AtOnce;
 
-/// The opcode of an ICP QUERY (RFC 2186) and that of an HTCP TST (RFC 2756).
+/// The opcode of an ICP QUERY (RFC 2186) and of an HTCP TST (RFC 2756).
 const QUESTION: u8 = 1;
 
-/// How many answers are held at most, so that the first waits for no more steps than these.
+/// How many responses are held back at most, so that the first waits for no more than 32 steps.
 const MOST_HELD: usize = 32;
 
-/// Answers the questions whether the node has a copy as they come: ICP QUERY and HTCP TST. A step with one begins nothing and serves nobody, so no fetch and no client is waited for, and no worker is woken.
+/// Answers ICP queries and HTCP TST requests as they come. The step of such a question begins
+/// nothing and serves no client, so nothing is waited for, and no worker is woken.
 ///
-/// Answers to questions that came together are sent together: the first one that is sent wakes who sleeps until it comes, and the others mostly find it awake.
+/// Responses to questions that came together are sent together: the first one wakes the receiver,
+/// and the others mostly find it awake.
 #[derive(Drop)]
 pub struct Questions<'a, N: Stepper + Drop, G: Gate + Drop> {
     station: &'a Station<G>,
@@ -27,7 +29,7 @@ pub struct Questions<'a, N: Stepper + Drop, G: Gate + Drop> {
 }
 
 impl<'a, N: Stepper + Drop, G: Gate + Drop> Questions<'a, N, G> {
-    /// Questions to a node, of which none is held.
+    /// Questions to this node, none of which is held back.
     pub fn new(station: &'a Station<G>, node: N) -> Questions<'a, N, G> {
         Questions {
             station,
@@ -38,7 +40,7 @@ impl<'a, N: Stepper + Drop, G: Gate + Drop> Questions<'a, N, G> {
 }
 
 impl<N: Stepper + Drop, G: Gate + Drop> Questions<'_, N, G> {
-    /// Sends the answers that are held, in the order of their questions.
+    /// Sends the responses that are held back, in the order of their questions.
     fn send_held(&mut self) {
         for turn in self.held.as_slice() {
             self.station.send_all(turn.send.as_slice());
@@ -46,7 +48,8 @@ impl<N: Stepper + Drop, G: Gate + Drop> Questions<'_, N, G> {
         self.held.clear();
     }
 
-    /// Holds an answer until the loop has read what is ready, or 32 are held. Where there is no memory to hold it, it is sent now, behind those that are held.
+    /// Holds a response back until the loop has read what is ready, or 32 are held. Where there is
+    /// no memory to hold it, it is sent now, after those that are held.
     fn hold(&mut self, turn: Turn) {
         if self.held.len() >= MOST_HELD {
             self.send_held();
@@ -59,18 +62,21 @@ impl<N: Stepper + Drop, G: Gate + Drop> Questions<'_, N, G> {
         }
     }
 
-    /// Has what a step says sent. What is not a question's, a fetcher does, since it would have to be waited for.
+    /// Has what a step asks for sent. What a question never asks for (to serve a client, or to
+    /// begin a fetch) is left to a fetcher, since it would have to be waited for.
     fn carry_out<R: Wait>(&mut self, rt: &R, turn: Turn) {
         if turn.serve.is_none() && turn.begin.is_none() {
             self.hold(turn);
         } else {
-            // (where there is no memory for that it is lost, as a reply is for which there is none)
+            // (where there is no memory for that, it is lost, as a reply is for which there is
+            // none)
             let _ = self.station.errands.put(rt, turn);
         }
     }
 }
 
-/// Whether octets are a question, if they are a message: by their opcode, and in HTCP by the bit RR, which is not set in a request.
+/// Whether octets are a question, if they are a message at all: by the opcode, and in HTCP by the
+/// bit RR, which is clear in a request.
 fn is_question(udp: Udp, octets: &[u8]) -> bool
     ensures { result ≡ asks udp octets.now }
 {
@@ -100,7 +106,7 @@ impl<N: Stepper + Drop, G: Gate + Drop> AtOnce for Questions<'_, N, G> {
                 self.carry_out(rt, turn);
                 true
             }
-            // (a worker tries it again, and tells those who wait if the node has closed)
+            // (a worker tries again, and answers those who wait if the node has closed)
             Err(_) => false,
         }
     }

@@ -1,4 +1,4 @@
-//! What all who take the steps of a node do with them.
+//! What workers and fetchers do with the steps of a node.
 use crate::gate::Gate;
 use crate::station::{Station, milliseconds, seconds};
 use crate::telling::{refuse_all, tell};
@@ -10,20 +10,26 @@ use std::sync::Wait;
 use std::sync::atomic::Ordering;
 use std::time::Clock;
 
-/// How many steps follow a job's or an errand's first at most: one for the end of each of the 26 fetches of an ask, and one for a round whose time is over at once.
+/// How many steps follow the first step of a job or an errand at most: one for the end of each of
+/// the 26 fetches of a request, and one for a round whose time is over at once.
 pub(crate) const MOST_FURTHER_STEPS: u32 = 31;
 
-/// One who takes the steps of a node by a seat of its own, with what it needs to do what they say.
+/// A thread that takes the steps of a node by a seat of its own, with what it needs to do what they
+/// ask for.
 #[derive(Drop)]
 pub struct Seated<'a, N: Stepper + Drop, G: Gate + Drop, R> {
+    /// The clock, the network and the locks of the system.
     pub rt: &'a R,
+    /// What it shares with the other threads of the node.
     pub station: &'a Station<G>,
+    /// What takes its steps.
     pub node: N,
+    /// What it polls its streams with.
     pub tools: Tools,
 }
 
 impl<N: Stepper + Drop, G: Gate + Drop, R: Wait + Clock> Seated<'_, N, G, R> {
-    /// Takes a step, and gives what is to be done then.
+    /// Takes a step, and returns what is to be done then.
     pub(crate) fn step(&mut self, event: Event<()>) -> Option<Turn> {
         match self.node.step(event) {
             Ok(reply) => Turn::of(self.station.alloc, reply).ok(),
@@ -34,7 +40,7 @@ impl<N: Stepper + Drop, G: Gate + Drop, R: Wait + Clock> Seated<'_, N, G, R> {
         }
     }
 
-    /// Notes a fault of a step: those who wait at a node that closed get 503.
+    /// Notes a fault of a step. Where the node has closed, those who wait get 503.
     pub(crate) fn note(&mut self, fault: StepFault) {
         if fault == StepFault::Closed || fault == StepFault::StoreFault {
             self.station.is_closed.store(true, Ordering::SeqCst);
@@ -52,7 +58,8 @@ impl<N: Stepper + Drop, G: Gate + Drop, R: Wait + Clock> Seated<'_, N, G, R> {
         tell(self.rt, self.station, &mut self.tools, stream, serve);
     }
 
-    /// Sends and serves what a step says, and gives what it begins; at a node that is stopped nothing more begins.
+    /// Sends and serves what a step asks for, and returns what it begins. At a node that is to
+    /// stop, nothing more begins.
     pub(crate) fn carry_out(&mut self, turn: Turn) -> Option<Begin> {
         let Turn { serve, send, begin } = turn;
         self.station.send_all(send.as_slice());
@@ -65,7 +72,8 @@ impl<N: Stepper + Drop, G: Gate + Drop, R: Wait + Clock> Seated<'_, N, G, R> {
         begin
     }
 
-    /// Answers the client whose ask is served, or leaves the answer for it.
+    /// Answers the client whose request is served, or keeps the answer until that client comes to
+    /// the tables.
     fn serve(&mut self, serve: Serve<()>) {
         let Some(block) = serve.waiter else {
             return;
@@ -75,7 +83,8 @@ impl<N: Stepper + Drop, G: Gate + Drop, R: Wait + Clock> Seated<'_, N, G, R> {
         }
     }
 
-    /// A round waits for its time; where it cannot, its time is over at once.
+    /// Has a round wait for `query_wait` milliseconds (of the roster). Where it cannot wait, its
+    /// time is over at once.
     pub(crate) fn begin_round(&mut self, serial: u32) -> Option<Turn> {
         let wait = self.station.roster.limits().query_wait;
         let until = milliseconds(self.rt).saturating_add(wait);
@@ -85,13 +94,13 @@ impl<N: Stepper + Drop, G: Gate + Drop, R: Wait + Clock> Seated<'_, N, G, R> {
         }
     }
 
-    /// The time of a round is over.
+    /// Takes the step of a round whose time is over (RFC 2187, section 5.3.3).
     pub(crate) fn end_round(&mut self, serial: u32) -> Option<Turn> {
         let now = seconds(self.rt);
         self.step(Event::Expired { serial, now })
     }
 
-    /// A fetch has failed.
+    /// Takes the step of a fetch that failed.
     pub(crate) fn fail(&mut self, serial: u32) -> Option<Turn> {
         let now = seconds(self.rt);
         self.step(Event::FetchFailed { serial, now })

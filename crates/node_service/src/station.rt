@@ -35,7 +35,7 @@ pub struct Station<G: Drop> {
     pub(crate) ghost has_node: { is_member roster id ≡ true },
 }
 
-/// This moment in seconds; 0 where the system does not tell it.
+/// The time now, in seconds since 1970; 0 where the system does not tell it.
 pub(crate) fn seconds<C: Clock>(clock: &C) -> u64 {
     match clock.since_1970() {
         Ok(since) => since.as_secs(),
@@ -43,7 +43,8 @@ pub(crate) fn seconds<C: Clock>(clock: &C) -> u64 {
     }
 }
 
-/// This moment in milliseconds, as rounds are timed; 0 where the system does not tell it.
+/// The time now for the deadlines of rounds, in milliseconds of a clock that never goes back; 0
+/// where the system does not tell it.
 pub fn milliseconds<C: Clock>(clock: &C) -> u64 {
     match clock.monotonic() {
         Ok(since) => u64::try_from(since.as_millis()).unwrap_or(u64::MAX),
@@ -58,7 +59,7 @@ fn cache_in(caches: &[Cache], id: u8) -> Option<&Cache>
     caches.iter().find(|cache| cache.id == id)
 }
 
-/// What a peer is, and where it serves HTTP.
+/// What a peer is, a member or a foreign cache, and where it serves HTTP.
 pub(crate) fn source_of(roster: &Roster, peer: u8) -> Option<(Source, Address)>
     ensures { result ≡ peer_source roster.now peer }
 {
@@ -72,7 +73,8 @@ pub(crate) fn source_of(roster: &Roster, peer: u8) -> Option<(Source, Address)>
 }
 
 impl<G: Gate + Drop> Station<G> {
-    /// That of a member of the roster, over the senders of its sockets, with nobody who waits. `is_stopped` is set once the node is to stop; `gate` is told of each read of an origin.
+    /// The station of a member of the roster, with the senders of its sockets; nobody waits yet.
+    /// `is_stopped` is set once the node is to stop. `gate` is told of each read of an origin.
     pub fn new(
         alloc: Global,
         roster: Roster,
@@ -102,14 +104,14 @@ impl<G: Drop> Station<G> {
     /// Sends datagrams on the node's sockets.
     pub(crate) fn send_all(&self, packets: &[Packet]) {
         for packet in packets {
-            // (what the system does not take is lost, as a datagram may be on its way)
+            // (what the system does not take is lost, as any datagram may be lost on its way)
             let _ = self
                 .senders
                 .send(packet.by, packet.to, packet.octets.as_slice());
         }
     }
 
-    /// Whether the node is to be stopped.
+    /// Whether the node is to stop.
     pub fn is_stopped(&self) -> bool {
         self.is_stopped.load(Ordering::SeqCst)
     }

@@ -1,4 +1,4 @@
-//! How clients are told what they are served.
+//! How clients are answered.
 ghost use Rattle.roster.specs.Lookups.{is_member};
 
 use crate::gate::Gate;
@@ -13,10 +13,11 @@ use std::time::{Clock, Duration};
 use timed_streams::Timed;
 use worker_tables::MOST_WAITING;
 
-/// For how many seconds a client may take to send the rest of its ask, and for how many it may take what it is answered.
+/// How many seconds a client may take to send the rest of its request, and how many to take its
+/// response.
 pub(crate) const PATIENCE: u64 = 5;
 
-/// A status 503 for one who waits.
+/// A status 503 for a client that waits.
 pub(crate) fn unavailable() -> Serve<()> {
     Serve {
         waiter: None,
@@ -25,7 +26,8 @@ pub(crate) fn unavailable() -> Serve<()> {
     }
 }
 
-/// Writes what a client is served, within five seconds. A client that does not take it is passed over.
+/// Writes what a client is served, within five seconds. Whoever does not take it loses it with the
+/// connection.
 pub(crate) fn tell<G: Gate + Drop, C: Clock>(
     clock: &C,
     station: &Station<G>,
@@ -48,7 +50,7 @@ pub(crate) fn tell<G: Gate + Drop, C: Clock>(
     }
 }
 
-/// Answers 503 to all who wait.
+/// Answers 503 to all clients that wait.
 pub fn refuse_all<G: Gate + Drop, R: Wait + Clock>(
     rt: &R,
     station: &Station<G>,

@@ -1,17 +1,21 @@
-//! What a thread waits on.
+//! What a thread polls its streams with.
 use std::alloc::Global;
 use std::io;
 use std::net::Net;
 use timed_streams::Waiter;
 
-/// What a thread waits on: for what it reads, and for what it writes.
+/// What one thread polls its streams with.
 #[derive(Drop)]
 pub struct Tools {
+    /// For what it reads.
     pub reading: Waiter,
+    /// For what it writes, with the buffer of that.
     pub writing: Waiter,
 }
 
 impl Tools {
+    /// The tools of a thread. An error comes where the system gives no poll instance, or there is
+    /// no memory.
     pub fn new<N: Net>(net: &N, alloc: Global) -> io::Result<Tools> {
         Ok(Tools {
             reading: Waiter::new(net, alloc)?,

@@ -20,23 +20,26 @@ use std::sync::atomic::Ordering;
 use std::time::{Clock, Duration};
 use timed_streams::{Timed, Waiter};
 
-/// One who takes jobs from the queue.
+/// A thread that takes jobs from the queue.
 #[derive(Drop)]
 pub struct Worker<'a, N: Stepper + Drop, G: Gate + Drop, R> {
+    /// Its seat at the node, and what it needs to do what steps ask for.
     pub seated: Seated<'a, N, G, R>,
 }
 
-/// The two ends of a stream: one to read, and one to write.
+/// Two handles of a connection: one to read, and one to write.
 fn ends_of(stream: TcpStream) -> io::Result<(TcpStream, TcpStream)> {
     let stream = net::TcpStream::from(stream);
     let outgoing = TcpStream::from_std(stream.try_clone()?);
     Ok((TcpStream::from_std(stream), outgoing))
 }
 
-/// What becomes of an ask where the system has no clock: no step is taken, and its stream is closed.
+/// What becomes of a request where the system has no clock: no step is taken, and the connection is
+/// closed.
 const NO_CLOCK: ServeFault = ServeFault::Step(StepFault::NoMemory);
 
-/// Takes one step with an ask, of which these octets were read, and writes what is served at once.
+/// Takes one step with a request, of which these octets were read, and writes what is served at
+/// once.
 fn ask<N: Stepper, G: Gate + Drop, C: Clock>(
     clock: &C,
     station: &Station<G>,
@@ -56,7 +59,7 @@ fn ask<N: Stepper, G: Gate + Drop, C: Clock>(
     }
 }
 
-/// Takes one step with the ask that a reader has, and writes what is served at once.
+/// Takes one step with the request that a reader has, and writes what is served at once.
 fn answer<N: Stepper, G: Gate + Drop, I: Read, C: Clock>(
     clock: &C,
     station: &Station<G>,
@@ -85,7 +88,7 @@ fn answer<N: Stepper, G: Gate + Drop, I: Read, C: Clock>(
     }
 }
 
-/// The serial of what begins.
+/// The serial of the round or fetch that begins.
 fn serial_of(begin: &Begin) -> u32 {
     match begin {
         Begin::Round { serial } | Begin::Peer { serial, .. } | Begin::Read { serial, .. } => {
@@ -123,7 +126,7 @@ impl<N: Stepper + Drop, G: Gate + Drop, R: Wait + Clock> Worker<'_, N, G, R> {
         }
     }
 
-    /// Reads and answers the ask of a stream, or leaves its client in the table.
+    /// Reads and answers the request of a connection, or leaves its client in the table.
     fn take_stream(&mut self, stream: TcpStream, octets: &[u8]) -> Option<Turn> {
         let (mut incoming, mut outgoing) = ends_of(stream).ok()?;
         let seated = &mut self.seated;
@@ -149,7 +152,8 @@ impl<N: Stepper + Drop, G: Gate + Drop, R: Wait + Clock> Worker<'_, N, G, R> {
         }
     }
 
-    /// Leaves a client in the table until its ask is served, or answers it where it has been.
+    /// Leaves a client in the table until its request is served, or answers it where that has
+    /// happened. Where the node has closed meanwhile, all who wait get 503.
     fn leave(&mut self, block: u32, stream: TcpStream) {
         let station = self.seated.station;
         match station.tables.leave(self.seated.rt, block, stream) {
@@ -163,7 +167,8 @@ impl<N: Stepper + Drop, G: Gate + Drop, R: Wait + Clock> Worker<'_, N, G, R> {
         }
     }
 
-    /// Does what a step says. Another step follows only where what it begins can neither wait nor be left to a fetcher.
+    /// Does what a step asks for. Another step follows only where what begins can neither wait nor
+    /// be left to a fetcher.
     fn follow(&mut self, turn: Turn) -> Option<Turn> {
         match self.seated.carry_out(turn)? {
             Begin::Round { serial } => self.seated.begin_round(serial),
@@ -171,7 +176,7 @@ impl<N: Stepper + Drop, G: Gate + Drop, R: Wait + Clock> Worker<'_, N, G, R> {
         }
     }
 
-    /// Leaves a fetch to the fetchers; where there is no memory for that, it has failed.
+    /// Leaves a fetch to the fetchers. Where there is no memory for that, the fetch has failed.
     fn hand_over(&mut self, fetch: Begin) -> Option<Turn> {
         let station = self.seated.station;
         let serial = serial_of(&fetch);
