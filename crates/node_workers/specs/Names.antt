@@ -11,25 +11,26 @@ use Rattle.node_workers.specs.declared.fault.Unready.TheVariants as unready
 use Rattle.node_workers.specs.declared.fault.StopFault.{StopFault}
 use Rattle.node_workers.specs.declared.fault.StopFault.TheVariants as stop
 
--- that of the fault inside, where there is one
+-- the name of a fault of a start: that of the fault inside, where there is one
 abbrev pub start_fault_name : StartFault → List ℕ
 start_fault_name (start.Open fault) = open_fault_name fault
 start_fault_name (start.Loop fault) = loop_fault_name fault
 start_fault_name start.NoThread = codes "NoThread"
 start_fault_name start.NoMemory = codes "NoMemory"
 
--- why a node that is opened does not start
+-- the fault of a start by why an opened node does not run
 abbrev pub start_fault_of : Unready → StartFault
 start_fault_of (unready.Loop fault) = start.Loop fault
 start_fault_of unready.NoThread = start.NoThread
 start_fault_of unready.NoMemory = start.NoMemory
 
+-- the name of a fault of a stop: that of its variant
 abbrev pub stop_fault_name : StopFault → List ℕ
 stop_fault_name stop.SeatMissing = codes "SeatMissing"
 stop_fault_name stop.Mismatch = codes "Mismatch"
 stop_fault_name stop.NoMemory = codes "NoMemory"
 
--- why a shift was not closed, or the next not opened
+-- the fault of a stop by why a shift was not closed, or the next not opened
 abbrev pub stop_fault_of : CloseFault → StopFault
 stop_fault_of close.SeatMissing = stop.SeatMissing
 stop_fault_of close.Mismatch = stop.Mismatch

@@ -13,35 +13,35 @@ pub enum StartFault {
     /// The node is not opened.
     #[error("{0}")]
     Open(OpenFault),
-    /// Its sockets are not opened.
+    /// Its sockets, or the poll instances of its threads, are not opened.
     #[error("{0}")]
     Loop(LoopFault),
-    /// No thread could be made.
+    /// A thread could not be started.
     #[error("no thread could be made")]
     NoThread,
-    /// A growth was refused.
+    /// There was no memory.
     #[error("there was no memory")]
     NoMemory,
 }
 
-/// Why a node that is opened does not begin.
+/// Why a node that is opened does not run.
 #[derive(Clone, Copy, Debug, PartialEq, Eq)]
 pub(crate) enum Unready {
-    /// Its sockets are not opened.
+    /// Its sockets, or the poll instances of its threads, are not opened.
     Loop(LoopFault),
-    /// No thread could be made.
+    /// A thread could not be started.
     NoThread,
-    /// A growth was refused.
+    /// There was no memory.
     NoMemory,
 }
 
 /// Why the records of a node are not given.
 #[derive(Clone, Copy, Debug, PartialEq, Eq, Error)]
 pub enum StopFault {
-    /// A seat did not come back.
+    /// The seats that came back are not all seats of the node; or its thread has ended.
     #[error("a seat is missing")]
     SeatMissing,
-    /// A seat's own list of calls and answers is not what the book has of it.
+    /// A seat's own list of calls and answers differs from the book.
     #[error("a seat's list differs from the book")]
     Mismatch,
     /// There was no memory to close a shift or to open the next.
@@ -64,7 +64,7 @@ impl StartFault {
 }
 
 impl StopFault {
-    /// The name that scripts print.
+    /// The name that scripts print: that of the variant.
     pub const fn name(self) -> &'static str
         ensures { result.now ≡ stop_fault_name self }
     {

@@ -1,18 +1,18 @@
-//! Where a node's thread holds the node while its records are taken.
+//! How a node is held while its records are taken.
 use crate::fault::StopFault;
 use node_book::Record;
 use std::mem::replace;
 use std::sync::{Condvar, Mutex, Wait};
 
-/// What became of the records that were asked for: the records, if a history is kept.
+/// What became of records that were asked for: the records, if a history is kept.
 pub(crate) type Taken = Result<Option<Vec<Record>>, StopFault>;
 
-/// How far a node's thread and the one that holds the node are.
+/// Where the node's thread and the thread that holds the node stand.
 #[derive(Drop)]
 enum Stand {
     /// The node runs.
     Going,
-    /// It is to be held.
+    /// The node is to be held.
     Wanted,
     /// It is held: no step is taken.
     Held,
@@ -24,7 +24,7 @@ enum Stand {
     Ended,
 }
 
-/// A word between a node's thread and the one that holds the node.
+/// The handshake between a node's thread and the thread that holds the node.
 #[derive(Drop)]
 pub(crate) struct Halt {
     stand: Mutex<Stand>,
@@ -32,6 +32,7 @@ pub(crate) struct Halt {
 }
 
 impl Halt {
+    /// Nobody holds the node.
     pub(crate) fn new() -> Halt {
         Halt {
             stand: Mutex::new(Stand::Going),
@@ -44,7 +45,8 @@ impl Halt {
         matches!(*self.stand.lock(rt), Stand::Wanted)
     }
 
-    /// The node's thread, which holds the node, says so, and waits until its records are asked for, or it is to go on. Whether they are asked for.
+    /// The node's thread says that it holds the node, and waits until its records are asked for or
+    /// it is to go on. Returns whether they are asked for.
     pub(crate) fn stand_by<R: Wait>(&self, rt: &R) -> bool {
         let mut stand = self.stand.lock(rt);
         if matches!(*stand, Stand::Wanted) {
@@ -66,7 +68,7 @@ impl Halt {
         }
     }
 
-    /// The node's thread ends: nobody waits for it.
+    /// The node's thread ends: nobody waits for it any more.
     pub(crate) fn end<R: Wait>(&self, rt: &R) {
         *self.stand.lock(rt) = Stand::Ended;
         self.has_moved.notify_all();
@@ -83,7 +85,8 @@ impl Halt {
             .wait_while(rt, stand, |stand| matches!(*stand, Stand::Wanted));
     }
 
-    /// Asks for the records of a node that is held, and waits for them. `SeatMissing` where its thread has ended.
+    /// Asks for the records of a node that is held, and waits for them. `SeatMissing` comes where
+    /// its thread has ended.
     pub(crate) fn ask<R: Wait>(&self, rt: &R) -> Taken {
         let mut stand = self.stand.lock(rt);
         if matches!(*stand, Stand::Held) {

@@ -1,17 +1,34 @@
-//! A node that runs: its sockets, its threads, and its shifts.
+//! A node that runs: its sockets, its threads and its shifts.
 //!
-//! [`Workers::start`] opens a node's sockets and starts one thread, which has the sockets: it starts the workers and as many fetchers, turns the [`NodeLoop`](udp_loop::NodeLoop) while they work, and
-//! puts a timer for each round of questions that has waited for the roster's `query_wait`. What a worker does with a job, a fetcher with an errand and the thread at the sockets with a question, `node_service` says.
-//! Workers leave fetches to the fetchers, so they wait for none, and what the node has is served also while each fetcher waits for an origin. Another member asks for what is cached alone, which begins nothing:
-//! a worker answers it, and two members that fetch from each other wait for no fetch of the other.
+//! [`Workers::start`] opens a node's sockets and starts the node's thread. That thread starts 2 to
+//! 8 workers and as many fetchers. It then turns the [`NodeLoop`](udp_loop::NodeLoop) until the
+//! node is stopped, and queues a timer for each round of queries that has waited for the roster's
+//! `query_wait`. `node_service` says what a worker does with a job, a fetcher with an errand, and
+//! the event loop with a question. Workers leave fetches to fetchers. So they wait for no peer and
+//! no origin, and what the node has is served also while every fetcher waits. A sibling's request
+//! begins nothing, so a worker answers it, and two members that fetch from each other do not wait
+//! for each other's fetches.
 //!
-//! The node's lock is held for a step alone, and no lock while a socket is waited for. Shifts end and begin under that lock (`node_shifts`), so fetches under way and clients that wait outlive them.
-//! [`Workers::stop`] ends the last shift, and answers 503 to those who wait.
+//! The node's lock is held for one step, and no lock is held while a socket is waited for. Shifts
+//! end and begin under that lock (`node_shifts`), so fetches and waiting clients outlive them.
+//! [`Workers::stop`] closes the last shift, and answers 503 to those who wait.
 //!
-//! Who wants the records of a node that runs holds it first ([`Workers::hold`]): its thread takes the node's lock and keeps it, so that no step is taken, while the records are handed out
-//! ([`Workers::records`]), until the node is to go on ([`Workers::resume`]). Where several nodes are held before the first gives its records, these are the records of one moment.
+//! To read the records of a running node, hold it first ([`Workers::hold`]): its thread takes the
+//! node's lock and keeps it, so no step is taken until [`Workers::resume`]. Meanwhile
+//! [`Workers::records`] hands out the records. Where several nodes are held before the first gives
+//! its records, the records are of one moment.
 //!
-//! What a step does is said of the node and of its seats; what a thread does with it over sockets no contract can say, and tests show it.
+//! Order of reading: `src/workers.rt` (the calls, and the start); `src/threads.rt` (what each
+//! thread does); `src/node.rt` (the node's thread from start to end); `src/signals.rt` with
+//! `src/report.rt` (how the start went) and `src/halt.rt` (the hold); `src/fault.rt`,
+//! `specs/Names.antt`.
+//!
+//! The crate opens sockets, starts threads, reads the clock, and waits at locks. Files are touched
+//! by the store of floors, which is passed in ([`Ground`]).
+//!
+//! Contracts say that each `Workers` is of a member of the roster, and which faults a start may
+//! have. What a step does is said in the crates of the node and of its seats. No contract says what
+//! a thread does with it over sockets: tests show it.
 #![tactic(auto)]
 
 mod fault;

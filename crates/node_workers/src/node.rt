@@ -1,4 +1,4 @@
-//! The thread of a node.
+//! The thread of a node, from start to end.
 ghost use Rattle.std.specs.Prelude.{◌≡◌, ◌≤◌, ◌<◌, ◌+◌, [], IfOk};
 
 use crate::fault::{StartFault, StopFault};
@@ -50,7 +50,7 @@ pub(crate) struct Start<S: FloorStore, G: Drop> {
     pub(crate) prepared: Prepared<S>,
 }
 
-/// The workers' kits, each with a pass of its own; and the pass of the loop.
+/// What each worker begins with, with a pass of its own; and the pass that is left for the loop.
 fn kits_of<Q: QueueName, R: Wait>(
     rt: &R,
     alloc: Global,
@@ -77,7 +77,7 @@ fn kits_of<Q: QueueName, R: Wait>(
     Ok((pass, kits))
 }
 
-/// The fetchers' kits. Their seats come after those of so many workers.
+/// What each fetcher begins with. The seats of fetchers come after those of this many workers.
 fn fetch_kits_of(
     alloc: Global,
     tools: Vec<Tools>,
@@ -90,7 +90,7 @@ fn fetch_kits_of(
     Ok(kits)
 }
 
-/// The first shift of a node.
+/// Opens the first shift of a node.
 fn first_shift<S: FloorStore + Drop, L: Calls>(
     alloc: Global,
     prepared: Prepared<S>,
@@ -105,7 +105,7 @@ fn first_shift<S: FloorStore + Drop, L: Calls>(
         count,
         history,
     } = prepared;
-    // (a seat for each worker and each fetcher, and one for the thread at the sockets)
+    // (one seat for each worker, one for each fetcher, and one for the thread of the event loop)
     let seats = count.saturating_mul(2).saturating_add(1);
     match Shifts::open(alloc, book, seats, history, blank, places) {
         Ok(shifts) => Ok(Mutex::new(shifts)),
@@ -113,7 +113,7 @@ fn first_shift<S: FloorStore + Drop, L: Calls>(
     }
 }
 
-/// Runs the threads of a node until it is stopped, and answers those who still wait.
+/// Runs the threads of a node until it is stopped, and then answers 503 to those who still wait.
 fn run_edge<
     Q: QueueName + Send + Sync,
     L: Calls + Send + Sync,
@@ -180,7 +180,7 @@ fn records_of<S: FloorStore + Drop, L: Calls>(
     }
 }
 
-/// Runs a node by the names of its queue and of its ledger.
+/// Runs a node under the names of its queue and of its ledger.
 fn run_named<
     Q: QueueName + Send + Sync,
     L: Calls + Send + Sync,
@@ -207,7 +207,8 @@ fn run_named<
     }
 }
 
-/// Runs a node until it is stopped, and gives the records that are kept. Those who wait get 503 then.
+/// Runs a node until it is stopped, and gives the records that are kept. Those who still wait get
+/// 503.
 pub(crate) fn run_node<
     S: FloorStore + Drop + Send,
     G: Gate + Drop + Send + Sync,

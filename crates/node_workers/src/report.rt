@@ -1,8 +1,8 @@
-//! Where a node's thread tells how its start went.
+//! How a node's thread tells that its start went well, or why not.
 use crate::fault::Unready;
 use std::sync::{Condvar, Mutex, Wait};
 
-/// What a node's thread tells the one that started it.
+/// What a node's thread tells the thread that started it.
 #[derive(Drop)]
 pub(crate) struct Report {
     told: Mutex<Option<Result<(), Unready>>>,
@@ -10,6 +10,7 @@ pub(crate) struct Report {
 }
 
 impl Report {
+    /// Nothing is told yet.
     pub(crate) fn new() -> Report {
         Report {
             told: Mutex::new(None),
@@ -17,7 +18,7 @@ impl Report {
         }
     }
 
-    /// Tells how the start went. What was told first stands.
+    /// Tells how the start went. Only the first call counts.
     pub(crate) fn tell<R: Wait>(&self, rt: &R, start: Result<(), Unready>) {
         let mut told = self.told.lock(rt);
         if told.is_none() {

@@ -1,4 +1,4 @@
-//! What passes between a node's thread and the one that started it.
+//! What a node's thread and the thread that started it share.
 use crate::fault::Unready;
 use crate::halt::Halt;
 use crate::report::Report;
@@ -6,7 +6,8 @@ use std::alloc::{AllocError, Global};
 use std::sync::atomic::AtomicBool;
 use std::sync::{Arc, Wait};
 
-/// What passes between a node's thread and the one that started it: whether it is to be stopped, how its start went, and whether the node is held.
+/// What a node's thread and the thread that started it share: whether the node is to stop, how its
+/// start went, and whether it is held.
 #[derive(Drop)]
 pub(crate) struct Signals {
     pub(crate) is_stopped: Arc<AtomicBool, Global>,
@@ -15,7 +16,7 @@ pub(crate) struct Signals {
 }
 
 impl Signals {
-    /// Those of a node that is to be started.
+    /// The signals of a node that is to be started.
     pub(crate) fn new(alloc: Global) -> Result<Signals, Unready> {
         let Ok(is_stopped) = Arc::new(alloc, AtomicBool::new(false)) else {
             return Err(Unready::NoMemory);
@@ -33,7 +34,7 @@ impl Signals {
         })
     }
 
-    /// The same for the other thread.
+    /// The same signals for the other thread.
     pub(crate) fn try_clone(&self) -> Result<Signals, AllocError> {
         Ok(Signals {
             is_stopped: Arc::try_clone(&self.is_stopped)?,
@@ -42,7 +43,7 @@ impl Signals {
         })
     }
 
-    /// The node's thread ends. Where nothing was told before, there was no memory to begin with.
+    /// The node's thread ends. Where it told nothing before, there was no memory to begin with.
     pub(crate) fn end<R: Wait>(&self, rt: &R) {
         self.report.tell(rt, Err(Unready::NoMemory));
         self.halt.end(rt);

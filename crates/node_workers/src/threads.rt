@@ -1,4 +1,4 @@
-//! The threads of a node: its workers, its fetchers, and the loop at its sockets.
+//! The threads of a node: its workers, its fetchers, and its event loop.
 ghost use Rattle.std.specs.Thread.{IsSend};
 
 use crate::fault::{StopFault, Unready};
@@ -16,10 +16,10 @@ use std::thread::{self, Scope, Threads};
 use std::time::Clock;
 use udp_loop::NodeLoop;
 
-/// How many timers are put before one turn of the loop at most.
+/// How many timers are queued before one turn of the loop at most.
 const MOST_TIMERS: u32 = 256;
 
-/// What a worker has of its own.
+/// What one worker has of its own.
 #[derive(Drop)]
 pub(crate) struct Kit<Q: QueueName> {
     pub(crate) number: u8,
@@ -27,14 +27,14 @@ pub(crate) struct Kit<Q: QueueName> {
     pub(crate) tools: Tools,
 }
 
-/// What a fetcher has of its own.
+/// What one fetcher has of its own.
 #[derive(Drop)]
 pub(crate) struct FetchKit {
     pub(crate) number: u8,
     pub(crate) tools: Tools,
 }
 
-/// What the workers have, and the fetchers.
+/// What the workers have, and what the fetchers have.
 #[derive(Drop)]
 pub(crate) struct Kits<Q: QueueName> {
     pub(crate) workers: Vec<Kit<Q>>,
@@ -51,7 +51,7 @@ pub(crate) struct Shared<'a, Q: QueueName, S: FloorStore + Drop, L: Calls, G: Ga
     pub(crate) node: &'a Mutex<Shifts<S, L>>,
 }
 
-/// Who takes the steps of a node by the seat of this number.
+/// What takes the steps of a node by the seat of this number.
 fn seated<'a, Q: QueueName, S: FloorStore + Drop, L: Calls, G: Gate + Drop, R: Wait>(
     shared: &Shared<'a, Q, S, L, G, R>,
     number: u8,
@@ -86,7 +86,7 @@ fn do_jobs<N: Stepper + Drop, Q: QueueName, G: Gate + Drop, R: Wait + Clock>(
     }
 }
 
-/// The work of a worker's thread.
+/// Runs a worker's thread.
 fn work<Q: QueueName, S: FloorStore + Drop, L: Calls, G: Gate + Drop, R: Wait + Clock>(
     shared: &Shared<'_, Q, S, L, G, R>,
     kit: Kit<Q>,
@@ -115,7 +115,7 @@ fn do_errands<N: Stepper + Drop, G: Gate + Drop, R: Net + Wait + Clock>(
     }
 }
 
-/// The work of a fetcher's thread.
+/// Runs a fetcher's thread.
 fn fetch<Q: QueueName, S: FloorStore + Drop, L: Calls, G: Gate + Drop, R: Net + Wait + Clock>(
     shared: &Shared<'_, Q, S, L, G, R>,
     kit: FetchKit,
@@ -126,7 +126,7 @@ fn fetch<Q: QueueName, S: FloorStore + Drop, L: Calls, G: Gate + Drop, R: Net + 
     do_errands(&mut fetcher);
 }
 
-/// Starts the workers. Whether each of them was.
+/// Starts the workers. Returns whether all were started.
 fn start_workers<
     's,
     E,
@@ -144,7 +144,7 @@ fn start_workers<
     are_all
 }
 
-/// Starts the fetchers. Whether each of them was.
+/// Starts the fetchers. Returns whether all were started.
 fn start_fetchers<
     's,
     E,
@@ -162,7 +162,8 @@ fn start_fetchers<
     are_all
 }
 
-/// Puts a timer for each round whose time is over, 256 at most. Whether there was one. The one that finds no place is owed: it is put first the next time.
+/// Queues a timer for each round whose deadline has come, 256 at most. Returns whether there was
+/// one. A timer that finds the queue full is owed: it is put first the next time.
 fn put_due<Q: QueueName, G: Drop, R: Wait + Clock>(
     rt: &R,
     station: &Station<G>,
@@ -195,7 +196,8 @@ fn records_of<S: FloorStore + Drop, L: Calls>(shifts: &mut Shifts<S, L>) -> Take
     }
 }
 
-/// Holds the node under its lock until it is to go on, and gives its records whenever they are asked for.
+/// Holds the node under its lock until it is to go on, and gives its records whenever they are
+/// asked for.
 fn hold<S: FloorStore + Drop, L: Calls, R: Wait>(rt: &R, halt: &Halt, node: &Mutex<Shifts<S, L>>) {
     let mut shifts = node.lock(rt);
     for _ in rt.forever() {
@@ -206,7 +208,7 @@ fn hold<S: FloorStore + Drop, L: Calls, R: Wait>(rt: &R, halt: &Halt, node: &Mut
     }
 }
 
-/// Turns the loop at the sockets until the node is to be stopped, and holds the node whenever that is wanted.
+/// Turns the event loop until the node is to stop, and holds the node whenever that is wanted.
 fn turn_until_stopped<
     Q: QueueName,
     S: FloorStore + Drop,
@@ -216,7 +218,7 @@ fn turn_until_stopped<
 >(shared: &Shared<'_, Q, S, L, G, R>, turner: &mut NodeLoop, mut pass: Pass<Q>) {
     let (rt, station, jobs) = (shared.rt, shared.station, shared.jobs);
     let halt = &shared.signals.halt;
-    // (the last seat is that of no worker and of no fetcher)
+    // (the last seat belongs to no worker and no fetcher)
     let mut questions = Questions::new(station, AtSeat::new(rt, shared.node, u8::MAX));
     let mut owed = None;
     for _ in rt.forever() {
@@ -226,7 +228,7 @@ fn turn_until_stopped<
         if halt.is_wanted(rt) {
             hold(rt, halt, shared.node);
         }
-        // (timers come first, so that they find places also where more comes over the sockets than the queue holds)
+        // (timers go first, so that the queue has room for them also in a flood)
         let (after, is_due) = put_due(rt, station, jobs, pass, &mut owed);
         if is_due {
             station.bell.ring(rt);
@@ -239,7 +241,8 @@ fn turn_until_stopped<
     }
 }
 
-/// Runs the workers, the fetchers and the loop until the node is to be stopped, and tells first whether each thread could be started. Where one could not, the others end at once.
+/// Runs the workers, the fetchers and the event loop until the node is to stop. First tells whether
+/// all threads were started; where one was not, the others end at once.
 pub(crate) fn run_threads<
     Q: QueueName + Send + Sync,
     S: FloorStore + Drop + Send,

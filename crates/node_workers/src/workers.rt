@@ -1,4 +1,4 @@
-//! The thread of a node, from outside.
+//! A running node, from outside.
 ghost use Rattle.std.specs.Prelude.{◌≡◌, ◌≢◌, ◌≤◌, ◌<◌, [], true, false, OnOk, IfErr};
 ghost use Rattle.roster.specs.Lookups.{is_member};
 ghost use Rattle.floor_rules.specs.declared.fault.FloorFault.TheVariants as storing;
@@ -25,23 +25,25 @@ use std::thread::{self, JoinHandle, Threads};
 use std::time::{Clock, Duration};
 use udp_loop::{LoopFault, NodeLoop, Senders};
 
-/// For how many milliseconds the loop waits at most before it looks for rounds whose time is over.
+/// How many milliseconds the event loop waits at most before it looks for rounds whose deadline has
+/// come.
 const WAIT: u64 = 10;
 
-/// What a node starts on.
+/// What a node starts with.
 #[derive(Drop)]
 pub struct Ground<S: FloorStore> {
-    /// Its floors.
+    /// The store of its floors.
     pub floors: S,
     /// The counter of places, which all nodes of a run share.
     pub places: Places,
     /// What becomes of the records of its shifts.
     pub history: History,
-    /// Random keys, which nobody outside knows, so that nobody can pick URLs whose look-ups are slow. All nodes of a run may share them.
+    /// Random hash keys, which nobody outside knows, so that nobody can choose URLs whose look-ups
+    /// are slow. All nodes of a run may share them.
     pub keys: RandomState,
 }
 
-/// A node that runs: its thread, its sockets, its workers and its fetchers.
+/// A running node: its thread, its sockets, its workers and its fetchers.
 #[derive(Drop)]
 pub struct Workers {
     node: JoinHandle<Result<Vec<Record>, StopFault>>,
@@ -49,7 +51,7 @@ pub struct Workers {
     halt: Arc<Halt, Global>,
 }
 
-/// A book that has no entry.
+/// A book without entries.
 struct Fresh<S: FloorStore> {
     book: NodeBook<S>,
     ghost fresh: { book.entries ≡ [] },
@@ -95,7 +97,7 @@ fn sockets<R: Net + Clock>(
     Ok((turner, senders))
 }
 
-/// What one thread waits on.
+/// What one thread polls its streams with.
 fn tools<N: Net>(net: &N, alloc: Global) -> Result<Tools, Unready> {
     match Tools::new(net, alloc) {
         Ok(tools) => Ok(tools),
@@ -103,7 +105,7 @@ fn tools<N: Net>(net: &N, alloc: Global) -> Result<Tools, Unready> {
     }
 }
 
-/// What so many threads wait on.
+/// What this many threads poll their streams with.
 fn all_tools<N: Net>(net: &N, alloc: Global, count: u8) -> Result<Vec<Tools>, Unready> {
     let mut row = Vec::with_capacity(alloc, usize::from(count))?;
     for _number in 0..count {
@@ -133,7 +135,7 @@ fn station<G: Gate + Drop>(
     }
 }
 
-/// What the threads of a node wait on.
+/// What the threads of a node poll their streams with.
 #[derive(Drop)]
 struct ToolsOfAll {
     working: Vec<Tools>,
@@ -141,7 +143,7 @@ struct ToolsOfAll {
     last: Tools,
 }
 
-/// What so many workers, as many fetchers and the node's thread wait on.
+/// What this many workers, as many fetchers and the node's thread poll their streams with.
 fn tools_for<N: Net>(net: &N, alloc: Global, count: u8) -> Result<ToolsOfAll, Unready> {
     let working = all_tools(net, alloc, count)?;
     let fetching = all_tools(net, alloc, count)?;
@@ -228,7 +230,7 @@ fn start_prepared<
     }
 }
 
-/// Starts the thread of a node, and waits until its workers and its fetchers are started.
+/// Starts the thread of a node, and waits until its workers and fetchers are started.
 fn begin<
     S: FloorStore + Drop + Send + 'static,
     G: Gate + Drop + Send + Sync + 'static,
@@ -264,7 +266,7 @@ fn begin<
     }
 }
 
-/// Runs a node until it is stopped. Where it could not begin, that is told.
+/// Runs a node until it is stopped. Where it could not begin, tells so.
 fn run_and_tell<
     S: FloorStore + Drop + Send,
     G: Gate + Drop + Send + Sync,
@@ -276,9 +278,12 @@ fn run_and_tell<
 }
 
 impl Workers {
-    /// Starts a node of the roster with so many workers, 2 to 8, and as many fetchers, over a store of floors. It is reached at its addresses when this returns.
+    /// Starts a node of the roster with this many workers, 2 to 8, and as many fetchers, over a
+    /// store of floors. When this returns, the node can be reached at its addresses.
     ///
-    /// Faults: `Open` where the node is not opened, `Loop` where its sockets are not, `NoThread` where its thread cannot be made, `NoMemory`. Nothing of it runs or is open then.
+    /// Faults: `Open` where the node is not opened, `Loop` where its sockets or the poll instances
+    /// of its threads are not, `NoThread` where a thread cannot be started, `NoMemory`. After a
+    /// fault nothing of it runs or is open.
     pub fn start<
         S: FloorStore + Drop + Send + 'static,
         G: Gate + Drop + Send + Sync + 'static,
@@ -326,16 +331,21 @@ impl Workers {
         Ok(start_prepared(rt, alloc, roster, id, prepared, gate)?)
     }
 
-    /// Holds the node, and waits until it is held: no step is taken, and nothing is taken from its sockets, until [`Workers::resume`]. Who waits for an answer goes on to wait. One thread at a time holds a node.
+    /// Holds the node, and waits until it is held: until [`Workers::resume`] no step is taken, and
+    /// nothing is read from its sockets. Clients that wait for an answer wait on. One thread at a
+    /// time may hold a node.
     pub fn hold<R: Wait>(&self, rt: &R) {
         self.halt.hold(rt);
     }
 
-    /// Ends the shift of the node, opens the next, and hands out the records that are kept and were not handed out before, oldest first; or none, where the history is dropped, from the start or since
-    /// there were more records than are kept. The node is held then, also where it was not before.
+    /// Ends the shift of the node, opens the next, and hands out the records that are kept and were
+    /// not handed out before, oldest first; or none, where the history is dropped, from the start
+    /// or since there were more records than are kept. A node that was not held is held first, and
+    /// stays held.
     ///
-    /// Faults: those of a shift that is not closed, and `NoMemory` where the next one is not opened. The node stays held, its records stay with it, and they may be asked for again. `SeatMissing`
-    /// comes also where the node's thread has ended.
+    /// Faults: those of a shift that is not closed, and `NoMemory` where the next one is not
+    /// opened. The node stays held, its records stay with it, and they may be asked for again.
+    /// `SeatMissing` also comes where the node's thread has ended.
     pub fn records<R: Wait>(&self, rt: &R) -> Result<Option<Vec<Record>>, StopFault> {
         self.halt.hold(rt);
         self.halt.ask(rt)
@@ -346,18 +356,22 @@ impl Workers {
         self.halt.resume(rt);
     }
 
-    /// Tells the node to stop, also one that is held, and waits for nothing: it takes no more from its sockets, and begins no more fetches. So several nodes can be stopped at once: each is told first, and then each is
-    /// waited for by [`Workers::stop`]. To tell it again changes nothing.
+    /// Tells the node to stop, also one that is held, and does not wait: the node reads no more
+    /// from its sockets, and begins no more fetches. To stop several nodes at once, tell each first
+    /// and then wait for each with [`Workers::stop`]. Telling it again changes nothing.
     pub fn begin_stop<R: Wait>(&self, rt: &R) {
         self.is_stopped.store(true, Ordering::SeqCst);
         self.halt.resume(rt);
     }
 
-    /// Stops the node, also one that is held, and waits for its end: its workers end the jobs that they have, and its fetchers the fetches that are under way, its last shift is closed, those who wait get 503, and its
-    /// sockets are closed. The records that are kept, oldest first.
+    /// Stops the node, also one that is held, and waits for its end. Its workers end the jobs that
+    /// they have, and its fetchers the fetches that are under way. Its last shift is closed, those
+    /// who wait get 503, and its sockets are closed. Returns the records that are kept, oldest
+    /// first.
     ///
-    /// Faults: those of a shift that is not closed, and `NoMemory` where the next one is not opened; the records are lost then. They are those of the last shift alone: where one comes while the node runs, its step is
-    /// refused, and the node goes on.
+    /// Faults: those of a shift that is not closed, and `NoMemory` where the next one is not
+    /// opened; the records are lost then. They concern the last shift alone: where such a fault
+    /// comes while the node runs, the step is refused, and the node goes on.
     pub fn stop<R: Threads + Wait>(self, rt: &R) -> Result<Vec<Record>, StopFault> {
         self.begin_stop(rt);
         self.node.join(rt)
