@@ -43,6 +43,7 @@ impl<Q: QueueName> Model for Pass<Q> {
 }
 
 impl<Q: QueueName> Pass<Q> {
+    /// A pass of the queue that the type `Q` names.
     pub(crate) fn named(pass: crossbeam_queue::Pass<Job, View>) -> Pass<Q>
         requires table { (pass.table_id ≡ Q.table) × (pass.me.1 ≡ []) }
         requires part { 0 < (known pass).parts }
@@ -56,6 +57,7 @@ impl<Q: QueueName> Pass<Q> {
 }
 
 impl<Q: QueueName> Jobs<Q> {
+    /// The queue that the type `Q` names.
     pub(crate) fn named(queue: RuledArrayQueue<Job, View, FirstInFirstOut>) -> Jobs<Q>
         requires table { queue.table.shared.table_id ≡ Q.table }
         requires capacity { ruled_capacity queue ≡ 256 }

@@ -2,7 +2,7 @@
 //!
 //! The thread of the event loop puts each [`Job`]: a datagram, a connection whose request head has
 //! come, or the timeout of a round of queries. Workers take the jobs. [`Jobs`] is first in, first
-//! out, and has 256 places ([`CAPACITY`]). Any number of threads use it at once, without a lock.
+//! out, and has 256 places ([`CAPACITY`]). Up to 1,024 threads use it at once, without a lock.
 //! [`Jobs::put`] does not wait for a place: a full queue gives the job back. [`Jobs::take`] does
 //! not wait for a job: an empty queue gives none.
 //!

@@ -21,8 +21,11 @@ pub enum Step {
 /// What a pass knows: how many of the 1,024 parts it has, the steps that it has seen, and its own
 /// steps among them. A pass with all parts has seen every step.
 pub struct View {
+    /// How many of the 1,024 parts it has.
     pub parts: u64,
+    /// The steps that it has seen, in the order in which they happened.
     pub seen: LinkedList<Step>,
+    /// Its own steps among them.
     pub own: LinkedList<Step>,
 }
 

@@ -22,9 +22,13 @@ use std::sync::ledger::{Book, Share};
 #[derive(Drop)]
 pub(crate) struct Desk<S: FloorStore, L: Calls> {
     pub(crate) alloc: Global,
+    /// The node and its steps in this shift.
     pub(crate) book: NodeBook<S>,
+    /// How many calls were made before this shift.
     pub(crate) before: u64,
+    /// The ledger in which the calls are counted.
     pub(crate) calls: Book<L>,
+    /// Where each call draws its place.
     pub(crate) places: Places,
 }
 

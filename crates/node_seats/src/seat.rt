@@ -40,9 +40,13 @@ pub struct Made {
 /// its share of the count.
 #[derive(Drop)]
 pub struct Seat<L: Calls> {
+    /// Its number, from 0.
     pub(crate) number: u8,
+    /// How many seats the node has.
     pub(crate) seats: u8,
+    /// The calls made by it in this shift.
     pub(crate) made: Vec<Made>,
+    /// Its share of the count of calls.
     pub(crate) share: Share<L>,
 }
 

@@ -17,7 +17,9 @@ use std::sync::{Mutex, Wait};
 /// A node's book under its lock, and the number of its seats.
 #[derive(Drop)]
 pub struct SharedNode<S: FloorStore, L: Calls> {
+    /// The book, under the lock.
     pub(crate) desk: Mutex<Desk<S, L>>,
+    /// How many seats it has.
     pub(crate) seats: u8,
     pub(crate) ghost some_seat: { 0 < seats },
     pub(crate) ghost enough_parts: { seats ≤ L.all },

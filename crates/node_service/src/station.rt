@@ -26,11 +26,17 @@ pub struct Station<G: Drop> {
     /// What is left to the fetchers.
     pub errands: Errands<Turn>,
     pub(crate) alloc: Global,
+    /// Who takes part.
     pub(crate) roster: Roster,
+    /// The member's id.
     pub(crate) id: u8,
+    /// The node's UDP sockets, for sending.
     pub(crate) senders: Senders,
+    /// Whether a step has answered that the node is closed, or that its store has failed.
     pub(crate) is_closed: AtomicBool,
+    /// Whether the node is to stop.
     pub(crate) is_stopped: Arc<AtomicBool, Global>,
+    /// What is told of each read of an origin.
     pub(crate) gate: Arc<G, Global>,
     pub(crate) ghost has_node: { is_member roster id ≡ true },
 }

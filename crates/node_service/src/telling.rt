@@ -13,8 +13,9 @@ use std::time::{Clock, Duration};
 use timed_streams::Timed;
 use worker_tables::MOST_WAITING;
 
-/// How many seconds a client may take to send the rest of its request, and how many to take its
-/// response.
+/// How many seconds a client may take, from when a worker has its connection, to send the rest of
+/// its request and to take what is served at once; and how many to take a response that comes
+/// later.
 pub(crate) const PATIENCE: u64 = 5;
 
 /// A status 503 for a client that waits.

@@ -1,3 +1,4 @@
+//! What becomes of records.
 /// What becomes of the records of shifts that are closed.
 #[derive(Clone, Copy, Debug, PartialEq, Eq)]
 pub enum History {

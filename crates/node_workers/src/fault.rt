@@ -1,3 +1,4 @@
+//! Why a node does not start, or does not give its records.
 ghost use Rattle.std.specs.Prelude.{◌≡◌};
 ghost use Rattle.node_workers.specs.Names.{start_fault_name, stop_fault_name};
 

@@ -6,7 +6,7 @@
 //! `query_wait`. `node_service` says what a worker does with a job, a fetcher with an errand, and
 //! the event loop with a question. Workers leave fetches to fetchers. So they wait for no peer and
 //! no origin, and what the node has is served also while every fetcher waits. A sibling's request
-//! begins nothing, so a worker answers it, and two members that fetch from each other do not wait
+//! begins nothing, so a worker answers it, and two siblings that fetch from each other do not wait
 //! for each other's fetches.
 //!
 //! The node's lock is held for one step, and no lock is held while a socket is waited for. Shifts

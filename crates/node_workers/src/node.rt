@@ -23,20 +23,30 @@ use udp_loop::NodeLoop;
 /// What the threads of a node work with, beside the node.
 #[derive(Drop)]
 pub(crate) struct Edge<G: Drop> {
+    /// What they share beside the node.
     pub(crate) station: Station<G>,
+    /// What they share with the thread that started the node.
     pub(crate) signals: Signals,
+    /// The event loop.
     pub(crate) turner: NodeLoop,
+    /// What each worker polls its streams with.
     pub(crate) working: Vec<Tools>,
+    /// What each fetcher polls its streams with.
     pub(crate) fetching: Vec<Tools>,
+    /// What the node's own thread answers those with who still wait at the end.
     pub(crate) last: Tools,
 }
 
 /// A node that is opened, and how its shifts are to be.
 #[derive(Drop)]
 pub(crate) struct Prepared<S: FloorStore> {
+    /// The node, with an empty book.
     pub(crate) book: NodeBook<S>,
+    /// Where each call draws its place.
     pub(crate) places: Places,
+    /// How many workers, and how many fetchers.
     pub(crate) count: u8,
+    /// What becomes of the records of its shifts.
     pub(crate) history: History,
     pub(crate) ghost fresh: { book.entries ≡ [] },
     pub(crate) ghost some_seat: { 0 < count },

@@ -10,8 +10,11 @@ use std::sync::{Arc, Wait};
 /// start went, and whether it is held.
 #[derive(Drop)]
 pub(crate) struct Signals {
+    /// Whether the node is to stop.
     pub(crate) is_stopped: Arc<AtomicBool, Global>,
+    /// How its start went.
     pub(crate) report: Arc<Report, Global>,
+    /// Whether it is held.
     pub(crate) halt: Arc<Halt, Global>,
 }
 

@@ -22,15 +22,20 @@ const MOST_TIMERS: u32 = 256;
 /// What one worker has of its own.
 #[derive(Drop)]
 pub(crate) struct Kit<Q: QueueName> {
+    /// The number of its seat.
     pub(crate) number: u8,
+    /// Its pass to the job queue.
     pub(crate) pass: Pass<Q>,
+    /// What it polls its streams with.
     pub(crate) tools: Tools,
 }
 
 /// What one fetcher has of its own.
 #[derive(Drop)]
 pub(crate) struct FetchKit {
+    /// The number of its seat.
     pub(crate) number: u8,
+    /// What it polls its streams with.
     pub(crate) tools: Tools,
 }
 
@@ -44,10 +49,15 @@ pub(crate) struct Kits<Q: QueueName> {
 /// What the threads of a node share.
 #[derive(Drop)]
 pub(crate) struct Shared<'a, Q: QueueName, S: FloorStore + Drop, L: Calls, G: Gate + Drop, R> {
+    /// The clock, the network and the locks of the system.
     pub(crate) rt: &'a R,
+    /// What is shared beside the node.
     pub(crate) station: &'a Station<G>,
+    /// What is shared with the thread that started the node.
     pub(crate) signals: &'a Signals,
+    /// The job queue.
     pub(crate) jobs: &'a Jobs<Q>,
+    /// The node in its shifts, under its lock.
     pub(crate) node: &'a Mutex<Shifts<S, L>>,
 }
 

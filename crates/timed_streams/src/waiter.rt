@@ -17,6 +17,7 @@ const KEPT: usize = 16_384;
 pub struct Waiter {
     poll: Poll,
     events: Events,
+    /// What is written and not sent yet, 16,384 octets at most.
     pub(crate) kept: Vec<u8>,
 }
 

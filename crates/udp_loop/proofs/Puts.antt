@@ -10,12 +10,15 @@ use Rattle.job_queue.specs.declared.order.View.{View}
 use Rattle.job_queue.specs.Order.{sight_of, put, Begins, Follows, HeldOnce}
 use Rattle.udp_loop.specs.Turns.{HasCome, HasPut}
 
+-- a beginning of a beginning of a list is a beginning of it
 begins_further : (xs ys zs : List Step) → Begins xs ys → Begins ys zs → Begins xs zs
 begins_further xs ys zs h k = (h.0 ++ k.0, sym (append_assoc xs h.0 k.0) ∙ ap (λ l. l ++ k.0) h.1 ∙ k.1)
 
+-- a pass that puts nothing
 pub none_put : (v : View) → HasPut v v
 none_put v = record { parts = refl; seen = ([], append-nil v.seen); own = ([], sym (append-nil v.own), All-nil HasCome) }
 
+-- a pass that puts one job that came over a socket
 pub one_put : (v w : View) (job : Job) → HasCome (sight_of job) → Follows v (put job) w → HasPut v w
 one_put v w job come h = record {
   parts = h.parts;
@@ -23,6 +26,7 @@ one_put v w job come h = record {
   own = (sight_of job ∷ [], h.own, All-cons HasCome (sight_of job) [] come (All-nil HasCome));
 }
 
+-- a pass that first puts some jobs and then others
 pub more_put : (u v w : View) → HasPut u v → HasPut v w → HasPut u w
 more_put u v w h k = record {
   parts = k.parts ∙ h.parts;

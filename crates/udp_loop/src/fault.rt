@@ -1,3 +1,4 @@
+//! Why a call on a node's sockets fails.
 ghost use Rattle.std.specs.Prelude.{◌≡◌};
 ghost use Rattle.udp_loop.specs.Names.{loop_fault_name};
 

@@ -65,6 +65,7 @@ pub struct Senders {
 }
 
 impl Senders {
+    /// Senders on these sockets.
     pub(crate) fn of(sockets: Arc<Sockets, Global>) -> Senders {
         Senders { sockets }
     }

@@ -1,3 +1,4 @@
+//! Why a client or an answer is not kept, and what is handed back then.
 ghost use Rattle.std.specs.Prelude.{◌≡◌};
 ghost use Rattle.worker_tables.specs.Names.{table_fault_name};
 

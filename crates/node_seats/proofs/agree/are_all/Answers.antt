@@ -1,3 +1,5 @@
+-- One turn of the loop over the seats: the seat at this place is the one with this number, and its parts are added to
+-- those before it.
 use Rattle.std.proofs.Common.{◌≡◌, ◌<◌, ◌+◌, length, take, refl, sym, ◌∙◌, subst, arith, true≢false}
 use Rattle.node_seats.specs.Shifts.{IsSeatOf, parts_in}
 use Rattle.node_seats.proofs.Orders.{seated_more, parts_more}
