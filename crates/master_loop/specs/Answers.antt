@@ -1,4 +1,4 @@
--- What a caller of a master knows without seeing it.
+-- What a caller of a master knows of an answer without seeing the master.
 use Rattle.std.specs.Prelude.{◌≡◌, ◌≢◌, ℕ, List, Result, Ok, Err, option_map, Option}
 use Rattle.htcp_wire.specs.declared.message.Htcp.{Htcp}
 use Rattle.htcp_wire.specs.Written.{written}
@@ -13,7 +13,7 @@ use Rattle.roster_tables.specs.declared.plain.Address.{Address}
 use Rattle.roster_tables.specs.declared.plain.Tables.{Tables}
 use Rattle.roster.specs.Lookups.{member_of}
 
--- the answer is of the call's kind
+-- the answer is of the kind of the call
 abbrev pub IsOfKind : MasterCall → MasterAnswer → Type 0
 IsOfKind (call.Issue key) (answer.Issue number) = Unit {0}
 IsOfKind (call.Acknowledge id trans code) (answer.Acknowledge number) = Unit {0}
@@ -21,7 +21,7 @@ IsOfKind call.Due (answer.Due pairs) = Unit {0}
 IsOfKind (call.Status number) (answer.Status status) = Unit {0}
 IsOfKind _ _ = ⊥
 
--- an answer of the call's kind, or a fault; that the book is full is never told
+-- an answer of the kind of the call, or a fault; the fault of a full book is never told
 abbrev pub IsToldOf : MasterCall → Result MasterAnswer MasterFault → Type 0
 IsToldOf c (Ok a) = IsOfKind c a
 IsToldOf c (Err f) = f ≢ fault.ShiftFull
@@ -34,6 +34,6 @@ IsClearOf number message = (key : List ℕ) × (message ≡ clear number key)
 abbrev pub AreClearOf : ℕ → List ℕ → Type 0
 AreClearOf number octets = (key : List ℕ) × (octets ≡ written (clear number key))
 
--- where a member is told: its HTCP address
+-- where the member of an id is told of purges: its HTCP address
 abbrev pub htcp_of : Tables → ℕ → Option Address
 htcp_of roster id = option_map (λ m. m.cache.htcp) (member_of roster id)

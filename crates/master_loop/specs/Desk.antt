@@ -24,8 +24,8 @@ pub record DeskView (S : Type 0) : Type 0 where
 abbrev pub IsNothingDue : {S : Type 0} → MasterView S → Type 0
 IsNothingDue master = (master.state.closed ≡ true) ⊎ (due master.members master.state.purges ≡ [])
 
--- Whether a CLR may be due after an answer: not once it is answered that nothing is due, or that the master is closed, which it stays; but from the next
--- purge or response on.
+-- whether a CLR may be due after an answer: not once the answer is that nothing is due, or that the master is closed,
+-- which it stays; but from the next purge or response on
 abbrev pub may_be_due_after : Result MasterAnswer MasterFault → Bool → Bool
 may_be_due_after (Ok (answer.Due [])) was = false
 may_be_due_after (Ok (answer.Due (_ ∷ _))) was = true
@@ -39,7 +39,7 @@ may_be_due_after (Err _) was = was
 abbrev pub emptied : {S : Type 0} → BookView S → BookView S
 emptied book = record { master = book.master; entries = [] }
 
--- whether a page is kept behind so many entries
+-- whether a page is kept behind this many entries
 abbrev pub keeps : History → ℕ → Bool
 keeps (UpTo most) kept = nat_lt kept most
 keeps Dropped kept = false
@@ -49,11 +49,11 @@ abbrev pub is_dropped : History → Bool
 is_dropped (UpTo most) = false
 is_dropped Dropped = true
 
--- a page's entries stand behind those that are kept; or all are gone, where the page is not kept
+-- the entries of a page stand behind those that are kept; or all are dropped, where the page is not kept
 abbrev pub kept_with : History → List MasterEntry → List MasterEntry → List MasterEntry
 kept_with history kept page = if keeps history (length kept) then kept ++ page else []
 
--- once a page is not kept, none is
+-- once a page is not kept, none is kept from then on
 abbrev pub history_after : History → List MasterEntry → History
 history_after history kept = if keeps history (length kept) then history else Dropped
 
@@ -65,7 +65,8 @@ turned desk = record { book = emptied desk.book; kept = kept_with desk.history d
 abbrev pub ready : {S : Type 0} → DeskView S → DeskView S
 ready desk = if nat_le 4096 (length desk.book.entries) then turned desk else desk
 
--- The master has answered this call so, at some place, and it is entered with that answer behind what the page has.
+-- the master has answered the call so, at some place, and the call is entered with that answer behind the entries of
+-- the page
 pub record IsCalledAt {S : Type 0} (was now : Witness) (before after : DeskView S) (c : MasterCall) (out : Result MasterAnswer MasterFault) : Type 0 where
   pub place : ℕ
   pub entered : IsEntered was now (ready before).book after.book place c out
@@ -73,15 +74,15 @@ pub record IsCalledAt {S : Type 0} (was now : Witness) (before after : DeskView 
   pub history : after.history ≡ (ready before).history
   pub may_be_due : after.may_be_due ≡ may_be_due_after out before.may_be_due
 
--- There was no memory, so the call was not made. The page may be turned.
+-- there was no memory, so the call was not made; the page may have been turned
 abbrev pub IsUnmade : {S : Type 0} → DeskView S → DeskView S → Result MasterAnswer MasterFault → Type 0
 IsUnmade before after out = (out ≡ Err NoMemory) × ((after ≡ before) ⊎ (after ≡ ready before))
 
--- a desk with this book, and nothing that is kept
+-- a desk with this book, and with no entries kept
 abbrev pub cleared : {S : Type 0} → DeskView S → BookView S → DeskView S
 cleared desk book = record { book = book; kept = []; history = desk.history; may_be_due = desk.may_be_due }
 
--- all entries are taken, or those that are kept, where there was no memory to put the page's behind them
+-- all entries are taken; or those that are kept, where there was no memory to put the open page's behind them
 abbrev pub IsTaken : {S : Type 0} → DeskView S → List MasterEntry → DeskView S → Type 0
 IsTaken before taken after =
     (taken ≡ before.kept ++ before.book.entries) × (after ≡ cleared before (emptied before.book))

@@ -3,7 +3,7 @@ use Rattle.std.specs.Prelude.{◌≡◌, ℕ, List, codes}
 use Rattle.master_loop.specs.declared.fault.MasterStartFault.{MasterStartFault}
 use Rattle.master_loop.specs.declared.fault.MasterStartFault.TheVariants.{Port, Io, NoMemory}
 
--- a port that is not had is a refusal of the system
+-- the name of a fault: that of its variant, and Io for a port
 abbrev pub start_fault_name : MasterStartFault → List ℕ
 start_fault_name (Port port) = codes "Io"
 start_fault_name Io = codes "Io"

@@ -1,4 +1,4 @@
-//! The locked book of a master, and the pages of it that were turned.
+//! What the lock of a shared master holds: its book, and the pages that were turned.
 ghost use Rattle.std.specs.Prelude.{◌≡◌, ◌≢◌, ◌⊎◌, ◌<◌, ◌++◌, [], length, false, Err, IfOk, IfSome, OnOk, OnErr};
 ghost use Rattle.htcp_wire.specs.Written.{Fits};
 ghost use Rattle.purge_master.specs.Store.{witness};
@@ -17,13 +17,14 @@ use std::mem::replace;
 /// What becomes of the entries of a page that is turned.
 #[derive(Clone, Copy, Debug, PartialEq, Eq)]
 pub enum History {
-    /// They are kept until they are taken, while fewer than so many are. Where a page would come behind so many, all of them are dropped, and none is kept from then on.
+    /// They are kept until they are taken, while fewer than this many are kept. Where a page would
+    /// come after so many, all of them are dropped, and none is kept from then on.
     UpTo(u32),
     /// They are dropped.
     Dropped,
 }
 
-/// Whether a page is kept behind so many entries.
+/// Whether a page is kept behind this many entries.
 fn has_place(history: History, kept: usize) -> bool
     ensures { result ≡ keeps history kept }
 {
@@ -33,7 +34,8 @@ fn has_place(history: History, kept: usize) -> bool
     }
 }
 
-/// Whether a CLR may be due after an answer: not once it is answered that nothing is due, or that the master is closed, which it stays; but from the next purge or response on.
+/// Whether a CLR may be due after an answer. None is due once the answer is that nothing is due, or
+/// that the master is closed, which it stays. One may be due from the next purge or response on.
 fn may_be_due_after(answer: &Result<MasterAnswer, MasterFault>, was: bool) -> bool
     ensures { result ≡ may_be_due_by answer.now was }
 {
@@ -46,14 +48,20 @@ fn may_be_due_after(answer: &Result<MasterAnswer, MasterFault>, was: bool) -> bo
     }
 }
 
-/// A master's book under its lock, and the entries of the pages that were turned. Where no CLR may be due, none is.
+/// A master's book, the entries of the pages that were turned, and whether a CLR may be due. Where
+/// none may be due, none is.
 #[derive(Drop)]
 pub(crate) struct Desk<S: PurgeStore> {
     pub(crate) alloc: Global,
+    /// The master, and the open page of its calls.
     pub(crate) book: MasterBook<S>,
+    /// The entries of the pages that were turned.
     pub(crate) kept: Vec<MasterEntry>,
+    /// What becomes of the entries of a page that is turned.
     pub(crate) history: History,
+    /// Whether a CLR may be due.
     pub(crate) may_be_due: bool,
+    /// Where each call draws its place.
     pub(crate) places: Places,
 }
 
@@ -71,7 +79,8 @@ impl<S: PurgeStore> Model for Desk<S> {
     ghost invariant = { λ desk. desk.may_be_due ≡ false → IsNothingDue desk.book.master };
 }
 
-/// Puts the book's entries behind those that are kept, or leaves both where there is no memory. Where none are kept it takes none.
+/// Puts the book's entries behind those that are kept, or leaves both unchanged where there is no
+/// memory. Where no entry is kept, this takes no memory.
 fn keep<S: PurgeStore>(
     kept: &mut Vec<MasterEntry>,
     book: &mut MasterBook<S>,
@@ -93,7 +102,7 @@ fn keep<S: PurgeStore>(
 }
 
 impl<S: PurgeStore> Desk<S> {
-    /// Turns the page, or leaves all as it was where there is no memory for what is kept.
+    /// Turns the page; or leaves everything unchanged, where there is no memory for what is kept.
     fn turn_page(&mut self) -> Result<(), AllocError>
         ensures turned { OnOk result (self.new ≡ turned self.old) }
         ensures refused { OnErr result (self.new ≡ self.old) }
@@ -119,7 +128,8 @@ impl<S: PurgeStore> Desk<S> {
         Ok(())
     }
 
-    /// One call of the master, which is entered with its answer; a page that is full is turned before it. Where there is no memory for that, or for the entry, the answer is
+    /// Makes one call of the master, which is entered with its answer; a page that is full is
+    /// turned before it. Where there is no memory for that, or for the entry, the answer is
     /// `NoMemory`, the master is not called, and no entry is lost.
     pub(crate) fn call(&mut self, call: MasterCall) -> Result<MasterAnswer, MasterFault>
         ensures called { IsUnmade self.old self.new result
@@ -135,7 +145,7 @@ impl<S: PurgeStore> Desk<S> {
         answer
     }
 
-    /// Whether a CLR may be due. It is no call, and makes no entry.
+    /// Whether a CLR may be due. This is no call, and makes no entry.
     pub(crate) fn may_be_due(&self) -> bool
         ensures value { result ≡ self.now.may_be_due }
         ensures nothing { result ≡ false → IsNothingDue self.now.book.master }
@@ -151,7 +161,8 @@ impl<S: PurgeStore> Desk<S> {
         self.book.message(number)
     }
 
-    /// The entries since they were last taken, in their order. Where there is no memory to put the open page behind the others, it stays for the next time.
+    /// Takes the entries since they were last taken, in their order. Where there is no memory to
+    /// put the open page behind the others, it stays for the next time.
     pub(crate) fn take_entries(&mut self) -> Vec<MasterEntry>
         ensures taken { IsTaken self.old result.items self.new }
         ensures whole { self.old.kept ≡ [] → result.items ≡ self.old.book.entries }
@@ -161,7 +172,7 @@ impl<S: PurgeStore> Desk<S> {
         replace(&mut self.kept, Vec::new(self.alloc))
     }
 
-    /// Whether entries are dropped: there is no history of the calls from the first one on.
+    /// Whether entries are dropped: what is kept does not go back to the first call.
     pub(crate) fn has_forgotten(&self) -> bool
         ensures { result ≡ is_dropped self.now.history }
     {

@@ -1,3 +1,4 @@
+//! Why a master's socket is not opened.
 ghost use Rattle.std.specs.Prelude.{◌≡◌};
 ghost use Rattle.master_loop.specs.Names.{start_fault_name};
 
@@ -8,19 +9,19 @@ use thiserror::Error;
 /// Why a master's socket is not opened.
 #[derive(Clone, Copy, Debug, PartialEq, Eq, Error)]
 pub enum MasterStartFault {
-    /// The master's UDP port is in use, or its address is not this machine's.
+    /// This UDP port, the master's, is in use, or its address is not this machine's.
     #[error("the master's UDP port {0} is in use, or its address is not this machine's")]
     Port(u16),
     /// The system refused in another way.
     #[error("a socket could not be opened")]
     Io,
-    /// A growth was refused.
+    /// There was no memory.
     #[error("there was no memory")]
     NoMemory,
 }
 
 impl MasterStartFault {
-    /// The name that scripts print: that of a port is `Io`.
+    /// The name that scripts print: that of the variant, and `Io` for a port.
     pub const fn name(self) -> &'static str
         ensures { result.now ≡ start_fault_name self }
     {

@@ -1,16 +1,36 @@
-//! The thread at the master's socket, and the master of purges that it shares with an operator's commands.
+//! The master's event loop, and the master of purges that it shares with an operator's commands.
 //!
-//! A [`SharedMaster`] is a master's book under a lock. Each call is made at a place that is drawn while the lock is held. A book has 4,096 entries at most: where they are all
-//! there, the page is turned, and the call is made of the book without them. A [`MasterLoop`] has the master's UDP socket. Each [`MasterLoop::turn`] waits until something is
-//! ready, for a while at most, makes the calls that datagrams make (RFC 2756, "CLR"), and once a second sends again what is due; where nothing can be, no call is made and entered. A [`MasterSender`] issues a purge and sends its CLR to
-//! each member, from any thread. No lock is held while a socket is waited for or written.
+//! A [`SharedMaster`] is a master's book (the log of its calls) under a lock. Each call draws its
+//! place while the lock is held. A book has 4,096 entries at most, called a page. Where the page is
+//! full it is turned before the next call: its entries are kept for the owner to take, or dropped
+//! ([`History`]).
 //!
-//! A contract sees no value under a lock, and none that a socket takes or gives. So what a call does to the book is said of the desk that the lock holds (`specs/Desk`), and what
-//! is sent under a number, and where a member is, are said where they are made. That a datagram that came is read and its call made, that what is made is sent, and that a second
-//! is a second, are tested. What the system does not take is lost, as a datagram may be on its way: it is due again in a second.
+//! A [`MasterLoop`] has the master's UDP socket. Each [`MasterLoop::turn`] polls for 100
+//! milliseconds at most, makes the calls that datagrams ask for (responses to a CLR; RFC 2756,
+//! "CLR"), and once a second sends again the CLR of each pending purge to each member that has not
+//! acknowledged it. Where nothing can be due, no call is made and none is entered. A
+//! [`MasterSender`] issues a purge and sends its CLR to each member, from any thread, on the same
+//! socket. No lock is held while a socket is waited for or written.
 //!
-//! What passes: `SharedMaster::call` and `MasterSender::issue` may answer `Closed` at once, `issue` any number, and `message` that no purge of the number is pending, since the master is under
-//! the lock. Tests issue purges, see their CLRs and have them acknowledged.
+//! Order of reading: `specs/Desk.antt` (what a call does to the book), `specs/Answers.antt` (what a
+//! caller knows of an answer); `src/shared.rt` (the calls), `src/desk.rt` (the calls inside the
+//! lock), `src/master_loop.rt` (the loop), `src/sending.rt` (the CLRs), `src/fault.rt`,
+//! `specs/Names.antt`; `proofs/Clears.antt`.
+//!
+//! The crate opens one socket, polls it, reads the clock, and waits at its lock. It starts no
+//! thread: the caller runs [`MasterLoop::run_until`] on one. Files are touched by the store of
+//! purges, which is passed in.
+//!
+//! A contract sees no value under a lock, and nothing that a socket takes or gives. So what a call
+//! does is said of the desk inside the lock, and what is sent under a number, and where a member
+//! is, is said where it is made. That a datagram that came is read and its call made, that CLRs are
+//! sent, and that a second is a second, is tested. A CLR that the system does not take is lost, as
+//! any datagram may be; it is due again within a second.
+//!
+//! What it does not promise: `SharedMaster::call` and `MasterSender::issue` may answer `Closed` at
+//! once, `issue` may answer any number, and `message` may answer that no purge of the number is
+//! pending, since the master is under the lock. Tests issue purges, see their CLRs, and have them
+//! acknowledged.
 #![tactic(auto)]
 
 mod desk;

@@ -1,4 +1,4 @@
-//! The loop at the master's socket.
+//! The master's event loop.
 ghost use Rattle.std.specs.Prelude.{IfErr};
 ghost use Rattle.master_loop.specs.Names.{IsAtPort};
 
@@ -18,24 +18,26 @@ use std::sync::{Arc, Wait};
 use std::thread;
 use std::time::{Clock, Duration, Instant};
 
+/// The poll token of the master's socket.
 const SOCKET: Token = Token(0);
 
-/// How many events are told at once.
+/// How many events one poll tells at most.
 const MOST_EVENTS: usize = 16;
 
-/// The longest datagram that is read: none of IPv4 is longer.
+/// The size of the receive buffer in octets. No datagram of IPv4 is longer.
 const LONGEST: usize = 65_536;
 
-/// How many datagrams a turn reads at most, so that what is due has its turn.
+/// How many datagrams a turn reads at most, so that sending gets its share of a turn.
 const MOST_AT_ONCE: usize = 256;
 
-/// For how many milliseconds a turn waits at most, and how long the loop pauses after a turn that was refused something.
+/// How many milliseconds a turn waits at most, and how long the loop pauses after a turn that
+/// failed.
 const WAIT: u64 = 100;
 
-/// How many seconds lie between one sending of what is due and the next.
+/// How many seconds pass between one sending of what is due and the next.
 const PAUSE: u64 = 1;
 
-/// Where a datagram came from. A sender that is not reached by IPv4, which a socket of IPv4 has none of, is told as 0.0.0.0.
+/// The address of a sender. An IPv6 sender, which an IPv4 socket never has, is given as 0.0.0.0.
 fn address_of(from: SocketAddr) -> Address {
     match from {
         SocketAddr::V4(from) => Address {
@@ -49,7 +51,7 @@ fn address_of(from: SocketAddr) -> Address {
     }
 }
 
-/// The socket at the master's address.
+/// A socket at the master's address.
 fn bound<N: Net>(net: &N, address: Address) -> Result<UdpSocket, MasterStartFault>
     ensures { IfErr result (IsAtPort address.port) }
 {
@@ -79,7 +81,9 @@ pub struct MasterLoop {
 impl MasterLoop {
     /// Opens the master's UDP socket, at the roster's address.
     ///
-    /// Faults: `Port` with the roster's port where it is in use, or the address is not this machine's; `Io` where the system refuses in another way; `NoMemory`. Nothing is open then.
+    /// Faults: `Port` with the roster's port where it is in use, or the address is not this
+    /// machine's; `Io` where the system refuses in another way; `NoMemory`. After a fault nothing
+    /// is open.
     pub fn open<N: Net + Clock>(
         rt: &N,
         alloc: Global,
@@ -106,12 +110,13 @@ impl MasterLoop {
         })
     }
 
-    /// What issues purges on this socket, for another thread. `AllocError` comes where there is no room to count one more.
+    /// A sender on this socket, for another thread. `AllocError` comes where one more owner cannot
+    /// be counted.
     pub fn sender(&self) -> Result<MasterSender, AllocError> {
         self.sender.try_clone()
     }
 
-    /// Waits until something is ready, for 100 milliseconds at most.
+    /// Polls until the socket is ready, for 100 milliseconds at most.
     fn wait_for_datagrams(&mut self) -> io::Result<()> {
         let most = if self.is_ready {
             Duration::ZERO
@@ -123,7 +128,7 @@ impl MasterLoop {
         Ok(())
     }
 
-    /// Makes the calls of the datagrams that are there, of 256 at most.
+    /// Makes the calls of the datagrams that are there, 256 datagrams at most.
     fn take_datagrams<S: PurgeStore, R: Wait>(
         &mut self,
         rt: &R,
@@ -149,7 +154,7 @@ impl MasterLoop {
         Ok(())
     }
 
-    /// Sends what is due, if the last time was a second ago.
+    /// Sends what is due, if the last time was a second ago or more.
     fn send_each_second<S: PurgeStore, R: Wait + Clock>(
         &mut self,
         rt: &R,
@@ -164,11 +169,14 @@ impl MasterLoop {
         Ok(())
     }
 
-    /// Waits until something is ready, for 100 milliseconds at most; makes the calls of the datagrams that are there, of 256 at most, the rest with the next turn; and
-    /// sends what is due, if the last time was a second ago or more: the CLR of each pending purge to each member that has not acknowledged it.
+    /// Polls until the socket is ready, for 100 milliseconds at most. Then makes the calls of the
+    /// datagrams that are there, 256 at most; the rest is for the next turn. Then, if the last time
+    /// was a second ago or more, sends what is due: the CLR of each pending purge to each member
+    /// that has not acknowledged it.
     ///
-    /// The system's refusal of a wait, a read or the clock is the error; what can be done without is done all the same, and a later turn goes on. Where there is no memory for
-    /// a call, it is lost, as the datagram may be; a member answers again when it is told again.
+    /// An error is the system's refusal of a poll, a read or the clock. What can be done all the
+    /// same is done, and a later turn goes on. Where there is no memory for a call, it is lost, as
+    /// its datagram may be; the member is told again, and answers again.
     pub fn turn<S: PurgeStore, R: Wait + Clock>(
         &mut self,
         rt: &R,
@@ -181,8 +189,8 @@ impl MasterLoop {
         waited.and(taken).and(sent)
     }
 
-    /// Has its turns until it is told to stop, which it sees within 100 milliseconds and a turn. After a turn that was refused something it pauses for 100 milliseconds, and goes on:
-    /// what was done without is done, and purges are sent again as soon as the system serves.
+    /// Takes turns until it is told to stop, which it sees after 100 milliseconds and a turn at
+    /// most. After a turn that failed it pauses for 100 milliseconds and goes on.
     pub fn run_until<S: PurgeStore, R: Wait + Clock>(
         &mut self,
         rt: &R,
@@ -201,7 +209,7 @@ impl MasterLoop {
     }
 }
 
-/// Makes the call of a datagram, if it is one. What the master answers is for its book.
+/// Makes the call of a datagram, if it is one. The answer stands in the book.
 fn take_in<S: PurgeStore, R: Wait>(
     rt: &R,
     alloc: Global,

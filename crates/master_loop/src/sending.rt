@@ -12,15 +12,15 @@ use std::net::{Ipv4Addr, SocketAddr};
 use std::sync::{Arc, Wait};
 use url_key::Key;
 
-/// The greatest id of a member.
+/// The greatest id that a member may have.
 const LAST_MEMBER: u8 = 16;
 
-/// An address as the system takes it.
+/// An address of a roster as the system takes it.
 pub(crate) fn socket_address(address: Address) -> SocketAddr {
     SocketAddr::from((Ipv4Addr::from(address.ip), address.port))
 }
 
-/// Where the member of an id is told: its HTCP address.
+/// Where the member of an id is told of purges: its HTCP address.
 fn htcp_of(roster: &Roster, id: u8) -> Option<Address>
     ensures { result ≡ htcp_of_member roster.now id }
 {
@@ -30,7 +30,8 @@ fn htcp_of(roster: &Roster, id: u8) -> Option<Address>
     }
 }
 
-/// The octets of the CLR of a pending purge; none where it is not pending any more, or where there is no memory.
+/// The octets of the CLR of a pending purge. None where it is no longer pending, or where there is
+/// no memory.
 fn clear_of<S: PurgeStore, R: Wait>(
     rt: &R,
     alloc: Global,
@@ -53,15 +54,18 @@ pub struct MasterSender {
 }
 
 impl MasterSender {
+    /// A sender on this socket.
     pub(crate) fn of(alloc: Global, socket: Arc<UdpSocket, Global>) -> MasterSender {
         MasterSender { alloc, socket }
     }
 
+    /// The socket that it sends on.
     pub(crate) fn socket(&self) -> &UdpSocket {
         &self.socket
     }
 
-    /// The same sender for another thread. `AllocError` comes where there is no room to count one more.
+    /// The same sender for another thread. `AllocError` comes where one more owner cannot be
+    /// counted.
     pub fn try_clone(&self) -> Result<MasterSender, AllocError> {
         Ok(MasterSender::of(self.alloc, Arc::try_clone(&self.socket)?))
     }
@@ -69,15 +73,17 @@ impl MasterSender {
     /// Sends octets to a member, without waiting. What the system does not take is lost.
     fn send(&self, roster: &Roster, member: u8, octets: &[u8]) {
         if let Some(address) = htcp_of(roster, member) {
-            // (a CLR that is lost is due again in a second)
+            // (a CLR that is lost is due again within a second)
             let _ = self.socket.send_to(octets, socket_address(address));
         }
     }
 
-    /// Issues a purge of a URL, and sends its CLR to each member, by id (RFC 2756, "CLR"). It answers with the purge's number.
+    /// Issues a purge of a URL, and sends its CLR to each member, by ascending id (RFC 2756,
+    /// "CLR"). Returns the purge's number.
     ///
-    /// Faults: those of `Master::issue`, and `NoMemory` where there is no memory for the call; nothing is sent then. A CLR that there is no memory for, or that the system does
-    /// not take, is lost: the purge stands, and the CLR is due again in a second.
+    /// Faults: those of `Master::issue`, and `NoMemory` where there is no memory for the call;
+    /// nothing is sent then. A CLR for which there is no memory, or that the system does not take,
+    /// is lost: the purge stands, and its CLR is due again within a second.
     pub fn issue<S: PurgeStore, R: Wait>(
         &self,
         rt: &R,
@@ -101,8 +107,9 @@ impl MasterSender {
         }
     }
 
-    /// Sends what is due: the CLR of each pending purge to each member that has not acknowledged it, by number and then by id. Nothing is sent where the master
-    /// does not answer. Where nothing can be due, no call is made, so a master that has nothing to do makes no entries.
+    /// Sends what is due: the CLR of each pending purge to each member that has not acknowledged
+    /// it, by number and then by id. Nothing is sent where the master does not answer. Where
+    /// nothing can be due no call is made, so an idle master makes no entries.
     pub(crate) fn send_due<S: PurgeStore, R: Wait>(
         &self,
         rt: &R,

@@ -18,7 +18,8 @@ pub struct SharedMaster<S: PurgeStore> {
 }
 
 impl<S: PurgeStore> SharedMaster<S> {
-    /// Shares a book. Its calls are entered at places of this counter, and the history says what becomes of the entries of a page that is turned.
+    /// Shares a book. Its calls draw their places from this counter, and the history says what
+    /// becomes of the entries of a page that is turned.
     pub fn open(
         alloc: Global,
         book: MasterBook<S>,
@@ -38,23 +39,28 @@ impl<S: PurgeStore> SharedMaster<S> {
         }
     }
 
-    /// Makes one call of the master, and enters it with its answer. What is answered is of the call's kind.
+    /// Makes one call of the master, and enters it with its answer. The answer is of the kind of
+    /// the call.
     ///
-    /// Faults: those of `MasterBook::call` but `ShiftFull`, since a page that is full is turned first. `NoMemory` comes also where there is no memory to keep that page: nothing changes then.
+    /// Faults: those of `MasterBook::call` but `ShiftFull`, since a full page is turned first.
+    /// `NoMemory` also comes where there is no memory to keep that page; nothing changes then.
     pub fn call<R: Wait>(&self, rt: &R, call: MasterCall) -> Result<MasterAnswer, MasterFault>
         ensures { IsToldOf call result }
     {
         self.desk.lock(rt).call(call)
     }
 
-    /// Whether a CLR may be due: `false` only where none is, since the master is closed, or no member is missing of a pending purge. It is no call, and makes no entry.
+    /// Whether a CLR may be due. It is `false` only where none is: the master is closed, or each
+    /// pending purge is acknowledged by every member. This is no call, and makes no entry.
     ///
-    /// It is `true` of a book that was just shared, and after each purge that is issued and each response that is taken, until `Due` is answered with nothing.
+    /// It is `true` for a book that was just shared, and after each purge that is issued and each
+    /// response that is taken, until `Due` is answered with nothing.
     pub fn may_be_due<R: Wait>(&self, rt: &R) -> bool {
         self.desk.lock(rt).may_be_due()
     }
 
-    /// The CLR of the pending purge of a number, if there is one (RFC 2756, "CLR"). It is no call, and makes no entry. `AllocError` comes where there is no memory for it.
+    /// The CLR of the pending purge of a number, if there is one (RFC 2756, "CLR"). This is no
+    /// call, and makes no entry. `AllocError` comes where there is no memory for it.
     pub fn message<R: Wait>(&self, rt: &R, number: u32) -> Result<Option<Htcp>, AllocError>
         ensures clear { IfOk result (λ message. IfSome message (IsClearOf number)) }
         ensures fits { IfOk result (λ message. IfSome message Fits) }
@@ -62,18 +68,20 @@ impl<S: PurgeStore> SharedMaster<S> {
         self.desk.lock(rt).message(number)
     }
 
-    /// Takes the entries since they were last taken, in their order; where no history is kept, those since the page was turned. Where there is no memory to put the open page
-    /// behind the pages that are kept, its entries come with the next take.
+    /// Takes the entries since they were last taken, in their order; where no history is kept,
+    /// those since the page was turned. Where there is no memory to put the open page behind the
+    /// pages that are kept, its entries come with the next take.
     pub fn take_entries<R: Wait>(&self, rt: &R) -> Vec<MasterEntry> {
         self.desk.lock(rt).take_entries()
     }
 
-    /// Whether entries were dropped, or none is kept: what is taken is not all that there was then.
+    /// Whether entries were dropped, or none is kept: then what is taken is not all that there was.
     pub fn has_forgotten<R: Wait>(&self, rt: &R) -> bool {
         self.desk.lock(rt).has_forgotten()
     }
 
-    /// Gives the book back, with the entries of the pages that are kept, which stand before its own.
+    /// Gives the book back, with the entries of the pages that are kept, which stand before its
+    /// own.
     pub fn close(self) -> (MasterBook<S>, Vec<MasterEntry>) {
         let desk = self.desk.into_inner();
         (desk.book, desk.kept)
