@@ -3,7 +3,7 @@ use Rattle.std.specs.Prelude.{◌≡◌, ℕ, List, codes}
 use Rattle.origin_server.specs.declared.fault.OriginFault.{OriginFault}
 use Rattle.origin_server.specs.declared.fault.OriginFault.TheVariants.{Port, Io, NoMemory}
 
--- a fault's name, as scripts print it: a port that the system refuses is one of its refusals
+-- the name of a fault, as scripts print it: that of its variant, and Io for a port
 abbrev pub origin_fault_name : OriginFault → List ℕ
 origin_fault_name (Port port) = codes "Io"
 origin_fault_name Io = codes "Io"

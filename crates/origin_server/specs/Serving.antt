@@ -1,4 +1,4 @@
--- What becomes of an ask.
+-- What becomes of a request.
 use Rattle.std.specs.Prelude.{◌≡◌, ℕ, List, [], Option, Some, None, Result, Ok, Err, codes}
 use Rattle.std.specs.Io.KnownBytes.{Appends}
 use Rattle.text_writer.specs.Writing.{AppendsFront, AppendsProperFront}
@@ -11,11 +11,11 @@ use Rattle.peer_reading.specs.Asks.{ReadsAsk}
 use Rattle.origin_server.specs.Answer.{answer_for}
 use Rattle.origin_server.specs.Statuses.{refusal_of}
 
--- the name that the origin bears in `via` (RFC 9110, section 7.6.3)
+-- the name of the origin in `via` (RFC 9110, section 7.6.3)
 abbrev pub own_name : List ℕ
 own_name = codes "origin"
 
--- the text of the answer to an ask
+-- the text of the response to a request
 abbrev pub told : Ask → ℕ → List ℕ
 told ask count = answer_text (answer_for ask.key count) own_name
 
@@ -30,19 +30,21 @@ refusal fault = refusal_by (refusal_of fault)
 
 -- What is written. The writer held the first, and holds the second.
 
--- after an ask was read: its answer; or the writer failed, and a front of it, not all of it; or there was no memory for it, and that is told
+-- after a request was read: its response is written; or the writer failed, and a front of it is written, not all; or
+-- there was no memory for it, and that is told
 abbrev pub AnswersAsk : Option (List ℕ) → Option (List ℕ) → Ask → ℕ → Result (Unit {0}) FetchFault → Type 0
 AnswersAsk old new ask count (Ok done) = Appends old new (told ask count)
 AnswersAsk old new ask count (Err Io) = AppendsProperFront old new (told ask count)
 AnswersAsk old new ask count (Err NoMemory) = AppendsFront old new (refusal NoMemory)
 AnswersAsk old new ask count (Err fault) = ⊥
 
--- an ask was read, and is answered; or it was not, and its fault is told: by the text of the refusal, or a front of it where the writer failed
+-- a request was read, and is answered; or it was not, and its fault is told: by the text of the refusal, or a front of
+-- it where the writer failed
 abbrev pub AfterRead : Option (List ℕ) → Option (List ℕ) → ℕ → Result Ask FetchFault → Result (Unit {0}) FetchFault → Type 0
 AfterRead old new count (Ok ask) result = AnswersAsk old new ask count result
 AfterRead old new count (Err fault) result = (result ≡ Err fault) × AppendsFront old new (refusal fault)
 
--- One ask is read, and what it is told is written.
+-- one request is read, and its response or its refusal is written
 pub record ServesNext (count : ℕ) (reader_old reader_new writer_old writer_new : Option (List ℕ)) (result : Result (Unit {0}) FetchFault) : Type 0 where
   pub read : Result Ask FetchFault
   pub reads : ReadsAsk reader_old reader_new read

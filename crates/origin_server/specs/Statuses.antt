@@ -1,9 +1,10 @@
--- The statuses that refuse an ask (RFC 9110, section 15).
+-- The statuses that refuse a request (RFC 9110, section 15).
 use Rattle.std.specs.Prelude.{ℕ, Option, Some, None}
 use Rattle.fetch_messages.specs.declared.fault.FetchFault.{FetchFault}
 use Rattle.fetch_messages.specs.declared.fault.FetchFault.TheVariants.{Io, EndOfInput, BadHead, HeadTooLong, BadTarget, MethodNotServed, Credentials, BadBody, BodyTooLong, TooManyTurns, NoMemory}
 
--- The status for an ask that was not read, by what was wrong with it (431: RFC 6585, section 5). Nothing is said to one whose ask has no end.
+-- the status for a request that was not read, by what was wrong with it (431: RFC 6585, section 5); nothing is told to
+-- a client whose request has no end
 abbrev pub refusal_of : FetchFault → Option ℕ
 refusal_of Io = None
 refusal_of EndOfInput = None

@@ -8,11 +8,12 @@ use itoa::Buffer;
 use std::alloc::{AllocError, Global};
 use url_key::Key;
 
-/// The most octets behind the path: a space and ten digits.
+/// How many octets follow the path at most: a space and ten digits.
 const MOST_BEHIND: usize = 11;
 
-/// The answer to an ask that is the `count`th to be answered: status 200, `cache-control: max-age=60`, no age, no stamp, and as body the path that is asked
-/// for, with its query, a space and the count. `AllocError` comes where there is no memory.
+/// The response to a request that is the `count`th to be answered: status 200, `cache-control:
+/// max-age=60`, no age, no stamp, and as body the path that is asked for, with its query, a space
+/// and the count. `AllocError` comes where there is no memory.
 pub fn answer_to(alloc: Global, ask: &Ask, count: u32) -> Result<Answer, AllocError>
     ensures { IfOk result (λ answer. answer ≡ answer_for ask.now.key count) }
 {

@@ -1,3 +1,4 @@
+//! Why an origin ends early.
 ghost use Rattle.std.specs.Prelude.{◌≡◌};
 ghost use Rattle.origin_server.specs.Names.{origin_fault_name};
 
@@ -5,22 +6,23 @@ use std::alloc::AllocError;
 use std::io;
 use thiserror::Error;
 
-/// Why an origin does not go on.
+/// Why an origin ends early.
 #[derive(Clone, Copy, Debug, PartialEq, Eq, Error)]
 pub enum OriginFault {
     /// This port is in use, or its address is not this machine's.
     #[error("port {0} is in use, or its address is not this machine's")]
     Port(u16),
-    /// The system refused to wait, to accept, to give a second handle of a stream, or to tell the time.
+    /// The system refused a socket, a poll, an accept, a second handle of a connection, or the
+    /// clock.
     #[error("a socket or the clock could not be used")]
     Io,
-    /// A growth was refused.
+    /// There was no memory.
     #[error("there was no memory")]
     NoMemory,
 }
 
 impl OriginFault {
-    /// The name that scripts print: `Io` of a port too.
+    /// The name that scripts print: that of the variant, and `Io` for a port.
     pub const fn name(self) -> &'static str
         ensures { result.now ≡ origin_fault_name self }
     {

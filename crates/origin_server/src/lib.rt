@@ -1,11 +1,22 @@
-//! An origin for trials: it answers asks over HTTP, one after another, each by what was asked for and how many asks it has answered.
+//! An origin server for trials: it answers HTTP requests one after another, each with the path
+//! asked for and a count.
 //!
-//! [`answer_to`] is the answer to an ask (`specs/Answer`), [`serve_next`] reads an ask and writes its answer or its refusal (`specs/Serving`), and
-//! [`run_origin`] does so at a port until so many asks are answered. A client that sends slowly or nothing keeps it for five seconds at most.
+//! [`answer_to`] is the response to a request (`specs/Answer.antt`). [`serve_next`] reads a request
+//! and writes its response or its refusal (`specs/Serving.antt`, `specs/Statuses.antt`).
+//! [`run_origin`] does so at a port until a given number of requests is answered. A slow or silent
+//! client occupies it for five seconds at most.
 //!
-//! The traits of reading and writing count no failures, so a body of `serve_next` that answers `Io` or `NoMemory` at once, or leaves the text of a refusal
-//! out, would meet its contract. That this comes only where the reader or the writer failed is shown by tests. No contract says what comes over a
-//! socket: what `run_origin` does with its streams is tested.
+//! Order of reading: the three specs; `src/answering.rt`, `src/refusing.rt`, `src/serving.rt`;
+//! `src/origin.rt` (the listener and its connections); `src/fault.rt`, `specs/Names.antt`;
+//! `proofs/Answers.antt`.
+//!
+//! `run_origin` opens a listener, serves its connections on the caller's thread, and reads the
+//! clock. The other calls touch only the reader and the writer that are passed in.
+//!
+//! The traits of reading and writing count no failures. So a body of `serve_next` that answers `Io`
+//! or `NoMemory` at once, or leaves out the text of a refusal, meets its contract; tests show that
+//! these faults come only where the reader or the writer failed. No contract says what comes over a
+//! socket: tests show what `run_origin` does with its connections.
 #![tactic(auto)]
 
 mod answering;

@@ -11,21 +11,24 @@ use std::net::{Ipv4Addr, Net, SocketAddr, TcpListener, TcpStream};
 use std::time::{Clock, Duration};
 use timed_streams::{Timed, Waiter};
 
-/// For how many seconds a client may take to ask and to be answered.
+/// How many seconds a client may take in all, to send its request and to take its response.
 const PATIENCE: u64 = 5;
 
-/// What the origin waits on for a client: for what it reads, and for what it writes.
+/// What the origin polls for one client: for what it reads, and for what it writes.
 #[derive(Drop)]
 struct Waiters {
     reading: Waiter,
     writing: Waiter,
 }
 
-/// Answers so many asks at this address, one after another, and ends. An ask that is not read is refused and not counted, and neither is one whose answer could
-/// not be sent; a client has five seconds to ask and to be answered, and is closed then.
+/// Answers `count` requests at this address, one after another, and ends. A request that is not
+/// read is refused and not counted; nor is one counted whose response could not be sent. A client
+/// has five seconds to send its request and take its response; then its connection is closed.
 ///
-/// Faults: `Port` where the address is in use or not this machine's; `Io` where the system refuses in another way (a client that left before it was accepted is
-/// passed over); `NoMemory` where there is none to begin with, while an ask that finds none is refused. Nothing is open then, and of the asks so far each is answered or refused.
+/// Faults: `Port` where the address is in use or is not this machine's; `Io` where the system
+/// refuses in another way (a client that left before it was accepted is passed over); `NoMemory`
+/// where there is no memory to begin with (a request for which there is none is refused). After a
+/// fault nothing is open, and each request so far is answered or refused.
 pub fn run_origin<R: Net + Clock>(
     rt: &R,
     alloc: Global,
@@ -67,7 +70,7 @@ fn fault_of(error: &io::Error, port: u16) -> OriginFault
     }
 }
 
-/// Serves clients until one of them is answered, as the one of this number.
+/// Serves clients until one of them is answered, as the one with this number.
 fn answer_one<C: Clock>(
     clock: &C,
     alloc: Global,
@@ -89,7 +92,7 @@ fn answer_one<C: Clock>(
     Err(OriginFault::Io)
 }
 
-/// Serves a client, within five seconds in all. Whether its ask was answered.
+/// Serves a client, within five seconds in all. Returns whether its request was answered.
 fn serve<C: Clock>(
     clock: &C,
     alloc: Global,
@@ -107,7 +110,8 @@ fn serve<C: Clock>(
     }
 }
 
-/// Serves the client at the other end of a reader and of a stream. Whether its ask was answered.
+/// Serves the client at the other end of a reader and of a connection. Returns whether its request
+/// was answered.
 fn serve_reader<R: Read, C: Clock>(
     clock: &C,
     alloc: Global,

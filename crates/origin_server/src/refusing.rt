@@ -1,4 +1,4 @@
-//! Refusals of asks.
+//! Refusals of requests.
 ghost use Rattle.std.specs.Prelude.{◌≡◌};
 ghost use Rattle.text_writer.specs.Writing.{AppendsFront};
 ghost use Rattle.origin_server.specs.Statuses.{refusal_of as status_refusing};
@@ -9,7 +9,8 @@ use fetch_messages::FetchFault;
 use peer_writing::write_status;
 use std::io::Write;
 
-/// The status for an ask that was not read (RFC 9110, section 15; 431: RFC 6585, section 5), if anything is said to the one who asks.
+/// The status for a request that was not read (RFC 9110, section 15; 431: RFC 6585, section 5), if
+/// the client is told anything.
 fn refusal_of(fault: FetchFault) -> Option<u16>
     ensures { result ≡ status_refusing fault }
 {
@@ -23,12 +24,13 @@ fn refusal_of(fault: FetchFault) -> Option<u16>
     }
 }
 
-/// Writes the refusal of an ask with this fault, if there is one, or a front of it where the writer fails. It takes no memory.
+/// Writes the refusal of a request with this fault, if there is one; or a front of it, where the
+/// writer fails. It takes no memory.
 pub(crate) fn refuse<W: Write>(writer: &mut W, fault: FetchFault)
     ensures { AppendsFront (W.contents writer.old) (W.contents writer.new) (refusal fault) }
 {
     if let Some(status) = refusal_of(fault) {
-        // The fault of the ask is answered, whether or not the one who asked could be told.
+        // The fault of the request is the result, whether or not its client could be told.
         match write_status(writer, status, OWN_NAME) {
             Ok(()) | Err(_) => {}
         }

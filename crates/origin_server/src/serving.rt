@@ -1,4 +1,4 @@
-//! An ask, answered or refused.
+//! One request, answered or refused.
 ghost use Rattle.origin_server.specs.Serving.{AnswersAsk, ServesNext};
 
 use crate::answering::answer_to;
@@ -9,14 +9,17 @@ use peer_writing::write_answer;
 use std::alloc::Global;
 use std::io::{Read, Write};
 
-/// The name that the origin bears in `via`.
+/// The name of the origin in `via` (RFC 9110, section 7.6.3).
 pub(crate) const OWN_NAME: &[u8] = b"origin";
 
-/// Reads an ask and writes its answer, as the `count`th that is answered. `Ok` means that the whole text of the answer is written. The writer is not flushed.
+/// Reads a request and writes its response, as the `count`th that is answered. `Ok` means that the
+/// whole text of the response is written. The writer is not flushed.
 ///
-/// Faults, each of which is answered with a status alone where it comes before the answer: those of `read_ask` (400 for `BadHead`, `BadTarget` and `BadBody`,
-/// 431 for `HeadTooLong`, 501 for `MethodNotServed` and `Credentials`, 503 for `NoMemory`; nothing is written for `Io`, `EndOfInput` and `TooManyTurns`);
-/// `NoMemory` where there is none for the answer (503); and `Io` where the writer failed in the answer, a front of which is written.
+/// Faults, each of which is answered with a status alone where it comes before the response: those
+/// of `read_ask` (400 for `BadHead`, `BadTarget` and `BadBody`, 413 for `BodyTooLong`, 431 for
+/// `HeadTooLong`, 501 for `MethodNotServed` and `Credentials`, 503 for `NoMemory`; nothing is
+/// written for `Io`, `EndOfInput` and `TooManyTurns`); `NoMemory` where there is no memory for the
+/// response (503); and `Io` where the writer failed in the response, a front of which is written.
 pub fn serve_next<R: Read, W: Write>(
     alloc: Global,
     reader: &mut R,
@@ -35,7 +38,7 @@ pub fn serve_next<R: Read, W: Write>(
     }
 }
 
-/// Writes the answer to an ask, or that there is no memory for it.
+/// Writes the response to a request, or a 503 where there is no memory for it.
 fn answer_ask<W: Write>(
     alloc: Global,
     ask: &Ask,
