@@ -1,4 +1,5 @@
--- How what is gathered of a run goes on.
+-- How what is gathered of a run goes on: it stays, or more is put behind it, or it is lost; and two such steps make
+-- one.
 use Rattle.std.proofs.Common.{◌≡◌, List, ◌++◌, [], Option, Some, None, sym, ap, ◌∙◌, subst}
 use Rattle.std.proofs.lemmas.List.{append-nil, append_assoc}
 use Rattle.node_book.specs.declared.record.Record.{Record}

@@ -1,4 +1,5 @@
--- What answers line after line, by a roster that stays: each text may answer its line, and what is gathered goes on.
+-- A player that answers line after line keeps its roster. So what it answers in a row is what the roster allows, line
+-- by line, and what it has gathered goes on.
 use Rattle.std.proofs.Common.{◌≡◌, ℕ, Option, Some, None, Result, Ok, Err, List, [], ◌∷◌, take, ap, ◌∙◌, subst}
 use Rattle.roster_tables.specs.declared.plain.Tables.{Tables}
 use Rattle.script_lines.specs.declared.fault.RunFault.{RunFault}

@@ -29,6 +29,7 @@ abbrev pub purge_of : List ℕ → Command
 purge_of [] = BadLine
 purge_of (octet ∷ octets) = PurgeLine (octet ∷ octets)
 
+-- `status P`, by the number that P is
 abbrev pub status_by : Option ℕ → Command
 status_by None = BadLine
 status_by (Some number) = StatusLine number
@@ -37,11 +38,13 @@ status_by (Some number) = StatusLine number
 abbrev pub status_of : List ℕ → Command
 status_of word = status_by (decimal_below (2 ^ 32) word)
 
+-- a line of a keyword and one word
 abbrev pub with_one : List ℕ → List ℕ → Command
 with_one keyword word =
     if bytes_eq keyword (codes "purge") then purge_of word
     else if bytes_eq keyword (codes "status") then status_of word else BadLine
 
+-- `get N URL`, by the number that N is
 abbrev pub get_by : Option ℕ → List ℕ → Command
 get_by None url = BadLine
 get_by (Some node) [] = BadLine
@@ -51,10 +54,11 @@ get_by (Some node) (octet ∷ octets) = GetLine node (octet ∷ octets)
 abbrev pub get_of : List ℕ → List ℕ → Command
 get_of node url = get_by (decimal_below (2 ^ 8) node) url
 
+-- a line of a keyword and two words
 abbrev pub with_two : List ℕ → List ℕ → List ℕ → Command
 with_two keyword node url = if bytes_eq keyword (codes "get") then get_of node url else BadLine
 
--- the line behind which none is answered
+-- the line that ends the input
 abbrev pub quit : List ℕ
 quit = codes "quit"
 

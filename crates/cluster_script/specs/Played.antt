@@ -19,15 +19,16 @@ use Rattle.cluster_script.specs.Checked.{Gathered, GoesOn, IsChecked}
 use Rattle.cluster_script.specs.Command.{quit, Command, PurgeLine, StatusLine, GetLine, CheckLine, BadLine, command_of}
 use Rattle.cluster_script.specs.Shown.{purge_shown, asked_shown, got_shown, checked_shown}
 
--- the fault of a URL that is no key, or what is told of one that is
+-- the fault of a URL that has no key, or what is told of a URL that has one
 abbrev pub IsSaidOf : (List ℕ → Type 0) → Result (List ℕ) KeyFault → List ℕ → Type 0
 IsSaidOf Tells (Ok key) text = Tells text
 IsSaidOf Tells (Err fault) text = text ≡ key_fault_name fault
 
+-- the same, by the key that the URL has
 abbrev pub IsSaid : (List ℕ → Type 0) → List ℕ → List ℕ → Type 0
 IsSaid Tells url text = (outcome : Result (List ℕ) KeyFault) × HasKey url outcome × IsSaidOf Tells outcome text
 
--- a fault that is told: that the master's book is full is not, since its page is turned first
+-- a fault that may be told: any but that of a full book, whose page is turned first
 abbrev pub IsTold : MasterFault → Type 0
 IsTold fault = fault ≢ ShiftFull
 
@@ -39,11 +40,11 @@ TellsPurge text = (issued : Result ℕ MasterFault) × IfErr issued IsTold × (t
 abbrev pub TellsStatus : ℕ → List ℕ → Type 0
 TellsStatus number text = (asked : Result Status MasterFault) × IfErr asked IsTold × (text ≡ asked_shown number asked)
 
--- an answer of a member, which has a status of 200 to 599 and a body of at most 65,536 octets, or why there is none
+-- the answer of a member, with a status of 200 to 599 and a body of at most 65,536 octets, or why there is none
 abbrev pub TellsAnswer : List ℕ → Type 0
 TellsAnswer text = (got : Result AnswerText FetchFault) × IfOk got (λ answer. IsTrue (is_writable answer)) × (text ≡ got_shown got)
 
--- an ask of a node that is no member is a bad line
+-- a `get` of a node that is no member is a bad line
 abbrev pub GetTells : Tables → ℕ → List ℕ → List ℕ → Type 0
 GetTells roster node url text =
     ((is_member roster node ≡ false) × (text ≡ codes "bad line"))
@@ -53,6 +54,7 @@ GetTells roster node url text =
 abbrev pub TellsCheck : Tables → Option Gathered → List ℕ → Type 0
 TellsCheck roster gathered text = (checked : Checked) × IsChecked roster gathered checked × (text ≡ checked_shown checked)
 
+-- the text may answer what a line asks for
 abbrev pub CommandTells : Tables → Option Gathered → Command → List ℕ → Type 0
 CommandTells roster gathered (PurgeLine url) text = IsSaid TellsPurge url text
 CommandTells roster gathered (StatusLine number) text = TellsStatus number text
@@ -68,11 +70,12 @@ LineTells roster gathered line text = CommandTells roster gathered (command_of (
 abbrev pub GatheredAnswers : Tables → Option Gathered → List ℕ → List ℕ → Option Gathered → Type 0
 GatheredAnswers roster old line text new = LineTells roster new line text × GoesOn old new
 
--- the same of what answers line after line, by a roster that stays
+-- the same for lines that are answered one after another; the roster stays
 abbrev pub LineAnswers : Tables → Option Gathered → List ℕ → List ℕ → Tables → Option Gathered → Type 0
 LineAnswers roster before line text new after = GatheredAnswers roster before line text after × (new ≡ roster)
 
--- the lines before the first `quit` are answered one after another, each by a text that may answer it, while what is gathered of the run goes on from this to that
+-- the lines before the first `quit` are answered one after another, each by a text that may answer it, while what is
+-- gathered of the run goes on from the first to the last
 abbrev pub HasAnswered : Tables → Option Gathered → Option (List ℕ) → Option (List ℕ) → Option (List ℕ) → Result (Unit {0}) RunFault → Option Gathered → Type 0
 HasAnswered roster before input old new r after = HasPlayedUntil (GatheredAnswers roster) quit before input old new r after
 

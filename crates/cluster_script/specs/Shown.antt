@@ -45,6 +45,7 @@ abbrev pub got_shown : Result AnswerText FetchFault → List ℕ
 got_shown (Ok answer) = answer_shown answer
 got_shown (Err fault) = fetch_fault_name fault
 
+-- the name of a flaw
 abbrev pub cause_name : Cause → List ℕ
 cause_name DoublePlace = codes "DoublePlace"
 cause_name NotSent = codes "NotSent"

@@ -1,4 +1,4 @@
-//! What judges the run of a hierarchy.
+//! Who judges the run of a hierarchy.
 ghost use Rattle.std.specs.Prelude.{IfOk, Option};
 ghost use Rattle.cluster_script.specs.Checked.{Gathered, GoesOn, IsChecked};
 
@@ -14,19 +14,20 @@ pub enum Checked {
     Judged(Verdict),
     /// Not all of it is kept, so there is no verdict.
     Forgotten,
-    /// A member's records are not given: a seat did not come back.
+    /// The records of a member are not given: a seat did not come back.
     SeatMissing,
-    /// A member's records are not given: what a worker was told is not what the member's book has.
+    /// The records of a member are not given: what a thread was told is not what the member's book
+    /// has.
     Mismatch,
 }
 
 /// Judges the run of a hierarchy.
 pub trait Checker {
-    /// What was gathered of the run, if none of it is lost.
+    /// What was gathered of the run; none, where some of it is lost.
     ghost gathered: { Self → Option Gathered };
 
-    /// What is said of the run so far of the members and the master of this roster: what they did since the last time is gathered, and all that was gathered is judged. `AllocError` comes where there
-    /// is no memory for that.
+    /// Gathers what the members of this roster and the master did since the last time, and judges
+    /// all that was gathered. `AllocError` comes where there is no memory for that.
     fn check<R: Wait>(
         &mut self,
         rt: &R,

@@ -1,10 +1,19 @@
-//! The lines of `cache cluster`, by which a hierarchy that runs is purged and asked.
+//! The lines of `cache cluster`, which purge and query a running hierarchy.
 //!
-//! [`answer_lines`] answers the lines of an input before its first line `quit`. `line` says what a line asks for and `show` how an answer reads (`specs/Command`, `specs/Shown`);
-//! `play` puts the two together, and says which text may answer a line (`specs/Played`). Who judges a run is handed in, as a [`Checker`].
+//! [`answer_lines`] answers the lines of an input before its first line `quit`, each by one line.
+//! What judges the run is passed in, as a [`Checker`].
 //!
-//! What the master or a member answers no contract knows: a clause names all answers that may come. So a body that purges or asks for another URL passes the contracts here; tests over
-//! a hierarchy that runs show which URL it is.
+//! Order of reading: `specs/Command.antt` and `src/line.rt` (what a line asks for);
+//! `specs/Shown.antt` and `src/show.rt` (how an answer reads); `specs/Checked.antt` and
+//! `src/check.rt` (what is said of a run); `specs/Played.antt` and `src/play.rt` (which text may
+//! answer a line, and who is asked); `proofs/Lib.antt`.
+//!
+//! `get` opens a connection to a member and polls it; `purge` sends on the master's socket. The
+//! crate reads the clock, and waits at the master's lock. It starts no thread.
+//!
+//! No contract knows what the master or a member answers, so a clause names every answer that may
+//! come. A body that purges or asks for another URL passes the contracts here; tests on a running
+//! hierarchy show which URL it is.
 #![tactic(auto)]
 
 mod check;

@@ -4,15 +4,15 @@ ghost use Rattle.cluster_script.specs.Command.{command_text, command_of, alone, 
 
 use script_lines::{decimal_u8, decimal_u32};
 
-/// A line of a script.
+/// A line of the script.
 pub(crate) enum Line<'a> {
-    /// `purge URL`: a purge is issued.
+    /// `purge URL`: issue a purge.
     Purge { url: &'a [u8] },
-    /// `status P`: the master is asked how far a purge is.
+    /// `status P`: ask the master how far a purge is.
     Status { number: u32 },
-    /// `get N URL`: a client asks a member.
+    /// `get N URL`: ask a member, as a client.
     Get { node: u8, url: &'a [u8] },
-    /// `check`: what was done so far is judged.
+    /// `check`: judge what was done so far.
     Check,
     /// Anything else.
     Bad,

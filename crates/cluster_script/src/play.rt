@@ -1,4 +1,4 @@
-//! The lines of an input, answered by a hierarchy that runs.
+//! The lines of an input, answered by a running hierarchy.
 ghost use Rattle.std.specs.Prelude.{◌≡◌, ◌++◌, ℕ, List, OnOk, IfErr};
 ghost use Rattle.cluster_script.specs.Command.{command_text};
 ghost use Rattle.cluster_script.specs.Played.{IsSaid, IsTold, TellsPurge, TellsStatus, TellsAnswer, TellsCheck, GetTells, CommandTells, LineAnswers, HasAnswered, http_of as http_of_member};
@@ -23,13 +23,13 @@ use std::time::Clock;
 use timed_streams::Waiter;
 use url_key::{Key, KeyFault};
 
-/// The line behind which none is answered.
+/// The line that ends the input: no line after it is answered.
 const QUIT: &[u8] = b"quit";
 
 /// The name under which a member is asked.
 const CLIENT: &[u8] = b"client";
 
-/// What answers the lines: the master, what tells the members, who judges the run, and a client's waiter.
+/// What answers the lines: the master, its sender, who judges the run, and the waiter of a client.
 #[derive(Drop)]
 struct Player<'a, S: PurgeStore, C, R> {
     rt: &'a R,
@@ -40,16 +40,21 @@ struct Player<'a, S: PurgeStore, C, R> {
     waiter: Waiter,
 }
 
-/// Answers the lines of an input before its first line `quit`, each in a line of its own, by the master and the members of a roster that run; all of them, where there is no
-/// such line. Nothing is asked of the input once that line was read.
+/// Answers the lines of an input before its first line `quit`, each by one line, by the running
+/// master and members of a roster. Where there is no such line, all lines are answered. Nothing is
+/// read from the input once that line was read.
 ///
-/// The lines: `purge URL` issues a purge and prints `purge P`, the fault of a URL that is no key, or the master's; `status P` prints `pending C`, `done P` or `unknown`, or
-/// the master's fault; `get N URL` asks member N over HTTP, as a client, and prints the status and the body in hex (`-` where it is empty), or the fault's name; `check` has the run so far judged,
-/// and prints `yes`, `no PLACE CAUSE`, `forgotten`, or why the records of a member are not given. Any other line, also one that names no member, prints `bad line`. Numbers are decimal, without
+/// The lines: `purge URL` issues a purge and prints `purge P`, the fault of a URL that has no key,
+/// or that of the master; `status P` prints `pending C`, `done P` or `unknown`, or the fault of the
+/// master; `get N URL` asks member N over HTTP, as a client, and prints the status and the body in
+/// hex (`-` where it is empty), or the name of the fault; `check` has the run so far judged, and
+/// prints `yes`, `no PLACE CAUSE`, `forgotten`, or why the records of a member are not given. Any
+/// other line, also one that names no member, prints `bad line`. Numbers are decimal, without
 /// leading zeros.
 ///
-/// Faults: `Io` where the input or the output fails, `LineTooLong`, `TooManyTurns` after 70,000 reads, and `NoMemory`. A front of the answers is written then.
-/// The checker comes back with what it has gathered.
+/// Faults: `Io` where the input or the output fails, `LineTooLong`, `TooManyTurns` after 70,000
+/// reads, and `NoMemory`. A front of the answers is written then. The checker comes back with what
+/// it has gathered.
 pub fn answer_lines<S: PurgeStore, C: Checker + Drop, R: Wait + Clock + Net, I: Read, O: Write>(
     rt: &R,
     alloc: Global,
@@ -161,7 +166,7 @@ impl<S: PurgeStore, C: Checker, R: Wait + Clock + Net> Player<'_, S, C, R> {
         }
     }
 
-    /// Answers `get N URL`, where the member serves HTTP at this address.
+    /// Answers `get N URL`, where member N serves HTTP at this address.
     fn get_at(
         &mut self,
         alloc: Global,
@@ -183,7 +188,7 @@ impl<S: PurgeStore, C: Checker, R: Wait + Clock + Net> Player<'_, S, C, R> {
         }
     }
 
-    /// Asks a member for a URL.
+    /// Asks a member for a URL, as a client.
     fn got(&mut self, alloc: Global, at: Address, key: Key) -> Result<Answer, FetchFault>
         ensures checker { self.new.checker ≡ self.old.checker }
         ensures roster { self.new.roster.now ≡ self.old.roster.now }

@@ -65,7 +65,7 @@ pub(crate) fn push_asked(
     }
 }
 
-/// Writes what a member answered, or why there is no answer.
+/// Writes what a member answered, or the name of the fault.
 pub(crate) fn push_got(
     alloc: Global,
     got: &Result<Answer, FetchFault>,
@@ -101,7 +101,7 @@ fn push_body(alloc: Global, body: &[u8], text: &mut Vec<u8>) -> Result<(), Alloc
     }
 }
 
-/// The name of what is wrong with a run.
+/// The name of a flaw of a run.
 const fn cause_name(cause: Cause) -> &'static str
     ensures { result.now ≡ name_of_cause cause }
 {
