@@ -1,4 +1,5 @@
--- What is kept of a run, as it goes on.
+-- What is kept of a run goes on: it stays, is dropped, or has more records or entries put behind it, and two such steps
+-- make one. So it goes on through everything that the judge does.
 use Rattle.std.proofs.Common.{◌≡◌, Bool, true, false, List, [], ◌∷◌, ◌++◌, if◌then◌else◌, Option, Some, None, refl, sym, ap, ◌∙◌, subst}
 use Rattle.std.proofs.lemmas.List.{append-nil}
 use Rattle.node_book.specs.declared.record.Record.{Record}

@@ -1,4 +1,5 @@
--- What owns a file of SQLite may be sent to another thread.
+-- The stores of a cluster may be sent to the threads of its members and its master: each owns one open SQLite file, and
+-- an open file may be sent.
 use Rattle.std.proofs.Common.{◌≡◌, [], ◌∷◌, refl, sym, subst}
 use denote.RattleType.{RattleType}
 use denote.Param.Send.{IsSend, sendable}

@@ -9,7 +9,7 @@ use Rattle.script_lines.specs.Fault.{run_fault_name}
 use Rattle.running_cluster.specs.declared.fault.ClusterFault.{ClusterFault}
 use Rattle.running_cluster.specs.declared.fault.ClusterFault.TheVariants as cluster
 
--- the name of the fault inside, where there is one, and `Io` of a file or a socket that is not opened
+-- the name of the fault inside, where there is one; Io for a file or a socket that is not opened
 abbrev pub cluster_fault_name : ClusterFault → List ℕ
 cluster_fault_name (cluster.OtherRoster dir) = codes "OtherRoster"
 cluster_fault_name (cluster.File path) = codes "Io"

@@ -26,21 +26,21 @@ use std::thread::Threads;
 use std::time::Clock;
 use timed_streams::Waiter;
 
-/// Whether a node can have so many workers: 2 to 8.
+/// Whether a member may have this many workers: 2 to 8.
 pub fn is_worker_count(workers: u8) -> bool
     ensures { result ≡ nat_le 2 workers && nat_le workers 8 }
 {
     2 <= workers && workers <= 8
 }
 
-/// A node that runs.
+/// A member that runs.
 #[derive(Drop)]
 pub(crate) struct Running {
     id: u8,
     pub(crate) workers: Workers,
 }
 
-/// What all nodes start on.
+/// What all members start with.
 #[derive(Drop)]
 struct Common<'a> {
     roster: &'a Roster,
@@ -51,19 +51,28 @@ struct Common<'a> {
     ghost few: { workers ≤ 8 },
 }
 
-/// Runs the hierarchy of a roster in this process, over stores that [`open_stores`](crate::open_stores) has opened, until the input ends or has a line `quit`: a thread for the master, and so many
-/// workers for each member. Each line is answered in a line of its own.
+/// Runs the hierarchy of a roster in this process, over stores that
+/// [`open_stores`](crate::open_stores) has opened, until the input ends or has a line `quit`: one
+/// thread for the master, and `workers` workers for each member. Each line is answered by one line.
 ///
-/// The lines: `purge URL` issues a purge and prints `purge P`, the fault of a URL that is no key, or the master's; `status P` prints `pending C`, `done P` or `unknown`;
-/// `get N URL` asks member N by HTTP, as a client, and prints the status and the body in hex (`-` where it is empty), or the fault's name; `check` has all that the members and the
-/// master did so far judged, and prints `yes`, `no PLACE CAUSE`, `forgotten`, or why the records of a member are not given; `quit` prints nothing. Any other line, also one that names no member, prints `bad line`.
+/// The lines: `purge URL` issues a purge and prints `purge P`, the fault of a URL that has no key,
+/// or that of the master; `status P` prints `pending C`, `done P` or `unknown`, or the fault of the
+/// master; `get N URL` asks member N over HTTP, as a client, and prints the status and the body in
+/// hex (`-` where it is empty), or the name of the fault; `check` has all that the members and the
+/// master did so far judged, and prints `yes`, `no PLACE CAUSE`, `forgotten`, or why the records of
+/// a member are not given; `quit` prints nothing. Any other line, also one that names no member,
+/// prints `bad line`.
 ///
-/// For `check` what the members and the master did is kept in memory: so many shifts of every member and of the master, of 4,096 steps or calls each, or fewer where the events of a shift have brought 4 MiB along. Where there
-/// would be more, all of it is dropped, and `check` prints `forgotten` from then on. With 0 nothing is kept. What is kept at the end is handed out, if that is all that was done until then; each verdict that
-/// was printed is the one on a front of it, the records and entries that were gathered as that line came.
+/// For `check`, what the members and the master did is kept in memory: `history` shifts of every
+/// member and of the master, of 4,096 steps or calls each, or fewer where the events of a shift
+/// have brought 4 MiB along. Where there would be more, all of it is dropped, and `check` prints
+/// `forgotten` from then on. With 0 nothing is kept. What is kept at the end is returned, if it is
+/// all that was done until then; each verdict that was printed is the one on a front of it, which
+/// was gathered when that line came.
 ///
-/// Faults, the first that comes: those of the master's purges, of its socket and its thread, of the nodes' floors, sockets and threads by ascending id, and of the input.
-/// Whichever it is, every thread has ended and every socket and store is closed when this returns.
+/// Faults, the first that comes: those of the master's purges, its socket and its thread; of the
+/// members' floors, sockets and threads, by ascending id; and of the input. After any of them every
+/// thread has ended, and every socket and store is closed.
 pub fn run_cluster<
     R: Threads
         + Wait
@@ -104,7 +113,8 @@ pub fn run_cluster<
     ended
 }
 
-/// Starts the nodes beside the master, answers the lines, and stops the nodes. What is kept of the run is handed out.
+/// Starts the members beside the master, answers the lines, and stops the members. Returns what is
+/// kept of the run.
 fn run_nodes<
     F: FloorStore + Drop + Send + 'static,
     P: PurgeStore,
@@ -142,7 +152,8 @@ fn run_nodes<
     Ok(kept)
 }
 
-/// Starts the nodes in the order of their stores. Those that run are in the row, also after a fault.
+/// Starts the members in the order of their stores. Those that run are in the row, also after a
+/// fault.
 fn start_nodes<
     F: FloorStore + Drop + Send + 'static,
     R: Threads
@@ -172,7 +183,7 @@ fn start_nodes<
     Ok(())
 }
 
-/// What becomes of the records of a node of which so many are kept.
+/// What becomes of the records of a member of which this many are kept.
 fn history_of(most: u32) -> History {
     if most == 0 {
         History::Dropped
@@ -181,7 +192,7 @@ fn history_of(most: u32) -> History {
     }
 }
 
-/// Starts a node.
+/// Starts one member.
 fn start_node<
     S: FloorStore + Drop + Send + 'static,
     R: Threads
@@ -213,7 +224,7 @@ fn start_node<
     }
 }
 
-/// Why a node is not started, with its ports where a socket is at fault.
+/// Why a member is not started, with its ports where a socket is at fault.
 fn start_fault(roster: &Roster, id: u8, fault: StartFault) -> ClusterFault
     ensures { cluster_fault_name result ≡ start_fault_name fault }
 {
@@ -228,14 +239,14 @@ fn start_fault(roster: &Roster, id: u8, fault: StartFault) -> ClusterFault
     }
 }
 
-/// Tells each node to stop, so that all end side by side.
+/// Tells each member to stop, so that all end at the same time.
 fn begin_stop<R: Wait>(rt: &R, running: &[Running]) {
     for node in running {
         node.workers.begin_stop(rt);
     }
 }
 
-/// Stops the nodes, and waits for each of them; the first fault is told.
+/// Stops the members, and waits for each of them. Returns the first fault.
 fn stop_nodes<R: Threads + Wait>(rt: &R, running: Vec<Running>) -> Result<(), ClusterFault> {
     begin_stop(rt, running.as_slice());
     let mut stopped = Ok(());
@@ -247,7 +258,7 @@ fn stop_nodes<R: Threads + Wait>(rt: &R, running: Vec<Running>) -> Result<(), Cl
     stopped
 }
 
-/// Answers the lines of the input, and hands out what is kept of the run.
+/// Answers the lines of the input, and returns what is kept of the run.
 fn answer<I: Read, O: Write, S: PurgeStore, R: Wait + Clock + RandomSource + Net>(
     rt: &R,
     alloc: Global,

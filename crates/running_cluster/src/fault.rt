@@ -1,3 +1,4 @@
+//! Why a cluster does not start, or ends early.
 ghost use Rattle.std.specs.Prelude.{◌≡◌};
 ghost use Rattle.running_cluster.specs.Names.{cluster_fault_name};
 
@@ -10,22 +11,24 @@ use script_lines::RunFault;
 use std::alloc::AllocError;
 use thiserror::Error;
 
-/// Why a cluster does not start, or ends before its input. No thread of it runs then, and no socket of it is open.
+/// Why a cluster does not start, or ends before its input. No thread of it runs then, and no socket
+/// of it is open.
 #[derive(Debug, Drop, Error)]
 pub enum ClusterFault {
-    /// The folder has a master's file, and the members that have a file there are not those of the roster.
+    /// The folder has a master's file, and the members that have a file there are not those of the
+    /// roster.
     #[error("the files in {dir} are those of other members than the roster's")]
     OtherRoster {
         /// The folder.
         dir: String,
     },
-    /// The file of a node or of the master could not be opened.
+    /// The file of a member or of the master could not be opened.
     #[error("the file {path} could not be opened")]
     File {
         /// The file.
         path: String,
     },
-    /// The file of a node was opened and is not used.
+    /// The file of a member was opened, and is not one that can be used.
     #[error("{path}: {fault}")]
     Floors {
         /// The file.
@@ -33,7 +36,7 @@ pub enum ClusterFault {
         /// Why.
         fault: FloorFault,
     },
-    /// The master's file was opened and is not used.
+    /// The master's file was opened, and is not one that can be used.
     #[error("{path}: {fault}")]
     Purges {
         /// The file.
@@ -47,7 +50,8 @@ pub enum ClusterFault {
     /// The master's socket is not opened.
     #[error("{0}")]
     MasterStart(MasterStartFault),
-    /// A socket of a node is not opened: one of its ports is in use, its address is not this machine's, or the system gives no more sockets.
+    /// A socket of a member is not opened: one of its ports is in use, its address is not this
+    /// machine's, or the system gives no more sockets or poll instances.
     #[error("node {id}: not each of its ports {http} (HTTP), {icp} (ICP) and {htcp} (HTCP) could be opened")]
     Ports {
         /// Its id.
@@ -59,7 +63,7 @@ pub enum ClusterFault {
         /// Its UDP port for HTCP.
         htcp: u16,
     },
-    /// A node is not started.
+    /// A member is not started.
     #[error("node {id}: {fault}")]
     Node {
         /// Its id.
@@ -67,16 +71,16 @@ pub enum ClusterFault {
         /// Why.
         fault: StartFault,
     },
-    /// No thread could be made for the master.
+    /// The thread of the master could not be started.
     #[error("no thread could be made for the master")]
     NoThread,
-    /// The system gave no random keys, or nothing to wait on.
+    /// The system gave no random hash keys, or no poll instance for the client of `get`.
     #[error("the system gave no random keys, or nothing to wait on")]
     System,
     /// The run over the input stopped before its end.
     #[error("the input: {0}")]
     Run(RunFault),
-    /// A node ran, and what it did is not told.
+    /// A member ran, and its records are not given.
     #[error("node {id}, at its end: {fault}")]
     Stop {
         /// Its id.
@@ -84,13 +88,14 @@ pub enum ClusterFault {
         /// Why.
         fault: StopFault,
     },
-    /// A growth was refused.
+    /// There was no memory.
     #[error("there was no memory")]
     NoMemory,
 }
 
 impl ClusterFault {
-    /// The name that the program prints: that of the fault inside, where there is one, and `Io` of a file or a socket that is not opened.
+    /// The name that the program prints: that of the fault inside, where there is one; `Io` for a
+    /// file or a socket that is not opened.
     pub const fn name(&self) -> &'static str
         ensures { result.now ≡ cluster_fault_name self.now }
     {

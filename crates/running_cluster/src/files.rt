@@ -1,4 +1,5 @@
-//! The stores of a cluster over files, as types of their own: each is the store of `purge_numbers` or `purge_records` over a file, and does what that does.
+//! The stores of a cluster, as types of their own: each is the store of `purge_numbers` or
+//! `purge_records` over a file, and each call is a call of that.
 use floor_rules::{FloorFault, FloorStore, Floors};
 use purge_numbers::SqliteFloors;
 use purge_records::SqlitePurges;
@@ -7,7 +8,7 @@ use sqlite::{File, FileStore};
 use std::alloc::Global;
 use url_key::Key;
 
-/// The floors of a node, in its file.
+/// The floors of a member, in its file.
 #[derive(Drop)]
 pub(crate) struct NodeStore {
     pub(crate) floors: SqliteFloors<FileStore<File>>,

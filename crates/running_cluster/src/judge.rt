@@ -1,4 +1,4 @@
-//! What judges the run of the members and of their master.
+//! The judge of the run of the members and their master.
 ghost use Rattle.std.specs.Prelude.{IfOk};
 ghost use Rattle.cluster_script.specs.Checked.{GoesOn, IsChecked};
 ghost use Rattle.running_cluster.specs.Kept.{gathered_in};
@@ -15,18 +15,21 @@ use std::alloc::{AllocError, Global};
 use std::hash::RandomState;
 use std::sync::Wait;
 
-/// What the members and the master did so far, as far as it was gathered, and where the rest of it is to be had.
+/// What was gathered of what the members and the master did, and where the rest of it comes from.
 #[derive(Drop)]
 pub(crate) struct Judge<'a, S: PurgeStore> {
+    /// The members that run.
     pub(crate) nodes: &'a [Running],
+    /// The master that runs.
     pub(crate) master: &'a SharedMaster<S>,
+    /// What was gathered so far.
     pub(crate) memory: Memory,
-    /// Random keys, by which what was sent is found.
+    /// Random hash keys for the check of what was sent.
     pub(crate) keys: RandomState,
 }
 
 impl<S: PurgeStore> Judge<'_, S> {
-    /// Puts the records of a member behind what was gathered.
+    /// Adds the records of a member to what was gathered.
     #[tactic(auto, using(crate::proofs::Gathering::kept_as_it_was, crate::proofs::Gathering::dropped))]
     fn take_records<R: Wait>(&mut self, rt: &R, node: &Running) -> Result<(), StopFault>
         ensures { GoesOn (gathered_in self.old.memory.kept) (gathered_in self.new.memory.kept) }
@@ -38,12 +41,12 @@ impl<S: PurgeStore> Judge<'_, S> {
         Ok(())
     }
 
-    /// Puts the calls of the master behind what was gathered.
+    /// Adds the calls of the master to what was gathered.
     #[tactic(auto, using(crate::proofs::Gathering::kept_twice, crate::proofs::Gathering::dropped))]
     fn take_entries<R: Wait>(&mut self, rt: &R) -> Result<(), AllocError>
         ensures { GoesOn (gathered_in self.old.memory.kept) (gathered_in self.new.memory.kept) }
     {
-        // (where there is no memory to put the open page behind the others, the first take leaves it, and the second has it)
+        // (where there is no memory to put the open page behind the others, the second take has it)
         self.memory.put_entries(self.master.take_entries(rt))?;
         self.memory.put_entries(self.master.take_entries(rt))?;
         if self.master.has_forgotten(rt) {
@@ -52,7 +55,8 @@ impl<S: PurgeStore> Judge<'_, S> {
         Ok(())
     }
 
-    /// Puts the records of the members and the calls of the master behind what was gathered, while the members are held.
+    /// Adds the records of the members and the calls of the master to what was gathered, while the
+    /// members are held.
     #[tactic(auto, using(crate::proofs::Gathering::kept_as_it_was, crate::proofs::Gathering::kept_twice))]
     fn take_all<R: Wait>(&mut self, rt: &R) -> Result<(), StopFault>
         ensures { GoesOn (gathered_in self.old.memory.kept) (gathered_in self.new.memory.kept) }
@@ -65,9 +69,12 @@ impl<S: PurgeStore> Judge<'_, S> {
         Ok(())
     }
 
-    /// Holds all members, gathers what they and the master did since the last time, and has them go on. The master goes on meanwhile: each of its calls rests on what was done before it.
+    /// Holds all members, gathers what they and the master did since the last time, and lets the
+    /// members go on. The master is not held: each of its calls rests on what was done before it.
     ///
-    /// Faults: those of [`Workers::records`](node_workers::Workers::records). What was gathered before a fault of a member's records stays, and the rest is gathered the next time; where memory lacks for what is gathered, all is dropped.
+    /// Faults: those of [`Workers::records`](node_workers::Workers::records). What was gathered
+    /// before such a fault stays, and the rest is gathered the next time. Where there is no memory
+    /// for what is gathered, all of it is dropped.
     pub(crate) fn gather<R: Wait>(&mut self, rt: &R) -> Result<(), StopFault>
         ensures { GoesOn (gathered_in self.old.memory.kept) (gathered_in self.new.memory.kept) }
     {
@@ -81,7 +88,7 @@ impl<S: PurgeStore> Judge<'_, S> {
         taken
     }
 
-    /// What is kept of the run until now; nothing, where some of it cannot be gathered.
+    /// What is kept of the run until now; none, where some of it cannot be gathered.
     #[tactic(auto, using(crate::proofs::Gathering::kept_as_it_was, crate::proofs::Gathering::dropped))]
     pub(crate) fn into_kept<R: Wait>(mut self, rt: &R) -> Option<Kept>
         ensures { GoesOn (gathered_in self.entry.memory.kept) (gathered_in result) }

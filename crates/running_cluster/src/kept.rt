@@ -18,20 +18,21 @@ pub struct Kept {
     pub entries: Vec<MasterEntry>,
 }
 
-/// What is kept of a run so far; or that some of it is lost.
+/// What is kept of a run so far; none, where some of it is lost.
 #[derive(Drop)]
 pub(crate) struct Memory {
     most: u64,
+    /// What is kept.
     pub(crate) kept: Option<Kept>,
 }
 
-/// So many floors, copies and asks of a state are weighed as one entry.
+/// This many floors, copies and pending requests of a state count as one entry.
 const ROWS_OF_AN_ENTRY: u64 = 4;
 
-/// So many octets that a record's events brought along are weighed as one entry.
+/// This many octets that a record's events brought along count as one entry.
 const OCTETS_OF_AN_ENTRY: u64 = 1_024;
 
-/// How much is kept of so many members and a master, where so many shifts of each are: as many entries as these have, all told.
+/// How many entries are kept of this many members and a master, with this many shifts of each.
 fn most_entries(members: usize, shifts: u32) -> u64 {
     let each = u64::from(shifts).saturating_mul(MOST_ENTRIES as u64);
     each.saturating_mul((members as u64).saturating_add(1))
@@ -46,7 +47,8 @@ fn octets_in(entries: &[NodeEntry]) -> u64 {
     octets
 }
 
-/// What a record takes, in entries: its own, its two states by what they hold, and its events by the octets that they brought along.
+/// The size of a record, counted in entries: its entries, its two states by what they hold, and its
+/// events by the octets that they brought along.
 fn weight(record: &Record) -> u64 {
     let mut rows = 0u64;
     for state in [&record.opening, &record.closing] {
@@ -64,14 +66,15 @@ fn weight(record: &Record) -> u64 {
         .saturating_add(octets_in(entries) / OCTETS_OF_AN_ENTRY)
 }
 
-/// Whether one of the records is of this node.
+/// Whether one of the records is of this member.
 fn has_record_of(records: &[Record], id: u8) -> bool
     ensures { result ≡ list_any (λ r. r.node == id) records.now }
 {
     records.iter().any(|record| record.node == id)
 }
 
-/// Whether a shift tells nothing: nothing was done in it, and it is not the first of its member.
+/// Whether a record tells nothing: nothing was done in its shift, and it is not the first of its
+/// member.
 fn is_idle(records: &[Record], next: &Record) -> bool
     ensures { result ≡ tells_nothing records.now next.now }
 {
@@ -79,7 +82,7 @@ fn is_idle(records: &[Record], next: &Record) -> bool
 }
 
 impl Kept {
-    /// What it takes, in entries.
+    /// The size of all that is kept, counted in entries.
     fn weight(&self) -> u64 {
         self.records
             .iter()
@@ -110,7 +113,8 @@ impl Kept {
 }
 
 impl Memory {
-    /// Nothing was done so far. Of so many members so many shifts each are kept, and the master's calls in the same measure; nothing, where that is 0.
+    /// Nothing was done so far. Of each of this many members, and of the master, this many shifts
+    /// are kept; nothing, where that is 0.
     pub(crate) fn new(alloc: Global, members: usize, shifts: u32) -> Memory
         ensures { gathered_in result.kept ≡ gathered_at_first shifts }
     {
@@ -138,14 +142,14 @@ impl Memory {
         self.kept
     }
 
-    /// Drops all that was kept: some of the run is lost.
+    /// Drops everything that was kept: some of the run is lost.
     pub(crate) fn forget(&mut self)
         ensures { self.new.kept ≡ None }
     {
         self.kept = None;
     }
 
-    /// Drops all where there is more of it than is kept.
+    /// Drops everything, where it is more than may be kept.
     #[tactic(auto, using(crate::proofs::Gathering::kept_as_it_was, crate::proofs::Gathering::dropped))]
     pub(crate) fn limit(&mut self)
         ensures { GoesOn (gathered_in self.old.kept) (gathered_in self.new.kept) }
@@ -157,7 +161,8 @@ impl Memory {
         }
     }
 
-    /// Puts the next record of a member behind those that are kept. Where there is no memory for that, all is dropped.
+    /// Puts the next record of a member behind those that are kept. Where there is no memory for
+    /// that, everything is dropped.
     #[tactic(auto, using(crate::proofs::Gathering::kept_as_it_was, crate::proofs::Gathering::dropped, crate::proofs::Gathering::record_put))]
     fn put_record(&mut self, next: Record) -> Result<(), AllocError>
         ensures { GoesOn (gathered_in self.old.kept) (gathered_in self.new.kept) }
@@ -172,7 +177,8 @@ impl Memory {
         put
     }
 
-    /// Puts the next records of a member behind those that are kept. Where there is no memory for that, all is dropped.
+    /// Puts the next records of a member behind those that are kept. Where there is no memory for
+    /// that, everything is dropped.
     #[tactic(auto, using(crate::proofs::Gathering::kept_as_it_was, crate::proofs::Gathering::kept_twice))]
     pub(crate) fn put_records(&mut self, records: Vec<Record>) -> Result<(), AllocError>
         ensures { GoesOn (gathered_in self.old.kept) (gathered_in self.new.kept) }
@@ -183,7 +189,8 @@ impl Memory {
         Ok(())
     }
 
-    /// Puts the next calls of the master behind those that are kept. Where there is no memory for that, all is dropped.
+    /// Puts the next calls of the master behind those that are kept. Where there is no memory for
+    /// that, everything is dropped.
     #[tactic(auto, using(crate::proofs::Gathering::kept_as_it_was, crate::proofs::Gathering::dropped, crate::proofs::Gathering::entries_put))]
     pub(crate) fn put_entries(&mut self, entries: Vec<MasterEntry>) -> Result<(), AllocError>
         ensures { GoesOn (gathered_in self.old.kept) (gathered_in self.new.kept) }

@@ -1,4 +1,4 @@
-//! The thread at the master's socket.
+//! The thread of the master's event loop.
 use crate::fault::ClusterFault;
 use master_loop::{History, MasterLoop, MasterSender, SharedMaster};
 use node_book::MOST_ENTRIES;
@@ -16,7 +16,9 @@ use std::time::Clock;
 /// A master whose thread runs.
 #[derive(Drop)]
 pub(crate) struct MasterThread<S: PurgeStore> {
+    /// The master, which its thread and the lines share.
     pub(crate) master: Arc<SharedMaster<S>, Global>,
+    /// What issues purges on the master's socket.
     pub(crate) sender: MasterSender,
     is_stopped: Arc<AtomicBool, Global>,
     thread: JoinHandle<()>,
@@ -32,7 +34,7 @@ struct Turned<S: PurgeStore> {
 }
 
 impl<S: PurgeStore + Drop> Turned<S> {
-    /// Has its turns until it is told to stop.
+    /// Takes turns until it is told to stop.
     fn run<R: Wait + Clock>(mut self, rt: &R) {
         self.turner
             .run_until(rt, &self.roster, &self.master, &self.is_stopped);
@@ -58,7 +60,7 @@ fn shared<S: PurgeStore + Drop>(
     }
 }
 
-/// What becomes of the master's entries where so many pages of 4,096 are kept.
+/// What becomes of the master's entries where this many pages of 4,096 are kept.
 fn history_of(most: u32) -> History {
     if most == 0 {
         History::Dropped
@@ -76,9 +78,11 @@ fn flag(alloc: Global) -> Result<Arc<AtomicBool, Global>, ClusterFault> {
 }
 
 impl<S: PurgeStore + Drop + Send + 'static> MasterThread<S> {
-    /// Opens the master's socket, and starts its thread. So many pages of its book are kept, of 4,096 entries each.
+    /// Opens the master's socket, and starts its thread. `history` pages of its book are kept, of
+    /// 4,096 entries each.
     ///
-    /// Faults: `MasterOpen`, `MasterStart`, `NoThread` and `NoMemory`. Nothing runs or is open then.
+    /// Faults: `MasterOpen`, `MasterStart`, `NoThread` and `NoMemory`. After a fault nothing runs
+    /// or is open.
     pub(crate) fn start<R: Threads + Wait + Clock + Net + Copy + Drop + Send + Sync + 'static>(
         rt: R,
         alloc: Global,
@@ -111,7 +115,7 @@ impl<S: PurgeStore + Drop + Send + 'static> MasterThread<S> {
         }
     }
 
-    /// Ends the thread and waits for its end.
+    /// Tells the thread to stop, and waits for its end.
     pub(crate) fn stop<R: Threads>(self, rt: &R) {
         self.is_stopped.store(true, Ordering::SeqCst);
         self.thread.join(rt);

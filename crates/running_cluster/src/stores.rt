@@ -1,4 +1,4 @@
-//! The files of a cluster, in one folder: `node-N.db` of each member, and `master.db`.
+//! The files of a cluster, in one folder: `node-N.db` for each member N, and `master.db`.
 use crate::fault::ClusterFault;
 use crate::files::{MasterStore, NodeStore};
 use purge_numbers::SqliteFloors;
@@ -8,27 +8,32 @@ use sqlite::{Connection, Error, ErrorCode, File, FileStore};
 use std::alloc::{AllocError, Global};
 use std::fs;
 
-/// The greatest id of a member.
+/// The greatest id that a member may have.
 pub(crate) const LAST_MEMBER: u8 = 16;
 
-/// A node's floors, in a store.
+/// A member's floors, in a store.
 #[derive(Drop)]
 pub(crate) struct NodeFloors<F> {
+    /// The member's id.
     pub(crate) id: u8,
+    /// Its floors.
     pub(crate) floors: F,
 }
 
-/// The stores of a cluster, each over a file: those of the nodes by ascending id, and the master's.
+/// The stores of a cluster, each over a file: those of the members by ascending id, and the
+/// master's.
 #[derive(Drop)]
 pub struct Stores {
     pub(crate) nodes: Vec<NodeFloors<NodeStore>>,
     pub(crate) purges: MasterStore,
 }
 
-/// Opens the files of a roster's members and of its master in a folder: `node-N.db` of each member, by ascending id, and `master.db`. A file that is not there is made; the folder is there.
+/// Opens the files of a roster's members and of its master in a folder that exists: `node-N.db` for
+/// each member N, by ascending id, and `master.db`. A file that does not exist is made.
 ///
-/// Faults: `OtherRoster` before any file is opened, where the folder has a master's file and the members that have a file there are not those of the roster; of the first file that is not opened, `File` or
-/// `NoMemory`, or that of its tables. No file is open then.
+/// Faults: `OtherRoster`, before any file is opened, where the folder has a master's file and the
+/// members that have a file there are not those of the roster. For the first file that is not
+/// opened, `File` or `NoMemory`, or the fault of its tables. After a fault no file is open.
 pub fn open_stores(
     files: &HostRuntime,
     alloc: Global,
@@ -47,7 +52,8 @@ pub fn open_stores(
     }
 }
 
-/// Whether the members that have a file in the folder are those of the roster, or the folder has no master's file: then no cluster has used it yet.
+/// Whether the members that have a file in the folder are those of the roster. It is also so where
+/// the folder has no master's file: then no cluster has used it yet.
 fn is_of_roster(
     files: &HostRuntime,
     alloc: Global,
@@ -65,7 +71,7 @@ fn is_of_roster(
     Ok(true)
 }
 
-/// Whether there is a file.
+/// Whether this file exists.
 fn is_there(files: &HostRuntime, path: String) -> Result<bool, ClusterFault> {
     match fs::exists(files, path.as_str()) {
         Ok(is_there) => Ok(is_there),
@@ -73,19 +79,19 @@ fn is_there(files: &HostRuntime, path: String) -> Result<bool, ClusterFault> {
     }
 }
 
-/// The master's file.
+/// The path of the master's file.
 fn master_path(alloc: Global, dir: &str) -> Result<String, AllocError> {
     Ok(format!(in alloc; "{dir}/master.db")?)
 }
 
-/// A member's file.
+/// The path of a member's file.
 fn node_path(alloc: Global, dir: &str, id: u8) -> Result<String, AllocError> {
     Ok(format!(in alloc; "{dir}/node-{id}.db")?)
 }
 
-/// Opens the files of the nodes by ascending id. A file that is not there is made.
+/// Opens the files of the members by ascending id. A file that does not exist is made.
 ///
-/// Faults: of the first file that is not opened, `File` or `NoMemory`, or that of its tables.
+/// Faults: for the first file that is not opened, `File` or `NoMemory`, or the fault of its tables.
 fn open_nodes(
     rt: &HostRuntime,
     alloc: Global,
@@ -101,7 +107,7 @@ fn open_nodes(
     Ok(nodes)
 }
 
-/// Opens the file of a node, and puts it behind those that are open.
+/// Opens the file of a member, and puts its store behind those that are open.
 fn open_node(
     rt: &HostRuntime,
     alloc: Global,
@@ -115,7 +121,7 @@ fn open_node(
     }
 }
 
-/// Puts a node's floors behind those that are there.
+/// Puts a member's floors behind those that are there.
 fn put_node<F: Drop>(
     nodes: &mut Vec<NodeFloors<F>>,
     node: NodeFloors<F>,
@@ -126,6 +132,7 @@ fn put_node<F: Drop>(
     }
 }
 
+/// Opens the file of a member.
 fn node_store(
     rt: &HostRuntime,
     alloc: Global,
@@ -140,7 +147,7 @@ fn node_store(
     }
 }
 
-/// Opens the file of the master, with the faults of the nodes' files.
+/// Opens the master's file, with the same faults as those of the members' files.
 fn open_master(rt: &HostRuntime, alloc: Global, dir: &str) -> Result<MasterStore, ClusterFault> {
     let path = master_path(alloc, dir)?;
     let connection = connected(rt, alloc, path.as_str())?;
@@ -150,7 +157,7 @@ fn open_master(rt: &HostRuntime, alloc: Global, dir: &str) -> Result<MasterStore
     }
 }
 
-/// A connection to a file.
+/// A database connection to a file.
 fn connected(
     rt: &HostRuntime,
     alloc: Global,
