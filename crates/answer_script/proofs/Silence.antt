@@ -1,4 +1,5 @@
--- What octets are answered with, by the turn that they leave.
+-- What a datagram is answered with, by the turn that it leads to. Octets that spell a message take a step, whose sends
+-- are shown, or `nothing`; octets that spell none take no step, send nothing, and have a first fault, which is shown.
 use Rattle.std.proofs.Common.{◌≡◌, ◌≢◌, inl, inr, ℕ, List, [], ◌∷◌, ◌++◌, map, flat_map, codes, ◌==◌, true, false, length, Some, None, Result, Ok, Err, IfOk, IfErr, rules, arith, refl, sym, subst, ap, ◌∙◌}
 use Rattle.std.specs.Result.{result_err}
 use Rattle.wire_octets.specs.Fields.{IsOctets}

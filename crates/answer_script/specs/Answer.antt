@@ -46,7 +46,7 @@ use Rattle.script_lines.specs.Words.{split_word, is_word, decimal_below}
 abbrev pub Answering : Type 0
 Answering = NodeText (Unit {0}) FloorMap
 
--- the node at the start: member 1 of the program's roster, which holds nothing
+-- the node at the start: member 1 of the roster of the crate, which holds nothing
 pub record IsFirst (node : Answering) : Type 0 where
   pub roster : tables_in ROSTER.now ≡ Some (Some node.roster)
   pub id : node.id ≡ 1
@@ -71,19 +71,22 @@ command_text (lines.Master hex) = MasterLine hex.now
 command_text (lines.Stranger hex) = StrangerLine hex.now
 command_text lines.Bad = BadLine
 
+-- `store URL STAMP`, by the number that STAMP is
 abbrev pub store_stamped : List ℕ → Option ℕ → Command
 store_stamped url None = BadLine
 store_stamped url (Some stamp) = StoreLine url (Some stamp)
 
+-- what the words after `store` ask for
 abbrev pub store_words : List ℕ → Option (List ℕ) → Command
 store_words [] stamp = BadLine
 store_words url None = StoreLine url None
 store_words url (Some stamp) = store_stamped url (decimal_below (2 ^ 32) stamp)
 
+-- the same, of the words as they were split
 abbrev pub store_of : List ℕ × Option (List ℕ) → Command
 store_of (url, stamp) = store_words url stamp
 
--- a datagram, by the word in front of it
+-- a datagram line, by the word before the hex
 abbrev pub datagram_of : List ℕ → List ℕ → Command
 datagram_of keyword hex =
     if bytes_eq keyword (codes "icp") then IcpLine hex
@@ -91,34 +94,42 @@ datagram_of keyword hex =
     else if bytes_eq keyword (codes "master") then MasterLine hex
     else if bytes_eq keyword (codes "stranger") then StrangerLine hex else BadLine
 
+-- what a line asks for, by its first word and the rest
 abbrev pub command_words : List ℕ → Option (List ℕ) → Command
 command_words keyword None = BadLine
 command_words keyword (Some rest) =
     if bytes_eq keyword (codes "store") then store_of (split_word rest)
     else if is_word rest then datagram_of keyword rest else BadLine
 
+-- the same, of the line as it was split
 abbrev pub command_by : List ℕ × Option (List ℕ) → Command
 command_by (keyword, rest) = command_words keyword rest
 
+-- what a line asks for
 abbrev pub command_of : List ℕ → Command
 command_of line = command_by (split_word line)
 
 -- Senders: node 2, by either protocol, and the master, all at 127.0.0.1, and a stranger at 127.0.0.9
 
+-- the address that node 2 sends ICP from, 127.0.0.1:3102
 abbrev pub sibling_by_icp : Address
 sibling_by_icp = record { ip = 2130706433; port = 3102 }
 
+-- the address that node 2 sends HTCP from, 127.0.0.1:4102
 abbrev pub sibling_by_htcp : Address
 sibling_by_htcp = record { ip = 2130706433; port = 4102 }
 
+-- the address that the master sends from, 127.0.0.1:4800
 abbrev pub the_master : Address
 the_master = record { ip = 2130706433; port = 4800 }
 
+-- an address that the roster does not have, 127.0.0.9:9
 abbrev pub a_stranger : Address
 a_stranger = record { ip = 2130706441; port = 9 }
 
 -- Copies placed by hand
 
+-- the answer to a copy that was placed
 abbrev pub placed_text : Placed → List ℕ
 placed_text placed.Old = codes "Old"
 placed_text placed.TooLarge = codes "TooLarge"
@@ -151,18 +162,18 @@ sent_hex sent = encode_lower (text_of sent.message)
 abbrev pub packet_hex : Packet → List ℕ
 packet_hex packet = encode_lower packet.octets
 
--- what is sent, one datagram after another, or `nothing`
+-- what is sent, one datagram after another in hex, or `nothing`
 abbrev pub sent_text : List Outgoing → List ℕ
 sent_text [] = codes "nothing"
 sent_text (first ∷ others) = flat_map sent_hex (first ∷ others)
 
--- what a step is answered with: what its reply sends, or its fault, where it isn't want of memory
+-- how a step is answered: by what its reply sends, or by its fault; NoMemory is not told
 abbrev pub IsTold : Result (Reply (Unit {0})) StepFault → List ℕ → Type 0
 IsTold (Ok reply) text = text ≡ sent_text reply.send
 IsTold (Err fault.NoMemory) text = ⊥
 IsTold (Err f) text = text ≡ step_fault_name f
 
--- a step of the node with an event
+-- a step of the node with an event, and the answer to it
 pub record StepAnswers (node : Answering) (e : Event (Unit {0})) (text : List ℕ) (next : Answering) : Type 0 where
   pub outcome : Result (Reply (Unit {0})) StepFault
   pub same : IsSameMember node next
@@ -176,31 +187,34 @@ HasFaultNamed udp.Htcp octets text = (fault : HtcpFault) × (htcp_faults.first_f
 
 -- the first fault of octets by a codec, memory aside, or none where they spell a message
 
+-- the first fault of octets as an ICP message, memory aside; or none, where they spell a message
 abbrev pub IsIcpFault : List ℕ → Option IcpFault → Type 0
 IsIcpFault octets None = (message : Message) × SpellsBy udp.Icp octets message
 IsIcpFault octets (Some fault) = fault ≢ icp_fault.NoMemory → icp_faults.first_fault octets ≡ Some fault
 
+-- the first fault of octets as an HTCP message, memory aside; or none, where they spell a message
 abbrev pub IsHtcpFault : List ℕ → Option HtcpFault → Type 0
 IsHtcpFault octets None = (message : Message) × SpellsBy udp.Htcp octets message
 IsHtcpFault octets (Some fault) = fault ≢ htcp_fault.NoMemory → htcp_faults.first_fault octets ≡ Some fault
 
--- nothing is sent: the first fault of the octets is answered, or, where they spell a message, that it is so
+-- nothing is sent: the answer is the first fault of the octets, or `nothing` where they spell a message
 abbrev pub IsSilence : Udp → List ℕ → List ℕ → Type 0
 IsSilence by octets text = HasFaultNamed by octets text ⊎ ((message : Message) × SpellsBy by octets message × (text ≡ codes "nothing"))
 
--- the first fault of the datagram, or the step with the message that it spells, at moment 0
+-- the answer to a datagram: its first fault, or that of the step with the message that it spells, at second 0
 abbrev pub OctetsAnswer : Answering → Udp → Address → List ℕ → List ℕ → Answering → Type 0
 OctetsAnswer node by from octets text next =
     (HasFaultNamed by octets text × (next ≡ node))
     ⊎ ((message : Message) × SpellsBy by octets message × StepAnswers node (event.Datagram from message 0) text next)
 
--- a datagram in hex
+-- the answer to a datagram in hex
 abbrev pub DatagramAnswers : Answering → Udp → Address → Result (List ℕ) FromHexError → List ℕ → Answering → Type 0
 DatagramAnswers node by from (Err error) text next = (text ≡ codes "bad hex") × (next ≡ node)
 DatagramAnswers node by from (Ok octets) text next = OctetsAnswer node by from octets text next
 
 -- Lines
 
+-- the answer to what a line asks for, and the node after it
 abbrev pub CommandAnswers : Answering → Command → List ℕ → Answering → Type 0
 CommandAnswers node (StoreLine url stamp) text next =
     (outcome : Result (List ℕ) KeyFault) × HasKey url outcome × PlaceAnswers node outcome stamp text next

@@ -22,5 +22,6 @@ pub record HasNotBegun (old new : Option (List ℕ)) (r : Result (Unit {0}) RunF
   pub refused : (r ≡ Err NoMemory) ⊎ (r ≡ Err NoFirstNode)
   pub unwritten : new ≡ old
 
+-- the run of an input: it is answered from the first node on, or there was no first node
 abbrev pub HasAnswered : Option (List ℕ) → Option (List ℕ) → Option (List ℕ) → Result (Unit {0}) RunFault → Type 0
 HasAnswered input old new r = HasBegun input old new r ⊎ HasNotBegun old new r

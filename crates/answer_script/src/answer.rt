@@ -1,4 +1,4 @@
-//! The command `cache answer`: a node that is given copies and datagrams, line by line.
+//! The lines of `cache answer`, and their answers.
 ghost use Rattle.std.specs.Prelude.{◌≡◌, ℕ, List, ◌++◌, flat_map, OnOk, Ok};
 ghost use Rattle.hex.specs.Hex.{decode_of};
 ghost use Rattle.script_lines.specs.Words.{split_word as split_words};
@@ -18,31 +18,31 @@ use std::alloc::{AllocError, Global};
 use std::io::{Read, Write};
 use url_key::{Key, KeyFault};
 
-/// Where node 2 sends ICP from.
+/// The address that node 2 sends ICP from.
 const SIBLING_BY_ICP: Address = Address {
     ip: 0x7f00_0001,
     port: 3102,
 };
 
-/// Where node 2 sends HTCP from.
+/// The address that node 2 sends HTCP from.
 const SIBLING_BY_HTCP: Address = Address {
     ip: 0x7f00_0001,
     port: 4102,
 };
 
-/// Where the master sends from.
+/// The address that the master sends from.
 const MASTER: Address = Address {
     ip: 0x7f00_0001,
     port: 4800,
 };
 
-/// An address that the roster doesn't have.
+/// An address that the roster does not have.
 const STRANGER: Address = Address {
     ip: 0x7f00_0009,
     port: 9,
 };
 
-/// A node that answers lines.
+/// The node that answers the lines.
 #[derive(Drop)]
 struct Answerer {
     node: Answering,
@@ -58,20 +58,24 @@ pub(crate) enum Line<'a> {
     Htcp { hex: &'a [u8] },
     /// `master HEX`: an HTCP datagram from the master.
     Master { hex: &'a [u8] },
-    /// `stranger HEX`: an HTCP datagram from an address that the roster doesn't have.
+    /// `stranger HEX`: an HTCP datagram from an address that the roster does not have.
     Stranger { hex: &'a [u8] },
     /// Anything else.
     Bad,
 }
 
-/// Answers each line of the input by node 1 of a roster of two, at moment 0: `store URL [STAMP]` places an empty copy under the
-/// stamp, or under the greatest purge number seen; `icp HEX` and `htcp HEX` are datagrams from node 2, `master HEX` is HTCP from the
-/// master, and `stranger HEX` is HTCP from an address that the roster doesn't have.
+/// Answers each line of the input by node 1 of a roster of two, at second 0. `store URL [STAMP]`
+/// places an empty copy with this stamp, or with the greatest purge number that the node has seen.
+/// `icp HEX` and `htcp HEX` are datagrams from node 2, `master HEX` is an HTCP datagram from the
+/// master, and `stranger HEX` one from an address that the roster does not have.
 ///
-/// Each answer is a line: `stored`, `Kept` (a copy with a greater stamp is held), `Old` (the stamp is below the key's floor),
-/// `TooLarge` or the fault of the URL; what the node sends in hex, `nothing` where it sends nothing, the fault of the datagram, or
-/// `bad hex`; `bad line` to any other line. A bad line changes nothing. Where the reader or the writer fails, a line has more than
-/// 140,000 octets, 70,000 reads are not enough or there is no memory, a front of the answers is written. `NoFirstNode` never comes.
+/// Each answer is one line. For `store`: `stored`, `Kept` (a copy with a greater stamp is held),
+/// `Old` (the stamp is below the floor of the key), `TooLarge`, or the fault of the URL. For a
+/// datagram: what the node sends, in hex, `nothing` where it sends nothing, the fault of the
+/// datagram, or `bad hex`. For any other line: `bad line`; it changes nothing.
+///
+/// Where the reader or the writer fails, a line has more than 140,000 octets, 70,000 reads are not
+/// enough, or there is no memory, a front of the answers is written. `NoFirstNode` never comes.
 pub fn run_answer<R: Read, W: Write>(
     alloc: Global,
     reader: &mut R,
@@ -119,7 +123,7 @@ fn line_of(line: &[u8]) -> Line<'_>
     }
 }
 
-/// What follows `store`: a URL, and a stamp where one is given.
+/// What the words after `store` ask for: a URL, and a stamp where one is given.
 fn store_line(text: &[u8]) -> Line<'_>
     ensures { command_text result ≡ store_of (split_words text.now) }
 {
@@ -139,7 +143,7 @@ fn store_line(text: &[u8]) -> Line<'_>
     }
 }
 
-/// A datagram, by the word in front of it.
+/// What a datagram line asks for, by the word before the hex.
 fn datagram_line<'a>(keyword: &[u8], hex: &'a [u8]) -> Line<'a>
     ensures { command_text result ≡ datagram_words keyword.now hex.now }
 {
@@ -179,7 +183,7 @@ fn place(
     }
 }
 
-/// What is answered to a copy that was placed.
+/// The answer to a copy that was placed.
 fn placed_name(placed: Placed) -> &'static str
     ensures { result.now ≡ placed_text placed }
 {
@@ -210,7 +214,7 @@ fn answer_hex(
     }
 }
 
-/// Answers a datagram that comes at moment 0.
+/// Answers a datagram that comes at second 0.
 fn answer_octets(
     alloc: Global,
     node: &mut Answering,
@@ -236,7 +240,7 @@ fn answer_octets(
     }
 }
 
-/// Writes why nothing is sent: the fault of octets that are no message, or that it is so.
+/// Writes why nothing is sent: the fault of octets that are no message, or `nothing`.
 fn push_silence(alloc: Global, by: Udp, octets: &[u8], text: &mut Vec<u8>) -> Result<(), AllocError>
     ensures { OnOk result ((answer : List ℕ) × IsSilence by octets.now answer × (text.new.items ≡ text.old.items ++ answer)) }
 {
@@ -254,14 +258,14 @@ fn push_silence(alloc: Global, by: Udp, octets: &[u8], text: &mut Vec<u8>) -> Re
     }
 }
 
-/// The first fault of octets as an ICP message, or want of memory.
+/// The first fault of octets as an ICP message, or `NoMemory`.
 fn icp_fault(alloc: Global, octets: &[u8]) -> Option<IcpFault>
     ensures { IsIcpFault octets.now result }
 {
     read_icp(alloc, octets).err()
 }
 
-/// The first fault of octets as an HTCP message, or want of memory.
+/// The first fault of octets as an HTCP message, or `NoMemory`.
 fn htcp_fault(alloc: Global, octets: &[u8]) -> Option<HtcpFault>
     ensures { IsHtcpFault octets.now result }
 {

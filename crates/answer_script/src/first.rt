@@ -49,7 +49,7 @@ address = \"127.0.0.1\"
 connect = 8080
 ";
 
-/// Which member of the roster answers.
+/// The member of the roster that answers.
 const MEMBER: u8 = 1;
 
 /// A node whose copies have no tags, with its floors in memory.
@@ -57,7 +57,8 @@ pub(crate) type Answering = Node<(), MemoryFloors>;
 
 /// The node at the start: it holds nothing, and no key has a purge number.
 ///
-/// Faults: `NoMemory`; `NoFirstNode` where the roster gives no node for another cause, which never comes.
+/// Faults: `NoMemory`; `NoFirstNode` where the roster gives no node for another cause, which never
+/// comes (no contract says so).
 pub(crate) fn first_node(alloc: Global) -> Result<Answering, RunFault>
     ensures ok { IfOk result IsFirst }
     ensures err { IfErr result (λ fault. (fault ≡ RunFault.NoMemory) ⊎ (fault ≡ RunFault.NoFirstNode)) }
@@ -75,7 +76,7 @@ pub(crate) fn first_node(alloc: Global) -> Result<Answering, RunFault>
     }
 }
 
-/// Why there is no node.
+/// The fault of a start, by whether memory was lacking.
 fn cause(lacks_memory: bool) -> RunFault
     ensures { (result ≡ RunFault.NoMemory) ⊎ (result ≡ RunFault.NoFirstNode) }
 {

@@ -1,10 +1,18 @@
-//! The script of `cache answer`: a node that is given copies and datagrams, line by line.
+//! The script of `cache answer`: one node, which is given copies and datagrams line by line.
 //!
-//! `run_answer` answers each line of its input by the node's own rules (`LineAnswers` of `specs/Answer`), from member 1 of a small roster of
-//! the crate's own on.
+//! [`run_answer`] answers each line of its input by the rules of a node (`LineAnswers` of
+//! `specs/Answer.antt`). It begins with member 1 of a small roster of its own (`src/first.rt`), at
+//! second 0, with floors in memory.
 //!
-//! One kind of wrong bodies passes the contracts here: a `first_node` that answers `NoFirstNode` at once, since no clause knows that the roster
-//! is read and gives a node. Each script test of `cache answer` runs on it.
+//! Order of reading: `specs/Answer.antt` (lines and their answers), `specs/Answered.antt` (a whole
+//! run); `src/first.rt`, `src/answer.rt`; `proofs/Silence.antt` (why a datagram is answered by its
+//! fault, by `nothing`, or by what the node sends).
+//!
+//! The crate touches only the reader and the writer that are passed in.
+//!
+//! What it does not promise: a `first_node` that answers `NoFirstNode` at once passes the
+//! contracts, since no clause knows that the roster is read and gives a node. Each script test of
+//! `cache answer` shows it.
 #![tactic(auto)]
 
 mod answer;

@@ -1,3 +1,5 @@
+-- Each of the three ends of a datagram (it sends nothing, it sends something, it is refused) is a case of
+-- proofs/Silence.
 use Rattle.std.proofs.Common.{rules, arith, ◌≡◌, ◌≢◌, ◌++◌, flat_map, OnOk, sym, ap, ◌∙◌}
 use Rattle.node_rules.specs.declared.reply.StepFault.TheVariants as fault
 use Rattle.node_rules.specs.Names.{step_fault_name}
