@@ -1,4 +1,4 @@
-//! The command `cache wire`: datagrams in hex are read and shown.
+//! The lines of `cache wire`, and their answers.
 mod htcp;
 mod icp;
 
@@ -11,7 +11,7 @@ use script_lines::{RunFault, Script, is_word, play};
 use std::alloc::{AllocError, Global};
 use std::io::{Read, Write};
 
-/// The protocol whose datagrams are read.
+/// The protocol by which datagrams are decoded.
 #[derive(Clone, Copy, Debug, PartialEq, Eq)]
 pub enum Codec {
     /// ICP version 2 (RFC 2186).
@@ -20,10 +20,13 @@ pub enum Codec {
     Htcp,
 }
 
-/// Answers each line of the input, one word in hex, by what the datagram says, or by its fault, `bad hex` or
-/// `bad line`. An ICP message is shown as `OP NUMBER URL`, and behind a HIT_OBJ its object; an HTCP message as the
-/// name of its content, its TRANS-ID and the content's fields. Texts are in hex, and `-` where they are empty. Where the reader or the writer fails, a line has more than 140,000 octets, 70,000 reads are not
-/// enough or there is no memory, a front of the answers is written.
+/// Answers each line of the input, one word in hex, by what the datagram says, by its fault, by
+/// `bad hex`, or, where it is not one word, by `bad line`. An ICP message is shown as `OP NUMBER
+/// URL`, and after a HIT_OBJ also its object; an HTCP message as the name of its content, its
+/// TRANS-ID, and the fields of the content. Texts are in hex, and `-` where they are empty.
+///
+/// Where the reader or the writer fails, a line has more than 140,000 octets, 70,000 reads are not
+/// enough, or there is no memory, a front of the answers is written.
 pub fn run_wire<R: Read, W: Write>(
     alloc: Global,
     codec: Codec,

@@ -1,4 +1,4 @@
-//! HTCP datagrams, shown.
+//! How HTCP datagrams are shown.
 ghost use Rattle.std.specs.Prelude.{◌≡◌, ℕ, List, ◌++◌, OnOk, Ok};
 ghost use Rattle.hex.specs.Hex.{decode_of};
 ghost use Rattle.wire_script.specs.Wire.{number_shown, flag_shown, text_shown, specifier_shown, detail_shown, content_shown, htcp_shown, HtcpShows};
@@ -76,7 +76,7 @@ fn show_content(alloc: Global, content: &Content, text: &mut Vec<u8>) -> Result<
     }
 }
 
-/// Shows a SPECIFIER.
+/// Shows a SPECIFIER (RFC 2756): method, URI, version and request headers.
 fn show_specifier(alloc: Global, spec: &Specifier, text: &mut Vec<u8>) -> Result<(), AllocError>
     ensures { OnOk result (text.new.items ≡ text.old.items ++ specifier_shown spec.now) }
 {
@@ -86,7 +86,7 @@ fn show_specifier(alloc: Global, spec: &Specifier, text: &mut Vec<u8>) -> Result
     show_text(alloc, spec.request_headers.as_slice(), text)
 }
 
-/// Shows a DETAIL.
+/// Shows a DETAIL (RFC 2756): response, entity and cache headers.
 fn show_detail(alloc: Global, detail: &Detail, text: &mut Vec<u8>) -> Result<(), AllocError>
     ensures { OnOk result (text.new.items ≡ text.old.items ++ detail_shown detail.now) }
 {
@@ -95,7 +95,7 @@ fn show_detail(alloc: Global, detail: &Detail, text: &mut Vec<u8>) -> Result<(),
     show_text(alloc, detail.cache_headers.as_slice(), text)
 }
 
-/// Shows a text behind a space.
+/// Shows a text after a space.
 fn show_text(alloc: Global, octets: &[u8], text: &mut Vec<u8>) -> Result<(), AllocError>
     ensures { OnOk result (text.new.items ≡ text.old.items ++ text_shown octets.now) }
 {
@@ -103,7 +103,7 @@ fn show_text(alloc: Global, octets: &[u8], text: &mut Vec<u8>) -> Result<(), All
     show_octets(alloc, octets, text)
 }
 
-/// Shows a number behind a space.
+/// Shows a number after a space.
 fn show_number(number: u32, text: &mut Vec<u8>) -> Result<(), AllocError>
     ensures { OnOk result (text.new.items ≡ text.old.items ++ number_shown number) }
 {
@@ -112,7 +112,7 @@ fn show_number(number: u32, text: &mut Vec<u8>) -> Result<(), AllocError>
     text.extend_from_slice(buffer.format(number).as_bytes())
 }
 
-/// Shows a flag behind a space.
+/// Shows a flag after a space, 1 where it is set and 0 where not.
 fn show_flag(flag: bool, text: &mut Vec<u8>) -> Result<(), AllocError>
     ensures { OnOk result (text.new.items ≡ text.old.items ++ flag_shown flag) }
 {

@@ -1,4 +1,4 @@
-//! ICP datagrams, shown.
+//! How ICP datagrams are shown.
 ghost use Rattle.std.specs.Prelude.{◌≡◌, ℕ, List, ◌++◌, OnOk, Ok};
 ghost use Rattle.hex.specs.Hex.{decode_of};
 ghost use Rattle.wire_script.specs.Wire.{object_shown, icp_shown, IcpShows};
@@ -46,7 +46,7 @@ fn show_message(alloc: Global, message: &Icp, text: &mut Vec<u8>) -> Result<(), 
     show_object(alloc, message, text)
 }
 
-/// Shows the object of a HIT_OBJ behind a space.
+/// Shows the object of a HIT_OBJ after a space.
 fn show_object(alloc: Global, message: &Icp, text: &mut Vec<u8>) -> Result<(), AllocError>
     ensures { OnOk result (text.new.items ≡ text.old.items ++ object_shown message.now.op message.now.object) }
 {
