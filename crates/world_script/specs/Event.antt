@@ -16,15 +16,17 @@ use Rattle.world_script.specs.Command.{Command, ClockLine, ClientLine, DatagramL
 abbrev pub asked_for : List ℕ → Bool → Ask
 asked_for key only_if_cached = record { key = key; only_if_cached = only_if_cached; no_cache = false; member = None }
 
--- the event of the URL's key, or the fault of a URL that has none
+-- the event with the key of the URL, or the fault of a URL that has none
 abbrev pub by_key : (List ℕ → WorldEvent) → Result (List ℕ) KeyFault → Heard
 by_key event_of (Ok key) = heard.Event (event_of key)
 by_key event_of (Err fault) = heard.BadUrl fault
 
+-- a client asks a member for a URL
 abbrev pub IsAskedFor : ℕ → List ℕ → Bool → Heard → Type 0
 IsAskedFor node url only_if_cached h =
     (outcome : Result (List ℕ) KeyFault) × HasKey url outcome × (h ≡ by_key (λ key. world.Client node (asked_for key only_if_cached)) outcome)
 
+-- a purge of a URL is issued
 abbrev pub IsIssueFor : List ℕ → Heard → Type 0
 IsIssueFor url h = (outcome : Result (List ℕ) KeyFault) × HasKey url outcome × (h ≡ by_key world.Issue outcome)
 
@@ -32,18 +34,19 @@ IsIssueFor url h = (outcome : Result (List ℕ) KeyFault) × HasKey url outcome 
 abbrev pub max_age_field : FieldText
 max_age_field = record { name = codes "cache-control"; value = codes "max-age=60" }
 
--- the origin's answer: it may be kept for 60 seconds
+-- the origin's response, which may be kept for 60 seconds
 abbrev pub answer_with : ℕ → List ℕ → AnswerText
 answer_with status body = record { status = status; fields = max_age_field ∷ []; age = None; stamp = None; body = body }
 
--- nothing is heard where the answer has no text
+-- the origin answers a read; a bad line, where the response has no text
 abbrev pub origin_heard : ℕ → ℕ → AnswerText → Heard
 origin_heard node serial answer = if is_writable answer then heard.Event (world.Origin node serial answer) else heard.Bad
 
+-- the origin answers a read with this status and body
 abbrev pub IsOriginFor : ℕ → ℕ → ℕ → List ℕ → Heard → Type 0
 IsOriginFor node serial status body h = h ≡ origin_heard node serial (answer_with status body)
 
--- what is heard in what a line asks for
+-- what a line is understood as, by what it asks for
 abbrev pub IsHeardAs : Command → Heard → Type 0
 IsHeardAs (ClockLine now) h = h ≡ heard.Event (world.Clock now)
 IsHeardAs (ClientLine node url only_if_cached) h = IsAskedFor node url only_if_cached h
@@ -61,6 +64,6 @@ IsHeardAs (StatusLine number) h = h ≡ heard.Event (world.Status number)
 IsHeardAs MasterLine h = h ≡ heard.Event world.RestartMaster
 IsHeardAs BadLine h = h ≡ heard.Bad
 
--- what is heard in a line
+-- what a line is understood as
 abbrev pub IsHeardIn : List ℕ → Heard → Type 0
 IsHeardIn line h = IsHeardAs (command_of (words_of line)) h

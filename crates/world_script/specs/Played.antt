@@ -18,23 +18,23 @@ use Rattle.world_script.specs.declared.play.Player.{Player}
 use Rattle.world_script.specs.Event.{IsHeardIn}
 use Rattle.world_script.specs.Shown.{refusal_shown, outcome_shown}
 
--- what is told of an event that was applied, or why it is none; want of memory is not told
+-- how the outcome of an event reads, or why it is refused; NoMemory is not told
 abbrev pub IsTold : Result Outcome WorldFault → List ℕ → Type 0
 IsTold (Ok outcome) text = text ≡ outcome_shown outcome
 IsTold (Err fault.NoMemory) text = ⊥
 IsTold (Err f) text = text ≡ refusal_shown (world_fault_name f)
 
--- the event is applied to the world, or it is none, and this is told
+-- the event is applied to the world or refused, and this is told
 abbrev pub EventAnswers : WorldView → WorldEvent → List ℕ → WorldView → Type 0
 EventAnswers old event text new = (result : Result Outcome WorldFault) × IsApplied old event result new × IsTold result text
 
--- what was heard in a line becomes this text, behind the line's number
+-- what is told of a line, after its number
 abbrev pub HeardAnswers : WorldView → Heard → List ℕ → WorldView → Type 0
 HeardAnswers old (heard.Event event) text new = EventAnswers old event text new
 HeardAnswers old (heard.BadUrl f) text new = (text ≡ codes " " ++ key_fault_name f) × (new ≡ old)
 HeardAnswers old heard.Bad text new = (text ≡ codes " bad line") × (new ≡ old)
 
--- the line is counted, and answered by its number and what is told of its event
+-- the line is counted, and answered by its number and what is told of it
 abbrev pub LineAnswers : Player → List ℕ → List ℕ → Player → Type 0
 LineAnswers old line text new =
     (h : Heard) × (told : List ℕ) × IsHeardIn line h × HeardAnswers old.world h told new.world
@@ -57,5 +57,6 @@ pub record HasNotBegun (old new : Option (List ℕ)) (r : Result (Unit {0}) RunF
   pub refused : r ≡ Err NoMemory
   pub unwritten : new ≡ old
 
+-- a script is played over a new world, or there was no memory for a world
 abbrev pub HasPlayedWorld : Tables → Option (List ℕ) → Option (List ℕ) → Option (List ℕ) → Result (Unit {0}) RunFault → Type 0
 HasPlayedWorld roster input old new r = HasBegun roster input old new r ⊎ HasNotBegun old new r

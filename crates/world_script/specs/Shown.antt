@@ -1,4 +1,4 @@
--- How what is told of an event reads.
+-- How the outcome of an event reads.
 use Rattle.std.specs.Prelude.{ℕ, List, [], ◌∷◌, ◌++◌, codes, decimal, flat_map, Option, Some, None}
 use Rattle.node_rules.specs.declared.reply.Served.{Served}
 use Rattle.node_rules.specs.declared.reply.Served.TheVariants as served
@@ -11,25 +11,27 @@ use Rattle.world_rules.specs.declared.outcome.Outcome.{Outcome}
 use Rattle.world_rules.specs.declared.outcome.ActorFault.{ActorFault}
 use Rattle.world_rules.specs.declared.outcome.ActorFault.TheVariants as actor
 
--- a number behind a space
+-- a number after a space
 abbrev pub number_shown : ℕ → List ℕ
 number_shown number = codes " " ++ decimal number
 
--- a number behind its name, where there is one
+-- a number after its name, where there is one
 abbrev pub named_number : List ℕ → Option ℕ → List ℕ
 named_number name None = []
 named_number name (Some number) = codes " " ++ name ++ number_shown number
 
+-- what is served: a copy by its status, stamp and body (its age is not shown), or a status alone
 abbrev pub served_shown : Served ℕ → List ℕ
 served_shown (served.Copy c age) =
     named_number (codes "serve") (Some c.answer.status) ++ named_number (codes "stamp") (Some c.stamp) ++ codes " body " ++ c.answer.body
 served_shown (served.Status s) = named_number (codes "serve") (Some s)
 
--- what is served, if anything is: a copy's age is not shown
+-- what is served, if anything is
 abbrev pub serve_shown : Option (Serve ℕ) → List ℕ
 serve_shown None = []
 serve_shown (Some s) = served_shown s.served
 
+-- how far a purge is, if that was asked
 abbrev pub status_shown : Option (ℕ × Status) → List ℕ
 status_shown None = []
 status_shown (Some (number, status.Unknown)) = codes " unknown"
@@ -49,12 +51,13 @@ sent_shown (first ∷ others) = codes " send" ++ flat_map number_shown (first �
 abbrev pub refusal_shown : List ℕ → List ℕ
 refusal_shown name = codes " refused " ++ name
 
+-- the refusal of a step or of a call of the master, if there is one
 abbrev pub fault_shown : Option ActorFault → List ℕ
 fault_shown None = []
 fault_shown (Some (actor.Step f)) = refusal_shown (step_fault_name f)
 fault_shown (Some (actor.Master f)) = refusal_shown (master_fault_name f)
 
--- what is served, which answer is sent, and of which purge something is told
+-- what is served, which response is sent, and what is told of a purge
 abbrev pub told_shown : Outcome → List ℕ
 told_shown o = serve_shown o.serve ++ named_number (codes "answer") o.answer ++ purge_shown o.purge o.status
 
@@ -67,10 +70,11 @@ begun_shown o =
 abbrev pub parts_shown : Outcome → List ℕ
 parts_shown o = told_shown o ++ begun_shown o
 
--- `-` where nothing is
+-- a text, or `-` where it is empty
 abbrev pub or_nothing : List ℕ → List ℕ
 or_nothing [] = codes " -"
 or_nothing (octet ∷ octets) = octet ∷ octets
 
+-- the outcome of an event, or `-` where nothing is told of it
 abbrev pub outcome_shown : Outcome → List ℕ
 outcome_shown o = or_nothing (parts_shown o)

@@ -11,18 +11,18 @@ use std::alloc::{AllocError, Global};
 use url_key::{Key, KeyFault};
 use world_rules::WorldEvent;
 
-/// What is heard in a line.
+/// What a line is understood as.
 #[derive(Drop)]
 pub(crate) enum Heard {
-    /// An event.
+    /// An event of the world.
     Event(WorldEvent),
-    /// A URL that is no key.
+    /// A URL that has no key, with its fault.
     BadUrl(KeyFault),
-    /// Nothing.
+    /// A bad line.
     Bad,
 }
 
-/// What is heard in a line.
+/// What a line is understood as.
 pub(crate) fn heard_in(alloc: Global, line: &[u8]) -> Result<Heard, AllocError>
     ensures { IfOk result (IsHeardIn line.now) }
 {
@@ -30,7 +30,7 @@ pub(crate) fn heard_in(alloc: Global, line: &[u8]) -> Result<Heard, AllocError>
     heard_as(alloc, line_of(words.as_slice()))
 }
 
-/// What is heard in what a line asks for.
+/// What a line is understood as, by what it asks for.
 fn heard_as(alloc: Global, line: Line<'_>) -> Result<Heard, AllocError>
     ensures { IfOk result (IsHeardAs (command_text line.entry)) }
 {
@@ -62,7 +62,7 @@ fn heard_as(alloc: Global, line: Line<'_>) -> Result<Heard, AllocError>
     }))
 }
 
-/// A client asks a member for a URL.
+/// The event that a client asks a member for a URL.
 fn client(alloc: Global, node: u8, url: &[u8], only_if_cached: bool) -> Result<Heard, AllocError>
     ensures { IfOk result (IsAskedFor node url.now only_if_cached) }
 {
@@ -80,7 +80,7 @@ fn client(alloc: Global, node: u8, url: &[u8], only_if_cached: bool) -> Result<H
     Ok(Heard::Event(WorldEvent::Client { node, ask }))
 }
 
-/// A purge of a URL is issued.
+/// The event that a purge of a URL is issued.
 fn issue(alloc: Global, url: &[u8]) -> Result<Heard, AllocError>
     ensures { IfOk result (IsIssueFor url.now) }
 {
@@ -91,7 +91,8 @@ fn issue(alloc: Global, url: &[u8]) -> Result<Heard, AllocError>
     }
 }
 
-/// The origin answers a read with this status and this body, and a lifetime of 60 seconds.
+/// The event that the origin answers a read with this status and body, and a lifetime of 60
+/// seconds.
 fn origin(
     alloc: Global,
     node: u8,

@@ -4,9 +4,9 @@ ghost use Rattle.world_script.specs.Command.{command_text, command_of, bare, wit
 
 use script_lines::{decimal_u8, decimal_u16, decimal_u32, decimal_u64};
 
-/// A line of a script.
+/// A line of the script.
 pub(crate) enum Line<'a> {
-    /// `clock T`: the clock is set to a moment, in seconds.
+    /// `clock T`: the clock is set to this moment, in seconds.
     Clock {
         now: u64,
     },
@@ -16,15 +16,15 @@ pub(crate) enum Line<'a> {
         url: &'a [u8],
         only_if_cached: bool,
     },
-    /// `datagram K`: a datagram that was sent comes.
+    /// `datagram K`: a datagram that was sent arrives.
     Datagram {
         number: u64,
     },
-    /// `ask K`: an ask that a member sent to a member comes.
+    /// `ask K`: a request that a member sent to a member arrives.
     Ask {
         number: u64,
     },
-    /// `answer K [SERIAL]`: an answer that a member sent to a member comes.
+    /// `answer K [SERIAL]`: a response that a member sent to a member arrives.
     Answer {
         number: u64,
         serial: Option<u32>,
@@ -41,7 +41,7 @@ pub(crate) enum Line<'a> {
         node: u8,
         serial: u32,
     },
-    /// `expire N SERIAL`: a round has waited for its time.
+    /// `expire N SERIAL`: the time of a round is over.
     Expire {
         node: u8,
         serial: u32,

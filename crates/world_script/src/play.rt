@@ -1,4 +1,4 @@
-//! A script over a world.
+//! A script, played over a world.
 ghost use Rattle.std.specs.Prelude.{◌≡◌, ◌++◌, ℕ, List, OnOk, Err};
 ghost use Rattle.world_script.specs.Played.{LineAnswers, EventAnswers, HasPlayedWorld};
 
@@ -11,26 +11,30 @@ use std::alloc::{AllocError, Global};
 use std::io::{Read, Write};
 use world_rules::{WorldEvent, WorldFault};
 
-/// A world, and how many lines were taken.
+/// A world, and how many lines were read.
 #[derive(Drop)]
 pub(crate) struct Player {
     world: World,
     lines: u64,
 }
 
-/// Plays a script: each line is an event of the world of this roster, from a new world on, and is answered by its own number and what
-/// is told of the event.
+/// Plays a script: each line is an event of the world of this roster, from a new world on. It is
+/// answered by its own number and by what the event does.
 ///
-/// The lines: `clock T`, `client N URL [only-if-cached]`, `datagram K`, `ask K`, `answer K [SERIAL]`, `origin N SERIAL STATUS BODY` (an
-/// answer that may be kept for 60 seconds), `fail N SERIAL`, `expire N SERIAL`, `fault N`, `restart N`, `issue URL`, `resend`, `status P`
-/// and `master`. A number is decimal, without leading zeros. Datagrams, asks and answers are each counted from 1 as they are sent.
+/// The lines: `clock T`, `client N URL [only-if-cached]`, `datagram K`, `ask K`, `answer K
+/// [SERIAL]`, `origin N SERIAL STATUS BODY` (a response that may be kept for 60 seconds), `fail N
+/// SERIAL`, `expire N SERIAL`, `fault N`, `restart N`, `issue URL`, `resend`, `status P` and
+/// `master`. A number is decimal, without leading zeros. Datagrams, requests and responses are each
+/// counted from 1 as they are sent.
 ///
-/// Told are, as far as they are there and in this order: `serve STATUS stamp S body BODY` or `serve STATUS`, `answer K`, `purge P`,
-/// `pending C`, `done P` or `unknown`, `round SERIAL`, `send K K ..`, `ask K`, `read SERIAL`, `refused NAME`; else `-`. A line that is none
-/// of these is told `bad line`, also where the origin's answer has no text, and a URL that is no key its fault; such a line is no event.
+/// The answers, as far as there is something to tell, in this order: `serve STATUS stamp S body
+/// BODY` or `serve STATUS`, `answer K`, `purge P`, `pending C`, `done P` or `unknown`, `round
+/// SERIAL`, `send K K ..`, `ask K`, `read SERIAL`, `refused NAME`; else `-`. A line that is none of
+/// these is answered by `bad line`, and so is an origin's response that has no text; a URL that has
+/// no key is answered by its fault. Such a line is no event.
 ///
-/// Where the reader or the writer fails, a line has more than 140,000 octets, 70,000 reads are not enough or there is no memory, a front
-/// of the answers is written.
+/// Where the reader or the writer fails, a line has more than 140,000 octets, 70,000 reads are not
+/// enough, or there is no memory, a front of the answers is written.
 pub fn run_world<R: Read, W: Write>(
     alloc: Global,
     roster: &Roster,
@@ -64,7 +68,7 @@ impl Script for Player {
     }
 }
 
-/// Applies an event, and writes what is told of it, or why it is none.
+/// Applies an event, and writes what it does, or why it is refused.
 fn tell(world: &mut World, event: WorldEvent, text: &mut Vec<u8>) -> Result<(), AllocError>
     ensures { OnOk result ((answer : List ℕ) × EventAnswers world.old event answer world.new
         × (text.new.items ≡ text.old.items ++ answer)) }

@@ -1,4 +1,4 @@
-//! How what is told of an event reads.
+//! How the outcome of an event reads.
 ghost use Rattle.std.specs.Prelude.{◌≡◌, ◌++◌, OnOk, decimal};
 ghost use Rattle.world_script.specs.Shown.{number_shown, named_number, serve_shown, purge_shown, sent_shown, fault_shown, refusal_shown, outcome_shown, told_shown, begun_shown, parts_shown};
 
@@ -16,7 +16,7 @@ pub(crate) fn push_count(number: u64, text: &mut Vec<u8>) -> Result<(), AllocErr
     text.extend_from_slice(buffer.format(number).as_bytes())
 }
 
-/// Writes a number behind a space.
+/// Writes a number after a space.
 fn push_number(number: u64, text: &mut Vec<u8>) -> Result<(), AllocError>
     ensures { OnOk result (text.new.items ≡ text.old.items ++ number_shown number) }
 {
@@ -24,7 +24,7 @@ fn push_number(number: u64, text: &mut Vec<u8>) -> Result<(), AllocError>
     push_count(number, text)
 }
 
-/// Writes a number behind its name, where there is one.
+/// Writes a number after its name, where there is one.
 fn push_named(name: &str, number: Option<u64>, text: &mut Vec<u8>) -> Result<(), AllocError>
     ensures { OnOk result (text.new.items ≡ text.old.items ++ named_number name.now number) }
 {
@@ -38,7 +38,7 @@ fn push_named(name: &str, number: Option<u64>, text: &mut Vec<u8>) -> Result<(),
     }
 }
 
-/// Writes a number of 32 bits behind its name, where there is one.
+/// Writes a number of 32 bits after its name, where there is one.
 fn push_short(name: &str, number: Option<u32>, text: &mut Vec<u8>) -> Result<(), AllocError>
     ensures { OnOk result (text.new.items ≡ text.old.items ++ named_number name.now number) }
 {
@@ -114,7 +114,7 @@ pub(crate) fn push_refusal(name: &str, text: &mut Vec<u8>) -> Result<(), AllocEr
     text.extend_from_slice(name.as_bytes())
 }
 
-/// Writes what is served, which answer is sent, and of which purge something is told.
+/// Writes what is served, which response is sent, and what is told of a purge.
 fn push_told(outcome: &Outcome, text: &mut Vec<u8>) -> Result<(), AllocError>
     ensures { OnOk result (text.new.items ≡ text.old.items ++ told_shown outcome.now) }
 {
@@ -134,7 +134,7 @@ fn push_begun(outcome: &Outcome, text: &mut Vec<u8>) -> Result<(), AllocError>
     push_fault(outcome.fault, text)
 }
 
-/// Writes all that is told of an event.
+/// Writes everything that is told of an event.
 fn push_parts(outcome: &Outcome, text: &mut Vec<u8>) -> Result<(), AllocError>
     ensures { OnOk result (text.new.items ≡ text.old.items ++ parts_shown outcome.now) }
 {
@@ -142,7 +142,7 @@ fn push_parts(outcome: &Outcome, text: &mut Vec<u8>) -> Result<(), AllocError>
     push_begun(outcome, text)
 }
 
-/// Writes what is told of an event, and `-` where nothing is.
+/// Writes everything that is told of an event, and `-` where that is nothing.
 pub(crate) fn push_outcome(outcome: &Outcome, text: &mut Vec<u8>) -> Result<(), AllocError>
     ensures { OnOk result (text.new.items ≡ text.old.items ++ outcome_shown outcome.now) }
 {
