@@ -1,4 +1,4 @@
-//! The commands as the kit's `clap` takes them, with their texts of help.
+//! The commands of `cache` as the kit's `clap` takes them, with their texts of help.
 use clap::{Arg, Command, value_parser};
 use std::alloc::{AllocError, Global};
 

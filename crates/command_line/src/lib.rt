@@ -1,6 +1,15 @@
 //! The command line of `cache`: which words ask for which task, and the texts of help.
 //!
-//! The words are taken by the kit's `clap`. What it takes is said by the script tests, word by word; a clause says only what a task's numbers keep to.
+//! [`task_of`] makes a [`Task`] of the words of a command line. [`status_of`] is the status with
+//! which the process ends where they ask for none. The kit's `clap` parses the words.
+//!
+//! Order of reading: `src/commands.rt` (the commands, their arguments and texts of help),
+//! `src/task.rt` (what they ask for); `specs/Tasks.antt`, `specs/Statuses.antt`.
+//!
+//! The crate touches nothing but the words that are passed in.
+//!
+//! Contracts say what the numbers of a task keep to, and the status. Which words ask for which task
+//! is not proved: script tests show it, word by word.
 #![tactic(auto)]
 
 mod commands;

@@ -12,19 +12,19 @@ use std::alloc::{AllocError, Global};
 use std::net::SocketAddrV4;
 use wire_script::Codec;
 
-/// The status of a process that found no memory.
+/// The status of a process that lacked memory.
 const NO_MEMORY: u8 = 1;
 
-/// The status of a process whose command line is at fault.
+/// The status of a process whose command line is wrong.
 const BAD_COMMAND_LINE: u8 = 2;
 
-/// How many workers a member has where the command line does not say, and at least.
+/// How many workers a member has at least, and where the command line does not say.
 const FEWEST_WORKERS: u8 = 2;
 
 /// How many workers a member has at most.
 const MOST_WORKERS: u8 = 8;
 
-/// How many shifts of each member are kept where the command line does not say.
+/// How many shifts of each member are kept for `check` where the command line does not say.
 const SHIFTS: u32 = 16;
 
 /// A script between standard input and standard output.
@@ -41,31 +41,34 @@ pub enum Scripted {
 /// What the command line asks for.
 #[derive(Drop)]
 pub enum Task {
-    /// The lines of a script.
+    /// A script between standard input and standard output.
     Script(Scripted),
     /// `cache cluster FILE --data DIR [--workers N] [--history N]`.
     Cluster {
         /// The roster's file.
         file: String,
-        /// The folder of the members' and the master's files.
+        /// The folder of the files of the members and of the master.
         dir: String,
         /// How many workers each member has: 2 to 8, and 2 where the words do not say.
         workers: u8,
-        /// How many shifts each member keeps for `check`: 0 to 65,536, and 16 where the words do not say.
+        /// How many shifts of each member are kept for `check`: 0 to 65,536, and 16 where the words
+        /// do not say.
         history: u32,
     },
     /// `cache origin ADDRESS COUNT`.
     Origin {
-        /// Where it serves; the port is not 0.
+        /// The address where it serves; the port is not 0.
         at: Address,
-        /// How many asks it answers before it ends, at least 1.
+        /// How many requests it answers before it ends, at least 1.
         count: u32,
     },
 }
 
-/// What these words ask for, of which the first is the program's name.
+/// What these words ask for; the first is the program's name.
 ///
-/// The error is a text for a person: help, where that is asked for or no command is given, the first word that is at fault, or that there was no memory. [`status_of`] has the status that goes with it.
+/// The error is a text for a person: help, where that is asked for or no command is given; the
+/// first word that is wrong; or that there was no memory. [`status_of`] gives the status that goes
+/// with it.
 pub fn task_of(alloc: Global, words: &[String]) -> Result<Task, Error>
     ensures { IfOk result IsTask }
 {
@@ -82,7 +85,8 @@ pub fn task_of(alloc: Global, words: &[String]) -> Result<Task, Error>
     }
 }
 
-/// The status with which the process ends after this error: 0 after help that was asked for, 1 where there was no memory, and 2 where the words are at fault.
+/// The status with which the process ends after this error: 0 after help that was asked for, 1
+/// where there was no memory, and 2 where the words are wrong.
 pub fn status_of(error: &Error) -> u8
     ensures { result ≡ status_for (kind_of error.now) }
 {
@@ -119,7 +123,7 @@ fn cluster_of(alloc: Global, matches: &ArgMatches<'_>) -> Result<Task, Error>
     })
 }
 
-/// As many workers as are asked for; the command line lets no other number than 2 to 8 through.
+/// As many workers as are asked for. (`clap` lets no other number than 2 to 8 through.)
 fn workers_of(asked: u8) -> u8
     ensures { (2 ≤ result) × (result ≤ 8) }
 {
