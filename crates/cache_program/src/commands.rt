@@ -12,7 +12,7 @@ use std::{env, fs, io};
 use wire_script::run_wire;
 use world_script::run_world;
 
-/// The words of the command line, of which the first is the program's name.
+/// The words of the command line; the first is the program's name.
 pub(crate) fn words_of<R: Env + AllocGlobal>(rt: &R) -> io::Result<Vec<String>> {
     let mut words = Vec::new(rt.alloc());
     for word in env::args(rt)? {
@@ -21,7 +21,7 @@ pub(crate) fn words_of<R: Env + AllocGlobal>(rt: &R) -> io::Result<Vec<String>> 
     Ok(words)
 }
 
-/// Carries out a script between standard input and standard output.
+/// Runs a script between standard input and standard output.
 pub(crate) fn play<R: Files + Input + Print + AllocGlobal>(
     rt: &R,
     script: &Scripted,
@@ -39,7 +39,7 @@ pub(crate) fn play<R: Files + Input + Print + AllocGlobal>(
     }
 }
 
-/// What a cluster runs on.
+/// What a cluster starts with.
 #[derive(Drop)]
 pub(crate) struct Grounds {
     pub(crate) roster: Roster,

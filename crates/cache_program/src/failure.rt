@@ -1,4 +1,4 @@
-//! Why a task ended before its end, and what is said of it.
+//! Why a task ended early, and what is said of it.
 use origin_server::OriginFault;
 use roster::RosterError;
 use running_cluster::ClusterFault;
@@ -6,16 +6,16 @@ use script_lines::RunFault;
 use std::io;
 use std::process::ExitCode;
 
-/// Why a task ended before its end.
+/// Why a task ended early.
 #[derive(Drop)]
 pub(crate) enum Failure {
     /// The roster's file could not be read.
     File,
-    /// The roster's file is no text in UTF-8.
+    /// The roster's file is not UTF-8.
     NotText,
-    /// The text has no roster.
+    /// The text is not that of a roster.
     Roster(RosterError),
-    /// The run over the input stopped.
+    /// The run over the input stopped, or there was no memory to begin with.
     Run(RunFault),
     /// The cluster did not start, or stopped.
     Cluster(ClusterFault),
@@ -49,7 +49,8 @@ impl Failure {
     }
 }
 
-/// The status with which the process ends: 0, or 1 after a failure, whose name is on standard error.
+/// The status with which the process ends: 0, or 1 after a failure, whose name goes to standard
+/// error.
 pub(crate) fn status_of(rt: &impl Eprint, done: Result<(), Failure>) -> ExitCode {
     match done {
         Ok(()) => ExitCode::SUCCESS,

@@ -1,6 +1,17 @@
-//! The command `cache`: what its command line asks for (`command_line`), over the terminal's streams. What it runs stands in `answer_script`, `wire_script`, `world_script`, `running_cluster` and `origin_server`.
+//! The command `cache`: it does what its command line asks for, over the process's streams and
+//! files.
 //!
-//! The program has no clauses: its parts go by theirs, and tests try their calls.
+//! `command_line` makes a task of the words. `src/commands.rt` runs a script (`answer_script`,
+//! `wire_script`, `world_script`) between standard input and output, or opens the roster and the
+//! stores of a cluster; `main` runs the cluster (`running_cluster`) or the origin for trials
+//! (`origin_server`). `src/failure.rt` says on standard error why a task ended early, and gives the
+//! status.
+//!
+//! The program reads standard input, writes standard output and standard error, and reads the
+//! roster's file. The crates that it calls open the stores, sockets and threads.
+//!
+//! It has no contracts: only that it is safe, and ends unless it waits, is proved. Its parts have
+//! contracts of their own, and script tests show what it does.
 #![tactic(auto)]
 
 mod commands;
@@ -16,6 +27,7 @@ use script_lines::RunFault;
 use std::io;
 use std::process::ExitCode;
 
+/// Does what the command line asks for.
 fn main(rt: HostRuntime) -> ExitCode {
     let Ok(words) = commands::words_of(&rt) else {
         return failure::status_of(&rt, Err(Failure::Run(RunFault::NoMemory)));
