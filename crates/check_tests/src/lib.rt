@@ -1,4 +1,6 @@
-//! Tests of the checker of recorded runs: records and entries made by hand, changes of a run that was recorded, and the verdicts that they have.
+//! Tests of the check of recorded runs: verdicts on runs made by hand, and on over a thousand
+//! changes of a recorded run. They need a caller of `run_check`: no script can hand the check a run
+//! with a chosen flaw.
 #![tactic(auto)]
 
 #[cfg(test)]

@@ -1,4 +1,6 @@
-//! Tests of asks and answers over HTTP by their public calls: what fields say, messages as they are read and written, and both ways.
+//! Tests of HTTP requests and responses (RFC 9110, RFC 9112): what fields mean, reading, writing,
+//! and both together. They need a caller of the crates: it passes in readers and writers that fail
+//! or give chosen pieces, and counts their calls and the octets parsed, which no client can.
 #![tactic(auto)]
 
 #[cfg(test)]

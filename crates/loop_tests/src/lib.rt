@@ -1,4 +1,6 @@
-//! Tests of the loop at a node's sockets, of the queue of jobs, and of streams that a thread waits for, by their public calls, on several threads and with clients on this machine.
+//! Tests of the event loop at a node's sockets, of the job queue and of timed streams, with several
+//! threads and with clients on this machine. They need a caller of the crates: only the owner of
+//! the queue sees which jobs a turn puts, and can leave the queue full.
 #![tactic(auto)]
 
 #[cfg(test)]

@@ -1,4 +1,6 @@
-//! Tests of a master by its public calls: its worked runs, and a master and a node whose store fails.
+//! Tests of worked runs of a master, and of a master and a node whose store fails. They need a
+//! caller of the crates: it passes in a store that fails at a chosen call, and sees each answer and
+//! each entry.
 #![tactic(auto)]
 
 #[cfg(test)]

@@ -1,4 +1,6 @@
-//! Tests of what stands around a node, by public calls: its datagrams, its asks over HTTP, and the book of its steps.
+//! Tests of what stands around a node: datagrams as octets, HTTP requests, the book of its steps,
+//! and copies and comparisons of events and replies. They need a caller of the crates: it passes in
+//! readers, writers and nodes that fail, fills a book, and compares single parts.
 #![tactic(auto)]
 
 #[cfg(test)]

@@ -1,4 +1,6 @@
-//! Tests of a node by the public calls of its crates: its messages, the asks that wait at it, and whole runs.
+//! Tests of a node's messages, of the requests that wait at it, and of its steps. They need a
+//! caller of the crates: it makes each call with ample memory, which no contract says succeeds, and
+//! sees tags, serials and states.
 #![tactic(auto)]
 
 #[cfg(test)]

@@ -1,4 +1,6 @@
-//! Tests of floors and purges by their public calls: by themselves, in memory, and in files that stop.
+//! Tests of floors and purges in memory and in files on disks that stop after a chosen number of
+//! calls. They need a caller of the crates: it passes in such disks, and opens again what they
+//! left.
 #![tactic(auto)]
 
 #[cfg(test)]

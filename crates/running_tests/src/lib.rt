@@ -1,4 +1,6 @@
-//! Tests of nodes that run, of what only who starts and holds them sees. Their clients, their peers and their master come over sockets of this machine.
+//! Tests of nodes that run, with clients, peers and a master on sockets of this machine. They need
+//! a caller of `node_workers`: only whoever starts a node can hold it, take its records, delay its
+//! reads of origins, and see which seat took a step.
 #![tactic(auto)]
 
 #[cfg(test)]

@@ -1,4 +1,6 @@
-//! Tests of scripts by their readers and writers, and of the world of nodes, master and network by its public calls.
+//! Tests of script lines over many readers and writers, and of the simulated world. They need a
+//! caller of the crates: it passes in readers and writers that fail, and events that no line of a
+//! script can say.
 #![tactic(auto)]
 
 #[cfg(test)]

@@ -1,4 +1,6 @@
-//! Tests by public calls of the loop at the master's socket and the master that it shares, with members on this machine; of an origin for trials; and of streams whose other end is slow.
+//! Tests of the master's event loop and the master that it shares, of the origin for trials, and of
+//! streams whose other end is slow. They need a caller of the crates: it stops the loop, turns
+//! pages of the master's book, and passes in readers and writers that fail.
 #![tactic(auto)]
 
 #[cfg(test)]

@@ -1,4 +1,6 @@
-//! Tests of answers by their public calls: what an answer holds, how long it may be used, and where copies are kept.
+//! Tests of keys, answers, lifetimes (RFC 9111) and the store of copies, which is compared with a
+//! plain list. They need a caller of the crates: which copies are held, and in which order, shows
+//! in no response.
 #![tactic(auto)]
 
 #[cfg(test)]

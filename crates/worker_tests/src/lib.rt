@@ -1,4 +1,6 @@
-//! Tests of a node that threads share, of its shifts, of the verdicts on its records, and of what its workers share, by their public calls.
+//! Tests of a node that threads share by seats, of its shifts and the verdicts on their records,
+//! and of the tables, errands and bell of its threads. They need a caller of the crates: it holds
+//! the seats, ends shifts, and sees the records, which no client can.
 #![tactic(auto)]
 
 #[cfg(test)]
