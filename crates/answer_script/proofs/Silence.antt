@@ -42,10 +42,12 @@ htcp_alone : (octets : List ℕ) (m : Htcp) (f : HtcpFault) → htcp_laws.IsDeci
 htcp_alone octets m f (inl (other, only)) spells first = let e = sym only.no_fault ∙ first in cc
 htcp_alone octets m f (inr (other, none)) spells first = none.none m spells
 
+-- so no octets have both a message and a fault, by either protocol
 exclusive : (by : Udp) (octets : List ℕ) (m : Message) → IsOctets octets → SpellsBy by octets m → HasFault by octets → ⊥
 exclusive udp.Icp octets m fits (icp_message, is, spells) (f, first) = icp_alone octets icp_message f (icp.decided octets fits) spells first
 exclusive udp.Htcp octets m fits (htcp_message, is, spells) (f, first) = htcp_alone octets htcp_message f (htcp.decided octets fits) spells first
 
+-- a fault with its name is a fault
 unnamed : (by : Udp) (octets text : List ℕ) → HasFaultNamed by octets text → HasFault by octets
 unnamed udp.Icp octets text (f, first, named) = (f, first)
 unnamed udp.Htcp octets text (f, first, named) = (f, first)
@@ -64,7 +66,7 @@ no_messages : (sent : List Outgoing) → map packet_of sent ≡ [] → sent ≡ 
 no_messages [] none = refl
 no_messages (first ∷ others) none = absurd cc
 
--- what is told of a step that sends nothing
+-- a step that sends nothing is answered by `nothing`
 told_silent : (outcome : Result (Reply (Unit {0})) StepFault) (turn : Turn) (text : List ℕ) → ToldAfter outcome (Ok turn) → turn.send ≡ [] → text ≡ codes "nothing" → IsTold outcome text
 told_silent (Ok reply) turn text (inl is) none nothing =
     let same : turn ≡ turn_of reply = cc in
@@ -72,7 +74,7 @@ told_silent (Ok reply) turn text (inl is) none nothing =
 told_silent (Ok reply) turn text (inr is) none nothing = absurd cc
 told_silent (Err f) turn text is none nothing = absurd cc
 
--- what is told of a step that sends something
+-- a step that sends something is answered by that, in hex
 told_sent : (outcome : Result (Reply (Unit {0})) StepFault) (turn : Turn) (text : List ℕ) → ToldAfter outcome (Ok turn) → turn.send ≢ [] → text ≡ flat_map packet_hex turn.send → IsTold outcome text
 told_sent (Ok reply) turn text (inl is) some hex =
     let same : turn ≡ turn_of reply = cc in
@@ -81,6 +83,7 @@ told_sent (Ok reply) turn text (inl is) some hex =
 told_sent (Ok reply) turn text (inr is) some hex = absurd cc
 told_sent (Err f) turn text is some hex = absurd cc
 
+-- which faults of a step are shown by name: all but NoMemory
 named : (f : StepFault) → f ≢ fault.NoMemory → IsTold (Err f) (step_fault_name f)
 named fault.Closed lacks = refl
 named fault.UnknownSerial lacks = refl
@@ -88,7 +91,7 @@ named fault.Busy lacks = refl
 named fault.StoreFault lacks = refl
 named fault.NoMemory lacks = absurd (lacks refl)
 
--- what is told of a step that is refused
+-- a step that is refused is answered by the name of its fault
 told_refused : (outcome : Result (Reply (Unit {0})) StepFault) (f : StepFault) → ToldAfter outcome (Err f) → f ≢ fault.NoMemory → IsTold outcome (step_fault_name f)
 told_refused (Ok reply) f (inl is) lacks = absurd cc
 told_refused (Ok reply) f (inr is) lacks = absurd (lacks cc)
@@ -96,11 +99,11 @@ told_refused (Err other) f is lacks =
     let same : f ≡ other = cc in
     subst (λ g. IsTold (Err g) (step_fault_name f)) same (named f lacks)
 
--- the step with an event is one with the message of the octets
+-- what takes a step takes one by the rules of the node, and is answered so
 abbrev Stepping : (Answering → Event (Unit {0}) → Result (Reply (Unit {0})) StepFault → Answering → Type 0) → Answering → Answering → Type 0
 Stepping takes node next = (e : Event (Unit {0})) (outcome : Result (Reply (Unit {0})) StepFault) (text : List ℕ) → takes node e outcome next → IsTold outcome text → StepAnswers node e text next
 
--- octets that are answered by silence
+-- a datagram after which nothing is sent
 pub silent : (takes : Answering → Event (Unit {0}) → Result (Reply (Unit {0})) StepFault → Answering → Type 0) (by : Udp) (from : Address) (octets : List ℕ) (node next : Answering) (turn : Turn) (text : List ℕ) →
     IsOctets octets → MeetsOctets takes by from octets 0 node next (Ok turn) → Stepping takes node next → turn.send ≡ [] → IsSilence by octets text → OctetsAnswer node by from octets text next
 silent takes by from octets node next turn text fits (inl (None, has, (same, is))) stepped none (inl fault_named) = inl (fault_named, same)
@@ -111,7 +114,7 @@ silent takes by from octets node next turn text fits (inl (Some e, (m, spells, i
     inr (m, spells, subst (λ ev. StepAnswers node ev text next) is (stepped e outcome text taken (told_silent outcome turn text told none nothing)))
 silent takes by from octets node next turn text fits (inr ((same, is), spelled)) stepped none silence = absurd cc
 
--- octets that are answered by datagrams
+-- a datagram after which something is sent
 pub sent : (takes : Answering → Event (Unit {0}) → Result (Reply (Unit {0})) StepFault → Answering → Type 0) (by : Udp) (from : Address) (octets : List ℕ) (node next : Answering) (turn : Turn) (text : List ℕ) →
     MeetsOctets takes by from octets 0 node next (Ok turn) → Stepping takes node next → turn.send ≢ [] → text ≡ flat_map packet_hex turn.send → OctetsAnswer node by from octets text next
 sent takes by from octets node next turn text (inl (None, has, (same, is))) stepped some hex =
@@ -120,7 +123,7 @@ sent takes by from octets node next turn text (inl (Some e, (m, spells, is), (ou
     inr (m, spells, subst (λ ev. StepAnswers node ev text next) is (stepped e outcome text taken (told_sent outcome turn text told some hex)))
 sent takes by from octets node next turn text (inr ((same, is), spelled)) stepped some hex = absurd cc
 
--- octets that are refused for another cause than memory
+-- a datagram whose step is refused, for another cause than memory
 pub refused : (takes : Answering → Event (Unit {0}) → Result (Reply (Unit {0})) StepFault → Answering → Type 0) (by : Udp) (from : Address) (octets : List ℕ) (node next : Answering) (f : StepFault) →
     MeetsOctets takes by from octets 0 node next (Err f) → Stepping takes node next → f ≢ fault.NoMemory → OctetsAnswer node by from octets (step_fault_name f) next
 refused takes by from octets node next f (inl (None, has, (same, is))) stepped lacks = absurd cc
@@ -130,10 +133,12 @@ refused takes by from octets node next f (inr ((same, is), spelled)) stepped lac
 
 -- which fault octets have, by what reading them answers
 
+-- the fault of octets, by what reading them as ICP answers
 pub icp_fault_of : (octets : List ℕ) (r : Result Message IcpFault) → IfOk r (IsIcp octets) → IfErr r (λ f. f ≢ icp_fault.NoMemory → icp_faults.first_fault octets ≡ Some f) → IsIcpFault octets (result_err r)
 icp_fault_of octets (Ok m) ok err = (m, ok)
 icp_fault_of octets (Err f) ok err = err
 
+-- the fault of octets, by what reading them as HTCP answers
 pub htcp_fault_of : (octets : List ℕ) (r : Result Message HtcpFault) → IfOk r (IsHtcp octets) → IfErr r (λ f. f ≢ htcp_fault.NoMemory → htcp_faults.first_fault octets ≡ Some f) → IsHtcpFault octets (result_err r)
 htcp_fault_of octets (Ok m) ok err = (m, ok)
 htcp_fault_of octets (Err f) ok err = err

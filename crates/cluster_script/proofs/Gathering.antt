@@ -6,6 +6,7 @@ use Rattle.node_book.specs.declared.record.Record.{Record}
 use Rattle.purge_master.specs.declared.book.MasterEntry.{MasterEntry}
 use Rattle.cluster_script.specs.Checked.{Gathered, GoesOn}
 
+-- what is gathered goes on as itself
 stays : (gathered : Option Gathered) → GoesOn gathered gathered
 stays None = tt
 stays (Some g) = ([], [], sym (append-nil g.records), sym (append-nil g.entries))
@@ -14,7 +15,7 @@ stays (Some g) = ([], [], sym (append-nil g.records), sym (append-nil g.entries)
 pub goes_on : (old new : Option Gathered) → new ≡ old → GoesOn old new
 goes_on old new same = subst (λ n. GoesOn old n) (sym same) (stays old)
 
--- what goes on twice goes on
+-- two steps in a row make one
 pub goes_on_twice : (old middle new : Option Gathered) → GoesOn old middle → GoesOn middle new → GoesOn old new
 goes_on_twice old middle None first second = tt
 goes_on_twice old None (Some new) first second = elim second [ ]

@@ -1,4 +1,4 @@
--- Lines of no word and of many.
+-- Lines of no word and of too many words.
 use Rattle.std.proofs.Common.{◌≡◌, ℕ, ◌≤◌, ◌<◌, Bor, List, [], ◌∷◌, length, map, refl, arith}
 use Rattle.cluster_script.specs.Command.{BadLine, command_of}
 

@@ -21,11 +21,12 @@ own_weight weight v = weigh weight v.own
 abbrev All : (ℕ → View → Type 0) → List View → Type 0
 All F views = (pass : ℕ) (v : View) → get_elem? views pass ≡ some v → F pass v
 
--- what holds of one view, and of the others where they stand
+-- what holds of one new view, and of all others where they stand, holds of all
 all_set : (F : ℕ → View → Type 0) (views : List View) (pass : ℕ) (w : View) → F pass w → ((j : ℕ) (u : View) → j ≢ pass → get_elem? views j ≡ some u → F j u) → All F (set views pass w)
 all_set F views pass w mine others j u e = ⊎_elim (λ (x : (j ≡ pass) × (w ≡ u)). subst (λ (y : ℕ × View). F y.0 y.1) (λ i. (sym x.0 i, x.1 i)) mine)
     (λ (x : (j ≢ pass) × (get_elem? views j ≡ some u)). others j u x.0 x.1) (at_set views pass j w u e)
 
+-- the view that was just set
 here_set : (views : List View) (pass : ℕ) (v w : View) → get_elem? views pass ≡ some v → get_elem? (set views pass w) pass ≡ some w
 here_set [] pass v w at = absurd (some-ne-none v (sym at))
 here_set (x ∷ xs) zero v w at = refl
@@ -36,6 +37,7 @@ at_end : (views : List View) (w : View) → get_elem? (views ++ w ∷ []) (lengt
 at_end [] w = refl
 at_end (x ∷ xs) w = at_end xs w
 
+-- a new queue keeps the rule
 pub begins : Kept [] (newcomer ∷ [])
 begins = (
   [],
@@ -54,7 +56,7 @@ begins = (
     only zero u other e = other refl
     only (suc j) u other e = some-ne-none u (sym e)
 
--- a pass with every part: each other knows nothing
+-- a pass with every part: each other pass knows nothing
 others_idle : (items : List Job) (views : List View) (steps : List Step) (pass : ℕ) (v : View) → IsKept items views steps → get_elem? views pass ≡ some v → v.parts ≡ all_parts
     → (j : ℕ) (u : View) → j ≢ pass → get_elem? views j ≡ some u → u ≡ nobody
 others_idle items views steps pass v kept at whole j u other e =
@@ -64,7 +66,7 @@ others_idle items views steps pass v kept at whole j u other e =
     let most = weigh_one (λ (w : View). w.parts) (set views pass nobody) j u there in
     kept.idle j u e (omega arith)
 
--- it has seen all steps
+-- so it has seen all steps
 sees_all : (items : List Job) (views : List View) (steps : List Step) (pass : ℕ) (v : View) → IsKept items views steps → get_elem? views pass ≡ some v → v.parts ≡ all_parts → steps ≡ v.seen
 sees_all items views steps pass v kept at whole =
     let k = kept.known in
@@ -89,7 +91,7 @@ owns_all items views steps pass v kept at whole weight =
     let all = kept.owned weight in
     omega arith
 
--- one step more of this pass, after which these items are left
+-- one more step of this pass keeps the rule, where these jobs are left after it
 steps_on : (items left : List Job) (views : List View) (pass : ℕ) (v : View) (s : Step) (steps : List Step) → 0 < v.parts → IsKept items views steps → get_elem? views pass ≡ some v
     → Leaves (steps ++ s ∷ []) (map sight_of left) → (w : View) × Kept left (set views pass w) × Follows v s w
 steps_on items left views pass v s steps part kept at leaves =
@@ -120,15 +122,18 @@ steps_on items left views pass v s steps part kept at leaves =
       },
     )
 
+-- a put keeps the rule
 pub puts : (n pass : ℕ) (v : View) (job : Job) → 0 < v.parts → Pushes Kept n pass v job (λ w. Follows v (put job) w)
 puts n pass v job part items views room kept at =
     let leaves = leaves_put kept.0 (map sight_of items) (sight_of job) kept.1.leaves ∙ ap (λ l. taken_in (kept.0 ++ put job ∷ []) ++ l) (sym (map-append sight_of items (job ∷ []))) in
     steps_on items (items ++ job ∷ []) views pass v (put job) kept.0 part kept.1 at leaves
 
+-- a take keeps the rule
 pub takes : (pass : ℕ) (v : View) → 0 < v.parts → Pops Kept pass v (λ job w. Follows v (took job) w)
 takes pass v part job items views kept at =
     steps_on (job ∷ items) items views pass v (took job) kept.0 part kept.1 at (leaves_took kept.0 (map sight_of items) (sight_of job) kept.1.leaves)
 
+-- what a look at the queue teaches
 pub finds : (pass : ℕ) (v : View) → Learns Kept pass v (Finds v)
 finds pass v items views kept at = (
   kept.0,
@@ -140,14 +145,15 @@ finds pass v items views kept at = (
   },
 )
 
--- the view that has seen all steps, where it is this one
+-- the pass that has seen all steps, where it is this one
 the_same : (views : List View) (steps : List Step) (pass : ℕ) (v : View) (j : ℕ) (u : View) → j ≡ pass → get_elem? views pass ≡ some v → get_elem? views j ≡ some u → u.seen ≡ steps → v.seen ≡ steps
 the_same views steps pass v j u same at there all = sym (ap (λ (w : View). w.seen) (some-injective u v (sym there ∙ ap (λ n. get_elem? views n) same ∙ at))) ∙ all
 
--- a view at the end, or one that was there
+-- what holds of all views and of one more holds of the longer list
 snoc_all : (F : ℕ → View → Type 0) (views : List View) (w : View) → All F views → ((j : ℕ) → F j w) → All F (views ++ w ∷ [])
 snoc_all F views w old new j u e = ⊎_elim (λ x. old j u x) (λ (same : w ≡ u). let P : View → Type 0 = λ y. F j y in subst P same (new j)) (at_snoc views w u j e)
 
+-- a split keeps the rule
 pub forks : (pass : ℕ) (v : View) → 1 < v.parts → Forks Kept pass v (kept_part v) (cut_part v)
 forks pass v more items views kept at =
     let k = kept.1 in let steps = kept.0 in let l = kept_part v in let r = cut_part v in let vs = set views pass l in
@@ -176,10 +182,11 @@ forks pass v more items views kept at =
           | no apart ↦ (all.0, all.1, at_longer vs end all.0 all.1 (set_else views pass all.0 l apart ∙ all.2), all.3)
         ]
 
--- a spent pass knew nothing, nor does the pass that took it in
+-- a pass without parts, joined to another without parts, knows nothing
 joined_idle : (v u : View) → v ≡ nobody → u ≡ nobody → joined v u ≡ nobody
 joined_idle v u a b = λ i. joined (a i) (b i)
 
+-- a join keeps the rule
 pub merges : (pass : ℕ) (v : View) (other : ℕ) (u : View) → Merges Kept pass v other u (joined v u) nobody
 merges pass v other u items views kept at apart at' =
     let k = kept.1 in let steps = kept.0 in let both = joined v u in let vs = set views pass both in

@@ -60,7 +60,7 @@ all_parts = 1024
 abbrev pub view : ℕ → List Step → List Step → View
 view parts seen own = record { parts = parts; seen = seen; own = own }
 
--- the first pass of a queue: it has every part, and no step was taken
+-- the first pass of a queue: it has every part, and nothing was put or taken yet
 abbrev pub newcomer : View
 newcomer = view all_parts [] []
 

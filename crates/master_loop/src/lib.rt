@@ -25,7 +25,7 @@
 //! does is said of the desk inside the lock, and what is sent under a number, and where a member
 //! is, is said where it is made. That a datagram that came is read and its call made, that CLRs are
 //! sent, and that a second is a second, is tested. A CLR that the system does not take is lost, as
-//! any datagram may be; it is due again within a second.
+//! any datagram may be; it is sent again about a second later.
 //!
 //! What it does not promise: `SharedMaster::call` and `MasterSender::issue` may answer `Closed` at
 //! once, `issue` may answer any number, and `message` may answer that no purge of the number is

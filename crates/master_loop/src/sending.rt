@@ -73,7 +73,7 @@ impl MasterSender {
     /// Sends octets to a member, without waiting. What the system does not take is lost.
     fn send(&self, roster: &Roster, member: u8, octets: &[u8]) {
         if let Some(address) = htcp_of(roster, member) {
-            // (a CLR that is lost is due again within a second)
+            // (a CLR that is lost is sent again about a second later)
             let _ = self.socket.send_to(octets, socket_address(address));
         }
     }
@@ -83,7 +83,7 @@ impl MasterSender {
     ///
     /// Faults: those of `Master::issue`, and `NoMemory` where there is no memory for the call;
     /// nothing is sent then. A CLR for which there is no memory, or that the system does not take,
-    /// is lost: the purge stands, and its CLR is due again within a second.
+    /// is lost: the purge stands, and its CLR is sent again about a second later.
     pub fn issue<S: PurgeStore, R: Wait>(
         &self,
         rt: &R,

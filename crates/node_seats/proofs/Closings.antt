@@ -7,6 +7,7 @@ use Rattle.node_book.specs.declared.record.Record.{Record}
 use Rattle.node_seats.specs.Seats.{SeatView, DeskView, Agrees, count_of}
 use Rattle.node_seats.specs.Shifts.{ShiftView, IsRecordOf, Closes, amount_in}
 
+-- the shift that a closed desk and its seats make
 pub is_closed : {S : Type 0} (desk : DeskView S) (last : Record) (node : NodeText (Unit {0}) S) (count : ℕ) (shift : ShiftView S) (seats : List SeatView) →
     shift ≡ record { record_of = last; node = node; count = count } →
     (node ≡ desk.book.node) × (last.opening ≡ desk.book.opening) × (last.entries ≡ desk.book.entries) × (count ≡ count_of desk) →

@@ -8,7 +8,7 @@ use Rattle.node_book.specs.declared.book.BookFault.TheVariants.{ShiftFull, Step,
 use Rattle.node_book.specs.Book.{IsToldOf}
 use Rattle.node_seats.specs.Seats.{IsGiven}
 
--- no step is told as a full book
+-- no answer of a step reads as a full book
 told_of_a_step : (outcome : Result (Reply (Unit {0})) StepFault) (answer : Result (Reply (Unit {0})) BookFault) → IsToldOf outcome answer → answer ≡ Err ShiftFull → ⊥
 told_of_a_step (Ok reply) answer (inl same) full = let bad = sym same ∙ full in absurd (cc)
 told_of_a_step (Ok reply) answer (inr lost) full = let bad = sym lost ∙ full in absurd (cc)
@@ -24,7 +24,7 @@ given_full : (answer given : Result (Reply (Unit {0})) BookFault) → IsGiven an
 given_full answer given (inl same) full = sym same ∙ full
 given_full answer given (inr (reply, was, lost)) full = let bad = sym lost ∙ full in absurd (cc)
 
--- so a caller is told that the book is full only where it has 4,096 entries
+-- so a caller is told of a full book only where it has 4,096 entries
 pub full_only : (entries : ℕ) (answer given : Result (Reply (Unit {0})) BookFault) → (entries < 4096 → (answer ≡ Err NoMemory) ⊎ ((outcome : Result (Reply (Unit {0})) StepFault) × IsToldOf outcome answer)) → IsGiven answer given → given ≡ Err ShiftFull → 4096 ≤ entries
 full_only entries answer given applied is_given full =
     let no_room : entries < 4096 → ⊥ = λ few. room_is_found answer (applied few) (given_full answer given is_given full) in

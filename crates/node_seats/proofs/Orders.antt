@@ -17,12 +17,12 @@ seated_more count i seats seat within is of before k d less = elim (dec_lt k i) 
       subst (λ (n : ℕ). IsSeatOf count n (slice_index_or seats n d)) (sym same) (at_read seats (IsSeatOf count i) i seat within is of d))
 ]
 
--- with the next seat there are its parts more
+-- the sum of the parts with the next seat
 parts_with : (seats : List SeatView) (i : ℕ) (seat : SeatView) → seat ≡ slice_index_or seats i seat → i < length seats → parts_in (take (i + 1) seats) ≡ parts_in (take i seats) + seat.parts
 parts_with seats i seat is within =
     subst (λ (s : SeatView). parts_in (take (i + 1) seats) ≡ parts_in (take i seats) + s.parts) (sym is) (sum_by_more (λ (s : SeatView). s.parts) seats i seat within)
 
--- the parts of the seats so far: the first has what the others do not have, which have one each
+-- the sum of the parts so far, after the next seat
 pub parts_more : (all count i : ℕ) (seats : List SeatView) (seat : SeatView) → 0 < count → count ≤ all → i < length seats → seat ≡ slice_index_or seats i seat → seat.parts ≡ parts_of all count i →
     (i ≡ 0 → parts_in (take i seats) ≡ 0) → (0 < i → parts_in (take i seats) + count ≡ all + i) → parts_in (take (i + 1) seats) + count ≡ all + (i + 1)
 parts_more all count zero seats seat some few within is own none later =

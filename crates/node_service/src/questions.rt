@@ -17,7 +17,8 @@ const QUESTION: u8 = 1;
 const MOST_HELD: usize = 32;
 
 /// Answers ICP queries and HTCP TST requests as they come. The step of such a question begins
-/// nothing and serves no client, so nothing is waited for, and no worker is woken.
+/// nothing and serves no client. So it waits for no fetch and no client, only for the node's lock,
+/// and no worker is woken.
 ///
 /// Responses to questions that came together are sent together: the first one wakes the receiver,
 /// and the others mostly find it awake.

@@ -7,7 +7,7 @@ use Rattle.node_seats.specs.Seats.{SeatView}
 use Rattle.node_seats.specs.Shifts.{ShiftView, Closes}
 use Rattle.node_shifts.specs.Shifts.{ShiftsView, IsShiftOf, IsEnded, IsAfter, IsBegun, IsTurned, IsNextOf, IsHandedOut, IsTakenOut, taken_by}
 
--- an open shift is closed
+-- an end closes the open shift
 pub ended_open : {S : Type 0} (old new : ShiftsView S) (shift : ShiftView S) → old.closed ≡ None → Closes old.row shift → new.closed ≡ Some shift → new.octets ≡ old.octets → new.seats ≡ old.seats → new.history ≡ old.history → new.records ≡ old.records → IsEnded old new
 ended_open old new shift none closes closed octets seats history records = record {
   shift = shift;
@@ -19,12 +19,12 @@ ended_open old new shift none closes closed octets seats history records = recor
   records = records;
 }
 
--- one that is closed is the shift that ended
+-- a shift that is closed is the one that ended
 closed_one : {S : Type 0} (row : List SeatView) (closed : Option (ShiftView S)) → IsSome closed → (shift : ShiftView S) × IsShiftOf row closed shift × (closed ≡ Some shift)
 closed_one row (Some shift) some = (shift, refl, refl)
 closed_one row None some = elim (true≢false (sym some)) [ ]
 
--- where none is open, nothing changes
+-- an end where none is open changes nothing
 pub ended_closed : {S : Type 0} (old new : ShiftsView S) → IsSome old.closed → new ≡ old → IsEnded old new
 ended_closed old new some same =
     let one = closed_one old.row old.closed some in
@@ -38,7 +38,7 @@ ended_closed old new some same =
       records = ap (λ s. s.records) same;
     }
 
--- a shift ends, and the next one begins
+-- an end and then a beginning are a turn
 pub turned : {S : Type 0} (old mid new : ShiftsView S) → IsEnded old mid → IsBegun mid new → IsTurned old new
 turned {S} old mid new ended begun =
     let after : IsAfter ended.shift mid new = subst (λ (c : Option (ShiftView S)). MatchOption c (new ≡ mid) (λ shift. IsAfter shift mid new)) ended.closed begun in
@@ -51,10 +51,10 @@ turned {S} old mid new ended begun =
       after = record { next = next; is_open = after.is_open; octets = after.octets; seats = after.seats ∙ ended.seats };
     }
 
--- the records after the last shift
+-- the records after a turn are those that are handed out
 pub handed_out : {S : Type 0} (old new : ShiftsView S) (records : List Record) → IsTurned old new → records ≡ new.records → IsHandedOut old records
 handed_out old new records t same = (t.shift, t.was, same ∙ t.after.next.kept)
 
--- the records are taken out once the shift has turned
+-- the records after a turn are those that are taken out
 pub taken_out : {S : Type 0} (old mid new : ShiftsView S) (taken : Option (List Record)) → IsTurned old mid → taken ≡ taken_by mid.history mid.records → new ≡ record { row = mid.row; octets = mid.octets; closed = mid.closed; seats = mid.seats; history = mid.history; records = [] } → IsTakenOut old taken new
 taken_out old mid new taken t records after = record { turned = mid; has_turned = t; records = records; after = after }

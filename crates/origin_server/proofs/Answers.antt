@@ -16,6 +16,7 @@ use Rattle.origin_server.specs.Serving.{AnswersAsk, told}
 is_writable_by : (key : List ℕ) (count : ℕ) → nat_le (length (body_of key count)) 65536 ≡ true → is_writable (answer_for key count) ≡ true
 is_writable_by key count short = rw short refl
 
+-- so can the response to any request
 pub can_be_written : (key : List ℕ) (count : ℕ) → length (body_of key count) ≤ 1035 → is_writable (answer_for key count) ≡ true
 can_be_written key count short = is_writable_by key count (le-leb _ _ (omega arith))
 

@@ -22,25 +22,30 @@ use Rattle.purge_records.proofs.durable.SqlitePurges.TheSendSync as purges
 use Rattle.running_cluster.specs.contracts.files.NodeStore as NodeStore
 use Rattle.running_cluster.specs.contracts.files.MasterStore as MasterStore
 
--- a struct of one field may be sent where the field may
+-- a struct of one field may be sent where its field may
 one_part_send : (T : S.Declared) (F : Field) → T.parts ≡ F ∷ [] → IsSend F.row → IsSend (S.row T)
 one_part_send T F is sent = declared_send T (subst (FieldsHave IsSend) (sym is) (as_row_send F sent, tt))
 
+-- the operating system, as the file calls it, may be sent
 host_send : IsSend Host.the_row
 host_send = search (sendable, declared_send, as_row_send) depth 40 fits 20000
 
--- an open file, and a store over one
+-- an open file
 abbrev file : RattleType
 file = Modelled.the_row Host.the_row Unknown.the_row calls.ghosts start.ghosts
 
+-- the disk that it is to the database
 abbrev disk : Disk.Ghosts file.Denot
 disk = disks.ghosts Host.the_row Unknown.the_row calls.ghosts disks.no_dict start.ghosts disks.no_dict disks.no_dict
 
+-- the store of a database over an open file may be sent
 store_send : IsSend (FileStore.the_row file disk)
 store_send = files.the_send file disk (modelled.the_send Host.the_row Unknown.the_row calls.ghosts start.ghosts host_send)
 
+-- so may the store of floors of a member
 pub node_send : IsSend NodeStore.the_row
 node_send = one_part_send NodeStore.the_type _ refl (floors.the_send (FileStore.the_row file disk) (stores.ghosts file disk stores.no_dict) store_send)
 
+-- and the store of purges of the master
 pub master_send : IsSend MasterStore.the_row
 master_send = one_part_send MasterStore.the_type _ refl (purges.the_send (FileStore.the_row file disk) (stores.ghosts file disk stores.no_dict) store_send)

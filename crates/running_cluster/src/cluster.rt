@@ -63,12 +63,15 @@ struct Common<'a> {
 /// a member are not given; `quit` prints nothing. Any other line, also one that names no member,
 /// prints `bad line`.
 ///
-/// For `check`, what the members and the master did is kept in memory: `history` shifts of every
-/// member and of the master, of 4,096 steps or calls each, or fewer where the events of a shift
-/// have brought 4 MiB along. Where there would be more, all of it is dropped, and `check` prints
-/// `forgotten` from then on. With 0 nothing is kept. What is kept at the end is returned, if it is
-/// all that was done until then; each verdict that was printed is the one on a front of it, which
-/// was gathered when that line came.
+/// For `check`, what the members and the master did is kept in memory: `history` shifts of each
+/// member, and as many pages of the master, of 4,096 steps or calls each. A shift is shorter where
+/// its events have brought 4 MiB along. All that is kept may not be more than so many steps and
+/// calls; four floors, copies or pending requests in the opening or closing state of a record count
+/// as one, and so do 1,024 octets that its events brought along. Where there would be more, all of
+/// it is dropped, and `check` prints `forgotten` from then on. With 0 nothing is kept.
+///
+/// What is kept at the end is returned, if it is all that was done until then; each verdict that
+/// was printed is the one on a front of it, which was gathered when that line came.
 ///
 /// Faults, the first that comes: those of the master's purges, its socket and its thread; of the
 /// members' floors, sockets and threads, by ascending id; and of the input. After any of them every

@@ -32,7 +32,8 @@ const ROWS_OF_AN_ENTRY: u64 = 4;
 /// This many octets that a record's events brought along count as one entry.
 const OCTETS_OF_AN_ENTRY: u64 = 1_024;
 
-/// How many entries are kept of this many members and a master, with this many shifts of each.
+/// How many entries are kept at most of this many members and a master, with this many shifts of
+/// each.
 fn most_entries(members: usize, shifts: u32) -> u64 {
     let each = u64::from(shifts).saturating_mul(MOST_ENTRIES as u64);
     each.saturating_mul((members as u64).saturating_add(1))

@@ -129,8 +129,8 @@ impl<C: Clock> Timed<'_, '_, C> {
 }
 
 impl<C: Clock> Write for Timed<'_, '_, C> {
-    /// Keeps the octets until 16,384 are there or `flush` is called. A piece that is longer than
-    /// 16,384 octets is sent at once, after what is kept.
+    /// Keeps the octets where they have room, and else first sends what is kept. A piece that is
+    /// longer than 16,384 octets is sent at once, after what is kept.
     fn write(&mut self, octets: &[u8]) -> io::Result<usize> {
         if !self.waiter.has_room(octets.len()) {
             self.send_kept()?;

@@ -1,4 +1,4 @@
--- Lines of many words.
+-- Lines of too many words.
 use Rattle.std.proofs.Common.{◌≡◌, ℕ, ◌≤◌, Bor, List, [], ◌∷◌, length, map, refl, arith}
 use Rattle.world_script.specs.Command.{Command, BadLine, command_of}
 
