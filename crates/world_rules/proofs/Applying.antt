@@ -1,4 +1,5 @@
--- What the function does of an event may happen, and so every list of events is played.
+-- What the function apply makes of an event may happen, and so every list of events has a run. The
+-- function of a node's step is one of the steps that the relation allows.
 use Rattle.std.proofs.Common.{◌≡◌, ℕ, ◌+◌, List, [], ◌∷◌, refl, sym, inl, inr, subst}
 use Rattle.std.specs.List.{AllByRecursion}
 use Rattle.node_rules.proofs.Lawful.{step_steps}

@@ -1,4 +1,6 @@
--- Each step of a node serves what was asked, with its age.
+-- Each step of a node answers what was requested, with its age. The proof goes over the rules of a
+-- node, in the order of node_rules: each serves the request that it was given, and keeps those that
+-- wait.
 use Rattle.std.proofs.Common.{◌≡◌, ℕ, ◌+◌, ◌≤◌, Bool, true, false, not, ◌&&◌, ◌||◌, List, [], ◌∷◌, ◌++◌, find, Option, Some, None, Result, Ok, Err, refl, sym, ◌∙◌, ap, subst, nat_le, nat_eq, inl, inr, arith}
 use Rattle.std.specs.List.{AllByRecursion, Contains}
 use Rattle.std.proofs.lemmas.Option.{cond_some}
@@ -49,7 +51,7 @@ use Rattle.node_rules.proofs.Pendings.{all_mapped, all_joined, all_contained, fo
 use Rattle.node_rules.proofs.Stepping.{steps_case, closing_closes}
 use Rattle.world_rules.specs.Asked.{moment, Asks, Waits, IsAskAfter, IsFor, ServesRightly, AnswersAsks}
 
--- a copy that is chosen for an ask is of its key
+-- a copy that is chosen for a request is of its key
 good_key : {X : Type 0} (floor now : ℕ) (o : Option (WebCopy X)) (c : WebCopy X) → if_good floor now o ≡ Some c → o ≡ Some c
 good_key floor now None c e = e
 good_key floor now (Some d) c e = ap Some (cond_some (is_good floor now d) d c e).1
@@ -63,7 +65,7 @@ module _ {X : Type 0} (g : Setting) (s : NodeState X) (e : Event X) (mark : X) (
   abbrev pub Answers : Stepped X → Type 0
   Answers r = AnswersAsks s e r.outcome r.state
 
-  -- the asks of a state that rules have led to
+  -- what holds of the requests that wait in a state that rules have led to
   abbrev pub GoesOn : NodeState X → Type 0
   GoesOn t = AllByRecursion (IsAskAfter s e t.next) t.pending × (s.next ≤ t.next)
 
@@ -82,7 +84,7 @@ module _ {X : Type 0} (g : Setting) (s : NodeState X) (e : Event X) (mark : X) (
   was_asked : (next : ℕ) (p : Pending X) → Contains s.pending p → IsAskAfter s e next p
   was_asked next p has = inl (was_waiting p has)
 
-  -- an ask that waits is served as its block
+  -- a request that waits is served as its block
   waits_served : (p : Pending X) → Waits s p.block p.asker p.ask → (key : List ℕ) × IsFor s e (Some p.block) p.asker key
   waits_served p w = (p.ask.key, (w.was, w.waits, w.block_same, w.asker_same, ap (λ (a : Ask). a.key) w.ask_same))
 
@@ -316,7 +318,7 @@ module _ {X : Type 0} (g : Setting) (s : NodeState X) (mark : X) where
   open_step_answers is_open (event.FetchFailed serial now) = failure_of_answers g s _ mark is_open now refl _ _ refl
   open_step_answers is_open (event.Expired serial now) = expiry_of_answers g s _ mark is_open now refl _ _ refl
 
-  -- a closed node's asks stay, and it serves none
+  -- a closed node serves nothing, and what waits there stays
   closed_answers : (e : Event X) → s.closed ≡ true → (f : StepFault) → AnswersAsks s e (Err f) s
   closed_answers e is f = record {
     asks = all_mapped (Contains s.pending) (IsAskAfter s e s.next) (λ p has. inl record { was = p; waits = has; block_same = refl; asker_same = refl; ask_same = refl }) s.pending (all_contained s.pending);
@@ -351,7 +353,7 @@ module _ {X : Type 0} (g : Setting) (s : NodeState X) (mark : X) where
     serves = tt;
   }
 
-  -- each step of a node serves what was asked
+  -- each step of a node answers what was requested
   pub steps_answer_asks : (e : Event X) (outcome : Result (Reply X) StepFault) (next : NodeState X) → Steps g s e mark outcome next → AnswersAsks s e outcome next
   steps_answer_asks e outcome next steps =
       steps_case g s e mark (λ r. AnswersAsks s e r.outcome r.state) (step_answers e) (same_answers e _) (λ n f h. closing_answers e n f h) outcome next steps

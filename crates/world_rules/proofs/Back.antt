@@ -1,4 +1,6 @@
--- What a step sends at a sibling's question goes back to who asked.
+-- What a step sends at a sibling's question goes back to its source: the rules for a QUERY and a
+-- TST send at most one response, to the source, and the rule for a sibling's HTTP request sends no
+-- datagram.
 use Rattle.std.proofs.Common.{◌≡◌, ℕ, Bool, true, false, [], Option, Some, None, Result, refl, sym, ◌∙◌}
 use Rattle.std.specs.List.{AllByRecursion}
 use Rattle.icp_wire.specs.declared.message.IcpOp.{IcpOp}
@@ -29,15 +31,15 @@ use Rattle.node_rules.proofs.Cases.{branches, true_not_false, or_true}
 use Rattle.node_rules.proofs.Stepping.{steps_case}
 use Rattle.world_rules.specs.Safety.{SendsBack}
 
--- no datagram is sent
+-- the step sends no datagram
 record IsSilent {X : Type 0} (r : Stepped X) : Type 0 where
   none : sent r.outcome ≡ []
 
--- each datagram that is sent goes to this address
+-- each datagram that the step sends goes to this address
 record GoesTo {X : Type 0} (from : Address) (r : Stepped X) : Type 0 where
   back : AllByRecursion (λ (o : Outgoing). o.to ≡ from) (sent r.outcome)
 
--- where nothing is sent, nothing goes elsewhere
+-- if nothing is sent, nothing goes elsewhere
 pub nothing_back : {X : Type 0} (e : Event X) → SendsBack e []
 nothing_back (event.Datagram from m now) = tt
 nothing_back _ = refl
@@ -84,7 +86,7 @@ module _ {X : Type 0} (g : Setting) (s : NodeState X) where
   step_if_back e mark true h = nothing_back e
   step_if_back e mark false h = open_step_back mark e h
 
-  -- at a sibling's question nothing is sent but an answer to who asked
+  -- at a sibling's question nothing is sent but a response to its source
   pub sibling_sends_back : (e : Event X) (mark : X) (outcome : Result (Reply X) StepFault) (next : NodeState X) → is_from_sibling g e ≡ true → Steps g s e mark outcome next → SendsBack e (sent outcome)
   unfolding step
   sibling_sends_back e mark outcome next h =

@@ -1,4 +1,5 @@
--- An event that issues nothing, or one purge, is counted among the steps.
+-- The invariant over one more step. If the step issues nothing, the purges stay the same, so what
+-- held still holds. If it issues a purge, that purge gets the next number, and has no mark yet.
 use Rattle.std.proofs.Common.{◌≡◌, ℕ, ◌+◌, ◌≤◌, List, [], ◌∷◌, ◌++◌, length, Option, Some, None, refl, sym, ◌∙◌, ap, subst, nat_le, inl, inr, arith, length-append}
 use Rattle.std.specs.Prelude.{if◌then◌else◌}
 use Rattle.std.proofs.Math.Decide.{ℕ_discrete}
@@ -24,7 +25,7 @@ use Rattle.world_rules.proofs.Seats.{pending-none_of_append, pending-pushed}
 use Rattle.world_rules.proofs.Later.{grows_itself, Extends, extends_by, node_later, answers_later, masters_later, obeyed_later, purges_later, all_later}
 use Rattle.world_rules.proofs.MasterTurns.{clear_right, new_right, new_obeyed}
 
--- the steps of the past, and then one more
+-- these steps, and then one more
 pub with_step : List Step → WorldEvent → Seen → List Step
 with_step past event seen = past ++ record { event = event; seen = seen } ∷ []
 
@@ -36,7 +37,7 @@ extends_step : (past : List Step) (event : WorldEvent) (seen : Seen) → Extends
 unfolding with_step
 extends_step past event seen = extends_by past (record { event = event; seen = seen } ∷ [])
 
--- what an event that issues nothing leaves, before it is counted among the steps
+-- what holds after an event that issues nothing, before its step is added
 pub record Leaves (h : Tables) (past : List Step) (seen : Seen) (w : World) : Type 0 where
   pub lineage : HasLineage h past w
   pub tells : (number : ℕ) → TellsDone number seen → AllHaveRaised h past w.seats number
@@ -76,7 +77,7 @@ module _ (h : Tables) (past : List Step) (event : WorldEvent) (seen : Seen) (w :
 
 -- A purge is issued
 
--- a number is left where the master gives one
+-- if the master issues a purge, its number is at most 2^32 - 1
 pub left_number : (m : PurgeList) → issue_fault m ≡ None → m.last + 1 ≤ 4294967295
 left_number m e =
     (branches (λ (o : Option MasterFault). o ≡ None → m.last + 1 ≤ 4294967295) (nat_le 4294967295 m.last) (Some NumbersSpent) (if nat_le 1024 (length m.pending) then Some TooManyPending else None)
@@ -90,7 +91,7 @@ module _ (h : Tables) (past : List Step) (w : World) (lineage : HasLineage h pas
   unfolding issued_now
   issue_extends = extends_step past (Issue key) (Issued (w.master.last + 1))
 
-  -- the new purge is the last
+  -- the new purge is the last of those issued
   issue_last : w.master.last + 1 ≡ length (purges issued_now)
   unfolding issued_now with_step
   issue_last =

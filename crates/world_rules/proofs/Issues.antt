@@ -1,4 +1,5 @@
--- How many purges were issued, and which, as the run goes on.
+-- As a run goes on, purges are only added behind those that were issued: so each keeps its number
+-- and its key, and their count never falls.
 use Rattle.std.proofs.Common.{◌≡◌, ℕ, ◌+◌, ◌-◌, ◌≤◌, List, ◌++◌, length, take, refl, ap, ◌∙◌, arith, length-append}
 use Rattle.std.proofs.lemmas.List.Elements.{filter_map-append}
 use Rattle.std.proofs.Math.Seq.{take-length}
@@ -9,7 +10,7 @@ use Rattle.world_rules.proofs.Items.{item_later, take_of_more, take_within}
 pub purges-append : (past more : List Step) → purges (past ++ more) ≡ purges past ++ purges more
 purges-append past more = filter_map-append (λ (step : Step). purged_by step.event step.seen) past more
 
--- a longer list has at least as many purges
+-- more steps have issued at least as many purges
 purges_of_more : (part whole rest : List Step) → whole ≡ part ++ rest → length (purges part) ≤ length (purges whole)
 purges_of_more part whole rest e =
     let f : length (purges whole) ≡ length (purges part) + length (purges rest) = ap (λ l. length (purges l)) e ∙ ap length (purges-append part rest) ∙ length-append (purges part) (purges rest) in
@@ -29,7 +30,7 @@ issued_up past early late h =
     let t = take_within (early - 1) (late - 1) past k in
     purges_of_more (take (early - 1) past) (take (late - 1) past) t.0 t.1
 
--- all of the past is before the next place
+-- all steps so far are before the next place
 pub issued_here : (past : List Step) → issued past (length past + 1) ≡ length (purges past)
 issued_here past =
     let e : length past + 1 - 1 ≡ length past = omega arith in

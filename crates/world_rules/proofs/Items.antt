@@ -1,4 +1,5 @@
--- Items of lists that grow at the end.
+-- Lists that grow at the end: an item keeps its number, and a prefix stays a prefix. By induction
+-- over the list.
 use Rattle.std.proofs.Common.{◌≡◌, ℕ, zero, suc, ◌+◌, ◌-◌, ◌≤◌, ◌<◌, List, [], ◌∷◌, ◌++◌, length, take, Some, refl, ap, inl, inr, arith}
 use Rattle.std.specs.Prelude.{slice_get, Contains, ◌⊎◌}
 use Rattle.std.proofs.lemmas.Option.{slice_get_within, get_or_from_slice_get, same_Some}
@@ -13,11 +14,11 @@ slice_get-push : {X : Type 0} (xs : List X) (x : X) → slice_get (xs ++ x ∷ [
 slice_get-push [] x = refl
 slice_get-push (a ∷ xs) x = slice_get-push xs x
 
--- an item stays where it is
+-- an item keeps its number
 pub item_later : {X : Type 0} (xs ys : List X) (k : ℕ) (x : X) → IsItem xs k x → IsItem (xs ++ ys) k x
 item_later xs ys k x h = (h.0, slice_get-append xs ys (k - 1) x h.1)
 
--- the last item has the length as its number
+-- the number of the last item is the length
 pub item_pushed : {X : Type 0} (xs : List X) (x : X) → IsItem (xs ++ x ∷ []) (length xs + 1) x
 item_pushed xs x =
     let e : length xs + 1 - 1 ≡ length xs = omega arith in
@@ -35,17 +36,17 @@ slice_get-push_cases [] x (suc k) y h = cc
 slice_get-push_cases (a ∷ xs) x zero y h = inl h
 slice_get-push_cases (a ∷ xs) x (suc k) y h = slice_get-push_cases xs x k y h
 
--- an item of the longer list is an earlier one, or the last
+-- an item of the longer list is one of the shorter, or the last
 pub item_cases : {X : Type 0} (xs : List X) (x : X) (k : ℕ) (y : X) → IsItem (xs ++ x ∷ []) k y → IsItem xs k y ⊎ (x ≡ y)
 item_cases {X} xs x k y h = elim (slice_get-push_cases xs x (k - 1) y h.1) [ inl e ↦ inl (h.0, e) | inr e ↦ inr e ]
 
--- a beginning of the list
+-- a prefix of a list is a prefix of a longer one
 pub take_of_more : {X : Type 0} (n : ℕ) (xs ys : List X) → (zs : List X) × (take n (xs ++ ys) ≡ take n xs ++ zs)
 take_of_more zero xs ys = ([], refl)
 take_of_more (suc n) [] ys = (take (suc n) ys, refl)
 take_of_more (suc n) (x ∷ xs) ys = let t = take_of_more n xs ys in (t.0, ap (λ l. x ∷ l) t.1)
 
--- a beginning of a beginning
+-- a shorter prefix is a prefix of a longer prefix
 pub take_within : {X : Type 0} (n m : ℕ) (xs : List X) → n ≤ m → (zs : List X) × (take m xs ≡ take n xs ++ zs)
 take_within zero m xs h = (take m xs, refl)
 take_within (suc n) zero xs h = absurd (omega arith)
@@ -58,11 +59,11 @@ slice_get-take (a ∷ xs) zero k x lt h = absurd (omega arith)
 slice_get-take (a ∷ xs) (suc n) zero x lt h = h
 slice_get-take (a ∷ xs) (suc n) (suc k) x lt h = slice_get-take xs n k x (omega arith) h
 
--- an early item is among the first
+-- an earlier item is in the prefix before a later number
 pub item_taken : {X : Type 0} (xs : List X) (k later : ℕ) (x : X) → k < later → IsItem xs k x → IsItem (take (later - 1) xs) k x
 item_taken xs k later x lt h = (h.0, slice_get-take xs (later - 1) (k - 1) x (omega (arith, h.0)) h.1)
 
--- the list is what is before the item, the item and the rest
+-- a list is the items before an item, the item, and the rest
 pub parted : {X : Type 0} (xs : List X) (k : ℕ) (x : X) → slice_get xs k ≡ Some x → (rest : List X) × (xs ≡ (take k xs ++ x ∷ []) ++ rest)
 parted [] k x h = cc
 parted (a ∷ xs) zero x h = (xs, ap (λ y. y ∷ xs) (same_Some a x h))

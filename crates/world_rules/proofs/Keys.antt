@@ -1,4 +1,5 @@
--- A key is its own key.
+-- The key of a key's own text is that key. The text either has a fault or spells no URI, which
+-- IsKey excludes, or it spells a URI, and then IsKey says which key it has.
 use Rattle.roster_tables.specs.declared.plain.Tables.{Tables}
 use Rattle.std.proofs.Common.{◌≡◌, ℕ, Bool, true, false, List, Option, Some, None, Ok, Err, refl, sym, ◌∙◌, ap, subst, inl, inr, [], unwrap_or}
 use Rattle.std.proofs.lemmas.Option.{none-some}
@@ -28,7 +29,7 @@ module _ (h : Tables) (key : List ℕ) (is : IsKey key) where
       let has : HasKey key (key_of_uri u) = subst (λ f. HasKeyBy f key (key_of_uri u)) (sym none) (inr (u, spells, refl)) in
       gives_keys key (key_of_uri u) has ∙ ap key_in (is.own (key_of_uri u) has)
 
-  -- it cannot be that the key is not its own
+  -- it cannot be that a key's text has another outcome
   not_other : (f : Option KeyFault) → early_fault key ≡ f → (key_of key ≡ Some key → ⊥) → ⊥
   not_other (Some fault) e other =
       let bad : Err fault ≡ Ok key = is.own (Err fault) (subst (λ f. HasKeyBy f key (Err fault)) (sym e) refl) in cc
@@ -44,6 +45,6 @@ module _ (h : Tables) (key : List ℕ) (is : IsKey key) where
   by_read None e = absurd (not_other (early_fault key) refl (λ own. none-some key (sym e ∙ own)))
   by_read (Some read) e = by_text read e (bytes_eq read key) refl
 
-  -- a key's text is read as itself
+  -- the text of a key has that key
   pub own_key : key_of key ≡ Some key
   own_key = by_read (key_of key) refl

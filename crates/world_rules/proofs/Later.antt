@@ -1,4 +1,5 @@
--- What holds once goes on to hold, as the run goes on and floors rise.
+-- What the invariant says once goes on to hold, as the run goes on and floors rise: each part is an
+-- upper bound by a count that never falls, or a lower bound on a floor that never falls.
 use Rattle.std.proofs.Common.{ℕ, ◌≤◌, List, ◌++◌, length, inl, inr, arith}
 use Rattle.std.specs.List.{AllByRecursion}
 use Rattle.node_rules.specs.declared.message.Message.{Message}
@@ -15,7 +16,7 @@ use Rattle.world_rules.specs.Lineage.{IsStamped, IsStampedCopy, IsStampedFetch, 
 use Rattle.world_rules.proofs.Issues.{count_later, issued_later, key_later}
 use Rattle.world_rules.proofs.Seats.{each_node}
 
--- the later list of steps has all purges of the earlier
+-- the longer list of steps has all purges of the shorter, and bounds at least as great
 pub record Extends (past now : List Step) : Type 0 where
   pub keys : (number : ℕ) (key : List ℕ) → IsItem (purges past) number key → IsItem (purges now) number key
   pub stamps : (place : ℕ) → issued past place ≤ issued now place

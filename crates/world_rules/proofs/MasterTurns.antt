@@ -1,4 +1,6 @@
--- A turn of the master keeps the lineage of the world.
+-- A turn of the master keeps the invariant. The CLRs that it sends are of issued purges. A mark is
+-- set only at a member's acknowledgement, and that member has raised its floor. A purge ends only
+-- when all members are marked.
 use Rattle.std.proofs.Common.{◌≡◌, ℕ, ◌-◌, ◌≤◌, ◌<◌, true, not, ◌||◌, ◌&&◌, List, [], ◌∷◌, map, filter, length, Option, Some, None, refl, sym, ◌∙◌, subst, nat_eq, nat_lt, cond, inl, inr, arith}
 use Rattle.std.specs.Prelude.{option_map}
 use Rattle.std.specs.List.{AllByRecursion, flat_map}
@@ -34,7 +36,7 @@ all_flat P f each (x ∷ xs) = all_joined P (f x) (flat_map f xs) (each x) (all_
 -- CLRs
 
 module _ (h : Tables) (past : List Step) (seats : List Seat) where
-  -- a CLR of an issued purge may be sent, and acknowledges nothing
+  -- the CLR of an issued purge may be sent, and acknowledges nothing
 
   pub clear_right : (p : Purge) → length (purges past) ≤ 4294967295 → PurgeHasLineage past seats p → IsClear past (message.Htcp (clear p.number p.key))
   clear_right p short is =
@@ -103,7 +105,7 @@ module _ (h : Tables) (past : List Step) (w : World) (lineage : HasLineage h pas
 
   -- Acknowledgements
 
-  -- the pending purges alone change, and no number is given
+  -- only the pending purges change, and no purge is issued
   alone_keeps : (pending : List Purge) → AllByRecursion (PurgeHasLineage past w.seats) pending →
       ((number : ℕ) → 1 ≤ number → number ≤ w.master.last → pending_at record { last = w.master.last; pending = pending } number ≡ None → AllHaveRaised h past w.seats number) →
       HasLineage h past (with_master w record { last = w.master.last; pending = pending })
@@ -120,7 +122,7 @@ module _ (h : Tables) (past : List Step) (w : World) (lineage : HasLineage h pas
   }
 
   module _ (roster : IsRoster h) (id number : ℕ) (raised : HasRaised past (node_at w.seats id) number) where
-    -- each marked member has raised its floor
+    -- each member that is marked has raised its floor
     mark_raised : (p : Purge) → p.number ≡ number → PurgeHasLineage past w.seats p → (other : ℕ) → is_among other (with_id id p.marked) ≡ true → HasRaised past (node_at w.seats other) p.number
     mark_raised p same is other has = elim (mark_cases p.marked id other has) [
       | inl was ↦ is.marked other was
@@ -138,7 +140,7 @@ module _ (h : Tables) (past : List Step) (w : World) (lineage : HasLineage h pas
       all_marked which this due all.1,
     )
 
-    -- all have raised their floors where the marks are complete
+    -- if all members are marked, all have raised their floors
     complete_raised : (p : Purge) → p.number ≡ number → PurgeHasLineage past w.seats p → are_among (members_of h) (with_id id p.marked) ≡ true → AllHaveRaised h past w.seats p.number
     complete_raised p same is complete other member =
         mark_raised p same is other (among_has (members_of h) (with_id id p.marked) other complete (member_counts h roster.ranges other member))
@@ -163,7 +165,7 @@ module _ (h : Tables) (past : List Step) (w : World) (lineage : HasLineage h pas
       branches (λ (a : Acknowledged). HasLineage h past (with_master w a.purges)) (is_acknowledging code && is_among id (members_of h)) (counted (members_of h) w.master id (pending_at w.master number)) (unchanged w.master)
       (λ counts. counted_keeps roster id number (raised (and_parts (is_acknowledging code) (is_among id (members_of h)) counts).0) (pending_at w.master number) refl) (λ _. lineage)
 
-  -- What the master tells
+  -- What the master reports
 
   none_by : (o : Option Purge) → status_by (members_of h) o ≡ status.Done → o ≡ None
   none_by None e = refl
@@ -180,6 +182,6 @@ module _ (h : Tables) (past : List Step) (w : World) (lineage : HasLineage h pas
       subst (AllHaveRaised h past w.seats) e (lineage.done number known.0 known.1 known.2)
   told_by number _ is told e = absurd e
 
-  -- who tells that a purge is done tells right
+  -- if the master reports a purge done, all members have raised their floors
   pub told_raised : (number told : ℕ) → TellsDone told (Told number (status_of (members_of h) w.master number)) → AllHaveRaised h past w.seats told
   told_raised number told e = told_by number (status_of (members_of h) w.master number) refl told e

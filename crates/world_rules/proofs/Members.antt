@@ -1,4 +1,5 @@
--- Each member of a roster is among those that the master counts.
+-- Each member of a roster is among those that the master counts: the master counts the ids 1 to 16
+-- that are members, and a roster gives no other ids.
 use Rattle.std.proofs.Common.{◌≡◌, ℕ, zero, suc, ◌+◌, ◌≤◌, ◌<◌, Bool, true, ◌&&◌, List, [], ◌∷◌, filter, Option, Some, None, refl, sym, ◌∙◌, subst, nat_eq, nat_le, inl, inr, arith}
 use Rattle.std.specs.Prelude.{is_some, find}
 use Rattle.std.specs.List.{AllByRecursion, list_all}
@@ -13,7 +14,7 @@ use Rattle.node_rules.proofs.Pendings.{found, found_passes}
 use Rattle.purge_rules.specs.Members.{is_among, possible_ids, members_of}
 use Rattle.world_rules.proofs.Seats.{or_cases, or_left, and_parts, ids_same, same_id}
 
--- so many ids from the first one on
+-- this many ids from the first one on
 ids_from : ℕ → ℕ → List ℕ
 ids_from first zero = []
 ids_from first (suc count) = first ∷ ids_from (first + 1) count
@@ -41,7 +42,7 @@ kept_among test (i ∷ ids) id passes has = elim (or_cases (nat_eq i id) (is_amo
       (λ _. kept_among test ids id passes later)
 ]
 
--- the members are in their ranges
+-- each member's tables are in their ranges
 members_fit : (t : Tables) → are_tables t ≡ true → list_all ranges.is_member t.members ≡ true
 members_fit t fit =
     let origins = and_parts (are_limits t.limits && is_port t.master.port && nat_le 1 _ && list_all ranges.is_member t.members && list_all is_foreign t.foreign) (list_all is_origin t.origins) fit in

@@ -1,4 +1,6 @@
--- A node's turn keeps the lineage of the world.
+-- A node's turn keeps the invariant. It uses only the law steps_are_lawful of node_rules: copies
+-- and reads come from what the node had or got, floors never fall, and an acknowledgement is sent
+-- only with the floor raised.
 use Rattle.std.proofs.Common.{◌≡◌, ℕ, ◌+◌, ◌-◌, ◌≤◌, ◌<◌, Bool, true, false, cond, ◌&&◌, nat_eq, nat_le, List, [], ◌∷◌, ◌++◌, map, length, Option, Some, None, Result, Ok, Err, refl, sym, ◌∙◌, ap, subst, unwrap_or, inl, inr, arith}
 use Rattle.std.specs.Prelude.{◌⊎◌}
 use Rattle.std.specs.List.{AllByRecursion}
@@ -49,7 +51,7 @@ use Rattle.world_rules.proofs.Later.{extends_itself, Grows, grows_by, obeyed_lat
 use Rattle.world_rules.proofs.Numbers.{clear_is_purge}
 use Rattle.world_rules.proofs.Keys.{own_key}
 
--- what the world knows of an event that comes to a node
+-- what the invariant says of an event that reaches a node
 abbrev pub ComesRightly : Tables → List Step → Event ℕ → Type 0
 ComesRightly h past (event.Datagram from m now) = is_master h from ≡ true → IsClear past m
 ComesRightly h past (event.PeerAnswer serial peer key answer tag now) = IsStampedAnswer past answer tag
@@ -66,7 +68,7 @@ clear_brings h past id from m master is =
     ap (λ (m : Message). purge_in_message (setting h id) from m) is.is_clear
     ∙ clear_is_purge h id is.number is.key from master is.issued_key.0 is.small (own_key h is.key is.is_key)
 
--- who is not the master brings no purge
+-- a datagram that is not from the master brings no purge
 strange_purge : (h : Tables) (id : ℕ) (from : Address) (trans : ℕ) → is_master h from ≡ false → (key : Option (List ℕ)) (n : ℕ) → purge_of (setting h id) from trans key n ≡ None
 strange_purge h id from trans other None n = refl
 strange_purge h id from trans other (Some key) n = ap (λ b. cond (b && nat_eq n trans && nat_le 1 n) (Some (key, n)) None) other
@@ -130,13 +132,13 @@ module _ (h : Tables) (past : List Step) (id : ℕ) (old : NodeState ℕ) (linea
     reads = all_mapped (IsReadOf old (length past + 1) outcome) (IsStampedRead past) (λ p is. fetch_stamped outcome p p.fetch refl is) next.pending law.reads;
   }
 
--- A member's node changes, and its floors do not fall
+-- A member's node changes, and its floors never fall
 
 module _ (h : Tables) (past : List Step) (w : World) (lineage : HasLineage h past w) (id : ℕ) (s : NodeState ℕ) (floors : (key : List ℕ) → floor (node_at w.seats id).floors key ≤ floor s.floors key) (node : NodeHasLineage past s) where
   grown : Grows w.seats (with_node w.seats id s)
   grown = grows_by w.seats id s floors
 
-  -- with what was sent, the world has its lineage
+  -- with what was sent, the invariant holds
   pub seat_keeps : (datagrams : List Datagram) (asks : List PeerAsk) (answers : List PeerAnswer) (waiting : List Waiting) →
       AllByRecursion (IsMastersRightly h past) datagrams → AllByRecursion (IsObeyed h past (with_node w.seats id s)) datagrams → AllByRecursion (IsSentAnswer past) answers →
       HasLineage h past record { seats = with_node w.seats id s; master = w.master; clock = w.clock; datagrams = w.datagrams ++ datagrams; asks = asks; answers = w.answers ++ answers; waiting = waiting }
@@ -152,7 +154,7 @@ module _ (h : Tables) (past : List Step) (w : World) (lineage : HasLineage h pas
     reported = λ place number told. all_later past past (extends_itself past) h w.seats (with_node w.seats id s) grown number (lineage.reported place number told);
   }
 
-  -- and so it has with nothing sent
+  -- it also holds if nothing was sent
   pub silent_keeps : HasLineage h past (with_seat w id s)
   silent_keeps = record {
     last = lineage.last;
@@ -168,13 +170,13 @@ module _ (h : Tables) (past : List Step) (w : World) (lineage : HasLineage h pas
 
 -- What a node sends
 
--- an acknowledgement is of HTCP
+-- an acknowledgement is an HTCP message
 htcp_only : (m : Message) (number : ℕ) → acknowledged m ≡ Some number → udp_of m ≡ udp.Htcp
 htcp_only (message.Icp m) number e = absurd (none-some number e)
 htcp_only (message.Htcp m) number e = refl
 
 module _ (h : Tables) (proper : IsRoster h) (past : List Step) (id : ℕ) (next : NodeState ℕ) where
-  -- who acknowledges the CLR of a purge has raised its floor
+  -- a node that acknowledges the CLR of a purge has raised its floor
   raised_by : (from : Address) (m : Message) (number : ℕ) → is_master h from ≡ true → IsClear past m → effect.HasRaised next.floors (purge_in_message (setting h id) from m) number → HasRaised past next number
   raised_by from m number master is raised =
       let both = subst (λ o. effect.HasRaised next.floors o number) (clear_brings h past id from m master is) raised in
@@ -221,7 +223,7 @@ module _ (h : Tables) (proper : IsRoster h) (past : List Step) (id : ℕ) (next 
     datagrams_masters None entry = tt
     datagrams_masters (Some c) entry = all_masters seats at_id e comes c entry sent
 
--- the answers that a node sends have their lineage
+-- the responses that a node sends keep the invariant
 served_stamped : (past : List Step) (served : Served ℕ) → IsBareStatus served → ((c : WebCopy ℕ) → copy_in served ≡ Some c → IsStampedCopy past c) → IsStampedAnswer past (answer_of served) (mark_of served)
 served_stamped past (Copy c age) bare stamped = inr (stamped c refl)
 served_stamped past (Status status) bare stamped = inl bare

@@ -1,4 +1,5 @@
--- The number of a CLR is read as it was written.
+-- A node reads the number of a CLR as the master wrote it: the digits spell the number and have no
+-- leading zero and no blank, and the header has one line, the purge number's.
 use Rattle.std.proofs.Common.{◌≡◌, ℕ, ◌+◌, ◌-◌, ◌/◌, ◌%◌, ◌^◌, ◌≤◌, ◌<◌, Bool, true, false, cond, not, ◌&&◌, ◌||◌, List, [], ◌∷◌, ◌++◌, length, take, drop, reverse, Some, None, Ok, refl, sym, ◌∙◌, ap, subst, nat_eq, nat_le, nat_lt, arith}
 use Rattle.std.specs.Prelude.{codes, decimal, slice_index, is_none}
 use Rattle.std.specs.List.{AllByRecursion, list_all, prefix_len, suffix_len, filter_map, cons_option}
@@ -28,14 +29,14 @@ use Rattle.world_rules.proofs.Seats.{same_id, other_id, or_left}
 IsDigit : ℕ → Type 0
 IsDigit c = (48 ≤ c) × (c ≤ 57)
 
--- what holds of the digits of n
+-- what holds of the decimal digits of n
 record IsWritten (n : ℕ) (ds : List ℕ) : Type 0 where
   digits : AllByRecursion IsDigit ds
   some : 0 < length ds
   alone : n < 10 → length ds ≡ 1
   -- a number of two digits and more has no leading zero
   front : 1 ≤ n → nat_eq (slice_index ds 0) 48 ≡ false
-  -- no digit is a blank, so the last is none
+  -- no digit is a blank, so the last character is none
   last : suffix_len is_blank ds ≡ 0
 
 digit_not : (c k : ℕ) → IsDigit c → k < 48 → nat_eq c k ≡ false

@@ -1,4 +1,5 @@
--- Each run from a new world has its lineage, at every place.
+-- The invariant holds at every place of a run from a new world: it holds at the start, and Turns
+-- has that each event keeps it.
 use Rattle.std.proofs.Common.{◌≡◌, ℕ, zero, suc, ◌+◌, ◌-◌, List, [], ◌∷◌, ◌++◌, length, take, map, Some, refl, sym, subst, nat_eq, inl, inr, arith, length-append, append_assoc}
 use Rattle.std.specs.Prelude.{slice_get}
 use Rattle.std.proofs.lemmas.Option.{same_Some}
@@ -24,7 +25,7 @@ nodes_are_new (m ∷ members) id =
     branches (NodeHasLineage []) (nat_eq m.cache.id id) new_node (node_at (map (λ (m : Member). record { id = m.cache.id; node = new_node }) members) id)
     (λ _. node_is_new) (λ _. nodes_are_new members id)
 
--- a new world has its lineage
+-- the invariant holds of a new world
 new_lineage : (h : Tables) → HasLineage h [] (new_world h)
 new_lineage h = record {
   last = refl;
@@ -58,16 +59,16 @@ module _ (h : Tables) (proper : IsRoster h) where
       rw (← append_assoc past (first ∷ []) (take k steps))
       (run_at steps (past ++ first ∷ []) next new (happens_keeps h proper past old holds first.event first.seen next happens) (rw next_place run) k step is)
 
-  -- each run from a new world has its lineage
+  -- the invariant holds after each run from a new world
   pub run_lineage : (steps : List Step) (w : World) → Run h 1 (new_world h) steps w → HasLineage h steps w
   run_lineage steps w run = run_on steps [] (new_world h) w (new_lineage h) run
 
-  -- and so has the part of it before the step at a place
+  -- it also holds before the step at a place
   pub lineage_before : (steps : List Step) (w : World) → Run h 1 (new_world h) steps w → (place : ℕ) (step : Step) → IsItem steps place step →
       (before after : World) × HasLineage h (take (place - 1) steps) before × Happens h (length (take (place - 1) steps) + 1) before step.event step.seen after
   lineage_before steps w run place step is = run_at steps [] (new_world h) w (new_lineage h) run (place - 1) step is.1
 
--- a list of events that is played is a run of those that were not refused
+-- a list of events that is played gives a run of those that were not refused
 pub plays_run : (h : Tables) (place : ℕ) (old : World) (events : List WorldEvent) (steps : List Step) (new : World) → Plays h place old events steps new → Run h place old steps new
 plays_run h place old [] steps new (none, same) = subst (λ s. Run h place old s new) (sym none) same
 plays_run h place old (event ∷ events) steps new (inl refused) = plays_run h place old events steps new refused.2

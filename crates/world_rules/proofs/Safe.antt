@@ -1,4 +1,6 @@
--- Nothing old is served once a purge is reported done, and siblings' questions begin nothing.
+-- Safety from the invariant. After the report each member's floor is at least the purge's number n.
+-- A served copy's stamp is at least that floor, so at least n purges were issued before its mark:
+-- its reading began after purge n was issued. The law of siblings is that of one step.
 use Rattle.std.proofs.Common.{◌≡◌, ℕ, ◌+◌, ◌-◌, ◌≤◌, true, List, [], ◌∷◌, ◌++◌, length, take, drop, Option, Some, None, Result, ap, ◌∙◌, sym, subst, arith}
 use Rattle.std.proofs.lemmas.List.{take-append-drop}
 use native.Mathlib.Decide.{dec_lt}
@@ -30,7 +32,8 @@ use Rattle.world_rules.proofs.Turns.{IsRight, turn_right}
 use Rattle.world_rules.proofs.Runs.{lineage_before}
 use Rattle.world_rules.proofs.Back.{sibling_sends_back}
 
--- a copy that is served has its lineage, and no floor of a member that serves it is above its stamp
+-- a copy that is served keeps the invariant, and its stamp is at least the floor of its key at the
+-- member that serves it
 record IsServedRightly (h : Tables) (past : List Step) (w : World) (c : WebCopy ℕ) : Type 0 where
   id : ℕ
   member : is_member h id ≡ true
@@ -54,7 +57,7 @@ module _ (h : Tables) (proper : IsRoster h) (past : List Step) (old : World) (li
   served_rightly : Happens h (length past + 1) old event seen new → IsServedRightly h past old c
   served_rightly (key, takes) = turn_served (turn h old event) (turn_right h proper past old lineage event key) takes
 
--- the number that an event gives is the next
+-- the number under which an event issues a purge is the next
 given_number : Seen → ℕ
 given_number (Issued number) = number
 given_number _ = 0
@@ -64,7 +67,7 @@ unfolding given_number
 issue_number h place old key number new (Some fault) (is_seen, is_new) = cc
 issue_number h place old key number new None (is_seen, is_new) = ap given_number is_seen
 
--- the purge that is issued after a part of the steps has the next number and its key
+-- the purge that is issued after some steps has the next number and its key
 issued_item : (steps part rest : List Step) (number : ℕ) (key : List ℕ) → steps ≡ (part ++ record { event = Issue key; seen = Issued number } ∷ []) ++ rest → number ≡ length (purges part) + 1 → IsItem (purges steps) number key
 issued_item steps part rest number key e f =
     let g : purges steps ≡ (purges part ++ key ∷ []) ++ purges rest =
@@ -73,7 +76,7 @@ issued_item steps part rest number key e f =
     subst (λ n. IsItem (purges steps) n key) (sym f) i
 
 module _ (h : Tables) (proper : IsRoster h) (steps : List Step) (w : World) (run : Run h 1 (new_world h) steps w) where
-  -- a purge's number is one more than were issued before
+  -- a purge's number is one more than the count issued before it
   issued_number : (place number : ℕ) (key : List ℕ) → IsIssuedAt steps place number key → number ≡ issued steps place + 1
   issued_number place number key is =
       let (before, after, lineage, happens) = lineage_before h proper steps w run place (record { event = Issue key; seen = Issued number }) is in
@@ -106,7 +109,7 @@ module _ (h : Tables) (proper : IsRoster h) (steps : List Step) (w : World) (run
 
 -- Siblings
 
--- whose outcome is seen
+-- the outcome that is seen
 abbrev pub seen_outcome : Seen → Result (Reply ℕ) StepFault → Result (Reply ℕ) StepFault
 seen_outcome (Replied id outcome) other = outcome
 seen_outcome _ other = other

@@ -1,4 +1,5 @@
--- Looking up members' nodes, and the master's purges.
+-- Looking up members' nodes and the master's pending purges, also after a change: by induction over
+-- the lists.
 use Rattle.std.proofs.Common.{◌≡◌, ℕ, zero, suc, ◌-◌, Bool, true, false, cond, not, ◌&&◌, ◌||◌, inl, inr, List, [], ◌∷◌, ◌++◌, Option, Some, None, refl, sym, ◌∙◌, ap, subst, nat_eq, nat_lt, map, filter, rules}
 use Rattle.std.specs.Prelude.{◌≢◌, ◌⊎◌, slice_get, find}
 use Rattle.std.specs.List.{AllByRecursion}
@@ -69,7 +70,7 @@ node_at-other (seat ∷ seats) id other s ne =
     ∙ sym (ap (λ b. cond b seat.node (node_at seats other)) (other_id seat.id other (λ e. ne (sym e ∙ ids_same seat.id id yes)))))
     (λ _. ap (cond (nat_eq seat.id other) seat.node) (node_at-other seats id other s ne))
 
--- what holds of the node that changed and of all the old ones holds of all
+-- what holds of the changed node and of all old ones holds of all new ones
 pub each_node : (P : ℕ → NodeState ℕ → Type 0) (seats : List Seat) (id : ℕ) (s : NodeState ℕ) → P id s → ((other : ℕ) → P other (node_at seats other)) → (each : ℕ) → P each (node_at (with_node seats id s) each)
 each_node P seats id s this those each =
     elim (ℕ_discrete each id) [
@@ -79,11 +80,11 @@ each_node P seats id s this those each =
 
 -- Purges
 
--- the first purge of a number
+-- the first pending purge with a number
 abbrev pub pending_in : List Purge → ℕ → Option Purge
 pending_in purges number = find (is_numbered number) purges
 
--- where a first one that is not of the number goes or comes, the look-up comes to the rest
+-- a first purge with another number does not change the look-up
 none_first : (b : Bool) (x y : Purge) (rest other : Option Purge) → (rest ≡ None → other ≡ None) → cond b (Some x) rest ≡ None → cond b (Some y) other ≡ None
 none_first true x y rest other h e = absurd (none-some x (sym e))
 none_first false x y rest other h e = h e
@@ -121,7 +122,7 @@ pending-found (q ∷ purges) number p e =
 
 -- Marks
 
--- who is marked was marked, or is the one that acknowledges
+-- who is marked was marked before, or is the one that acknowledges
 pub mark_cases : (marked : List ℕ) (id other : ℕ) → is_among other (with_id id marked) ≡ true → (is_among other marked ≡ true) ⊎ (other ≡ id)
 mark_cases [] id other = λ h. elim (or_cases (nat_eq id other) false h) [ inl same ↦ inr (sym (ids_same id other same)) | inr none ↦ absurd (true_not_false (sym none)) ]
 mark_cases (i ∷ marked) id other =
@@ -134,7 +135,7 @@ mark_cases (i ∷ marked) id other =
       | inr later ↦ elim (mark_cases marked id other later) [ inl has ↦ inl (or_true (nat_eq i other) (is_among other marked) has) | inr same ↦ inr same ]
     ]))
 
--- each one of the first is among the second where all are
+-- if all ids of the first list are in the second, so is each
 pub among_has : (ids others : List ℕ) (id : ℕ) → are_among ids others ≡ true → is_among id ids ≡ true → is_among id others ≡ true
 among_has [] others id all has = absurd (true_not_false (sym has))
 among_has (i ∷ ids) others id all has =

@@ -1,4 +1,5 @@
--- Each run from a new world has its sources, at every place; and what it serves has its age.
+-- The invariant of sources holds at every place of a run from a new world, and what is served has
+-- its age. It holds at the start, SourceTurns has that each event keeps it, and the age is Asked's.
 use Rattle.std.proofs.Common.{◌≡◌, ℕ, zero, suc, ◌+◌, ◌-◌, List, [], ◌∷◌, ◌++◌, length, take, map, Some, Ok, refl, sym, ◌∙◌, ap, subst, nat_eq, arith, append_assoc}
 use Rattle.std.specs.Prelude.{slice_get}
 use Rattle.std.proofs.lemmas.Option.{same_Some}
@@ -28,14 +29,14 @@ use Rattle.world_rules.proofs.Asked.{steps_answer_asks}
 use Rattle.world_rules.proofs.Sourced.{source_later, sources_later, copy_source, stepped_sources}
 use Rattle.world_rules.proofs.SourceTurns.{Knows, turn_known}
 
--- a run goes on by what happens at the next place
+-- a run goes on with what happens at the next place
 run_on : (h : Tables) (past : List Step) (place : ℕ) (old mid new : World) (step : Step) → Run h place old past mid → Happens h (place + length past) mid step.event step.seen new → Run h place old (past ++ step ∷ []) new
 run_on h [] place old mid new step run happens = (new, subst (λ (w : World). Happens h place w step.event step.seen new) run (subst (λ n. Happens h n mid step.event step.seen new) (omega arith) happens), refl)
 run_on h (first ∷ past) place old mid new step (next, happens, run) last =
     let e : place + length (first ∷ past) ≡ place + 1 + length past = omega arith in
     (next, happens, run_on h past (place + 1) next mid new step run (subst (λ n. Happens h n mid step.event step.seen new) e last))
 
--- the run so far, and what holds after it
+-- the run so far, and the invariant after it
 pub record IsAfter (h : Tables) (past : List Step) (w : World) : Type 0 where
   pub runs : Run h 1 (new_world h) past w
   pub sources : HasSources h past w
@@ -53,7 +54,7 @@ module _ (h : Tables) (past : List Step) (old : World) (after : IsAfter h past o
     sources = takes_sources (turn h old cause) refl (turn_known h past old after.sources cause) happens.1;
   }
 
-  -- a copy that is served has its source
+  -- a copy that is served has a source
   takes_copy : (c : WebCopy ℕ) → ServesCopy seen c → (t : Turn) → turn h old cause ≡ t → Knows h past old t → Takes h (length past + 1) old t seen new → IsSourcedCopy h (past ++ record { event = cause; seen = seen } ∷ []) c
   takes_copy c serves (NodeSteps id e serial) meets known (outcome, next, steps, is_seen, is_new) =
       let law = steps_are_lawful (setting h id) (node_at old.seats id) e (length past + 1) outcome next steps in

@@ -1,4 +1,5 @@
--- Each event keeps the sources of contents.
+-- Each event keeps the invariant of sources: an item that arrives was sent with a source, an
+-- origin's or a foreign cache's response is its own source, and a restart only loses things.
 use Rattle.std.proofs.Common.{◌≡◌, ℕ, false, List, [], Option, Some, None, refl, nat_eq, filter, not}
 use Rattle.std.specs.Prelude.{unwrap_or}
 use Rattle.fetch_messages.specs.Answer.{AnswerText}
@@ -36,7 +37,8 @@ use Rattle.world_rules.proofs.Seats.{all_item, each_node}
 use Rattle.world_rules.proofs.Sourced.{KnowsSource, each_but}
 use Rattle.world_rules.proofs.Waiting.{others_restart, own_restart}
 
--- what an event's turn comes to: a node's step on an event of this moment whose source is known, or a world with its sources
+-- what an event's turn leads to: a node's step on an event of this time whose source is known, or a
+-- world in which the invariant holds
 pub record IsKnown (h : Tables) (past : List Step) (w : World) (e : Event ℕ) : Type 0 where
   pub at : moment e ≡ w.clock
   pub knows : KnowsSource h past e
@@ -57,7 +59,7 @@ module _ (h : Tables) (past : List Step) (w : World) (sources : HasSources h pas
   plainly_known : (e : Event ℕ) → moment e ≡ w.clock → KnowsSource h past e → IsKnown h past w e
   plainly_known e at knows = record { at = at; knows = knows }
 
-  -- the same nodes, answers and asks
+  -- the same nodes, responses and requests
   same_known : (seen : Seen) (new : World) → HasSources h past new → ((c : WebCopy ℕ) → ServesCopy seen c → ⊥) → EndsKnown h past seen new
   same_known seen new kept none = record { sources = kept; serves_none = none }
 
@@ -125,7 +127,7 @@ module _ (h : Tables) (past : List Step) (w : World) (sources : HasSources h pas
   issue_known key (Some fault) = same_known _ w sources (λ c s. absurd s)
   issue_known key None = same_known _ _ (sent_known _ _) (λ c s. absurd s)
 
-  -- a node that has lost its asks, and its copies unless it is closed
+  -- a node that has lost what waited, and its copies unless it is closed
   seat_known : (id : ℕ) (s : NodeState ℕ) → NodeHasSources h past id s → s.pending ≡ [] → EndsKnown h past Nothing (with_seat w id s)
   seat_known id s node empty = same_known Nothing (with_seat w id s)
       (record {

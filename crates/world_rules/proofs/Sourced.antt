@@ -1,4 +1,6 @@
--- A step of a member's node keeps the sources of contents.
+-- A step of a member's node keeps the invariant of sources. By steps_are_lawful a copy was there or
+-- is the event's response; by Asked it is served to the request that it is for; a read that begins
+-- takes this step's place as its mark.
 use Rattle.std.proofs.Common.{◌≡◌, ◌≢◌, ℕ, ◌+◌, true, false, List, [], ◌∷◌, ◌++◌, length, Option, Some, None, Result, Ok, Err, refl, sym, ◌∙◌, ap, subst, inl, inr, append_assoc}
 use Rattle.std.specs.Prelude.{◌⊎◌}
 use Rattle.std.specs.List.{AllByRecursion, Contains}
@@ -111,13 +113,13 @@ module _ (h : Tables) (past more : List Step) where
   pub sources_later : (w : World) → HasSources h past w → HasSources h (past ++ more) w
   sources_later w is = record { nodes = λ id. node_sources_later id (node_at w.seats id) (is.nodes id); answers = answers_sourced_later w.answers is.answers; asks = is.asks }
 
--- what the world knows of an event that comes to a node
+-- what the invariant says of an event that reaches a node
 abbrev pub KnowsSource : Tables → List Step → Event ℕ → Type 0
 KnowsSource h past (event.PeerAnswer serial peer key answer tag now) = (is_gateway_fault answer.status ≡ true) ⊎ HasSource h past key tag answer
 KnowsSource h past (event.ForeignAnswer serial peer key answer tag now) = tag ≡ 0
 KnowsSource h past _ = Unit {0}
 
--- what holds of the node that changed, and of each other one, holds of all
+-- what holds of the changed node, and of each other one, holds of all
 pub each_but : (P : ℕ → NodeState ℕ → Type 0) (seats : List Seat) (id : ℕ) (s : NodeState ℕ) → P id s → ((other : ℕ) → other ≢ id → P other (node_at seats other)) → (each : ℕ) → P each (node_at (with_node seats id s) each)
 each_but P seats id s this those each = elim (ℕ_discrete each id) [
   | yes e ↦ subst (λ n. P n (node_at (with_node seats id s) n)) (sym e) (subst (P id) (sym (node_at-same seats id s)) this)
@@ -211,9 +213,9 @@ module _ (h : Tables) (past : List Step) (old : World) (runs : Run h 1 (new_worl
     reads = all_mapped (IsReadOf (node_at old.seats id) (length past + 1) outcome) (ReadHasBegun h Now id) (λ p is. read_source e meets p p.fetch refl is) next.pending law.reads;
   }
 
-  -- Answers to members
+  -- Responses to members
 
-  -- the ask that is answered is of the key that is served
+  -- the request that is answered is for the key that is served
   same_key : (e : Event ℕ) (waiter : Option ℕ) (asker : ℕ) (key : List ℕ) (a : Answered) → (node_at old.seats id).closed ≡ false → IsFor (node_at old.seats id) e waiter (Some asker) key → asked_by old.waiting id e serial waiter ≡ Some a → a.key ≡ key
   same_key (event.PeerAsk member ask now) None asker key a is_open (asks, is, same) e = ap (λ (a : Answered). a.key) (sym (same_Some _ a e)) ∙ ap (λ (a : Ask). a.key) (sym is.1) ∙ same
   same_key (event.Client ask now) None asker key a is_open (asks, is, same) e = absurd (none-some a e)

@@ -1,4 +1,6 @@
--- Each event keeps the lineage of the world.
+-- Each event keeps the invariant. What reaches a node or the master was sent rightly, by the
+-- invariant; then NodeTurns or MasterTurns applies. The clock and a restart change no part of it
+-- but what they lose.
 use Rattle.std.proofs.Common.{◌≡◌, ℕ, ◌+◌, Bool, true, false, cond, ◌||◌, List, [], ◌∷◌, ◌++◌, length, Option, Some, None, Result, refl, sym, ◌∙◌, ap, subst, nat_eq, unwrap_or, arith}
 use Rattle.std.specs.Prelude.{find, is_some, option_map}
 use Rattle.url_key.specs.Key.{IsKey}
@@ -45,7 +47,8 @@ use Rattle.world_rules.proofs.NodeTurns.{ComesRightly, takes_keeps, silent_keeps
 use Rattle.world_rules.proofs.MasterTurns.{clock_keeps, resend_keeps, acknowledge_keeps, told_raised}
 use Rattle.world_rules.proofs.Counting.{with_step, as_step, counted, left_number, issue_keeps}
 
--- what an event's turn comes to: a node's step on what came rightly, or a world with its lineage
+-- what an event's turn leads to: a node's step on what was sent rightly, or a world in which the
+-- invariant holds
 pub record IsRightStep (h : Tables) (past : List Step) (id : ℕ) (e : Event ℕ) : Type 0 where
   pub comes : ComesRightly h past e
   pub member : is_member h id ≡ true
@@ -61,7 +64,7 @@ IsRight h past event (Refused fault) = Unit {0}
 
 -- Look-ups
 
--- who is found by an address is a member
+-- the id found by an address is a member's
 found_known : (members : List Member) (test : Member → Bool) (c : Member) → find test members ≡ Some c → is_some (find (λ m. nat_eq m.cache.id c.cache.id) members) ≡ true
 found_known [] test c e = absurd (none-some c e)
 found_known (d ∷ members) test c e =
@@ -81,11 +84,11 @@ or_false true b h = h
 or_false false b h = refl
 
 module _ (h : Tables) (proper : IsRoster h) (past : List Step) (w : World) (lineage : HasLineage h past w) where
-  -- an event at a member is right if it is where it is one
+  -- a turn at a member is right if it is right when the id is a member's
   at_member_right : (event : WorldEvent) (id : ℕ) (t : Turn) → (is_member h id ≡ true → IsRight h past event t) → IsRight h past event (at_member h id t)
   at_member_right event id t right = branches (IsRight h past event) (is_member h id) t (Refused NoSuchPacket) right (λ _. tt)
 
-  -- an end that issues nothing
+  -- an event without a node's step that issues nothing
   end_right : (event : WorldEvent) (seen : Seen) (new : World) → purged_by event seen ≡ None → HasLineage h past new → ((number : ℕ) → TellsDone number seen → AllHaveRaised h past new.seats number) → ((c : WebCopy ℕ) → ServesCopy seen c → ⊥) → IsRight h past event (Ends seen new)
   end_right event seen new silent kept tells none = record { lineage = counted h past event seen new silent record { lineage = kept; tells = tells }; serves_none = none }
 
@@ -168,7 +171,7 @@ module _ (h : Tables) (proper : IsRoster h) (past : List Step) (w : World) (line
   opened_right : (id : ℕ) → NodeHasLineage past (opened (node_at w.seats id).floors)
   opened_right id = record { seen_issued = (lineage.nodes id).seen_issued; copies = λ is_open. tt; reads = tt }
 
-  -- each event is right
+  -- each event's turn is right
   pub turn_right : (event : WorldEvent) → IsOfKey event → IsRight h past event (turn h w event)
   turn_right (world.Clock now) key = quiet_right (world.Clock now) (with_clock w now) refl (clock_keeps h past w lineage now)
   turn_right (world.Client id ask) key = at_member_right (world.Client id ask) id (NodeSteps id (event.Client ask w.clock) 0) (λ member. record { comes = tt; member = member })
@@ -203,6 +206,6 @@ module _ (h : Tables) (proper : IsRoster h) (past : List Step) (old : World) (li
   takes_on (Ends what world) right (is_seen, is_new) = rw (is_seen, is_new) right.lineage
   takes_on (Refused fault) right takes = absurd takes
 
-  -- each event keeps the lineage of the world
+  -- each event keeps the invariant
   pub happens_keeps : Happens h (length past + 1) old event seen new → HasLineage h (past ++ record { event = event; seen = seen } ∷ []) new
   happens_keeps (key, takes) = subst (λ steps. HasLineage h steps new) (as_step past event seen) (takes_on (turn h old event) (turn_right h proper past old lineage event key) takes)

@@ -1,4 +1,5 @@
--- Which asks of peers wait, as nodes step and restart.
+-- Which members' requests wait, as nodes step and restart: a node takes blocks in ascending order,
+-- so no two that wait at it have the same block; a restart removes all of its own and no other.
 use Rattle.std.proofs.Common.{◌≡◌, ◌≢◌, ℕ, ◌<◌, ◌≤◌, Bool, true, false, cond, not, ◌&&◌, List, [], ◌∷◌, ◌++◌, filter, find, option_map, Option, Some, None, refl, sym, ◌∙◌, ap, subst, nat_eq, inl, inr, arith}
 use Rattle.std.specs.List.{AllByRecursion}
 use Rattle.std.proofs.lemmas.Option.{none-some}
@@ -35,7 +36,7 @@ later_by waiting more id block (Some w) a is e = ap (λ (o : Option Waiting). op
 asked_later : (waiting more : List Waiting) (id block : ℕ) (a : Answered) → asked_before waiting id block ≡ Some a → asked_before (waiting ++ more) id block ≡ Some a
 asked_later waiting more id block a e = later_by waiting more id block (find (is_waiting_as id block) waiting) a refl e
 
--- the ask that has begun to wait as the next block is found, since no other has that block
+-- a request that has begun to wait as the next block is found, since no other has that block
 not_taken : (id next : ℕ) (x : Waiting) → IsTaken id next x → is_waiting_as id next x ≡ false
 not_taken id next x taken = go (nat_eq x.node id) refl
   where
@@ -59,7 +60,7 @@ asked_new waiting id next serial key all =
 -- A member's node takes a step
 
 module _ (waiting : List Waiting) (id : ℕ) (s : NodeState ℕ) (e : Event ℕ) (serial : ℕ) (next : NodeState ℕ) where
-  -- a new one has this node, and the block that was next
+  -- a new one waits at this node, as the block that was next
   new_waiting : (P : Waiting → Type 0) → (s.next ≢ next.next → (key : List ℕ) → P record { node = id; block = s.next; serial = serial; key = key }) → AllByRecursion P (waits_now id e serial s next)
   new_waiting P each = go e
     where
@@ -82,7 +83,7 @@ module _ (waiting : List Waiting) (id : ℕ) (s : NodeState ℕ) (e : Event ℕ)
         (all_mapped (IsTaken id s.next) (IsTaken id next.next) (λ x is same. omega (arith, is same, le)) waiting asks.taken)
         (new_waiting (IsTaken id next.next) (λ other key same. omega (arith, le, other)))
 
-    -- an ask that the event brings waits from now on
+    -- a request that the event brings waits from now on
     new_kept : (p : Pending ℕ) (asker : ℕ) → p.asker ≡ Some asker → p.block ≡ s.next → s.next < next.next → (e : Event ℕ) → Asks e p.asker p.ask →
         (a : Answered) × (asked_before (waiting ++ waits_now id e serial s next) id p.block ≡ Some a) × (a.key ≡ p.ask.key)
     new_kept p asker is block lt (event.PeerAsk member ask now) asks_it = (
@@ -106,7 +107,7 @@ module _ (waiting : List Waiting) (id : ℕ) (s : NodeState ℕ) (e : Event ℕ)
     pub asks_after : AllByRecursion (IsAskAfter s e next.next) next.pending → NodeHasAsks (waiting ++ waits_now id e serial s next) id next
     asks_after all = record { taken = still_taken; kept = all_mapped (IsAskAfter s e next.next) (IsKept (waiting ++ waits_now id e serial s next) id) one_kept next.pending all }
 
-  -- those of another node stay
+  -- those at another node stay
   pub others_after : (other : ℕ) (t : NodeState ℕ) → other ≢ id → NodeHasAsks waiting other t → NodeHasAsks (waiting ++ waits_now id e serial s next) other t
   others_after other t ne asks = record {
     taken = all_joined (IsTaken other t.next) waiting (waits_now id e serial s next) asks.taken (new_waiting (IsTaken other t.next) (λ _ key same. absurd (ne (sym same))));
@@ -139,7 +140,7 @@ module _ (id : ℕ) where
       branches (AllByRecursion P) (not (nat_eq x.node id)) (x ∷ filter (λ (x : Waiting). not (nat_eq x.node id)) waiting) (filter (λ (x : Waiting). not (nat_eq x.node id)) waiting)
       (λ other. (each x (not_true (nat_eq x.node id) other), all_others P each waiting)) (λ _. all_others P each waiting)
 
-  -- those of another node stay
+  -- those at another node stay
   pub others_restart : (waiting : List Waiting) (other : ℕ) (t : NodeState ℕ) → other ≢ id → NodeHasAsks waiting other t → NodeHasAsks (filter (λ (x : Waiting). not (nat_eq x.node id)) waiting) other t
   others_restart waiting other t ne asks = record {
     taken = all_left (IsTaken other t.next) (λ (x : Waiting). not (nat_eq x.node id)) waiting asks.taken;
@@ -147,7 +148,7 @@ module _ (id : ℕ) where
         (λ p kept asker is. (let was = kept asker is in (was.0, ap (λ (o : Option Waiting). option_map (λ (w : Waiting). record { serial = w.serial; key = w.key }) o) (stays_found other p.block ne waiting) ∙ was.1, was.2))) t.pending asks.kept;
   }
 
-  -- and the node's own are gone
+  -- those at the node itself are gone
   pub own_restart : (waiting : List Waiting) (t : NodeState ℕ) → t.pending ≡ [] → NodeHasAsks (filter (λ (x : Waiting). not (nat_eq x.node id)) waiting) id t
   own_restart waiting t empty = record {
     taken = all_others (IsTaken id t.next) (λ x other same. absurd (true_not_false (sym (subst (λ n. nat_eq x.node n ≡ true) same (same_id x.node)) ∙ other))) waiting;

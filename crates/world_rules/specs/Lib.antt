@@ -1,4 +1,4 @@
--- Reading order: each file stands on those above it.
+-- In order of dependence: each file uses only those above it. To read, begin with Safety and Run.
 pub mod Names
 pub mod World
 pub mod Turn

@@ -1,4 +1,6 @@
--- What holds of the world at every place of every run: where stamps come from, and what an acknowledgement is worth.
+-- The invariant of safety, which holds at every place of every run: no stamp is too great, no floor
+-- is above what was issued, and who acknowledges a purge has raised its floor. HasLineage, the last
+-- definition, is the whole invariant.
 use Rattle.std.specs.Prelude.{◌≡◌, ℕ, ◌≤◌, List, length, Some, None, true, false, unwrap_or, ◌⊎◌}
 use Rattle.std.specs.List.{AllByRecursion}
 use Rattle.url_key.specs.Key.{IsKey}
@@ -23,37 +25,37 @@ use Rattle.roster_tables.specs.declared.plain.Tables.{Tables}
 use Rattle.world_rules.specs.World.{Seat, Datagram, PeerAnswer, World, node_at}
 use Rattle.world_rules.specs.Run.{Step, IsItem, purges, issued, IsReportedAt}
 
--- the stamp is no greater than the number of purges issued before the mark
+-- a stamp is at most the number of purges issued before the mark
 abbrev pub IsStamped : List Step → ℕ → ℕ → Type 0
 IsStamped past stamp mark = stamp ≤ issued past mark
 
--- so it is with a copy
+-- the same for a copy
 abbrev pub IsStampedCopy : List Step → WebCopy ℕ → Type 0
 IsStampedCopy past c = IsStamped past c.stamp c.tag
 
--- and with a read of the origin
+-- the same for an origin read; other fetches have no stamp
 abbrev pub IsStampedFetch : List Step → Fetch ℕ → Type 0
 IsStampedFetch past (AtOrigin stamp asked mark) = IsStamped past stamp mark
 IsStampedFetch past (AtPeer peer asked) = Unit {0}
 IsStampedFetch past Nowhere = Unit {0}
 
--- and with the read of an ask
+-- the same for what a pending request fetches
 abbrev pub IsStampedRead : List Step → Pending ℕ → Type 0
 IsStampedRead past p = IsStampedFetch past p.fetch
 
--- a peer's answer is one that no peer uses, or its stamp is no greater than it may be
+-- a response between members is a status 502, 503 or 504, which no node uses, or has such a stamp
 abbrev pub IsStampedAnswer : List Step → AnswerText → ℕ → Type 0
 IsStampedAnswer past answer mark = (is_gateway_fault answer.status ≡ true) ⊎ IsStamped past (unwrap_or answer.stamp 0) mark
 
--- so it is with an answer that was sent
+-- the same for a response that was sent
 abbrev pub IsSentAnswer : List Step → PeerAnswer → Type 0
 IsSentAnswer past a = IsStampedAnswer past a.answer a.mark
 
--- the purge of this number was issued, and the node's floor for its key is at least the number
+-- the purge with this number was issued, and the node's floor for its key is at least the number
 abbrev pub HasRaised : List Step → NodeState ℕ → ℕ → Type 0
 HasRaised past s number = (key : List ℕ) × IsItem (purges past) number key × (number ≤ floor s.floors key)
 
--- the CLR of a purge that was issued, with its key
+-- the message is the CLR of a purge that was issued, for its key
 pub record IsClear (past : List Step) (m : Message) : Type 0 where
   pub number : ℕ
   pub key : List ℕ
@@ -62,34 +64,35 @@ pub record IsClear (past : List Step) (m : Message) : Type 0 where
   pub small : number ≤ 4294967295
   pub is_key : IsKey key
 
--- what comes from the master's address is a CLR
+-- what was sent from the master's address is the CLR of a purge that was issued
 abbrev pub IsMastersRightly : Tables → List Step → Datagram → Type 0
 IsMastersRightly roster past d = is_master roster d.sender ≡ true → IsClear past d.message
 
--- a member that acknowledges a purge to the master has raised its floor
+-- if the datagram acknowledges a purge to the master, the member that sent it has raised its floor
 abbrev pub IsObeyed : Tables → List Step → List Seat → Datagram → Type 0
 IsObeyed roster past seats d =
     is_master roster d.receiver ≡ true → (number : ℕ) → acknowledged d.message ≡ Some number →
     (id : ℕ) → member_at roster d.sender udp.Htcp ≡ Some id → HasRaised past (node_at seats id) number
 
--- what holds of a node
+-- what holds of each node
 pub record NodeHasLineage (past : List Step) (s : NodeState ℕ) : Type 0 where
   -- no floor is above what was issued
   pub seen_issued : seen s.floors ≤ length (purges past)
   pub copies : s.closed ≡ false → AllByRecursion (IsStampedCopy past) s.copies
   pub reads : AllByRecursion (IsStampedRead past) s.pending
 
--- a pending purge has its key, and the members that are marked have raised their floors
+-- a pending purge has the key of its number, and the members that are marked as having acknowledged
+-- it have raised their floors
 pub record PurgeHasLineage (past : List Step) (seats : List Seat) (p : Purge) : Type 0 where
   pub issued_key : IsItem (purges past) p.number p.key
   pub is_key : IsKey p.key
   pub marked : (id : ℕ) → is_among id p.marked ≡ true → HasRaised past (node_at seats id) p.number
 
--- each member has raised its floor
+-- each member has raised its floor for the purge with this number
 abbrev pub AllHaveRaised : Tables → List Step → List Seat → ℕ → Type 0
 AllHaveRaised roster past seats number = (id : ℕ) → is_member roster id ≡ true → HasRaised past (node_at seats id) number
 
--- what holds of the world after the steps of the past
+-- the invariant: what holds of the world after these steps
 pub record HasLineage (roster : Tables) (past : List Step) (w : World) : Type 0 where
   pub last : w.master.last ≡ length (purges past)
   pub small : w.master.last ≤ 4294967295

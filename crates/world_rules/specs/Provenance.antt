@@ -1,4 +1,5 @@
--- Where the content of each copy comes from, and with which age it is served.
+-- Which response each served copy comes from, and with which age it is served: what the law of
+-- sources says. EachHasSource and EachHasAge, the last definitions, are its clauses.
 use Rattle.std.specs.Prelude.{◌≡◌, ◌⊎◌, ℕ, ◌+◌, List, [], ◌∷◌, ◌++◌, length, Some, Result, Ok}
 use Rattle.std.specs.List.{Contains}
 use Rattle.fetch_messages.specs.declared.ask.Ask.{Ask}
@@ -21,7 +22,8 @@ use Rattle.world_rules.specs.World.{World, new_world, node_at}
 use Rattle.world_rules.specs.Turn.{Replied, NodeSteps, turn}
 use Rattle.world_rules.specs.Run.{Step, Run, Happens, IsServedAt}
 
--- a step that a member's node took in a run: its event as the node met it, its outcome, and the world before it
+-- At this place of a run, a member's node took a step with this event and outcome: also the steps
+-- and the world before it.
 pub record NodeStepAt (roster : Tables) (steps : List Step) (place id : ℕ) (e : Event ℕ) (outcome : Result (Reply ℕ) StepFault) : Type 0 where
   pub past : List Step
   pub before : World
@@ -33,13 +35,13 @@ pub record NodeStepAt (roster : Tables) (steps : List Step) (place id : ℕ) (e 
   pub runs : Run roster 1 (new_world roster) past before
   pub meets : turn roster before cause ≡ NodeSteps id e serial
 
--- what is held has the status, the fields and the body of the answer
+-- what is held has the status, fields and body of the response
 pub record HasContent (answer held : AnswerText) : Type 0 where
   pub status : held.status ≡ answer.status
   pub fields : held.fields ≡ answer.fields
   pub body : held.body ≡ answer.body
 
--- at this place the member began to read the key from its origin, under this serial
+-- at this place the member began to read this key from its origin, under this serial
 pub record BeginsReadAt (roster : Tables) (steps : List Step) (place id serial : ℕ) (key : List ℕ) : Type 0 where
   pub e : Event ℕ
   pub outcome : Result (Reply ℕ) StepFault
@@ -48,7 +50,8 @@ pub record BeginsReadAt (roster : Tables) (steps : List Step) (place id serial :
   pub begins : begun outcome ≡ Some (begin.Read serial ask)
   pub asks : ask.key ≡ key
 
--- one origin's answer, for the key, to the read that began at the mark and was pending as the answer came
+-- what is held is an origin's response for the key, to a read that began at the mark and was
+-- pending when the response came
 pub record IsFromOrigin (roster : Tables) (steps : List Step) (key : List ℕ) (mark : ℕ) (held : AnswerText) : Type 0 where
   pub id : ℕ
   pub serial : ℕ
@@ -66,7 +69,7 @@ pub record IsFromOrigin (roster : Tables) (steps : List Step) (key : List ℕ) (
   pub since_mark : read.fetch ≡ AtOrigin stamp asked mark
   pub content : HasContent answer held
 
--- one foreign cache's answer, for the key; its mark is 0
+-- what is held is a foreign cache's response for the key; its mark is 0
 pub record IsFromForeign (roster : Tables) (steps : List Step) (key : List ℕ) (mark : ℕ) (held : AnswerText) : Type 0 where
   pub id : ℕ
   pub serial : ℕ
@@ -79,21 +82,21 @@ pub record IsFromForeign (roster : Tables) (steps : List Step) (key : List ℕ) 
   pub comes : NodeStepAt roster steps place id (event.ForeignAnswer serial peer key answer 0 now) outcome
   pub content : HasContent answer held
 
--- what is held for a key under a mark is one of these
+-- what is held for a key under a mark comes from an origin or from a foreign cache
 abbrev pub HasSource : Tables → List Step → List ℕ → ℕ → AnswerText → Type 0
 HasSource roster steps key mark held = IsFromOrigin roster steps key mark held ⊎ IsFromForeign roster steps key mark held
 
--- the copy's content has a source, for its key under its mark
+-- the copy's content comes from such a source, for its key under its mark
 abbrev pub IsSourcedCopy : Tables → List Step → WebCopy ℕ → Type 0
 IsSourcedCopy roster steps c = HasSource roster steps c.key c.tag c.answer
 
--- each copy that a member begins to serve has the status, the fields and the body of one origin's answer to the read that began at
--- its mark, for its key, or of one foreign cache's answer for its key
+-- each copy that a member begins to serve has the status, fields and body of one response for its
+-- key: an origin's, to the read that began at its mark, or a foreign cache's
 abbrev pub EachHasSource : Tables → List Step → Type 0
 EachHasSource roster steps = (place : ℕ) (c : WebCopy ℕ) → IsServedAt steps place c → IsSourcedCopy roster steps c
 
--- In the world that the steps lead to, a copy that an event has a member serve is served with its answer's age and the time since
--- it was asked for, at most 2147483648 seconds.
+-- After the steps, each copy that an event makes a member serve has the age of the response plus
+-- the time since it was requested, at most 2147483648 seconds (RFC 9111, sections 1.2.2 and 4.2.3).
 abbrev pub EachHasAge : Tables → List Step → World → Type 0
 EachHasAge roster steps before =
     (cause : WorldEvent) (id : ℕ) (reply : Reply ℕ) (serve : Serve ℕ) (c : WebCopy ℕ) (age : ℕ) (after : World) →

@@ -1,4 +1,5 @@
--- Whole runs, and what is said of them.
+-- Runs: lists of events with what each visibly did; and when, in a run, a purge is issued, reported
+-- done, or a copy served.
 use Rattle.std.specs.Prelude.{◌≡◌, ℕ, ◌+◌, ◌-◌, ◌≤◌, List, [], ◌∷◌, length, take, filter_map, slice_get, ◌⊎◌, Option, Some, None, Result}
 use Rattle.url_key.specs.Key.{IsKey}
 use Rattle.object_store.specs.declared.copy.WebCopy.{WebCopy}
@@ -16,8 +17,8 @@ use Rattle.node_rules.specs.State.{setting}
 use Rattle.world_rules.specs.World.{World, node_at, after_node}
 use Rattle.world_rules.specs.Turn.{Seen, Replied, Issued, Told, Turn, NodeSteps, Ends, Refused, turn}
 
--- A turn at this place of the run may be seen so, and leave this world. Only a node's step leaves a choice: it may want memory,
--- or its floor store may fail. The place is its mark.
+-- This turn, at this place of the run, may be seen so and leave this world. Only a node's step
+-- leaves a choice: memory or its floor store may fail. The place is the step's mark.
 abbrev pub Takes : Tables → ℕ → World → Turn → Seen → World → Type 0
 Takes roster place old (NodeSteps id e serial) seen new =
     (outcome : Result (Reply ℕ) StepFault) × (next : NodeState ℕ)
@@ -26,26 +27,27 @@ Takes roster place old (NodeSteps id e serial) seen new =
 Takes roster place old (Ends what world) seen new = (seen ≡ what) × (new ≡ world)
 Takes roster place old (Refused fault) seen new = ⊥
 
--- what is purged is the key of a URL
+-- an event that issues a purge has the key of a URL
 abbrev pub IsOfKey : WorldEvent → Type 0
 IsOfKey (Issue key) = IsKey key
 IsOfKey _ = Unit {0}
 
--- The event may happen in the old world at this place, be seen so, and leave the new world.
+-- the event may happen in the old world at this place, be seen so, and leave the new world
 abbrev pub Happens : Tables → ℕ → World → WorldEvent → Seen → World → Type 0
 Happens roster place old event seen new = IsOfKey event × Takes roster place old (turn roster old event) seen new
 
--- one event with what was seen of it
+-- one event with what it visibly did
 pub record Step : Type 0 where
   pub event : WorldEvent
   pub seen : Seen
 
--- these steps, the first of them at the place, lead from the old world to the new
+-- these steps lead from the old world to the new; the first of them has this place
 abbrev pub Run : Tables → ℕ → World → List Step → World → Type 0
 Run roster place old [] new = new ≡ old
 Run roster place old (step ∷ steps) new = (next : World) × Happens roster place old step.event step.seen next × Run roster (place + 1) next steps new
 
--- This list of events, any of which may be refused, leads through these steps. What is refused changes nothing and has no place.
+-- This list of events leads through these steps. Any event may be refused; it then changes nothing
+-- and has no place.
 abbrev pub Plays : Tables → ℕ → World → List WorldEvent → List Step → World → Type 0
 Plays roster place old [] steps new = (steps ≡ []) × (new ≡ old)
 Plays roster place old (event ∷ events) steps new =
@@ -53,16 +55,16 @@ Plays roster place old (event ∷ events) steps new =
     ⊎ ((seen : Seen) × (next : World) × (rest : List Step) × Happens roster place old event seen next
     × (steps ≡ record { event = event; seen = seen } ∷ rest) × Plays roster (place + 1) next events rest new)
 
--- the item with this number, where items are counted from 1
+-- x is the item with this number, counted from 1
 abbrev pub IsItem : {A : Type 0} → List A → ℕ → A → Type 0
 IsItem items number x = (1 ≤ number) × (slice_get items (number - 1) ≡ Some x)
 
--- the key of the purge that an event issued
+-- the key of the purge that an event issued, if it did
 abbrev pub purged_by : WorldEvent → Seen → Option (List ℕ)
 purged_by (Issue key) (Issued number) = Some key
 purged_by _ _ = None
 
--- the keys of the purges that the steps issued, in order
+-- the keys of the purges that the steps issued, in order: purge n has the key with number n
 abbrev pub purges : List Step → List (List ℕ)
 purges steps = filter_map (λ step. purged_by step.event step.seen) steps
 
@@ -74,16 +76,16 @@ issued steps place = length (purges (take (place - 1) steps))
 abbrev pub IsIssuedAt : List Step → ℕ → ℕ → List ℕ → Type 0
 IsIssuedAt steps place number key = IsItem steps place (record { event = Issue key; seen = Issued number })
 
--- what is seen tells that the purge of this number is done
+-- the master reports that the purge with this number is done
 abbrev pub TellsDone : ℕ → Seen → Type 0
 TellsDone number (Told of Done) = of ≡ number
 TellsDone number _ = ⊥
 
--- at this place the purge is reported done, by the last acknowledgement or by a later answer of the master
+-- at this place the master reports the purge done, at an acknowledgement or because it was asked
 abbrev pub IsReportedAt : List Step → ℕ → ℕ → Type 0
 IsReportedAt steps place number = (step : Step) × IsItem steps place step × TellsDone number step.seen
 
--- what is seen begins to serve this copy, to a client or to a peer
+-- a node begins to serve this copy, to a client or to a member
 abbrev pub ServesCopy : Seen → WebCopy ℕ → Type 0
 ServesCopy (Replied id outcome) c = copy_served outcome ≡ Some c
 ServesCopy _ c = ⊥

@@ -1,4 +1,4 @@
--- The safety of purges: the theorem that this crate is for.
+-- The safety of purges: what the main law of this crate says.
 use Rattle.std.specs.Prelude.{◌≡◌, ℕ, ◌+◌, ◌<◌, List, [], ◌∷◌, ◌++◌, length, true, Result}
 use Rattle.std.specs.List.{AllByRecursion}
 use Rattle.object_store.specs.declared.copy.WebCopy.{WebCopy}
@@ -16,21 +16,25 @@ use Rattle.world_rules.specs.World.{World, new_world, node_at}
 use Rattle.world_rules.specs.Turn.{Replied, NodeSteps, turn}
 use Rattle.world_rules.specs.Run.{Step, Run, Happens, IsIssuedAt, IsReportedAt, IsServedAt}
 
--- Once a purge of a key is reported done, whatever copy of that key a member begins to serve, its reading from the origin
--- began after the purge was issued. (A foreign cache's copy has the mark 0, so none is served.)
+-- Once the purge of a key is reported done, each copy of that key that a member begins to serve has
+-- a mark after the place at which the purge was issued: its reading from the origin began later. (A
+-- foreign cache's copy has the mark 0, so none is served.)
 abbrev pub NothingOldIsServed : List Step → Type 0
 NothingOldIsServed steps =
     (number : ℕ) (key : List ℕ) (issued reported served : ℕ) (c : WebCopy ℕ) →
     IsIssuedAt steps issued number key → IsReportedAt steps reported number → reported < served → IsServedAt steps served c →
     c.key ≡ key → issued < c.tag
 
--- Each datagram that is sent goes back to where the event's datagram came from; where the event is none, none is sent.
+-- each datagram that is sent goes back to the source of the event's datagram; if the event is no
+-- datagram, none is sent
 abbrev pub SendsBack : {X : Type 0} → Event X → List Outgoing → Type 0
 SendsBack (node_event.Datagram from m now) messages = AllByRecursion (λ (o : Outgoing). o.to ≡ from) messages
 SendsBack _ messages = messages ≡ []
 
--- At each place, a step of a member that meets a sibling's ask, a QUERY or a TST begins no round, no fetch and no read, leaves no
--- ask waiting, and sends nothing to anybody but who asked; whichever worlds the run had before and after it.
+-- At each place, a step that a member takes by a sibling's request, a QUERY or a TST begins no
+-- round, fetch or read, and leaves what waits as it was. It sends datagrams to nobody but the
+-- source of the query. This holds in whichever worlds the run had before and after it (RFC 2187,
+-- section 2).
 abbrev pub SiblingsAskNothing : Tables → List Step → Type 0
 SiblingsAskNothing roster steps =
     (past rest : List Step) (event : WorldEvent) (id : ℕ) (outcome : Result (Reply ℕ) StepFault) (before after : World) (e : Event ℕ) (serial : ℕ) →

@@ -1,4 +1,5 @@
--- What holds of the world at every place of every run: where contents come from, and which asks wait.
+-- The invariant of sources, which holds at every place of every run: where contents come from, and
+-- which requests wait. HasSources, the last definition, is the whole invariant.
 use Rattle.std.specs.Prelude.{◌≡◌, ◌⊎◌, ℕ, ◌<◌, List, true, false, Some}
 use Rattle.std.specs.List.{AllByRecursion}
 use Rattle.node_rules.specs.declared.state.Fetch.{Fetch}
@@ -12,39 +13,39 @@ use Rattle.world_rules.specs.World.{PeerAnswer, Waiting, World, node_at, Answere
 use Rattle.world_rules.specs.Run.{Step}
 use Rattle.world_rules.specs.Provenance.{BeginsReadAt, HasSource, IsSourcedCopy}
 
--- a read that is under way began at its mark
+-- a pending origin read began at its mark, under this serial, for this key
 abbrev pub FetchHasBegun : Tables → List Step → ℕ → ℕ → List ℕ → Fetch ℕ → Type 0
 FetchHasBegun roster past id serial key (AtOrigin stamp asked mark) = BeginsReadAt roster past mark id serial key
 FetchHasBegun roster past id serial key (AtPeer peer asked) = Unit {0}
 FetchHasBegun roster past id serial key Nowhere = Unit {0}
 
--- so did the read of an ask
+-- the same for what a pending request fetches
 abbrev pub ReadHasBegun : Tables → List Step → ℕ → Pending ℕ → Type 0
 ReadHasBegun roster past id p = FetchHasBegun roster past id (fetch_serial p) p.ask.key p.fetch
 
--- a peer's answer is one that no peer uses, or has a source
+-- a response between members is a status 502, 503 or 504, which no node uses, or has a source
 abbrev pub AnswerHasSource : Tables → List Step → PeerAnswer → Type 0
 AnswerHasSource roster past a = (is_gateway_fault a.answer.status ≡ true) ⊎ HasSource roster past a.key a.mark a.answer
 
--- what holds of a node: its copies have sources, and its reads began
+-- what holds of each node: its copies have sources, and its reads began at their marks
 pub record NodeHasSources (roster : Tables) (past : List Step) (id : ℕ) (s : NodeState ℕ) : Type 0 where
   pub copies : s.closed ≡ false → AllByRecursion (IsSourcedCopy roster past) s.copies
   pub reads : AllByRecursion (ReadHasBegun roster past id) s.pending
 
--- a block of this node is below its next
+-- if the request waits at this node, its block is below the node's next one
 abbrev pub IsTaken : ℕ → ℕ → Waiting → Type 0
 IsTaken id next x = x.node ≡ id → x.block < next
 
--- a member's ask that waits here is kept with its key
+-- a member's request that waits here is listed in the world, with its key
 abbrev pub IsKept : List Waiting → ℕ → Pending ℕ → Type 0
 IsKept waiting id p = (asker : ℕ) → p.asker ≡ Some asker → (a : Answered) × (asked_before waiting id p.block ≡ Some a) × (a.key ≡ p.ask.key)
 
--- what holds of the asks of peers that wait at a node
+-- what holds of the members' requests that wait at a node
 pub record NodeHasAsks (waiting : List Waiting) (id : ℕ) (s : NodeState ℕ) : Type 0 where
   pub taken : AllByRecursion (IsTaken id s.next) waiting
   pub kept : AllByRecursion (IsKept waiting id) s.pending
 
--- what holds of the world after the steps of the past
+-- the invariant: what holds of the world after these steps
 pub record HasSources (roster : Tables) (past : List Step) (w : World) : Type 0 where
   pub nodes : (id : ℕ) → NodeHasSources roster past id (node_at w.seats id)
   pub answers : AllByRecursion (AnswerHasSource roster past) w.answers

@@ -1,4 +1,5 @@
--- What happens next: which actor takes a turn by an event, and what the world is after it.
+-- What each event does: which actor takes a turn, and the world after it. The last definition,
+-- turn, covers all events, one line each.
 use Rattle.std.specs.Prelude.{ℕ, ◌+◌, Bool, ◌==◌, not, List, [], ◌∷◌, ◌++◌, filter, find, Option, Some, None, Result, unwrap_or, if◌then◌else◌}
 use Rattle.std.specs.List.{flat_map}
 use Rattle.htcp_wire.specs.declared.message.Content.{Content}
@@ -35,153 +36,155 @@ use Rattle.world_rules.specs.declared.outcome.WorldFault.TheVariants.{NoSuchPack
 use Rattle.node_rules.specs.Messages.{protocol_of}
 use Rattle.world_rules.specs.World.{Datagram, PeerAsk, PeerAnswer, World, item, node_at, with_node}
 
--- what is seen of an event
+-- what an event visibly did
 pub data Seen : Type 0 where
   -- a member's node took a step, with this outcome
   Replied : (node : ℕ) (outcome : Result (Reply ℕ) StepFault) → Seen
-  -- the master gave a purge this number, or none
+  -- the master issued a purge under this number, or refused to
   Issued : (number : ℕ) → Seen
   NotIssued : (fault : MasterFault) → Seen
-  -- the master told how far a purge is
+  -- the master reported the status of a purge
   Told : (number : ℕ) (status : Status) → Seen
   Nothing : Seen
 
--- what an event comes to
+-- what an event leads to
 pub data Turn : Type 0 where
-  -- a step of a member's node by this event; the serial is that of the peer's ask that the event is, else 0
+  -- a step of a member's node; the serial is that of the member's request that the event is, else 0
   NodeSteps : (id : ℕ) (e : Event ℕ) (serial : ℕ) → Turn
-  -- something else is seen, and this is the world after it
+  -- no node steps; this is what is seen, and the world afterwards
   Ends : (seen : Seen) (world : World) → Turn
-  -- it names nothing that there is, or nothing that waits
+  -- the event names something that does not exist, or nothing that is pending
   Refused : (fault : WorldFault) → Turn
 
--- the event comes to a member
+-- this turn if the id is a member's, else the event is refused
 abbrev pub at_member : Tables → ℕ → Turn → Turn
 at_member roster id turn = if is_member roster id then turn else Refused NoSuchPacket
 
 -- Parts of a world that change alone
 
--- another moment
+-- the world at another time
 abbrev pub with_clock : World → ℕ → World
 with_clock w now = record { seats = w.seats; master = w.master; clock = now; datagrams = w.datagrams; asks = w.asks; answers = w.answers; waiting = w.waiting }
 
--- other purges of the master
+-- the world with other purges of the master
 abbrev pub with_master : World → PurgeList → World
 with_master w m = record { seats = w.seats; master = m; clock = w.clock; datagrams = w.datagrams; asks = w.asks; answers = w.answers; waiting = w.waiting }
 
--- with these datagrams sent
+-- the world after these datagrams were sent
 abbrev pub with_sent : World → List Datagram → World
 with_sent w sent = record { seats = w.seats; master = w.master; clock = w.clock; datagrams = w.datagrams ++ sent; asks = w.asks; answers = w.answers; waiting = w.waiting }
 
--- the member's node becomes another, and what waited there for an answer waits no more
+-- the world with another node of the member; the members' requests that waited there are gone
 abbrev pub with_seat : World → ℕ → NodeState ℕ → World
 with_seat w id node = record { seats = with_node w.seats id node; master = w.master; clock = w.clock; datagrams = w.datagrams; asks = w.asks; answers = w.answers; waiting = filter (λ x. not (x.node == id)) w.waiting }
 
 -- The master
 
--- a CLR from the master to a member
+-- the CLR as a datagram from the master to the member's HTCP address, if there are both
 abbrev pub clear_to : Tables → Option Htcp → Option Member → List Datagram
 clear_to roster (Some m) (Some member) = record { sender = roster.master; receiver = member.cache.htcp; message = message.Htcp m } ∷ []
 clear_to roster _ _ = []
 
--- the CLRs of a new purge: one to each member, by id
+-- the CLRs of a new purge: one to each member, in order of ids
 abbrev pub clears_of : Tables → ℕ → List ℕ → List Datagram
 clears_of roster number key = flat_map (λ id. clear_to roster (Some (clear number key)) (member_of roster id)) (members_of roster)
 
--- what is due: the CLR of each pending purge to each member that has not acknowledged it
+-- the CLR of each pending purge to each member that has not acknowledged it
 abbrev pub clears_due : Tables → PurgeList → List Datagram
 clears_due roster purges = flat_map (λ d. clear_to roster (message_of purges d.0) (member_of roster d.1)) (due (members_of roster) purges)
 
--- a purge gets the next number, and its CLRs are sent; or the master refuses
+-- the master issues a purge under the next number and sends its CLRs, or refuses
 abbrev pub issue_by : Tables → World → List ℕ → Option MasterFault → Turn
 issue_by roster w key (Some fault) = Ends (NotIssued fault) w
 issue_by roster w key None =
     let number = w.master.last + 1 in
     Ends (Issued number) (with_sent (with_master w (with_purge w.master number key)) (clears_of roster number key))
 
--- the master tells how far the purge of this number is
+-- the master reports the status of the purge with this number
 abbrev pub told : Tables → World → ℕ → Turn
 told roster w number = Ends (Told number (status_of (members_of roster) w.master number)) w
 
--- a member's answer counts for the purge whose number its TRANS-ID is
+-- A member's response to a CLR counts for the purge whose number is its TRANS-ID. It is counted,
+-- and the status is reported.
 abbrev pub acknowledged_by : Tables → World → ℕ → ℕ → Option ℕ → Turn
 acknowledged_by roster w number code None = Ends Nothing w
 acknowledged_by roster w number code (Some id) = told roster (with_master w (acknowledged (members_of roster) w.master id number code).purges) number
 
--- who answers is known by its HTCP address
+-- the sender of a response to a CLR is known by its HTCP address
 abbrev pub master_hears_htcp : Tables → World → Address → ℕ → Content → Turn
 master_hears_htcp roster w sender trans (content.ClrAnswer code) = acknowledged_by roster w trans code (member_at roster sender udp.Htcp)
 master_hears_htcp roster w sender trans _ = Ends Nothing w
 
--- only a CLR answer of a member counts at the master
+-- of what reaches the master, only a member's response to a CLR counts
 abbrev pub master_hears : Tables → World → Address → Message → Turn
 master_hears roster w sender (message.Icp m) = Ends Nothing w
 master_hears roster w sender (message.Htcp m) = master_hears_htcp roster w sender m.trans m.content
 
 -- Deliveries
 
--- a datagram comes to the member that was found
+-- a datagram reaches the member that was found
 abbrev pub delivered_to : World → Address → Message → Option ℕ → Turn
 delivered_to w sender m None = Refused NoSuchPacket
 delivered_to w sender m (Some id) = NodeSteps id (event.Datagram sender m w.clock) 0
 
--- a datagram comes to the master, or to the member that answers its protocol at this address
+-- a datagram reaches the master, or the member that answers its protocol at this address
 abbrev pub delivered : Tables → World → Option Datagram → Turn
 delivered roster w None = Refused NoSuchPacket
 delivered roster w (Some d) =
     if is_master roster d.receiver then master_hears roster w d.sender d.message
     else delivered_to w d.sender d.message (member_at roster d.receiver (protocol_of d.message))
 
--- an ask comes to the member that it was sent to
+-- a request reaches the member that it was sent to
 abbrev pub ask_delivered : Tables → World → Option PeerAsk → Turn
 ask_delivered roster w None = Refused NoSuchPacket
 ask_delivered roster w (Some a) = at_member roster a.receiver (NodeSteps a.receiver (event.PeerAsk a.sender a.ask w.clock) a.serial)
 
--- an answer comes under a serial of its receiver, or else under that of its ask
+-- A response reaches the member that it was sent to, under the serial given, or else under that of
+-- its request.
 abbrev pub answer_delivered : Tables → World → Option ℕ → Option PeerAnswer → Turn
 answer_delivered roster w serial None = Refused NoSuchPacket
 answer_delivered roster w serial (Some a) =
     at_member roster a.receiver (NodeSteps a.receiver (event.PeerAnswer (unwrap_or serial a.serial) a.sender a.key a.answer a.mark w.clock) 0)
 
--- nobody has the address of a member or of the master but these
+-- a stranger's datagram reaches a member; a stranger has no address of a member or of the master
 abbrev pub strange_comes : Tables → World → Address → Address → Message → Turn
 strange_comes roster w to sender m =
     if is_own roster sender then Refused NoSuchPacket else delivered_to w sender m (member_at roster to (protocol_of m))
 
 -- Answers from outside
 
--- the ask is fetching under this serial
+-- whether this pending request fetches under this serial
 abbrev pub is_at : ℕ → Pending ℕ → Bool
 is_at serial p = fetch_serial p == serial
 
--- an origin answers only a read that is pending
+-- an origin responds only to a read that is pending
 abbrev pub origin_by : World → ℕ → ℕ → AnswerText → List ℕ → Fetch ℕ → Turn
 origin_by w id serial answer key (AtOrigin stamp asked mark) = NodeSteps id (event.OriginAnswer serial key answer w.clock) 0
 origin_by w id serial answer key _ = Refused NotPending
 
--- nothing is pending under this serial, or what is
+-- an origin responds under this serial, to what is pending there
 abbrev pub origin_to : World → ℕ → ℕ → AnswerText → Option (Pending ℕ) → Turn
 origin_to w id serial answer None = Refused NotPending
 origin_to w id serial answer (Some p) = origin_by w id serial answer p.ask.key p.fetch
 
--- a foreign cache answers only a fetch from it that is pending; its copy's mark is 0
+-- a foreign cache responds only to a fetch from it that is pending; its copy has the mark 0
 abbrev pub foreign_by : World → ℕ → ℕ → AnswerText → List ℕ → Fetch ℕ → Turn
 foreign_by w id serial answer key (AtPeer peer asked) =
     if is_foreign_id peer then NodeSteps id (event.ForeignAnswer serial peer key answer 0 w.clock) 0 else Refused NotPending
 foreign_by w id serial answer key _ = Refused NotPending
 
--- nothing is pending under this serial, or what is
+-- a foreign cache responds under this serial, to what is pending there
 abbrev pub foreign_to : World → ℕ → ℕ → AnswerText → Option (Pending ℕ) → Turn
 foreign_to w id serial answer None = Refused NotPending
 foreign_to w id serial answer (Some p) = foreign_by w id serial answer p.ask.key p.fetch
 
--- the ask that is fetching under this serial at a member
+-- the request that fetches under this serial at a member, if any
 abbrev pub fetching_at : World → ℕ → ℕ → Option (Pending ℕ)
 fetching_at w id serial = find (is_at serial) (node_at w.seats id).pending
 
 -- All events
 
--- what each event comes to
+-- what each event leads to
 abbrev pub turn : Tables → World → WorldEvent → Turn
 turn roster w (world.Clock now) = Ends Nothing (with_clock w now)
 turn roster w (world.Client id ask) = at_member roster id (NodeSteps id (event.Client ask w.clock) 0)

@@ -3,63 +3,65 @@ use node_rules::Received;
 use roster::Address;
 use url_key::Key;
 
-/// What happens in the world: one turn of one actor, or a passing of time. A loss is a delivery that never comes.
+/// One event of the world: one turn of one actor, or a change of the clock. A lost item is one
+/// whose delivery never comes.
 #[derive(Drop)]
 pub enum WorldEvent {
-    /// The clock is set, also back.
+    /// The clock is set, forward or back.
     Clock {
-        /// The moment, in seconds.
+        /// The new time, in seconds.
         now: u64,
     },
-    /// A client asks a member.
+    /// A client sends a request to a member.
     Client {
         /// The member's id.
         node: u8,
-        /// What it asks.
+        /// The request.
         ask: Ask,
     },
-    /// A datagram that was sent comes, for the first time or again.
+    /// A datagram that was sent arrives, for the first time or again.
     Datagram {
         /// Its number among all datagrams, from 1.
         number: u64,
     },
-    /// An ask that a member sent to a member comes, for the first time or again.
+    /// A request that a member sent to a member arrives, for the first time or again.
     Ask {
-        /// Its number among all asks, from 1.
+        /// Its number among all requests between members, from 1.
         number: u64,
     },
-    /// An answer that a member sent to a member comes, for the first time or again.
+    /// A response that a member sent to a member arrives, for the first time or again.
     Answer {
-        /// Its number among all answers, from 1.
+        /// Its number among all responses between members, from 1.
         number: u64,
-        /// A serial of its receiver; none: that of the ask that it answers.
+        /// The serial of the receiver's fetch that it reaches. `None`: the serial of the request
+        /// that it answers.
         serial: Option<u32>,
     },
-    /// The origin answers a read.
+    /// The origin responds to a read that is pending.
     Origin {
         /// The id of the member that reads.
         node: u8,
         /// The read's serial.
         serial: u32,
-        /// Its answer.
+        /// The response.
         answer: Answer,
     },
-    /// A foreign cache answers a fetch.
+    /// A foreign cache responds to a fetch that is pending.
     Foreign {
         /// The id of the member that fetches.
         node: u8,
         /// The fetch's serial.
         serial: u32,
-        /// Its answer.
+        /// The response.
         answer: Answer,
     },
-    /// A datagram comes from an address that is neither a member's nor the master's.
+    /// A datagram arrives at a member from an address that is neither a member's nor the master's.
     Strange {
-        /// Where it comes to: a member's address.
+        /// Its destination: the address at which a member answers the message's protocol.
         to: Address,
-        /// Where it comes from.
+        /// Its source.
         from: Address,
-        /// What it says.
+        /// The message.
         message: Received,
     },
     /// A member's fetch fails.
@@ -69,35 +71,36 @@ pub enum WorldEvent {
         /// The fetch's serial.
         serial: u32,
     },
-    /// A member's round has waited for its time.
+    /// The waiting time of a member's round of queries is over.
     Expire {
         /// The member's id.
         node: u8,
         /// The round's serial.
         serial: u32,
     },
-    /// A member's store of floors fails, and the member closes.
+    /// A member's floor store fails, and the member closes.
     Fault {
         /// The member's id.
         node: u8,
     },
-    /// A member starts again, with the floors that its store kept and nothing else.
+    /// A member restarts, with the floors that its store kept and nothing else.
     Restart {
         /// The member's id.
         node: u8,
     },
-    /// A purge is issued, and its CLR is sent to each member.
+    /// The master issues a purge and sends its CLR to each member, or refuses.
     Issue {
-        /// The URL.
+        /// The URL's key.
         key: Key,
     },
-    /// The master sends again what is due.
+    /// The master sends the CLR of each pending purge again to each member that has not
+    /// acknowledged it.
     Resend,
-    /// The master is asked how far a purge is.
+    /// Somebody asks the master for the status of a purge.
     Status {
         /// The purge's number.
         number: u32,
     },
-    /// The master starts again, with the purges that its store kept.
+    /// The master restarts, with the purges that its store kept.
     RestartMaster,
 }

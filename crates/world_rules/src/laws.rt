@@ -1,4 +1,4 @@
-//! Laws of the definitions. Each function does nothing: its clauses are the law.
+//! The laws. Each function has no body: its clauses are theorems about the definitions.
 ghost use Rattle.std.specs.Prelude.{◌≡◌, ℕ, List, Result};
 ghost use Rattle.std.specs.List.{AllByRecursion};
 ghost use Rattle.node_rules.specs.declared.state.NodeState.{NodeState};
@@ -18,34 +18,40 @@ ghost use Rattle.world_rules.specs.Asked.{AnswersAsks};
 ghost use Rattle.world_rules.specs.Provenance.{EachHasSource, EachHasAge};
 ghost use Rattle.world_rules.specs.Apply.{apply, IsDone};
 
-/// The safety of purges, for every roster and every list of events of its members, its master and its network: nothing old is served
-/// once a purge is reported done, no request to a sibling begins anything or makes it send to anybody but who asked, and the lineage that
-/// both rest on holds at every place.
+/// The safety of purges, for every roster and every list of events.
+///
+/// `served`: once a purge is reported done, no copy is served whose reading began before the purge
+/// was issued. `siblings`: a request to a sibling begins nothing, and makes it send to nobody but
+/// the requester. `lineage`: the invariant on which `served` rests holds at every place.
 pub fn purges_are_safe()
     ensures served { (roster : Tables) (events : List WorldEvent) (steps : List Step) (w : World) → IsRoster roster → Plays roster 1 (new_world roster) events steps w → NothingOldIsServed steps }
     ensures siblings { (roster : Tables) (events : List WorldEvent) (steps : List Step) (w : World) → Plays roster 1 (new_world roster) events steps w → SiblingsAskNothing roster steps }
     ensures lineage { (roster : Tables) (events : List WorldEvent) (steps : List Step) (w : World) → IsRoster roster → Plays roster 1 (new_world roster) events steps w → HasLineage roster steps w }
 {}
 
-/// Each copy that a member begins to serve has the status, the fields and the body of one origin's answer to the read that began at
-/// the copy's mark, for its key, or of one foreign cache's answer for its key; and it is served with its age (RFC 9111, section 4.2.3).
+/// Where the content of served copies comes from.
+///
+/// `sources`: each copy that a member begins to serve has the status, fields and body of one
+/// response for its key: an origin's, to the read that began at the copy's mark, or a foreign
+/// cache's. `ages`: it is served with its age (RFC 9111, section 4.2.3).
 pub fn copies_have_sources()
     ensures sources { (roster : Tables) (events : List WorldEvent) (steps : List Step) (w : World) → Plays roster 1 (new_world roster) events steps w → EachHasSource roster steps }
     ensures ages { (roster : Tables) (events : List WorldEvent) (steps : List Step) (w : World) → Plays roster 1 (new_world roster) events steps w → EachHasAge roster steps w }
 {}
 
-/// Each step of a node serves what was asked: to the event's own ask or to one that waits, a copy of its key with its age, or a bare status.
+/// Each step of a node answers what was requested: to the request of its event, or to one that
+/// waits, it serves a copy of that request's key with its age, or a bare status.
 pub fn nodes_answer_what_is_asked<T>()
     ensures { (g : Setting) (s : NodeState T) (e : Event T) (mark : T) (outcome : Result (Reply T) StepFault) (next : NodeState T) →
         Steps g s e mark outcome next → AnswersAsks s e outcome next }
 {}
 
-/// What the function does of an event may happen in the world.
+/// What the function `apply` makes of an event may happen in the world.
 pub fn applied_events_happen()
     ensures { (roster : Tables) (place : ℕ) (w : World) (event : WorldEvent) → IsOfKey event → IsDone roster place w event (apply roster place w event) }
 {}
 
-/// Every list of events is played.
+/// Every list of events has a run, if each purge in it is of a key.
 pub fn each_list_is_played()
     ensures { (roster : Tables) (events : List WorldEvent) → AllByRecursion IsOfKey events → (steps : List Step) × (w : World) × Plays roster 1 (new_world roster) events steps w }
 {}

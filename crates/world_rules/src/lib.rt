@@ -1,38 +1,60 @@
-//! The world of a hierarchy of caches: its members' nodes, the master of purges, the network between them, and the laws over
-//! every run of it. The first law is the safety of purges (`laws::purges_are_safe`): once the master reports a purge of a URL
-//! done, no member begins to serve a copy of that URL whose reading from the origin began before the purge was issued; and no
-//! request to a sibling makes it ask an origin or another cache.
+//! The model of a hierarchy of caches, and the proof that purges are safe in it: once the master
+//! reports the purge of a URL done, no member begins to serve a copy of that URL whose reading from
+//! the origin began before the purge was issued; and a request to a sibling never makes it ask an
+//! origin or another cache. This is the law `laws::purges_are_safe`.
 //!
-//! A world has a node for each member, the master's purges, a clock, and the lists of all datagrams, of all asks and of all
-//! answers between members that were ever sent. An event (`WorldEvent`) is one turn of one actor: a client asks, an item of a
-//! list comes to its receiver, an origin or a foreign cache answers, time passes, something fails, somebody starts again. An
-//! item stays in its list, so it may come late, again, in any order or never. Each node's turn is one step of `node_rules` (where
-//! memory and the store of floors may also fail), and each turn of the master is what `purge_rules` says of its call; the place of
-//! an event in the run is the mark of the reads that it begins. A list of events is then an interleaving of the actors' steps, and
-//! the laws hold of every list. What an event names that is not there is refused, changes nothing and has no place.
+//! The crate has definitions, laws and proofs. Its code is little more than the types of events
+//! (`WorldEvent`) and outcomes (`Outcome`, `ActorFault`, `WorldFault`), which contracts see field
+//! by field. It touches no file, socket, clock or thread. `hierarchy_world` is the model as code;
+//! `run_rules` compares the model with what a running cluster recorded.
 //!
-//! Four premises are built into the definitions, and nothing else is taken for granted of the network:
+//! The model: a world has a node for each member, the master's purges, and a clock. It also has
+//! lists of all datagrams that members and the master ever sent, and of all requests and responses
+//! that members ever sent to members. An event is one turn of one actor: a client sends a request,
+//! an item of a list arrives, an origin or a foreign cache responds, the clock is set, something
+//! fails, or somebody restarts. An item stays in its list, so it may arrive late, again, in any
+//! order, or never. A turn of a node is one step of `node_rules`; memory or its floor store may
+//! fail in it. A turn of the master is one call as `purge_rules` defines it. An event's number in
+//! the run is its place, and is the mark of the origin read that the event begins. An event that
+//! names nothing that exists is refused: it changes nothing and has no place. A list of events is
+//! then an interleaving of the actors' steps, and the laws hold for every list.
 //!
-//! - What is stored outlives a restart: `Restart` opens a node with the floors that it had (`specs/Turn`), and the master's purges
-//!   are the same after `RestartMaster`. All else of a node is lost.
-//! - What comes from the address of a member or of the master was sent by it: `Datagram`, `Ask` and `Answer` bring only items of
-//!   the lists, and `Strange`, which brings any message, is refused where its sender has such an address.
-//! - An origin's answer comes to the read that asked for it, and no connection outlives its node's restart: `Origin` and `Foreign`
-//!   reach only a read or a fetch that is pending now, and a restart or a fault leaves none pending.
-//! - The roster stays the same: a run has one, and the members that a purge is done for are those of all later restarts.
+//! Four premises are built into the definitions. Nothing else is assumed of the network:
 //!
-//! The laws are of any roster that can be read (`IsRoster`); what is purged is a key (`IsKey`), and a text has the key that `key_texts`
-//! gives it. Not promised: that a purge is ever done, and that nothing old is served before.
+//! - What is stored outlives a restart. `Restart` opens a node with the floors that it had
+//!   (`specs/Turn`) and nothing else. The master's purges are the same after `RestartMaster`.
+//! - What comes from the address of a member or of the master was sent by it. `Datagram`, `Ask` and
+//!   `Answer` deliver only items of the lists. `Strange` delivers any message, and is refused if
+//!   its sender has such an address.
+//! - An origin's response reaches the read that asked for it, and no connection outlives its node's
+//!   restart. `Origin` and `Foreign` reach only a read or fetch that is pending now, and a restart
+//!   or a fault leaves none pending.
+//! - The roster stays the same. A run has one roster, and its members are those that a purge must
+//!   reach, also after restarts.
 //!
-//! Also proved: what holds of the world at every place (`specs/Lineage`: no stamp is greater than the number of purges issued before
-//! the mark, no floor is above what was issued, and who acknowledges a purge has raised its floor); where each served copy's content
-//! comes from, and with which age it is served (`laws::copies_have_sources`); and that a node serves what it was asked for
-//! (`laws::nodes_answer_what_is_asked`).
+//! The laws (`src/laws.rt`):
 //!
-//! `specs/Safety` and then `specs/Run` say what is promised; `World` and `Turn` define the world and its events, `Provenance` says
-//! where contents come from, and `Apply` what one event does where nothing fails, and what is told of it (`Outcome`).
+//! - `purges_are_safe`: the safety of purges, and the invariant that it rests on (`lineage`).
+//! - `copies_have_sources`: which response each served copy comes from, and its age.
+//! - `nodes_answer_what_is_asked`: a step answers the request of its event or one that waits.
+//! - `applied_events_happen`, `each_list_is_played`: the function `apply` agrees with the model,
+//!   and every list of events has a run. So the laws above are not about nothing.
 //!
-//! The laws are functions without a body, so no wrong body tests them; nor does one test a definition.
+//! `served` and `lineage` of the first law need a roster that can be read (`IsRoster`). An event
+//! that issues a purge needs the key of a URL (`IsKey`). Which key a text has is `key_texts`'s
+//! definition.
+//!
+//! Read first `specs/Safety` (the promise), then `specs/Run` (what a run is, and when a purge is
+//! issued, reported done, or a copy served), `specs/World` (the state) and `specs/Turn` (what each
+//! event does). Then `specs/Lineage` (the invariant for stamps and floors), `specs/Asked`,
+//! `specs/Provenance` (sources and ages), `specs/Sources` (the invariant for them), `specs/Apply`
+//! (one event as a function, and its outcome) and `specs/Names` (the names of faults). The proof of
+//! safety ends in `proofs/Safe`; `proofs/Lib` gives the order of reading. `docs/SAFETY.md` explains
+//! all this without the definitions.
+//!
+//! Not promised: that a purge is ever done, that anything arrives, or that nothing old is served
+//! before the report. A wrong body cannot test the laws, since laws have no bodies; nor can it test
+//! a definition.
 #![tactic(auto)]
 
 mod event;

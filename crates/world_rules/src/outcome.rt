@@ -7,53 +7,56 @@ use roster::Listed;
 use std::alloc::AllocError;
 use thiserror::Error;
 
-/// What is told of an event. What was sent is told by its numbers.
+/// What an applied event did. What was sent stands as numbers: `World::datagrams` of
+/// `hierarchy_world` lists the datagrams.
 #[derive(Drop)]
 pub struct Outcome {
-    /// What a member serves; a copy's tag is its mark.
+    /// What a member serves. A copy's tag is its mark.
     pub serve: Option<Serve<u64>>,
-    /// The number of the answer that was sent to a member, if one was.
+    /// The number of the response that was sent to a member, if any.
     pub answer: Option<u64>,
-    /// The number of the purge that was issued, if one was.
+    /// The number of the purge that was issued, if any.
     pub purge: Option<u32>,
-    /// How far a purge is, where a member has answered its CLR or it was asked.
+    /// The number and status of a purge, if a member answered its CLR or somebody asked for it.
     pub status: Option<(u32, Status)>,
-    /// The serial of the round that a member began, if it did.
+    /// The serial of the round of queries that a member began, if any.
     pub round: Option<u32>,
-    /// The numbers of the datagrams that were sent, in order.
+    /// The numbers of the datagrams that were sent, in ascending order.
     pub sent: Listed<u64>,
-    /// The number of the ask that was sent to a member, if one was.
+    /// The number of the request that was sent to a member, if any.
     pub ask: Option<u64>,
-    /// The serial of the read of the origin that a member began, if it did.
+    /// The serial of the origin read that a member began, if any.
     pub read: Option<u32>,
-    /// Why the member or the master did nothing, where it refused.
+    /// Why the member or the master refused the event, if it did.
     pub fault: Option<ActorFault>,
 }
 
-/// Why a member or the master refused what came.
+/// Why a member or the master refused an event.
 #[derive(Clone, Copy, Debug, PartialEq, Eq)]
 pub enum ActorFault {
     /// A member's step was refused.
     Step(StepFault),
-    /// A call of the master was refused.
+    /// The master refused to issue a purge.
     Master(MasterFault),
 }
 
-/// Why an event is none. Nothing has changed, and the event has no place.
+/// Why an event was not applied. It has no place, and changed nothing, except that after `NoMemory`
+/// the world must be made anew.
 #[derive(Clone, Copy, Debug, PartialEq, Eq, Error)]
 pub enum WorldFault {
-    /// It names a datagram, an ask, an answer or a member that there is not, what comes has a receiver that is neither a member
-    /// nor the master, or a strange datagram has a sender that is a member or the master, or comes to no member's address for its
-    /// protocol.
+    /// It names a datagram, a request, a response or a member that does not exist; or what arrives
+    /// is for neither a member nor the master; or a `Strange` datagram has the address of a member
+    /// or of the master as its source, or a destination at which no member answers its protocol.
     #[error("there is no such packet")]
     NoSuchPacket,
-    /// No read of the origin, or no fetch from a foreign cache, is pending at this serial.
+    /// No origin read (`Origin`), or no fetch from a foreign cache (`Foreign`), is pending under
+    /// this serial.
     #[error("nothing is pending at this serial")]
     NotPending,
-    /// A growth was refused. The world is to be made anew.
+    /// An allocation failed. The world must be made anew.
     #[error("there was no memory")]
     NoMemory,
-    /// The greatest place was given.
+    /// No place is left: events may have the places 1 to 2^64 - 2.
     #[error("no place is left")]
     PlacesSpent,
 }
@@ -70,7 +73,7 @@ impl From<AllocError> for WorldFault {
 }
 
 impl WorldFault {
-    /// The name that scripts print.
+    /// The fault's name, as scripts print it.
     pub const fn name(self) -> &'static str
         ensures { result.now ≡ world_fault_name self }
     {

@@ -1,4 +1,4 @@
--- The safety of purges, from the lineage that each run has.
+-- The safety of purges, from the invariant of each run.
 use Rattle.world_rules.specs.World.{new_world}
 use Rattle.world_rules.proofs.Runs.{run_lineage, plays_run}
 use Rattle.world_rules.proofs.Safe.{nothing_old_is_served, siblings_ask_nothing}
