@@ -1,4 +1,5 @@
--- A message that has a text can be answered.
+-- A message that has a text can be answered: a response has the same URL or opcode, and is no
+-- longer than the message, which was short enough.
 use Rattle.std.proofs.Common.{ℕ, ◌≤◌, List, [], ◌∷◌, length, refl, arith, length-append}
 use Rattle.icp_wire.specs.declared.message.Icp.{Icp}
 use Rattle.icp_wire.specs.declared.message.IcpOp.{IcpOp}
@@ -12,7 +13,7 @@ use Rattle.node_rules.specs.declared.message.Message.{Message}
 use Rattle.node_rules.specs.declared.message.Message.TheVariants as message
 use Rattle.node_rules.specs.Texts.{IsSendable, IsAnswerable, HasOpcode, icp_message}
 
--- an answer that repeats the URL is no longer
+-- a response that repeats the URL is no longer than the message
 short_answer : (o : IcpOp) (number : ℕ) (url : List ℕ) → length (icp_text.written_with o number (icp_text.written_payload o url)) ≤ longest_message →
     length (icp_text.written_with op.Miss number (icp_text.written_payload op.Miss url)) ≤ longest_message
 short_answer op.Query number url h = omega (arith, h, length-append url (0 ∷ []))

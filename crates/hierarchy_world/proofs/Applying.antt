@@ -1,4 +1,5 @@
--- What applying an event leaves, where the parts have taken its turn.
+-- The contract of World::apply from what its parts did: only NoMemory makes a world unusable, and
+-- after any other fault the parts are the same.
 use Rattle.std.proofs.Common.{◌≡◌, Bool, true, false, IsTrue, ◌↔◌, Result, Ok, Err, IfOk, refl, ◌∙◌, ap}
 use Rattle.world_rules.specs.declared.event.WorldEvent.{WorldEvent}
 use Rattle.world_rules.specs.declared.outcome.Outcome.{Outcome}
@@ -9,7 +10,7 @@ use Rattle.hierarchy_world.specs.View.{TellsNoLack, IsApplied}
 use Rattle.hierarchy_world.specs.Parts.{IsMade, world_of, view_of}
 use Rattle.hierarchy_world.proofs.Refusing.{not_for_places}
 
--- no other fault spoils the world
+-- no other fault makes the world unusable
 not_spoilt : (spoilt : Bool) (answer : Result Outcome WorldFault) → (IsTrue spoilt ↔ (answer ≡ Err fault.NoMemory)) → (answer ≡ Err fault.NoMemory → ⊥) → spoilt ≡ false
 not_spoilt true answer is none = absurd (none (is.0 refl))
 not_spoilt false answer is none = refl
@@ -25,7 +26,7 @@ made_applied old new event (Err fault.NotPending) spoilt is made = (made.0, same
 made_applied old new event (Err fault.NoMemory) spoilt is made = tt
 made_applied old new event (Err fault.PlacesSpent) spoilt is made = absurd (not_for_places old.roster (world_of old) event made.0)
 
--- where the event was applied, neither want of memory nor a fault of a store is told
+-- if the event was applied, its outcome tells of no lack of memory and no store fault
 pub made_tells : (old new : Parts) (event : WorldEvent) (answer : Result Outcome WorldFault) → IsMade old event answer new → IfOk answer TellsNoLack
 made_tells old new event (Ok outcome) made = made.1
 made_tells old new event (Err f) made = tt

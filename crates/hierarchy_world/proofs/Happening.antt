@@ -1,4 +1,5 @@
--- One event: what is seen of it, and what is told.
+-- One event: the turn that was taken, with its outcome, is the event at its place. Adding one to
+-- the place changes no part that the invariant speaks of.
 use Rattle.std.proofs.Common.{◌≡◌, ◌≢◌, ℕ, ◌+◌, Some, Ok, Err, sym, ◌∙◌, ap}
 use Rattle.world_rules.specs.declared.event.WorldEvent.{WorldEvent}
 use Rattle.world_rules.specs.declared.outcome.Outcome.{Outcome}
@@ -13,14 +14,14 @@ use Rattle.hierarchy_world.specs.declared.telling.Seen.TheVariants as here
 use Rattle.hierarchy_world.specs.View.{TellsNoLack}
 use Rattle.hierarchy_world.specs.Parts.{IsSound, LackedNothing, HasTaken, IsMade, world_of, seen_of}
 
--- the parts at another place
+-- the parts at another place of the run
 abbrev pub at_place : Parts → ℕ → Parts
 at_place p place = record { alloc = p.alloc; roster = p.roster; nodes = p.nodes; master = p.master; clock = p.clock; datagrams = p.datagrams; asks = p.asks; answers = p.answers; waiting = p.waiting; place = place }
 
 sound_there : (p : Parts) (place : ℕ) → IsSound p → IsSound (at_place p place)
 sound_there p place sound = record { nodes = sound.nodes; ids = sound.ids; master = sound.master }
 
--- of what lacked no memory no want of memory is told
+-- if the step lacked no memory, its outcome tells of no lack of memory
 no_memory_told : (seen : SeenHere) → LackedNothing seen → fault_of (seen_of seen) ≢ Some (actor.Step step_fault.NoMemory)
 no_memory_told (here.Replied node (Ok reply)) had is = cc
 no_memory_told (here.Replied node (Err f)) had is = had.0 (cc)
@@ -29,7 +30,7 @@ no_memory_told (here.NotIssued f) had is = cc
 no_memory_told (here.Told number status) had is = cc
 no_memory_told here.Nothing had is = cc
 
--- of what met no failing store no fault of a store is told
+-- if the step met no failing store, its outcome tells of no store fault
 no_store_told : (seen : SeenHere) → LackedNothing seen → fault_of (seen_of seen) ≢ Some (actor.Step step_fault.StoreFault)
 no_store_told (here.Replied node (Ok reply)) had is = cc
 no_store_told (here.Replied node (Err f)) had is = had.1 (cc)

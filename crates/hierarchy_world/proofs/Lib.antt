@@ -1,3 +1,7 @@
+-- To read: Runs (why whole runs are safe) and Happening (one event) first. Then the turns by kind:
+-- Taking (a node's step and what it sends; over Places, Steps, Seating, Serving), Reaching (what
+-- arrives), Reseating (faults and restarts), Numbers (CLRs to all members), Starting (a new world).
+-- Members, Answerable, Writing and Outcomes are lemmas; Refusing and Applying are about faults.
 pub mod Places
 pub mod Steps
 pub mod Serving

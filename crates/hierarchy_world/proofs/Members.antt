@@ -1,4 +1,5 @@
--- Each member has a node, and who is none has none.
+-- Each member has a node, and nobody else has one: the nodes' ids are the members' ids, in the same
+-- order. So who is found by an address also has a node.
 use Rattle.std.proofs.Common.{◌≡◌, ℕ, zero, suc, Bool, true, false, cond, List, [], ◌∷◌, map, set, option_map, is_some, find, MatchOption, Option, Some, None, refl, sym, ◌∙◌, ap, subst, nat_eq}
 use Rattle.std.specs.List.{AllByRecursion}
 use Rattle.std.proofs.lemmas.Option.{none-some}
@@ -25,11 +26,11 @@ by_place : (o : Option ℕ) (b : Bool) → is_some o ≡ b → MatchOption o (b 
 by_place None b e = sym e
 by_place (Some p) b e = (sym e, refl)
 
--- the look-up among the nodes' ids tells whether there is such a member
+-- the look-up among the nodes' ids finds an index exactly for a member
 pub member_place : (p : Parts) (id : ℕ) → IsSound p → MatchOption (place_of id (map (λ n. n.id) p.nodes.items)) (is_member p.roster id ≡ false) (λ place. (is_member p.roster id ≡ true) × IsPlace p.nodes.items id place)
 member_place p id sound = by_place (place_of id (map (λ n. n.id) p.nodes.items)) (is_member p.roster id) (ap (λ ids. is_some (place_of id ids)) sound.ids ∙ placed_member p.roster.members id)
 
--- A node that is put in its place
+-- A node that replaces another at its index
 
 pub seated_put : (roster : Tables) (nodes : List MemberNode) (place : ℕ) (n : MemberNode) → AllByRecursion (IsSeated roster) nodes → IsSeated roster n → AllByRecursion (IsSeated roster) (set nodes place n)
 seated_put roster [] place n all is = tt
@@ -46,7 +47,7 @@ pub ids_put : (nodes : List MemberNode) (place : ℕ) (n : MemberNode) → IsPla
 ids_put [] place n is = absurd (none-some place is)
 ids_put (m ∷ nodes) place n is = ids_by (nat_eq m.id n.id) m n nodes (place_of n.id (map (λ n. n.id) nodes)) place (ids_same m.id n.id) is (λ p q. ids_put nodes p n q)
 
--- Who is found by an address is a member
+-- The id found by an address is a member's
 
 some_by : (b : Bool) (m : Member) (r : Option Member) → is_some r ≡ true → is_some (cond b (Some m) r) ≡ true
 some_by true m r e = refl
@@ -61,6 +62,6 @@ pub found_member : (test : Member → Bool) (ms : List Member) (id : ℕ) → op
 found_member test [] id e = absurd (none-some id e)
 found_member test (m ∷ ms) id e = found_by (test m) m ms (find test ms) id e (found_member test ms id)
 
--- who is reached at an address is a member
+-- the id that is reached at an address is a member's
 pub reached_member : (t : Tables) (address : Address) (by : Udp) (id : ℕ) → member_at t address by ≡ Some id → is_member t id ≡ true
 reached_member t address by id e = found_member (λ m. same_address address (address_by by m.cache)) t.members id e

@@ -1,4 +1,5 @@
--- Numbers in a row, and CLRs to all members.
+-- Ascending numbers, by induction; and CLRs to all members: members_of keeps the possible ids 1 to
+-- 16 that are members, and for every other id no datagram is made.
 use Rattle.std.proofs.Common.{◌≡◌, ℕ, zero, suc, ◌+◌, ◌<◌, Bool, true, false, cond, List, [], ◌∷◌, ◌++◌, length, take, get_or, filter, flat_map, is_some, Option, Some, None, refl, sym, ◌∙◌, ap, arith}
 use Rattle.std.specs.List.{cons_option}
 use Rattle.std.proofs.lemmas.Grind.{flat_map-append}
@@ -31,12 +32,12 @@ all_kept : {A : Type 0} (f : ℕ → List A) (test : ℕ → Bool) (ids : List �
 all_kept f test [] none = refl
 all_kept f test (id ∷ ids) none = left_out f (test id) id ids (filter test ids) (none id) (all_kept f test ids none)
 
--- a CLR to each possible id that a member has is one to each member
+-- a CLR for each possible id, if a member has it, is one CLR to each member
 pub clears_to_all : (t : Tables) (number : ℕ) (key : List ℕ) → flat_map (λ id. clear_to t (Some (clear number key)) (member_of t id)) possible_ids ≡ clears_of t number key
 unfolding members_of
 clears_to_all t number key = all_kept (λ id. clear_to t (Some (clear number key)) (member_of t id)) (is_member t) possible_ids (λ id e. nobody t (clear number key) (member_of t id) e)
 
--- one more item that makes a datagram, or none
+-- one more item, which makes a datagram or none
 pub made_more : {X A : Type 0} (f : X → List A) (xs : List X) (i j : ℕ) (d : X) (so_far now : List A) (o : Option A) → j ≡ suc i → i < length xs → so_far ≡ flat_map f (take i xs) → f (get_or xs i d) ≡ cons_option o [] →
     now ≡ so_far ++ cons_option o [] → now ≡ flat_map f (take j xs)
 made_more f xs i j d so_far now o is_next less before is more =

@@ -1,4 +1,4 @@
--- What is told, by how much was sent.
+-- The outcome of an event, by the counts of what was sent.
 use Rattle.std.proofs.Common.{◌≡◌, ◌-◌, length, ◌∙◌, ap}
 use Rattle.world_rules.specs.World.{World}
 use Rattle.world_rules.specs.Turn.{Seen}
@@ -6,7 +6,7 @@ use Rattle.world_rules.specs.Apply.{numbers_after, new_item, told_by, outcome_of
 use Rattle.hierarchy_world.specs.declared.telling.Counts.{Counts}
 use Rattle.hierarchy_world.specs.Told.{AreCounts, outcome_by}
 
--- what is told by these counts is what is told of these worlds
+-- the outcome by these counts is the outcome of the two worlds
 pub outcome_told : (old new : World) (before after : Counts) (seen : Seen) → AreCounts old before → AreCounts new after → outcome_by before after seen ≡ outcome_of old new seen
 outcome_told old new before after seen was is =
     ap (λ n. told_by seen (new_item n after.answers) (numbers_after before.datagrams (after.datagrams - before.datagrams)) (new_item before.asks after.asks)) was.answers

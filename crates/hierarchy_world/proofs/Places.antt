@@ -1,4 +1,5 @@
--- The node at a member's place, and a change of it.
+-- The node at a member's index is the one that the model's look-up by id finds, also after it was
+-- replaced: by induction over the nodes, whose first match both take.
 use Rattle.std.proofs.Common.{◌≡◌, ℕ, suc, Bool, true, false, cond, List, [], ◌∷◌, map, slice_get, set, option_map, Option, Some, None, refl, sym, ◌∙◌, ap, subst, nat_eq}
 use Rattle.std.proofs.lemmas.Option.{none-some}
 use Rattle.node_rules.specs.declared.state.NodeState.{NodeState}
@@ -7,7 +8,7 @@ use Rattle.world_rules.specs.World.{Seat, node_at, with_node}
 use Rattle.world_rules.proofs.Seats.{ids_same}
 use Rattle.hierarchy_world.specs.Parts.{MemberNode, seat_of, seats_of, place_of, IsPlace}
 
--- the node's id
+-- the node at the index has the id
 id_by : (b : Bool) (m n : MemberNode) (nodes : List MemberNode) (id : ℕ) (k : Option ℕ) (place : ℕ) → (b ≡ true → m.id ≡ id) → cond b (Some 0) (option_map suc k) ≡ Some place → slice_get (m ∷ nodes) place ≡ Some n →
     ((p : ℕ) → k ≡ Some p → slice_get nodes p ≡ Some n → n.id ≡ id) → n.id ≡ id
 id_by true m n nodes id k place same is e later = ap (λ (x : MemberNode). x.id) (sym (same_Some m n (subst (λ p. slice_get (m ∷ nodes) p ≡ Some n) (sym (same_Some 0 place is)) e))) ∙ same refl
@@ -18,7 +19,7 @@ pub place_id : (nodes : List MemberNode) (id place : ℕ) (n : MemberNode) → I
 place_id [] id place n is e = absurd (none-some place is)
 place_id (m ∷ nodes) id place n is e = id_by (nat_eq m.id id) m n nodes id (place_of id (map (λ n. n.id) nodes)) place (ids_same m.id id) is e (λ p q r. place_id nodes id p n q r)
 
--- its state
+-- its state is the one that the look-up finds
 state_by : (b : Bool) (m n : MemberNode) (nodes : List MemberNode) (rest : NodeState ℕ) (k : Option ℕ) (place : ℕ) → cond b (Some 0) (option_map suc k) ≡ Some place → slice_get (m ∷ nodes) place ≡ Some n →
     ((p : ℕ) → k ≡ Some p → slice_get nodes p ≡ Some n → rest ≡ n.state) → cond b m.state rest ≡ n.state
 state_by true m n nodes rest k place is e later = ap (λ (x : MemberNode). x.state) (same_Some m n (subst (λ p. slice_get (m ∷ nodes) p ≡ Some n) (sym (same_Some 0 place is)) e))
@@ -29,7 +30,7 @@ pub place_state : (nodes : List MemberNode) (id place : ℕ) (n : MemberNode) �
 place_state [] id place n is e = absurd (none-some place is)
 place_state (m ∷ nodes) id place n is e = state_by (nat_eq m.id id) m n nodes (node_at (seats_of nodes) id) (place_of id (map (λ n. n.id) nodes)) place is e (λ p q r. place_state nodes id p n q r)
 
--- a node that is put in its place
+-- replacing it is what the model's with_node does
 put_by : (b : Bool) (m n : MemberNode) (nodes : List MemberNode) (rest : List Seat) (k : Option ℕ) (place : ℕ) → cond b (Some 0) (option_map suc k) ≡ Some place →
     ((p : ℕ) → k ≡ Some p → rest ≡ seats_of (set nodes p n)) → cond b (seat_of n ∷ seats_of nodes) (seat_of m ∷ rest) ≡ seats_of (set (m ∷ nodes) place n)
 put_by true m n nodes rest k place is later = ap (λ p. seats_of (set (m ∷ nodes) p n)) (same_Some 0 place is)

@@ -1,4 +1,5 @@
--- An event is refused only where it names nothing that there is, or nothing that is pending.
+-- An event is refused only with NoSuchPacket or NotPending: by cases on the event, the model has no
+-- other refusal. So a World's PlacesSpent never comes from the model.
 use Rattle.std.proofs.Common.{◌≡◌, ℕ, Bool, true, false, cond, List, Option, Some, None, subst}
 use Rattle.htcp_wire.specs.declared.message.Content.{Content}
 use Rattle.htcp_wire.specs.declared.message.Content.TheVariants as content
@@ -24,14 +25,14 @@ use Rattle.node_rules.specs.Messages.{protocol_of as udp_of}
 use Rattle.world_rules.specs.World.{World, Datagram, PeerAsk, PeerAnswer, item}
 use Rattle.world_rules.specs.Turn.{Turn, NodeSteps, Ends, Refused, at_member, acknowledged_by, master_hears_htcp, master_hears, delivered_to, delivered, ask_delivered, answer_delivered, origin_by, origin_to, foreign_by, foreign_to, fetching_at, issue_by, turn}
 
--- the two faults of events
+-- the two faults of refused events
 abbrev IsOfEvents : WorldFault → Type 0
 IsOfEvents fault.NoSuchPacket = Unit {0}
 IsOfEvents fault.NotPending = Unit {0}
 IsOfEvents fault.NoMemory = ⊥
 IsOfEvents fault.PlacesSpent = ⊥
 
--- a turn that is refused, is refused for one of these
+-- a turn that is refused is refused with one of these
 abbrev IsRight : Turn → Type 0
 IsRight (NodeSteps id e serial) = Unit {0}
 IsRight (Ends seen world) = Unit {0}
@@ -122,6 +123,6 @@ turn_right t w world.Resend = tt
 turn_right t w (world.Status number) = tt
 turn_right t w world.RestartMaster = tt
 
--- no event is refused for want of a place
+-- no event is refused with PlacesSpent
 pub not_for_places : (t : Tables) (w : World) (e : WorldEvent) → turn t w e ≡ Refused fault.PlacesSpent → ⊥
 not_for_places t w e is = subst IsRight is (turn_right t w e)

@@ -1,4 +1,5 @@
--- Another node at a member's place, where what waited there waits no more: a fault, or a restart.
+-- A fault or a restart: the node at a member's index is replaced, and what waited there is dropped.
+-- Both are what the model's with_seat does, and the new node keeps what was stored.
 use Rattle.std.proofs.Common.{◌≡◌, ℕ, not, List, filter, set, slice_get, nat_eq, Some, sym, ◌∙◌, ap}
 use Rattle.node_rules.specs.declared.state.NodeState.{NodeState}
 use Rattle.node_core.specs.View.{IsSameNode}
@@ -9,7 +10,7 @@ use Rattle.hierarchy_world.specs.declared.parts.Parts.{Parts}
 use Rattle.hierarchy_world.specs.Parts.{MemberNode, seats_of, world_of, IsStored, IsSound, IsPlace, IsSeatChanged}
 use Rattle.hierarchy_world.proofs.Seating.{same_world, was_state, still_sound, seats_are}
 
--- a change of the nodes, and then of what waits
+-- the nodes change, and then what waits
 pub then_forgets : (old mid new : Parts) (nodes : List MemberNode) (id : ℕ) → IsSeatChanged old mid nodes old.waiting.items →
     IsSeatChanged mid new mid.nodes.items (filter (λ w. not (nat_eq w.node id)) mid.waiting.items) → IsSeatChanged old new nodes (filter (λ w. not (nat_eq w.node id)) old.waiting.items)
 then_forgets old mid new nodes id first last = record {

@@ -1,4 +1,5 @@
--- Runs, one event at a time.
+-- Whole runs are safe. By induction over the events, a list of applied events is one that the model
+-- plays, and the laws of world_rules hold of it. The second part is the loop of World::run.
 use Rattle.std.proofs.Common.{◌≡◌, ℕ, suc, ◌+◌, ◌<◌, false, All, List, [], ◌∷◌, ◌++◌, length, map, take, drop, get_or, Err, refl, sym, ◌∙◌, ap, subst, inr, arith, length-append}
 use Rattle.std.proofs.Math.Seq.{drop-cons}
 use Rattle.std.proofs.lemmas.List.{map-id, take-append-drop}
@@ -39,7 +40,7 @@ tells_more t place last old mid new (step ∷ steps) outcomes event seen (next, 
       tells_more t (place + 1) last next mid new steps rest event seen more here happens,
     )
 
--- events that are all applied are played
+-- the model plays a list of events that were all applied
 tells_plays : (t : Tables) (place : ℕ) (old new : World) (steps : List Step) (outcomes : List Outcome) → Tells t place old steps new outcomes → Plays t place old (map (λ (s : Step). s.event) steps) steps new
 tells_plays t place old new [] outcomes (same, none) = (refl, same)
 tells_plays t place old new (step ∷ steps) outcomes (next, rest, first, told, more) = inr (step.seen, next, steps, first, refl, tells_plays t (place + 1) next new steps rest more)
@@ -65,7 +66,7 @@ run_goes_on t events mid new outcomes event seen place run is happens =
       told = tells_more t 1 place (new_world t) mid new run.steps outcomes event seen run.told here happens;
     }
 
--- a run that is over is safe
+-- a complete run is safe
 pub run_is_safe : (t : Tables) (events : List WorldEvent) (new : World) (outcomes : List Outcome) → IsRoster t → IsRunSoFar t events new outcomes → IsSafeRun t events new outcomes
 run_is_safe t events new outcomes proper run =
     let plays : Plays t 1 (new_world t) events run.steps new = subst (λ (l : List WorldEvent). Plays t 1 (new_world t) l run.steps new) run.events (tells_plays t 1 (new_world t) new run.steps outcomes run.told) in
@@ -78,7 +79,7 @@ run_is_safe t events new outcomes proper run =
       siblings = siblings_ask_nothing t run.steps;
     }
 
--- The world as callers see it, and the loop over the events
+-- The world as contracts see it, and the loop over the events
 
 abbrev pub IsAt : Tables → List WorldEvent → WorldView → List Outcome → Type 0
 IsAt t events w outcomes = (w.roster ≡ t) × (w.place ≡ 1 + length events) × (w.spoilt ≡ false) × All TellsNoLack outcomes × IsRunSoFar t events w.world outcomes
@@ -98,14 +99,14 @@ view_goes_on t events old new outcomes now event outcome (at_roster, at_place, a
     let all_lack : All TellsNoLack now = subst (All TellsNoLack) (sym is) (All-push TellsNoLack outcomes outcome at_lacks lacks) in
     (roster ∙ at_roster, here, usable, all_lack, subst (λ (l : List Outcome). IsRunSoFar t (events ++ event ∷ []) new.world l) (sym all) (run_goes_on t events old.world new.world outcomes event seen old.place run at_place happens_here))
 
--- all were applied
+-- all events were applied
 pub view_ends : (t : Tables) (events all : List WorldEvent) (w : WorldView) (outcomes now : List Outcome) → IsRoster t → IsAt t events w outcomes → events ≡ all → now ≡ outcomes → HasRun t all w now
 view_ends t events all w outcomes now proper at is same =
     subst (λ (l : List WorldEvent). HasRun t l w now) is
     (subst (λ (l : List Outcome). HasRun t events w l) (sym same)
     (at.0, at.1, at.2, at.3, run_is_safe t events w.world outcomes proper at.4))
 
--- the event that comes next, and those after it
+-- the next event, and those after it
 pub parted_at : {A : Type 0} (all so_far : List A) (x : A) → map (λ y. y) so_far ≡ take (length so_far) all → (length so_far < length all) × (x ≡ get_or all (length so_far) x) →
     all ≡ so_far ++ x ∷ drop (suc (length so_far)) all
 parted_at all so_far x first (less, is) =
@@ -113,7 +114,7 @@ parted_at all so_far x first (less, is) =
     sym (take-append-drop (length so_far) all) ∙ ap (λ l. l ++ drop (length so_far) all) (sym front) ∙ ap (λ l. so_far ++ l) (drop-cons all (length so_far) x less)
     ∙ ap (λ y. so_far ++ y ∷ drop (suc (length so_far)) all) (sym is)
 
--- why it stops there
+-- why the run stops there
 pub view_stops : (t : Tables) (all events : List WorldEvent) (old new : WorldView) (outcomes : List Outcome) (event : WorldEvent) (after : List WorldEvent) (f : WorldFault) →
     IsAt t events old outcomes → all ≡ events ++ event ∷ after → IsApplied old event (Err f) new → HasStopped t all f
 view_stops t all events old new outcomes event after fault.NoMemory at is applied = tt

@@ -1,4 +1,5 @@
--- A member's node that is put in its place.
+-- A member's node is replaced at its index: the parts stay sound, since its id, its roster and what
+-- is stored are as before, and the world changes as the model says.
 use Rattle.std.proofs.Common.{◌≡◌, ℕ, zero, suc, ◌<◌, List, [], ◌∷◌, length, map, set, insert, remove, slice_get, Some, refl, sym, ◌∙◌, ap, subst, arith}
 use Rattle.std.specs.List.{AllByRecursion}
 use Rattle.purge_rules.specs.Members.{members_of}
@@ -13,7 +14,7 @@ use Rattle.hierarchy_world.proofs.Members.{seated_put, ids_put}
 abbrev world_by : List Seat → PurgeList → ℕ → List Datagram → List PeerAsk → List PeerAnswer → List Waiting → World
 world_by seats master clock datagrams asks answers waiting = record { seats = seats; master = master; clock = clock; datagrams = datagrams; asks = asks; answers = answers; waiting = waiting }
 
--- worlds of the same parts
+-- worlds with equal parts are equal
 pub same_world : (a b : World) → a.seats ≡ b.seats → a.master ≡ b.master → a.clock ≡ b.clock → a.datagrams ≡ b.datagrams → a.asks ≡ b.asks → a.answers ≡ b.answers → a.waiting ≡ b.waiting →
     world_by a.seats a.master a.clock a.datagrams a.asks a.answers a.waiting ≡ world_by b.seats b.master b.clock b.datagrams b.asks b.answers b.waiting
 same_world a b seats master clock datagrams asks answers waiting =
@@ -26,7 +27,7 @@ same_world a b seats master clock datagrams asks answers waiting =
     ∙ ap (λ x. world_by b.seats b.master b.clock b.datagrams b.asks b.answers x) waiting
 
 module _ (old : Parts) (before : MemberNode) (id place : ℕ) (sound : IsSound old) (is_place : IsPlace old.nodes.items id place) (at : slice_get old.nodes.items place ≡ Some before) where
-  -- the node that was there
+  -- what holds of the node that was there
   pub was_id : before.id ≡ id
   was_id = place_id old.nodes.items id place before is_place at
 
@@ -60,7 +61,7 @@ module _ (old new : Parts) (before n : MemberNode) (id place : ℕ) (sound : IsS
   pub seats_are : seats_of new.nodes.items ≡ with_node (seats_of old.nodes.items) id n.state
   seats_are = ap seats_of nodes_are ∙ sym (subst (λ i. with_node (seats_of old.nodes.items) i n.state ≡ seats_of (set old.nodes.items place n)) now_id (place_put old.nodes.items place n now_place))
 
--- a node that is taken out and another that is put in its place
+-- taking a node out and putting another in at its index replaces it
 pub put_back : (nodes : List MemberNode) (place : ℕ) (n : MemberNode) → place < length nodes → insert (remove nodes place) place n ≡ set nodes place n
 put_back [] place n h = absurd (omega arith)
 put_back (m ∷ nodes) zero n h = refl

@@ -1,4 +1,6 @@
--- What a reply may serve, and what waits after a step.
+-- What a step serves can be written to a member. Ages are those of served_age, which is at most
+-- 2147483648 (steps_answer_asks of world_rules); a bare status is 502, 503 or 504 (steps_are_lawful of
+-- node_rules). And what waits after a step is told by its block.
 use Rattle.std.proofs.Common.{◌≡◌, ℕ, ◌≤◌, min, Option, Some, None, Result, Ok, Err, refl, sym, subst, rules}
 use Rattle.node_rules.specs.declared.state.NodeState.{NodeState}
 use Rattle.node_rules.specs.declared.event.Event.{Event}
@@ -17,7 +19,7 @@ use Rattle.world_rules.specs.Asked.{IsServedRightly, IsRightlyIn}
 use Rattle.world_rules.proofs.Asked.{steps_answer_asks}
 use Rattle.hierarchy_world.specs.Posted.{IsWritten, IsWrittenIn, IsWrittenBy, waits_by}
 
--- what begins to wait, by the ask that the event is
+-- what begins to wait, by the member's request that the event is
 pub waits_here : (e : Event ℕ) (id serial : ℕ) (old new : NodeState ℕ) → waits_now id e serial old new ≡ waits_by id (asked_now e serial) old.next new.next
 waits_here (event.Client ask now) id serial old new = refl
 waits_here (event.Datagram from m now) id serial old new = refl
@@ -39,12 +41,12 @@ written_in : (s : NodeState ℕ) (e : Event ℕ) (serve : Option (Serve ℕ)) �
 written_in s e None right bare = tt
 written_in s e (Some serve) right bare = written s e serve.waiter serve.asker serve.served right bare
 
--- what a step serves can be written
+-- what a reply serves can be written
 pub step_written : (g : Setting) (s : NodeState ℕ) (e : Event ℕ) (mark : ℕ) (reply : Reply ℕ) (next : NodeState ℕ) → Steps g s e mark (Ok reply) next → IsWrittenIn reply.serve
 step_written g s e mark reply next steps =
     written_in s e reply.serve (steps_answer_asks g s mark e (Ok reply) next steps).serves (steps_are_lawful g s e mark (Ok reply) next steps).statuses
 
--- so can what its outcome serves
+-- what an outcome serves can be written
 pub outcome_written : (g : Setting) (s : NodeState ℕ) (e : Event ℕ) (mark : ℕ) (outcome : Result (Reply ℕ) StepFault) (next : NodeState ℕ) → Steps g s e mark outcome next → IsWrittenBy outcome
 outcome_written g s e mark (Ok reply) next steps = step_written g s e mark reply next steps
 outcome_written g s e mark (Err fault) next steps = tt

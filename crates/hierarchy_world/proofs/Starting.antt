@@ -1,4 +1,5 @@
--- A new world: each member has a node with nothing, and the master has issued nothing.
+-- A new world is the model's: each member has a node that holds nothing, and the master has issued
+-- nothing. By induction over the members.
 use Rattle.std.proofs.Common.{◌≡◌, ℕ, List, [], ◌∷◌, map, refl, sym, ◌∙◌, ap, subst}
 use Rattle.std.specs.List.{AllByRecursion}
 use Rattle.std.specs.FinMap.{empty}
@@ -18,7 +19,7 @@ use Rattle.hierarchy_world.proofs.Seating.{same_world}
 abbrev node_by : Tables → ℕ → NodeState ℕ → FloorMap → MemberNode
 node_by t id state store = record { roster = t; id = id; state = state; store = store }
 
--- a node of a member, with nothing
+-- a new node of a member
 abbrev pub node_of : Tables → ℕ → MemberNode
 node_of t id = node_by t id (opened empty) empty
 

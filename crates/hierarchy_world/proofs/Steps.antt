@@ -1,4 +1,5 @@
--- What a step of a node over floors in memory leaves.
+-- A step of a node over floors in memory. Its store never fails, so the step is the function's or
+-- lacked memory; and after it the store has the node's floors.
 use Rattle.std.proofs.Common.{◌≡◌, ℕ, List, Option, true, false, Bool, refl, sym, ◌∙◌, ap, subst, Result, Ok, Err, inl, inr, arith}
 use Rattle.std.specs.Prelude.{◌≢◌}
 use Rattle.node_rules.specs.declared.state.NodeState.{NodeState}
@@ -22,7 +23,7 @@ closed_step : {X : Type 0} (g : Setting) (s : NodeState X) (e : Event X) (mark :
 unfolding step step_if
 closed_step g s e mark is_closed = ap (step_if g s e mark) is_closed
 
--- where neither memory nor the store fails, the step is the function's
+-- if neither memory nor the store fails, the step is the function's
 by_function : {X : Type 0} (g : Setting) (s : NodeState X) (e : Event X) (mark : X) (outcome : Result (Reply X) StepFault) (next : NodeState X) →
     outcome ≢ Err fault.NoMemory → outcome ≢ Err fault.StoreFault → Steps g s e mark outcome next → step g s e mark ≡ record { state = next; outcome = outcome }
 by_function g s e mark (Ok reply) next memory store steps = steps
@@ -53,7 +54,7 @@ stored_by true before after g e mark outcome is_closed stored tied is keeps =
     stored_closed before after g e mark outcome (sym (the_function_closes_no_node g before.state e mark) ∙ ap (λ r. r.state.closed) is ∙ is_closed) stored is keeps
 stored_by false before after g e mark outcome is_open stored tied is keeps = tied is_open
 
--- the store has the floors after the step too
+-- the store has the node's floors after the step too
 pub stored_after : (before after : MemberNode) (g : Setting) (e : Event ℕ) (mark : ℕ) (outcome : Result (Reply ℕ) StepFault) → before.store ≡ before.state.floors →
     (after.state.closed ≡ false → after.store ≡ after.state.floors) → outcome ≢ Err fault.NoMemory → outcome ≢ Err fault.StoreFault →
     Steps g before.state e mark outcome after.state → Keeps before after outcome → after.store ≡ after.state.floors
@@ -64,7 +65,7 @@ stored_after before after g e mark outcome stored tied memory store steps keeps 
 pub never_fails : (outcome : Result (Reply ℕ) StepFault) → FailsWithCause (Unit {0}) (HaveRisen 0 0) outcome → outcome ≢ Err fault.StoreFault
 never_fails outcome cause is = elim (cause is tt) [ inl less ↦ absurd (omega arith) | inr most ↦ absurd (omega arith) ]
 
--- what the contract of a node's step says of a node over floors in memory
+-- the contract of a node's step, for a node over floors in memory
 pub is_step : (before after : MemberNode) (e : Event ℕ) (mark : ℕ) (s : SteppedHere) → IsStored before → IsSameMember before after → Keeps before after s.outcome → FailsWithCause (Unit {0}) (HaveRisen 0 0) s.outcome →
     ((key_of : List ℕ → Option (List ℕ)) → GivesKeys key_of → Steps (setting_of before key_of) before.state e mark s.outcome after.state) → IsTied after.state.closed after.state.floors true (Unit {0}) after.store →
     s.outcome ≢ Err fault.NoMemory → s.before ≡ before.state.next → s.after ≡ after.state.next → IsStep before mark e s after

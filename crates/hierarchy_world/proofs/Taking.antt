@@ -1,4 +1,5 @@
--- A node's step, and all that it sends, in their world.
+-- A node's step with all that it sends is the model's turn: first the node is replaced by the one
+-- after its step, then the items are added that its reply sends, and what waits.
 use Rattle.std.proofs.Common.{◌≡◌, ℕ, List, [], ◌++◌, map, set, slice_get, Option, Some, None, refl, sym, ◌∙◌, ap, subst}
 use Rattle.std.specs.List.{AllByRecursion}
 use Rattle.purge_rules.specs.Members.{members_of}
@@ -18,7 +19,7 @@ use Rattle.hierarchy_world.specs.Posted.{answered, answers_by, waits_by, serial_
 use Rattle.hierarchy_world.proofs.Seating.{same_world, was_id, was_seated, was_state, still_sound, seats_are}
 use Rattle.hierarchy_world.proofs.Serving.{waits_here}
 
--- A node's step at its place
+-- A node's step at its index
 module _ (old new : Parts) (before n : MemberNode) (id place : ℕ) (e : Event ℕ) (s : Stepped) (sound : IsSound old) (is_place : IsPlace old.nodes.items id place)
     (at : slice_get old.nodes.items place ≡ Some before) (changed : IsSeatChanged old new (set old.nodes.items place n) old.waiting.items) (is : IsStep before old.place e s n) where
   is_state : node_at (seats_of old.nodes.items) id ≡ before.state
@@ -48,7 +49,7 @@ module _ (old new : Parts) (before n : MemberNode) (id place : ℕ) (e : Event �
         (ap (λ m. m.state.purges) changed.master) changed.clock changed.datagrams changed.asks changed.answers changed.waiting;
   }
 
--- what is only added to leaves the parts sound
+-- adding items leaves the parts sound
 pub adds_sound : (a b : Parts) (datagrams : List Datagram) (asks : List PeerAsk) (answers : List PeerAnswer) (waiting : List Waiting) →
     Adds a b datagrams asks answers waiting → IsSound a → IsSound b
 adds_sound a b datagrams asks answers waiting adds sound = record {
@@ -60,7 +61,7 @@ adds_sound a b datagrams asks answers waiting adds sound = record {
   };
 }
 
--- the ask that is answered, and the answer, are those of the event
+-- the request that is answered, and the response, are those of the event
 answered_here : (waiting : List Waiting) (id : ℕ) (e : Event ℕ) (serial : ℕ) (asked : Option Answered) (waiter : Option ℕ) → asked ≡ asked_now e serial → answered waiting id asked waiter ≡ asked_by waiting id e serial waiter
 answered_here waiting id e serial asked None is = is
 answered_here waiting id e serial asked (Some block) is = refl
@@ -69,7 +70,7 @@ answers_here : (waiting : List Waiting) (id : ℕ) (e : Event ℕ) (serial : ℕ
 answers_here waiting id e serial asked None is = refl
 answers_here waiting id e serial asked (Some serve) is = ap (answer_to id serve.asker serve.served) (answered_here waiting id e serial asked serve.waiter is)
 
--- A node's step, all that it sends, and what waits then
+-- A node's step, all that it sends, and what waits afterwards
 module _ (old mid sent new : Parts) (id : ℕ) (e : Event ℕ) (asked : Option Answered) (s : Stepped) (h : HasStepped old id e s mid) (is : asked ≡ asked_now e (serial_of asked))
     (first : Adds mid sent (datagrams_from (member_of mid.roster id) (reply_in s.outcome).send) (asks_in id (reply_in s.outcome).begin) (answers_by mid.waiting.items id asked (reply_in s.outcome).serve) [])
     (last : Adds sent new [] [] [] (waits_by id asked s.before s.after)) where

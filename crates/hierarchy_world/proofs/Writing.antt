@@ -1,4 +1,5 @@
--- What a member is answered can be written.
+-- What a member is sent can be written: the copy's own response could be, and another age and stamp
+-- in their ranges do not change that. A bare status has no fields and no body.
 use Rattle.std.proofs.Common.{◌≡◌, ℕ, ◌≤◌, Bool, true, false, ◌&&◌, ◌||◌, nat_le, nat_eq, cond, List, Some, None, unwrap_or, refl, sym, ap, ◌∙◌, subst, rules}
 use Rattle.std.specs.List.{list_all}
 use Rattle.fetch_messages.specs.Field.{FieldText, is_kept_field, are_few_fields}
@@ -8,7 +9,7 @@ use Rattle.node_rules.proofs.Cases.{true_not_false, same_Some}
 use Rattle.world_rules.specs.World.{answer_of_status}
 use Rattle.world_rules.proofs.Seats.{ids_same}
 
--- among tests that are passed, one may be exchanged for another that is passed
+-- one passed test of several may be replaced by another that is passed
 exchanged : (p x y e : Bool) → (p && x && e) ≡ true → y ≡ true → (p && y && e) ≡ true
 exchanged true true true e h is = h
 exchanged true true false e h is = absurd (true_not_false (sym is))
@@ -18,7 +19,7 @@ exchanged false x y e h is = absurd (true_not_false (sym h))
 test_of : (m n : ℕ) → m ≤ n → nat_le m n ≡ true
 test_of m n h = search rules
 
--- an answer that can be written, with another age and another stamp
+-- a response that can be written, with another age and another stamp
 pub writable_aged : (a : AnswerText) (age stamp : ℕ) → is_writable a ≡ true → age ≤ 2147483648 →
     is_writable (record { status = a.status; fields = a.fields; age = Some age; stamp = Some stamp; body = a.body }) ≡ true
 writable_aged a age stamp h small =
@@ -31,7 +32,7 @@ one_of P status b n here h later = elim (nat_eq n status) as (λ v. nat_eq n sta
   | false ↦ λ is rest. later rest
 ] refl h
 
--- a gateway's bare status can be written
+-- a bare status 502, 503 or 504 can be written
 pub writable_status : (status : ℕ) → is_gateway_fault status ≡ true → is_writable (answer_of_status status) ≡ true
 writable_status status h =
     one_of (λ s. is_writable (answer_of_status s) ≡ true) status (nat_eq 503 status || (nat_eq 504 status || false)) 502 refl h
@@ -42,7 +43,7 @@ writable_status status h =
 abbrev answer_by : ℕ → List FieldText → ℕ → ℕ → List ℕ → AnswerText
 answer_by status fields age stamp body = record { status = status; fields = fields; age = Some age; stamp = Some stamp; body = body }
 
--- the answer that is made of these parts
+-- the response that is made of these parts
 pub made_of : (a : AnswerText) (age stamp : ℕ) (made : AnswerText) (status : ℕ) (fields : List FieldText) (body : List ℕ) → is_writable a ≡ true → age ≤ 2147483648 →
     status ≡ a.status → fields ≡ a.fields → body ≡ a.body → Some made ≡ cond (is_writable (answer_by status fields age stamp body)) (Some (answer_by status fields age stamp body)) None →
     made ≡ answer_by a.status a.fields age stamp a.body

@@ -1,4 +1,4 @@
--- Reading order: each file stands on those above it.
+-- In order of dependence: each file uses only those above it. View and Runs are what callers need.
 pub mod View
 pub mod Parts
 pub mod Posted

@@ -1,4 +1,5 @@
--- The parts of a world, what holds of them, and what a turn does to them.
+-- The parts of a world: the world that they are, their invariant (IsSound), and what a turn does to
+-- them (IsTaken).
 use Rattle.std.specs.Prelude.{◌≡◌, ◌≢◌, ℕ, suc, Bool, ◌==◌, false, List, [], ◌∷◌, ◌++◌, map, option_map, Option, Some, None, Result, Ok, Err, if◌then◌else◌}
 use Rattle.std.specs.List.{AllByRecursion}
 use Rattle.floor_rules.specs.Floors.{FloorMap}
@@ -29,9 +30,11 @@ use Rattle.hierarchy_world.specs.View.{WorldView, TellsNoLack, HasHappened}
 abbrev pub MemberNode : Type 0
 MemberNode = NodeText ℕ FloorMap
 
+-- the node as the model has it: its id and its state
 abbrev pub seat_of : MemberNode → Seat
 seat_of n = record { id = n.id; node = n.state }
 
+-- the nodes as the model has them
 abbrev pub seats_of : List MemberNode → List Seat
 seats_of nodes = map seat_of nodes
 
@@ -47,7 +50,7 @@ world_of p = record {
   waiting = p.waiting.items;
 }
 
--- with the roster and the place, and whether a growth was refused
+-- what a contract sees of the world, by whether an allocation has failed
 abbrev pub view_of : Parts → Bool → WorldView
 view_of p spoilt = record { roster = p.roster; place = p.place; spoilt = spoilt; world = world_of p }
 
@@ -60,27 +63,27 @@ pub record IsSeated (tables : Tables) (n : MemberNode) : Type 0 where
   pub roster : n.roster ≡ tables
   pub stored : IsStored n
 
--- the master is the roster's, and open
+-- the master has the roster's members, and is open
 pub record IsInOffice (roster : Tables) (m : MasterView PurgeList) : Type 0 where
   pub members : m.members ≡ members_of roster
   pub is_open : m.state.closed ≡ false
 
--- each member has its node, in the roster's order
+-- the invariant: each member has its node, in the roster's order, and the master is open
 pub record IsSound (p : Parts) : Type 0 where
   pub nodes : AllByRecursion (IsSeated p.roster) p.nodes.items
   pub ids : map (λ n. n.id) p.nodes.items ≡ map (λ m. m.cache.id) p.roster.members
   pub master : IsInOffice p.roster p.master
 
--- the place of the first of these ids that is this one
+-- the index of the first of these ids that is this one, if any
 abbrev pub place_of : ℕ → List ℕ → Option ℕ
 place_of id [] = None
 place_of id (i ∷ ids) = if i == id then Some 0 else option_map suc (place_of id ids)
 
--- the place of the member's node
+-- the member's node has this index
 abbrev pub IsPlace : List MemberNode → ℕ → ℕ → Type 0
 IsPlace nodes id place = place_of id (map (λ n. n.id) nodes) ≡ Some place
 
--- what is seen, as the world's definitions say it
+-- what was seen, as the model has it
 abbrev pub seen_of : SeenHere → Seen
 seen_of (here.Replied node outcome) = Replied node outcome
 seen_of (here.Issued number) = Issued number
@@ -88,7 +91,8 @@ seen_of (here.NotIssued f) = NotIssued f
 seen_of (here.Told number status) = Told number status
 seen_of here.Nothing = Nothing
 
--- A node has taken this step under this mark. A step that lacked memory is none, and floors in memory never fail.
+-- A node has taken this step under this mark. The step lacked no memory, and its store did not
+-- fail.
 pub record IsStep (before : MemberNode) (mark : ℕ) (e : Event ℕ) (s : Stepped) (after : MemberNode) : Type 0 where
   pub roster : after.roster ≡ before.roster
   pub id : after.id ≡ before.id
@@ -99,11 +103,11 @@ pub record IsStep (before : MemberNode) (mark : ℕ) (e : Event ℕ) (s : Steppe
   pub next_before : s.before ≡ before.state.next
   pub next_after : s.after ≡ after.state.next
 
--- the member's node has this state, and all else is the same
+-- the world in which the member's node has this state, and all else is the same
 abbrev pub with_state : World → ℕ → NodeState ℕ → World
 with_state w id next = record { seats = with_node w.seats id next; master = w.master; clock = w.clock; datagrams = w.datagrams; asks = w.asks; answers = w.answers; waiting = w.waiting }
 
--- The member's node has taken this step at its place in the run, and nothing is sent yet.
+-- the member's node has taken this step at the run's place, and nothing is sent yet
 pub record HasStepped (old : Parts) (id : ℕ) (e : Event ℕ) (s : Stepped) (new : Parts) : Type 0 where
   pub sound : IsSound new
   pub roster : new.roster ≡ old.roster
@@ -116,12 +120,12 @@ pub record HasStepped (old : Parts) (id : ℕ) (e : Event ℕ) (s : Stepped) (ne
   pub next_after : s.after ≡ next.next
   pub world : world_of new ≡ with_state (world_of old) id next
 
--- what is seen is no step that lacked memory or met a failing store
+-- what was seen is no step that lacked memory or met a failing store
 abbrev pub LackedNothing : SeenHere → Type 0
 LackedNothing (here.Replied node outcome) = (outcome ≢ Err step_fault.NoMemory) × (outcome ≢ Err step_fault.StoreFault)
 LackedNothing _ = Unit {0}
 
--- the turn is taken, and this is seen
+-- the turn was taken, with what was seen
 pub record HasTaken (old : Parts) (t : Turn) (seen : SeenHere) (new : Parts) : Type 0 where
   pub sound : IsSound new
   pub roster : new.roster ≡ old.roster
@@ -129,13 +133,13 @@ pub record HasTaken (old : Parts) (t : Turn) (seen : SeenHere) (new : Parts) : T
   pub lacked_nothing : LackedNothing seen
   pub takes : Takes old.roster old.place (world_of old) t (seen_of seen) (world_of new)
 
--- A turn is taken, or it is refused and changes nothing. Of want of memory nothing is said.
+-- A turn is taken, or it is refused and changes nothing. After NoMemory nothing is said.
 abbrev pub IsTaken : Parts → Turn → Result SeenHere WorldFault → Parts → Type 0
 IsTaken old t (Ok seen) new = HasTaken old t seen new
 IsTaken old t (Err fault.NoMemory) new = Unit {0}
 IsTaken old t (Err f) new = (t ≡ Refused f) × (new ≡ old)
 
--- Only these are added to what was sent and to what waits.
+-- only these items are added to what was sent and to what waits
 pub record Adds (old new : Parts) (more_datagrams : List Datagram) (more_asks : List PeerAsk) (more_answers : List PeerAnswer) (more_waiting : List Waiting) : Type 0 where
   pub roster : new.roster ≡ old.roster
   pub nodes : new.nodes.items ≡ old.nodes.items
@@ -147,7 +151,7 @@ pub record Adds (old new : Parts) (more_datagrams : List Datagram) (more_asks : 
   pub answers : new.answers.items ≡ old.answers.items ++ more_answers
   pub waiting : new.waiting.items ≡ old.waiting.items ++ more_waiting
 
--- Only these nodes stand there now, and this waits.
+-- only the nodes and what waits have changed, to these
 pub record IsSeatChanged (old new : Parts) (nodes_now : List MemberNode) (waiting_now : List Waiting) : Type 0 where
   pub roster : new.roster ≡ old.roster
   pub nodes : new.nodes.items ≡ nodes_now
@@ -159,12 +163,13 @@ pub record IsSeatChanged (old new : Parts) (nodes_now : List MemberNode) (waitin
   pub answers : new.answers.items ≡ old.answers.items
   pub waiting : new.waiting.items ≡ waiting_now
 
--- where something is seen, what is purged is the key of a URL
+-- if the event did something, and issues a purge, it has the key of a URL
 abbrev pub IsKeyed : WorldEvent → Result SeenHere WorldFault → Type 0
 IsKeyed event (Ok seen) = IsOfKey event
 IsKeyed event (Err f) = Unit {0}
 
--- The event has happened at its place, or it is refused and changes nothing. Of want of memory nothing is said.
+-- The event has happened at its place, or it is refused and changes nothing. After NoMemory nothing
+-- is said.
 abbrev pub IsMade : Parts → WorldEvent → Result Outcome WorldFault → Parts → Type 0
 IsMade old event (Ok outcome) new = IsSound new × TellsNoLack outcome × HasHappened (view_of old false) event outcome (view_of new false)
 IsMade old event (Err fault.NoMemory) new = Unit {0}

@@ -1,4 +1,4 @@
--- What may be served, and what an answer to a CLR says.
+-- What a step sends, by the member's request that its event is; and what may be served.
 use Rattle.std.specs.Prelude.{◌≡◌, ℕ, ◌≤◌, ◌==◌, true, List, [], ◌∷◌, Option, Some, None, Result, if◌then◌else◌}
 use Rattle.roster_tables.specs.declared.plain.Address.{Address}
 use Rattle.roster_tables.specs.declared.plain.Udp.TheVariants as udp
@@ -13,41 +13,42 @@ use Rattle.node_rules.specs.declared.reply.StepFault.{StepFault}
 use Rattle.world_rules.specs.World.{World, Waiting, PeerAnswer, Answered, asked_before, answer_to, reply_in}
 use Rattle.world_rules.specs.Turn.{Turn, Ends, Nothing, acknowledged_by}
 
--- a copy has an age that can be written, and a bare status is a gateway's
+-- a served copy has an age of at most 2147483648 seconds, and a bare status is 502, 503 or 504
 abbrev pub IsWritten : Served ℕ → Type 0
 IsWritten (Copy c age) = age ≤ 2147483648
 IsWritten (Status status) = is_gateway_fault status ≡ true
 
--- so it is with what is served, if anything is
+-- the same for what is served, if anything is
 abbrev pub IsWrittenIn : Option (Serve ℕ) → Type 0
 IsWrittenIn None = Unit {0}
 IsWrittenIn (Some serve) = IsWritten serve.served
 
--- the master hears such an answer, or nothing
+-- what the master does with a response to a CLR (TRANS-ID and code), or with anything else
 abbrev pub heard_by : Tables → World → Address → Option (ℕ × ℕ) → Turn
 heard_by roster w sender None = Ends Nothing w
 heard_by roster w sender (Some x) = acknowledged_by roster w x.0 x.1 (member_at roster sender udp.Htcp)
 
--- the ask that is answered: the one that waited as the block, or else the event, which is this ask of a member, if it is one
+-- the request that is answered: the one that waited as the block, or else the event's own, if it is
+-- a member's request
 abbrev pub answered : List Waiting → ℕ → Option Answered → Option ℕ → Option Answered
 answered waiting id asked None = asked
 answered waiting id asked (Some block) = asked_before waiting id block
 
--- the answer that is sent to a member, where the event is this ask of a member, if it is one
+-- the response that is sent to a member, by the member's request that the event is, if it is one
 abbrev pub answers_by : List Waiting → ℕ → Option Answered → Option (Serve ℕ) → List PeerAnswer
 answers_by waiting id asked None = []
 answers_by waiting id asked (Some serve) = answer_to id serve.asker serve.served (answered waiting id asked serve.waiter)
 
--- so it is with what an outcome serves
+-- the same for what an outcome serves
 abbrev pub IsWrittenBy : Result (Reply ℕ) StepFault → Type 0
 IsWrittenBy outcome = IsWrittenIn (reply_in outcome).serve
 
--- the serial of a member's ask, 0 where there is none
+-- the serial of a member's request; 0 if there is none
 abbrev pub serial_of : Option Answered → ℕ
 serial_of None = 0
 serial_of (Some a) = a.serial
 
--- this ask of a member has begun to wait, where the node has taken a block
+-- the member's request that has begun to wait: the event's, if the node has taken a block
 abbrev pub waits_by : ℕ → Option Answered → ℕ → ℕ → List Waiting
 waits_by id None before after = []
 waits_by id (Some a) before after = if before == after then [] else record { node = id; block = before; serial = a.serial; key = a.key } ∷ []

@@ -1,4 +1,5 @@
--- A run: events that were applied one after the other, what was told of each, and the headline of it.
+-- A run: events that were applied one after the other, their outcomes, and the safety of purges in
+-- it. HasRun and HasStopped are the contract of World::run.
 use Rattle.std.specs.Prelude.{◌≡◌, ℕ, ◌+◌, ◌-◌, ◌^◌, ◌≤◌, false, All, List, [], ◌∷◌, ◌++◌, length, map}
 use Rattle.roster_tables.specs.declared.plain.Tables.{Tables}
 use Rattle.world_rules.specs.declared.event.WorldEvent.{WorldEvent}
@@ -12,14 +13,15 @@ use Rattle.world_rules.specs.Safety.{NothingOldIsServed, SiblingsAskNothing}
 use Rattle.world_rules.specs.Apply.{outcome_of}
 use Rattle.hierarchy_world.specs.View.{WorldView, TellsNoLack}
 
--- these steps, the first of them at the place, lead from the old world to the new, and these outcomes are told of them
+-- these steps lead from the old world to the new, with these outcomes; the first of them has this
+-- place
 abbrev pub Tells : Tables → ℕ → World → List Step → World → List Outcome → Type 0
 Tells roster place old [] new outcomes = (new ≡ old) × (outcomes ≡ [])
 Tells roster place old (step ∷ steps) new outcomes =
     (next : World) × (rest : List Outcome) × Happens roster place old step.event step.seen next
     × (outcomes ≡ outcome_of old next step.seen ∷ rest) × Tells roster (place + 1) next steps new rest
 
--- All the events were applied, from a new world on; these outcomes are told of them; and the run is safe.
+-- all the events were applied, from a new world on, with these outcomes, and the run is safe
 pub record IsSafeRun (roster : Tables) (all_events : List WorldEvent) (new : World) (outcomes : List Outcome) : Type 0 where
   pub steps : List Step
   pub events : map (λ s. s.event) steps ≡ all_events
@@ -28,24 +30,25 @@ pub record IsSafeRun (roster : Tables) (all_events : List WorldEvent) (new : Wor
   pub served : NothingOldIsServed steps
   pub siblings : SiblingsAskNothing roster steps
 
--- the world after all these events, which is usable, and what was told of each: no step that lacked memory or met a failing store
+-- the world after all these events, which is usable, and their outcomes, none of which tells of a
+-- step that lacked memory or met a failing store
 abbrev pub HasRun : Tables → List WorldEvent → WorldView → List Outcome → Type 0
 HasRun roster events w outcomes =
     (w.roster ≡ roster) × (w.place ≡ 1 + length events) × (w.spoilt ≡ false) × All TellsNoLack outcomes × IsSafeRun roster events w.world outcomes
 
--- so far: the events up to here were applied, and these outcomes are told of them
+-- the events up to here were applied, with these outcomes
 pub record IsRunSoFar (roster : Tables) (all_events : List WorldEvent) (new : World) (outcomes : List Outcome) : Type 0 where
   pub steps : List Step
   pub events : map (λ s. s.event) steps ≡ all_events
   pub told : Tells roster 1 (new_world roster) steps new outcomes
 
--- the first event that is none comes after events that were applied, and is refused with this fault
+-- an event after some that were applied is refused with this fault
 abbrev pub IsRefusedAfter : Tables → List WorldEvent → WorldFault → Type 0
 IsRefusedAfter roster events f =
     (before : List WorldEvent) × (event : WorldEvent) × (after : List WorldEvent) × (w : World) × (outcomes : List Outcome)
     × (events ≡ before ++ event ∷ after) × IsRunSoFar roster before w outcomes × (turn roster w event ≡ Refused f)
 
--- why the events were not all applied. Of want of memory nothing is said.
+-- why the events were not all applied; of NoMemory nothing is said
 abbrev pub HasStopped : Tables → List WorldEvent → WorldFault → Type 0
 HasStopped roster events fault.NoMemory = Unit {0}
 HasStopped roster events fault.PlacesSpent = 2 ^ 64 - 1 ≤ length events

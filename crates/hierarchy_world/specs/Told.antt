@@ -1,4 +1,4 @@
--- How much was sent, and what is told then.
+-- How many items were sent, and the outcome by these counts.
 use Rattle.std.specs.Prelude.{◌≡◌, ◌-◌, length}
 use Rattle.world_rules.specs.declared.outcome.Outcome.{Outcome}
 use Rattle.world_rules.specs.World.{World}
@@ -6,13 +6,13 @@ use Rattle.world_rules.specs.Turn.{Seen}
 use Rattle.world_rules.specs.Apply.{numbers_after, new_item, told_by}
 use Rattle.hierarchy_world.specs.declared.telling.Counts.{Counts}
 
--- so much was sent in this world
+-- these many items were sent in this world
 pub record AreCounts (w : World) (c : Counts) : Type 0 where
   pub datagrams : c.datagrams ≡ length w.datagrams
   pub asks : c.asks ≡ length w.asks
   pub answers : c.answers ≡ length w.answers
 
--- what is told of what was seen, where so much was sent before and after it
+-- the outcome of what was seen, by the counts of items sent before and after
 abbrev pub outcome_by : Counts → Counts → Seen → Outcome
 outcome_by before after seen =
     told_by seen (new_item before.answers after.answers) (numbers_after before.datagrams (after.datagrams - before.datagrams)) (new_item before.asks after.asks)

@@ -1,4 +1,5 @@
-//! What comes to a member or to the master.
+//! What arrives at a member or at the master, and a member's faults and restarts. Each function
+//! returns `NoSuchPacket` if what the event names does not exist.
 ghost use Rattle.std.specs.Prelude.{◌≡◌, true, Some};
 ghost use Rattle.node_rules.specs.declared.event.Event.TheVariants as events;
 ghost use Rattle.node_rules.specs.State.{opened, closed_node};
@@ -17,7 +18,7 @@ use roster::{Address, is_foreign};
 use world_rules::WorldFault;
 
 impl Parts {
-    /// A client asks a member.
+    /// A client sends a request to a member.
     pub(crate) fn client(&mut self, id: u8, ask: Ask) -> Result<Seen, WorldFault>
         requires { IsSound self.old }
         ensures { IsTaken self.old (turns.at_member self.old.roster id (turns.NodeSteps id (events.Client ask self.old.clock) 0)) result self.new }
@@ -29,7 +30,7 @@ impl Parts {
         self.step(place, id, Event::Client { ask, now }, None)
     }
 
-    /// A datagram comes to a member.
+    /// A datagram reaches a member.
     fn hear(&mut self, id: u8, from: Address, message: Received) -> Result<Seen, WorldFault>
         requires sound { IsSound self.old }
         requires member { is_member self.old.roster id ≡ true }
@@ -42,7 +43,7 @@ impl Parts {
         self.step(place, id, Event::Datagram { from, message, now }, None)
     }
 
-    /// A datagram that was sent comes.
+    /// A datagram that was sent arrives at the master, or at the member that answers its protocol.
     #[tactic(auto, using(crate::proofs::Members::reached_member, crate::proofs::Answerable::sendable_answerable))]
     pub(crate) fn datagram(&mut self, number: u64) -> Result<Seen, WorldFault>
         requires { IsSound self.old }
@@ -64,7 +65,7 @@ impl Parts {
         self.hear(id, sender, message)
     }
 
-    /// A datagram comes from an address that is neither a member's nor the master's.
+    /// A datagram arrives at a member from an address that is neither a member's nor the master's.
     #[tactic(auto, using(crate::proofs::Members::reached_member))]
     pub(crate) fn strange(
         &mut self,
@@ -84,7 +85,7 @@ impl Parts {
         }
     }
 
-    /// An ask that a member sent to a member comes.
+    /// A request that a member sent to a member arrives.
     pub(crate) fn peer_ask(&mut self, number: u64) -> Result<Seen, WorldFault>
         requires { IsSound self.old }
         ensures { IsTaken self.old (turns.ask_delivered self.old.roster (world_of self.old) (item_of self.old.asks.items number)) result self.new }
@@ -108,7 +109,8 @@ impl Parts {
         self.step(place, id, event, Some(asked))
     }
 
-    /// An answer that a member sent to a member comes, under this serial or else under that of its ask.
+    /// A response that a member sent to a member arrives, under this serial or else under that of
+    /// its request.
     pub(crate) fn peer_answer(
         &mut self,
         number: u64,
@@ -135,7 +137,7 @@ impl Parts {
         self.step(place, id, event, None)
     }
 
-    /// The origin answers a read.
+    /// The origin responds to a read. `NotPending`: no read is pending under the serial.
     pub(crate) fn origin(&mut self, id: u8, serial: u32, answer: Answer) -> Result<Seen, WorldFault>
         requires { IsSound self.old }
         ensures { IsTaken self.old (turns.at_member self.old.roster id (turns.origin_to (world_of self.old) id serial answer (turns.fetching_at (world_of self.old) id serial))) result self.new }
@@ -160,7 +162,8 @@ impl Parts {
         self.step(place, id, event, None)
     }
 
-    /// A foreign cache answers a fetch.
+    /// A foreign cache responds to a fetch. `NotPending`: no fetch from a foreign cache is pending
+    /// under the serial.
     pub(crate) fn foreign(
         &mut self,
         id: u8,
@@ -204,7 +207,7 @@ impl Parts {
         self.step(place, id, Event::FetchFailed { serial, now }, None)
     }
 
-    /// A member's round has waited for its time.
+    /// The waiting time of a member's round is over.
     pub(crate) fn expire(&mut self, id: u8, serial: u32) -> Result<Seen, WorldFault>
         requires { IsSound self.old }
         ensures { IsTaken self.old (turns.at_member self.old.roster id (turns.NodeSteps id (events.Expired serial self.old.clock) 0)) result self.new }
@@ -216,7 +219,7 @@ impl Parts {
         self.step(place, id, Event::Expired { serial, now }, None)
     }
 
-    /// A member's store of floors fails, and the member closes.
+    /// A member's floor store fails, and the member closes.
     pub(crate) fn fault(&mut self, id: u8) -> Result<Seen, WorldFault>
         requires { IsSound self.old }
         ensures { IsTaken self.old (turns.at_member self.old.roster id (turns.Ends turns.Nothing (turns.with_seat (world_of self.old) id (closed_node (node_at (world_of self.old).seats id))))) result self.new }
@@ -228,7 +231,7 @@ impl Parts {
         Ok(Seen::Nothing)
     }
 
-    /// A member starts again.
+    /// A member restarts, with its floors and nothing else.
     pub(crate) fn restart(&mut self, id: u8) -> Result<Seen, WorldFault>
         requires { IsSound self.old }
         ensures { IsTaken self.old (turns.at_member self.old.roster id (turns.Ends turns.Nothing (turns.with_seat (world_of self.old) id (opened (node_at (world_of self.old).seats id).floors)))) result self.new }

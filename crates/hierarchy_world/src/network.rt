@@ -1,4 +1,4 @@
-//! What the network holds, and what waits.
+//! The items of the network, and the requests that wait.
 ghost use Rattle.std.specs.Prelude.{◌≡◌};
 
 use fetch_messages::{Answer, Ask};
@@ -12,11 +12,11 @@ use url_key::Key;
 /// A contract sees its two addresses and its message.
 #[derive(Drop)]
 pub struct Datagram {
-    /// The address that sent it.
+    /// Its source.
     pub sender: Address,
-    /// The address that it goes to.
+    /// Its destination.
     pub receiver: Address,
-    /// What it says.
+    /// Its message.
     pub message: Sent,
 }
 
@@ -28,7 +28,7 @@ impl Model for Datagram {
     ghost view = { λ d. record { sender = d.sender; receiver = d.receiver; message = d.message } };
 }
 
-/// An ask that a member sent to a member.
+/// A request that a member sent to a member.
 #[derive(Drop)]
 pub struct PeerAsk {
     /// The sender's id.
@@ -37,7 +37,7 @@ pub struct PeerAsk {
     pub receiver: u8,
     /// The serial of the sender's fetch.
     pub serial: u32,
-    /// What is asked.
+    /// The request.
     pub ask: Ask,
 }
 
@@ -49,20 +49,20 @@ impl Model for PeerAsk {
     ghost view = { λ a. record { sender = a.sender; receiver = a.receiver; serial = a.serial; ask = a.ask } };
 }
 
-/// An answer that a member sent to a member.
+/// A response that a member sent to a member.
 #[derive(Drop)]
 pub struct PeerAnswer {
     /// The sender's id.
     pub sender: u8,
     /// The receiver's id.
     pub receiver: u8,
-    /// The serial of the ask that it answers.
+    /// The serial of the request that it answers.
     pub serial: u32,
-    /// The URL that was asked for.
+    /// The key that was requested.
     pub key: Key,
-    /// The answer.
+    /// The response.
     pub answer: Answer,
-    /// The mark of the copy in it, 0 where it has none.
+    /// The mark of the copy in it; 0 if it holds none.
     pub mark: u64,
 }
 
@@ -74,16 +74,16 @@ impl Model for PeerAnswer {
     ghost view = { λ a. record { sender = a.sender; receiver = a.receiver; serial = a.serial; key = a.key; answer = a.answer; mark = a.mark } };
 }
 
-/// A peer's ask that waits at a member's node.
+/// A member's request that waits at another member's node.
 #[derive(Drop)]
 pub struct Waiting {
-    /// The member's id.
+    /// The id of the member where it waits.
     pub node: u8,
-    /// The block of serials as which it waits.
+    /// Its block of serials there.
     pub block: u32,
-    /// The serial that it has at its sender.
+    /// Its serial at its sender.
     pub serial: u32,
-    /// The URL that is asked for.
+    /// The key that is requested.
     pub key: Key,
 }
 
@@ -95,12 +95,12 @@ impl Model for Waiting {
     ghost view = { λ w. record { node = w.node; block = w.block; serial = w.serial; key = w.key } };
 }
 
-/// The ask that is answered: its serial and its key at its sender.
+/// Which request is answered: its serial at its sender, and its key.
 #[derive(Drop)]
 pub(crate) struct Asked {
     /// The serial.
     pub serial: u32,
-    /// The URL.
+    /// The key.
     pub key: Key,
 }
 

@@ -1,4 +1,4 @@
-//! The parts of a world, and who takes part.
+//! The parts of a world: its state as code.
 ghost use Rattle.std.specs.Prelude.{◌≡◌, ◌==◌, option_map};
 ghost use Rattle.world_rules.specs.World.{item as item_of};
 
@@ -14,27 +14,27 @@ use std::alloc::Global;
 #[derive(Drop)]
 pub(crate) struct Parts {
     pub alloc: Global,
-    /// Who takes part.
+    /// The members, their addresses and peers, and the master.
     pub roster: Roster,
     /// The members' nodes, in the roster's order.
     pub nodes: Vec<Node<u64, MemoryFloors>>,
     /// The master of purges.
     pub master: Master<MemoryPurges>,
-    /// The moment, in seconds.
+    /// The time, in seconds.
     pub clock: u64,
     /// All datagrams ever sent.
     pub datagrams: Vec<Datagram>,
-    /// All asks ever sent.
+    /// All requests that members ever sent to members.
     pub asks: Vec<PeerAsk>,
-    /// All answers ever sent.
+    /// All responses that members ever sent to members.
     pub answers: Vec<PeerAnswer>,
-    /// The asks of peers that have begun to wait.
+    /// The members' requests that have begun to wait at a node, since it last started.
     pub waiting: Vec<Waiting>,
-    /// The next event's place.
+    /// The place of the next event, from 1.
     pub place: u64,
 }
 
-/// The item of this number, counted from 1.
+/// Returns the item with this number, counted from 1.
 pub(crate) fn item<T>(items: &[T], number: u64) -> Option<&T>
     ensures { option_map (λ i. i.now) result ≡ item_of items.now number }
 {

@@ -1,4 +1,4 @@
-//! A world, and whole runs of it.
+//! `World`, and whole runs of it.
 ghost use Rattle.std.specs.Prelude.{◌≡◌, ◌≢◌, ◌↔◌, ◌^◌, ◌-◌, map, true, false, IsTrue, IfOk, IfErr, OnOk, Err};
 ghost use Rattle.world_rules.specs.declared.outcome.WorldFault.TheVariants.{NoMemory, PlacesSpent};
 ghost use Rattle.world_rules.specs.World.{new_world};
@@ -20,7 +20,11 @@ use std::alloc::{AllocError, Global};
 use std::marker::Model;
 use world_rules::{Outcome, WorldEvent, WorldFault};
 
-/// The world of a hierarchy: each member's node, the master of purges, a clock, and the network, which is all that was ever sent.
+/// A hierarchy: each member's node, the master, a clock, and the network, which is all that was
+/// ever sent.
+///
+/// A contract sees the roster, the place of the next event, whether an allocation has failed
+/// (`spoilt`), and the world of `world_rules`.
 #[derive(Drop)]
 pub struct World {
     parts: Parts,
@@ -45,14 +49,14 @@ impl Model for World {
     ghost invariant = { λ w. w.spoilt ≡ false → IsSound w.parts };
 }
 
-/// Whether a growth was refused.
+/// Whether an allocation failed.
 fn is_spoiling(answer: &Result<Outcome, WorldFault>) -> bool
     ensures { IsTrue result ↔ (answer.now ≡ Err NoMemory) }
 {
     matches!(answer, Err(WorldFault::NoMemory))
 }
 
-/// The node of a member, with nothing.
+/// A new node of a member, which holds nothing.
 fn new_node(alloc: Global, roster: &Roster, id: u8) -> Result<Node<u64, MemoryFloors>, WorldFault>
     ensures made { IfOk result (λ node. node ≡ record { roster = roster.now; id = id; state = opened empty; store = empty }) }
     ensures fault { IfErr result (λ fault. fault ≡ NoMemory) }
@@ -64,7 +68,7 @@ fn new_node(alloc: Global, roster: &Roster, id: u8) -> Result<Node<u64, MemoryFl
     }
 }
 
-/// The nodes of all members, with nothing.
+/// A new node for each member.
 fn new_nodes(alloc: Global, roster: &Roster) -> Result<Vec<Node<u64, MemoryFloors>>, WorldFault>
     ensures made { IfOk result (λ nodes. nodes.items ≡ map (λ m. record { roster = roster.now; id = m.cache.id; state = opened empty; store = empty }) roster.now.members) }
     ensures fault { IfErr result (λ fault. fault ≡ NoMemory) }
@@ -80,7 +84,7 @@ fn new_nodes(alloc: Global, roster: &Roster) -> Result<Vec<Node<u64, MemoryFloor
     Ok(nodes)
 }
 
-/// The parts of a world in which nothing is stored and nothing is sent.
+/// The parts of a new world: nothing is stored and nothing was sent.
 fn new_parts(alloc: Global, roster: &Roster) -> Result<Parts, WorldFault>
     ensures sound { IfOk result IsSound }
     ensures roster { IfOk result (λ parts. (parts.roster ≡ roster.now) × (parts.place ≡ 1)) }
@@ -107,9 +111,9 @@ fn new_parts(alloc: Global, roster: &Roster) -> Result<Parts, WorldFault>
 }
 
 impl World {
-    /// A world in which nothing is stored and nothing is sent, at moment 0.
+    /// A new world: nothing is stored, nothing was sent, and the time is 0. The next place is 1.
     ///
-    /// Faults: `NoMemory`.
+    /// Faults: only `NoMemory`.
     pub fn new(alloc: Global, roster: &Roster) -> Result<World, WorldFault>
         ensures made { IfOk result (λ w. w ≡ record { roster = roster.now; place = 1; spoilt = false; world = new_world roster.now }) }
         ensures valid { IfOk result (λ w. IsRoster w.roster) }
@@ -121,10 +125,15 @@ impl World {
         })
     }
 
-    /// Applies an event: one turn of one actor, or a passing of time.
+    /// Applies an event at the next place: one turn of one actor, or a change of the clock.
     ///
-    /// Faults: `PlacesSpent` before anything else, where the next place is the greatest number; `NoSuchPacket` and `NotPending` as the event says.
-    /// These change nothing. `NoMemory` where a growth was refused: the world is to be made anew, and answers `NoMemory` from then on.
+    /// Faults, of which only `NoMemory` changes anything:
+    ///
+    /// - `PlacesSpent`, before all others: no place is left. This is so after 2^64 - 2 events.
+    /// - `NoSuchPacket`: the event names something that does not exist.
+    /// - `NotPending`: no such read or fetch is pending.
+    /// - `NoMemory`: an allocation failed. The world must be made anew; it returns `NoMemory` from
+    ///   then on.
     pub fn apply(&mut self, event: WorldEvent) -> Result<Outcome, WorldFault>
         ensures applied { IsApplied self.old event result self.new }
         ensures spent { self.old.place ≡ 2 ^ 64 - 1 → result ≡ Err PlacesSpent }
@@ -144,15 +153,18 @@ impl World {
         answer
     }
 
-    /// All datagrams ever sent, in order.
+    /// All datagrams ever sent, in order: the first has the number 1.
     pub fn datagrams(&self) -> &[Datagram]
         ensures { result.now ≡ self.now.world.datagrams }
     {
         self.parts.datagrams.as_slice()
     }
 
-    /// The world after these events from a new one, with what is told of each. It stops at the first fault, and answers it. The run that it answers is safe: nothing
-    /// old is served once a purge is reported done, and no request to a sibling begins anything.
+    /// Applies these events to a new world. Returns the world after them, and the outcome of each.
+    ///
+    /// Such a run is safe: once a purge is reported done nothing old is served, and no request to a
+    /// sibling begins anything. If an event has a fault, the run stops there and returns that
+    /// fault.
     pub fn run(
         alloc: Global,
         roster: &Roster,

@@ -1,4 +1,4 @@
-//! A node's step, and what its reply sends.
+//! A step of a node, with all that its reply sends.
 ghost use Rattle.std.specs.Prelude.{◌≡◌, ◌≤◌, ◌<◌, length, ◌==◌, ◌&&◌, true, [], map, find, Option, Some, None, IfOk, OnOk};
 ghost use Rattle.std.specs.List.{cons_option};
 ghost use Rattle.fetch_messages.specs.Field.{field_text};
@@ -21,7 +21,7 @@ use std::alloc::{AllocError, Global};
 use url_key::Key;
 use world_rules::WorldFault;
 
-/// The same message once more.
+/// A copy of a message.
 pub(crate) fn copy_of_message(alloc: Global, message: &Message) -> Result<Message, AllocError>
     ensures { IfOk result (λ copy. copy ≡ message.now) }
 {
@@ -31,7 +31,7 @@ pub(crate) fn copy_of_message(alloc: Global, message: &Message) -> Result<Messag
     })
 }
 
-/// The datagram of a member that a message to be sent makes.
+/// The datagram of a member's message to be sent.
 fn datagram_from(alloc: Global, cache: &Cache, sent: &Outgoing) -> Result<Datagram, AllocError>
     ensures { IfOk result (λ made. made ≡ world.datagram_from cache.now sent.now) }
 {
@@ -43,7 +43,7 @@ fn datagram_from(alloc: Global, cache: &Cache, sent: &Outgoing) -> Result<Datagr
     })
 }
 
-/// The datagrams of a member that messages to be sent make.
+/// The datagrams of a member's messages to be sent.
 fn datagrams_from(
     alloc: Global,
     cache: &Cache,
@@ -58,7 +58,7 @@ fn datagrams_from(
     Ok(made)
 }
 
-/// The same fields once more.
+/// A copy of a list of fields.
 fn copy_of_fields(alloc: Global, fields: &[Field]) -> Result<Fields, AllocError>
     ensures { IfOk result (λ copy. copy ≡ map field_text fields.now) }
 {
@@ -69,7 +69,7 @@ fn copy_of_fields(alloc: Global, fields: &[Field]) -> Result<Fields, AllocError>
     Ok(Fields::new(alloc, copy)?)
 }
 
-/// The answer that a copy of this age is written as.
+/// The response to a member that holds a copy, with this age in seconds and the copy's stamp.
 #[tactic(auto, using(crate::proofs::Writing::writable_aged))]
 fn answer_of_copy(alloc: Global, copy: &WebCopy<u64>, age: u64) -> Result<Answer, AllocError>
     requires { age ≤ 2147483648 }
@@ -84,7 +84,7 @@ fn answer_of_copy(alloc: Global, copy: &WebCopy<u64>, age: u64) -> Result<Answer
     }
 }
 
-/// The answer that a bare status is written as.
+/// The response to a member that is a bare status.
 #[tactic(auto, using(crate::proofs::Writing::writable_status))]
 fn answer_of_status(alloc: Global, status: u16) -> Result<Answer, AllocError>
     requires { is_gateway_fault status ≡ true }
@@ -97,7 +97,7 @@ fn answer_of_status(alloc: Global, status: u16) -> Result<Answer, AllocError>
     }
 }
 
-/// What is served as it is written to a member.
+/// What is served, as the response to a member.
 fn answer_of(alloc: Global, served: &Served<u64>) -> Result<Answer, AllocError>
     requires { IsWritten served.now }
     ensures { IfOk result (λ answer. answer ≡ world.answer_of served.now) }
@@ -108,7 +108,7 @@ fn answer_of(alloc: Global, served: &Served<u64>) -> Result<Answer, AllocError>
     }
 }
 
-/// The mark of the copy that is served, or 0.
+/// The mark of the copy that is served; 0 for a bare status.
 fn mark_of(served: &Served<u64>) -> u64
     ensures { result ≡ world.mark_of served.now }
 {
@@ -118,7 +118,7 @@ fn mark_of(served: &Served<u64>) -> u64
     }
 }
 
-/// The ask that waited at the node as this block.
+/// The member's request that waited at the node as this block, if any.
 fn asked_before(
     alloc: Global,
     waiting: &[Waiting],
@@ -139,7 +139,7 @@ fn asked_before(
     }
 }
 
-/// The same ask that is answered once more.
+/// A copy of which request is answered.
 fn copy_of_asked(alloc: Global, asked: &Option<Asked>) -> Result<Option<Asked>, AllocError>
     ensures { IfOk result (λ copy. copy ≡ asked.now) }
 {
@@ -152,7 +152,7 @@ fn copy_of_asked(alloc: Global, asked: &Option<Asked>) -> Result<Option<Asked>, 
     }
 }
 
-/// The answer to the member that asked, if a member did.
+/// The response to the member that asked, if a member did.
 fn answer_to(
     alloc: Global,
     id: u8,
@@ -175,7 +175,7 @@ fn answer_to(
     }
 }
 
-/// The ask that a reply sends to a member, if it does.
+/// The request that a reply sends to a member, if any.
 fn ask_in(alloc: Global, id: u8, begin: &Option<Begin>) -> Result<Option<PeerAsk>, AllocError>
     ensures { IfOk result (λ ask. world.asks_in id begin.now ≡ cons_option ask []) }
 {
@@ -196,7 +196,8 @@ fn ask_in(alloc: Global, id: u8, begin: &Option<Begin>) -> Result<Option<PeerAsk
 }
 
 impl Parts {
-    /// The ask that a member's node answers: the one that waited as the block, or else the event, which is this ask of a member, if it is one.
+    /// The member's request that a node answers: the one that waited as the block, or else the
+    /// event's own (`asked`; `None` if the event is no member's request).
     fn answered(
         &self,
         id: u8,
@@ -222,7 +223,7 @@ impl Parts {
         Ok(())
     }
 
-    /// Sends a member's ask, if it begins a fetch from a member.
+    /// Sends a member's request, if it begins a fetch from a member.
     fn ask(&mut self, id: u8, begin: &Option<Begin>) -> Result<(), AllocError>
         ensures { OnOk result (Adds self.old self.new [] (world.asks_in id begin.now) [] []) }
     {
@@ -232,7 +233,7 @@ impl Parts {
         Ok(())
     }
 
-    /// Sends a member's answer, if it serves a member.
+    /// Sends a member's response, if it serves a member.
     fn answer(
         &mut self,
         id: u8,
@@ -279,7 +280,7 @@ impl Parts {
         }
     }
 
-    /// A peer's ask has begun to wait where the node has taken a block.
+    /// Notes that the event's request waits, if the node has taken a block.
     fn wait(
         &mut self,
         id: u8,
@@ -302,7 +303,8 @@ impl Parts {
         Ok(())
     }
 
-    /// A step of the node of a place, which is this member's, by an event that is this ask of a member, if it is one.
+    /// The node at an index, which is this member's, takes a step, and all that its reply sends is
+    /// sent. `asked` is the member's request that the event is, `None` if it is none.
     #[tactic(auto, using(crate::proofs::Serving::outcome_written, crate::proofs::Taking::step_taken))]
     pub(crate) fn step(
         &mut self,

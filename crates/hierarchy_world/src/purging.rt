@@ -1,4 +1,4 @@
-//! The master's turns.
+//! The master's turns: its calls, and the CLRs that they send.
 ghost use Rattle.std.specs.Prelude.{◌≡◌, [], Option, Some, None, option_map, Result, Ok, IfOk, OnOk};
 ghost use Rattle.std.specs.List.{cons_option, flat_map};
 ghost use Rattle.url_key.specs.Key.{IsKey};
@@ -25,7 +25,7 @@ use std::mem::replace;
 use url_key::Key;
 use world_rules::WorldFault;
 
-/// The CLR as a datagram from the master to a member.
+/// A CLR as a datagram from the master to a member.
 fn clear_to(master: Address, receiver: Address, message: Htcp) -> Datagram
     requires { Fits message }
     ensures { result ≡ record { sender = master; receiver = receiver; message = messages.Htcp message } }
@@ -37,7 +37,7 @@ fn clear_to(master: Address, receiver: Address, message: Htcp) -> Datagram
     }
 }
 
-/// Where the member of this id answers HTCP.
+/// The HTCP address of the member with this id, if there is one.
 fn htcp_of(roster: &Roster, id: u8) -> Option<Address>
     ensures { result ≡ option_map (λ m. m.cache.htcp) (member_by_id roster.now id) }
 {
@@ -47,7 +47,7 @@ fn htcp_of(roster: &Roster, id: u8) -> Option<Address>
     }
 }
 
-/// The CLR of a new purge to the member of this id, if there is one.
+/// The CLR of a new purge to the member with this id, if there is one.
 fn new_clear(
     alloc: Global,
     roster: &Roster,
@@ -66,7 +66,7 @@ fn new_clear(
     }
 }
 
-/// The CLRs of a new purge: one to each member, by id.
+/// The CLRs of a new purge: one to each member, in order of ids.
 #[tactic(auto, using(crate::proofs::Numbers::clears_to_all))]
 fn new_clears(
     alloc: Global,
@@ -86,7 +86,7 @@ fn new_clears(
     Ok(made)
 }
 
-/// The CLR of a pending purge to the member of this id, if there are both.
+/// The CLR of a pending purge to the member with this id, if there are both.
 fn due_clear(
     roster: &Roster,
     master: &Master<MemoryPurges>,
@@ -101,7 +101,7 @@ fn due_clear(
     }
 }
 
-/// The CLRs of these pending purges to these members.
+/// The CLRs for these pairs of a pending purge's number and a member's id.
 fn due_clears(
     alloc: Global,
     roster: &Roster,
@@ -120,7 +120,7 @@ fn due_clears(
 }
 
 impl Parts {
-    /// Sends the CLR of a new purge to each member, by id.
+    /// Sends the CLR of a new purge to each member, in order of ids.
     fn send_clears(&mut self, number: u32, key: &Key) -> Result<(), AllocError>
         ensures { OnOk result (Adds self.old self.new (turns.clears_of self.old.roster number key.now) [] [] []) }
     {
@@ -128,7 +128,7 @@ impl Parts {
         self.datagrams.append(&mut made)
     }
 
-    /// A purge is issued, and its CLRs are sent.
+    /// The master issues a purge and sends its CLRs, or refuses.
     pub(crate) fn issue(&mut self, key: &Key) -> Result<Seen, WorldFault>
         requires { IsSound self.old }
         ensures taken { IsTaken self.old (turns.issue_by self.old.roster (world_of self.old) key.now (issue_fault self.old.master.state.purges)) result self.new }
@@ -149,7 +149,7 @@ impl Parts {
         }
     }
 
-    /// The master sends again what is due.
+    /// The master sends each pending purge again to each member that has not acknowledged it.
     pub(crate) fn resend(&mut self) -> Result<Seen, WorldFault>
         requires { IsSound self.old }
         ensures { IsTaken self.old (turns.Ends turns.Nothing (turns.with_sent (world_of self.old) (turns.clears_due self.old.roster self.old.master.state.purges))) result self.new }
@@ -162,7 +162,7 @@ impl Parts {
         Ok(Seen::Nothing)
     }
 
-    /// The master tells how far a purge is.
+    /// The master reports the status of a purge.
     pub(crate) fn status(&self, number: u32) -> Seen
         requires { IsSound self.now }
         ensures { IsTaken self.now (turns.told self.now.roster (world_of self.now) number) (Ok result) self.now }
@@ -170,7 +170,8 @@ impl Parts {
         Seen::Told(number, self.master.status(number))
     }
 
-    /// A member has answered the CLR of the purge of this number with this code.
+    /// The master counts a member's response to the CLR with this number, with this response code,
+    /// and reports the purge's status.
     fn acknowledge(&mut self, id: u8, number: u32, code: u8) -> Result<Seen, WorldFault>
         requires { IsSound self.old }
         ensures { IsTaken self.old (turns.acknowledged_by self.old.roster (world_of self.old) number code (Some id)) result self.new }
@@ -181,7 +182,8 @@ impl Parts {
         }
     }
 
-    /// A datagram comes to the master.
+    /// A datagram reaches the master. `answer` is the TRANS-ID and the code if it is a response to
+    /// a CLR; anything else changes nothing.
     pub(crate) fn master_hears(
         &mut self,
         sender: Address,
@@ -199,7 +201,7 @@ impl Parts {
         }
     }
 
-    /// The master starts again, with the purges that its store kept.
+    /// The master restarts, with the purges that its store kept.
     pub(crate) fn restart_master(&mut self) -> Result<Seen, WorldFault>
         requires { IsSound self.old }
         ensures { IsTaken self.old (turns.Ends turns.Nothing (world_of self.old)) result self.new }

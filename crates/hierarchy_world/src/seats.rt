@@ -1,4 +1,4 @@
-//! The members' nodes.
+//! The members' nodes: a step, a closing, a restart.
 ghost use Rattle.std.specs.Prelude.{◌≡◌, ◌<◌, ◌==◌, not, true, false, length, map, filter, IfOk, IfErr, IfSome, MatchOption, OnOk};
 ghost use Rattle.roster.specs.Lookups.{is_member};
 ghost use Rattle.node_rules.specs.State.{opened, closed_node};
@@ -14,18 +14,18 @@ use node_rules::{Event, Reply, StepFault};
 use std::alloc::AllocError;
 use world_rules::WorldFault;
 
-/// What a step of a node gives.
+/// What a step of a node returns.
 #[derive(Drop)]
 pub(crate) struct Stepped {
-    /// The block of serials that came next before it.
+    /// The node's next block of serials before the step.
     pub before: u32,
-    /// What it answers.
+    /// The step's reply, or why it was refused.
     pub outcome: Result<Reply<u64>, StepFault>,
-    /// The block of serials that comes next after it.
+    /// The node's next block of serials after the step.
     pub after: u32,
 }
 
-/// A step of a node. The only fault is `NoMemory`, and of the node nothing is said then.
+/// A node takes a step. The only fault is `NoMemory`; nothing is promised of the node then.
 #[tactic(auto, using(crate::proofs::Steps::is_step))]
 fn step_of(
     node: &mut Node<u64, MemoryFloors>,
@@ -49,7 +49,7 @@ fn step_of(
     })
 }
 
-/// The place of the node of this id.
+/// The index of the node with this id, if there is one.
 fn place_in(nodes: &[Node<u64, MemoryFloors>], id: u8) -> Option<usize>
     ensures place { result ≡ place_of_id id (map (λ n. n.id) nodes.now) }
     ensures below { IfSome result (λ place. place < length nodes.now) }
@@ -69,7 +69,7 @@ fn place_in(nodes: &[Node<u64, MemoryFloors>], id: u8) -> Option<usize>
 }
 
 impl Parts {
-    /// The place of the node of this id, if a member has it.
+    /// The index of the node with this id, if it is a member's.
     #[tactic(auto, using(crate::proofs::Members::member_place))]
     pub(crate) fn place_of(&self, id: u8) -> Option<usize>
         requires { IsSound self.now }
@@ -79,14 +79,15 @@ impl Parts {
         place_in(self.nodes.as_slice(), id)
     }
 
-    /// What waited at the node waits no more.
+    /// Drops the members' requests that waited at this node.
     fn forget(&mut self, id: u8)
         ensures same { IsSeatChanged self.old self.new self.old.nodes.items (filter (λ w. not (w.node == id)) self.old.waiting.items) }
     {
         self.waiting.retain(|waiting| waiting.node != id);
     }
 
-    /// The node of a place, which is this member's, takes a step. Nothing is sent yet. The only fault is `NoMemory`, and of the parts nothing is said then.
+    /// The node at an index, which is this member's, takes a step. Nothing is sent yet. The only
+    /// fault is `NoMemory`; nothing is promised of the parts then.
     #[tactic(auto, using(crate::proofs::Taking::has_stepped))]
     pub(crate) fn step_at(
         &mut self,
@@ -104,7 +105,7 @@ impl Parts {
         step_of(&mut self.nodes[place], event, mark)
     }
 
-    /// The node of a place, which is this member's, closes.
+    /// The node at an index, which is this member's, closes.
     pub(crate) fn close_at(&mut self, place: usize, id: u8)
         requires sound { IsSound self.old }
         requires place { IsPlace self.old.nodes.items id place }
@@ -118,7 +119,7 @@ impl Parts {
         self.forget(id);
     }
 
-    /// The node of a place, which is this member's, opens again with what its store of floors kept.
+    /// The node at an index, which is this member's, restarts with what its floor store kept.
     pub(crate) fn restart_at(&mut self, place: usize, id: u8) -> Result<(), AllocError>
         requires sound { IsSound self.old }
         requires place { IsPlace self.old.nodes.items id place }

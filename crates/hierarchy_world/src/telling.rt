@@ -1,4 +1,4 @@
-//! What is seen of an event, and what is told of it.
+//! What an event visibly did, and the outcome that is told of it.
 ghost use Rattle.std.specs.Prelude.{◌≡◌, ◌-◌, IfOk};
 ghost use Rattle.world_rules.specs.Turn as turns;
 ghost use Rattle.world_rules.specs.Apply as applies;
@@ -11,7 +11,7 @@ use roster::Listed;
 use std::alloc::{AllocError, Global};
 use world_rules::{ActorFault, Outcome};
 
-/// What is seen of an event.
+/// What an event visibly did.
 #[derive(Drop)]
 pub(crate) enum Seen {
     /// A member's node took a step, with this outcome.
@@ -19,17 +19,17 @@ pub(crate) enum Seen {
         node: u8,
         outcome: Result<Reply<u64>, StepFault>,
     },
-    /// The master gave a purge this number.
+    /// The master issued a purge under this number.
     Issued(u32),
-    /// It gave none.
+    /// The master refused to issue a purge.
     NotIssued(MasterFault),
-    /// The master told how far a purge is.
+    /// The master reported the status of the purge with this number.
     Told(u32, Status),
-    /// Nothing.
+    /// Nothing visible.
     Nothing,
 }
 
-/// How much was sent.
+/// How many items were sent so far.
 #[derive(Clone, Copy)]
 pub(crate) struct Counts {
     pub datagrams: u64,
@@ -37,7 +37,7 @@ pub(crate) struct Counts {
     pub answers: u64,
 }
 
-/// So many numbers after this one.
+/// The numbers after `first`, up to and with `last`.
 #[tactic(auto, using(crate::proofs::Numbers::numbers_more))]
 fn numbers_after(alloc: Global, first: u64, last: u64) -> Result<Listed<u64>, AllocError>
     ensures { IfOk result (λ numbers. numbers ≡ applies.numbers_after first (last - first)) }
@@ -49,14 +49,14 @@ fn numbers_after(alloc: Global, first: u64, last: u64) -> Result<Listed<u64>, Al
     Ok(Listed::new(numbers))
 }
 
-/// The number of the item that was sent, if one was.
+/// The number of the item that was sent, if any, by the counts before and after.
 fn new_item(before: u64, after: u64) -> Option<u64>
     ensures { result ≡ applies.new_item before after }
 {
     if before < after { Some(after) } else { None }
 }
 
-/// The serial of a round that begins.
+/// The serial of the round that begins, if any.
 fn round_in(begin: &Option<Begin>) -> Option<u32>
     ensures { result ≡ applies.round_in begin.now }
 {
@@ -66,7 +66,7 @@ fn round_in(begin: &Option<Begin>) -> Option<u32>
     }
 }
 
-/// The serial of a read that begins.
+/// The serial of the origin read that begins, if any.
 fn read_in(begin: &Option<Begin>) -> Option<u32>
     ensures { result ≡ applies.read_in begin.now }
 {
@@ -76,7 +76,7 @@ fn read_in(begin: &Option<Begin>) -> Option<u32>
     }
 }
 
-/// An outcome of which nothing is told but what was sent.
+/// An outcome that tells only what was sent.
 fn plain(alloc: Global, before: Counts, after: Counts) -> Result<Outcome, AllocError>
     ensures { IfOk result (λ outcome. outcome ≡ outcome_by before after turns.Nothing) }
 {
@@ -93,7 +93,7 @@ fn plain(alloc: Global, before: Counts, after: Counts) -> Result<Outcome, AllocE
     })
 }
 
-/// What is told of what was seen, where so much was sent before and after it.
+/// The outcome of what was seen, by the counts of items sent before and after.
 pub(crate) fn tell(
     alloc: Global,
     before: Counts,

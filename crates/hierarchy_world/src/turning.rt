@@ -1,4 +1,4 @@
-//! One event.
+//! One event of a world.
 ghost use Rattle.std.specs.Prelude.{◌≡◌, ◌<◌, ◌-◌, ◌^◌};
 ghost use Rattle.world_rules.specs.Turn.{turn as turn_of};
 ghost use Rattle.hierarchy_world.specs.Parts.{IsSound, IsTaken, world_of, IsKeyed, IsMade};
@@ -9,7 +9,7 @@ use crate::telling::{Counts, Seen, tell};
 use world_rules::{Outcome, WorldEvent, WorldFault};
 
 impl Parts {
-    /// How much was sent.
+    /// How many items were sent so far.
     fn counts(&self) -> Counts
         ensures { AreCounts (world_of self.now) result }
     {
@@ -20,7 +20,7 @@ impl Parts {
         }
     }
 
-    /// What an event does.
+    /// Takes the turn of an event.
     fn turn(&mut self, event: WorldEvent) -> Result<Seen, WorldFault>
         requires { IsSound self.old }
         ensures taken { IsTaken self.old (turn_of self.old.roster (world_of self.old) event) result self.new }
@@ -57,7 +57,7 @@ impl Parts {
         }
     }
 
-    /// Applies an event at the next place, which is not the greatest number.
+    /// Applies an event at the next place, which must be below 2^64 - 1.
     pub(crate) fn happen(&mut self, event: WorldEvent) -> Result<Outcome, WorldFault>
         requires sound { IsSound self.old }
         requires place { self.old.place < 2 ^ 64 - 1 }

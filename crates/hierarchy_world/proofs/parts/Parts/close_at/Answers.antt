@@ -1,3 +1,5 @@
+-- The closed node has the same id, roster and stored floors, so it may stand at its index; then
+-- what waited there is dropped.
 use Rattle.std.proofs.Common.{◌≡◌, not, nat_eq, filter, set, slice_get, Some, refl}
 use Rattle.std.proofs.lemmas.Option.{slice_get_read}
 use Rattle.node_rules.specs.State.{closed_node}

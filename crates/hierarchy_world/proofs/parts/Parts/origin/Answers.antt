@@ -1,3 +1,5 @@
+-- Each way through the code gives the model's turn: nothing pending, something else pending, or an
+-- origin read (Reaching).
 use Rattle.std.proofs.Common.{refl}
 use Rattle.hierarchy_world.proofs.Reaching.{origin_taken, none_for_origin, no_read_there}
 use Rattle.hierarchy_world.proofs.parts.Parts.origin.Goals as goal

@@ -1,3 +1,5 @@
+-- The node that opens over the old node's store has its id, its roster and its floors; it is put
+-- back at the index, and what waited there is dropped.
 use Rattle.std.proofs.Common.{◌≡◌, Bool, true, cond, List, not, is_ok, nat_eq, filter, set, insert, slice_get, Some, refl, sym, ◌∙◌, ap}
 use Rattle.std.proofs.lemmas.Option.{slice_get_read}
 use Rattle.floor_rules.specs.Floors.{FloorMap}

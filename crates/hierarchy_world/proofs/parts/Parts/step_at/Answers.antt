@@ -1,3 +1,4 @@
+-- The contract of one node's step, lifted to the parts: only the node at the index has changed.
 use Rattle.std.proofs.Common.{◌≡◌, set, slice_get, Some, refl}
 use Rattle.std.specs.Vec.{with_item}
 use Rattle.std.proofs.lemmas.Option.{slice_get_read}

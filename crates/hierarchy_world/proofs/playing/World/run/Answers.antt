@@ -1,3 +1,5 @@
+-- The loop over the events: before each turn the events so far were applied, by the invariant; at a
+-- fault the next event is the one that was refused; at the end all were applied (Runs).
 use Rattle.std.proofs.Common.{sym, ◌∙◌, subst, ap, suc, length, drop, rules}
 use Rattle.std.proofs.lemmas.Iterator.Adapters.{YieldsList-from_vec}
 use Rattle.std.proofs.lemmas.Iterator.Consumers.{YieldsList-turn, YieldsList-so_far, YieldsList-end}
