@@ -1,3 +1,4 @@
+-- Reading order: each file uses only those above it; Rows stands alone.
 mod Placing
 mod Reporting
 mod Serving

@@ -1,4 +1,5 @@
--- Where the events of a note stand in a run.
+-- Where the events of a note stand in a run: behind those of all notes before it. So of two notes
+-- the events of the first stand before those of the second.
 use Rattle.std.proofs.Common.{◌≡◌, ℕ, zero, suc, ◌+◌, ◌-◌, ◌≤◌, ◌<◌, List, [], ◌∷◌, ◌++◌, length, Some, refl, sym, ◌∙◌, ap, subst, inl, inr, arith, length-append}
 use Rattle.std.specs.Prelude.{slice_get}
 use Rattle.std.proofs.lemmas.Option.{same_Some}
@@ -9,7 +10,7 @@ use Rattle.run_rules.specs.Notes.{Note, Opens, Steps, Closes, Calls}
 use Rattle.run_rules.specs.Recorded.{Progress, Stands, AllStand, beginning}
 use Rattle.run_rules.proofs.Running.{note_leads, runs_join}
 
--- it is where a run from a new world has come to, and the master's book has the purges of that world
+-- a run from a new world leads to this progress, and its master has the purges of its world
 pub record IsReached (t : Tables) (p : Progress) : Type 0 where
   pub past : List Step
   pub run : Run t 1 (new_world t) past p.world
@@ -19,7 +20,7 @@ pub record IsReached (t : Tables) (p : Progress) : Type 0 where
 pub begins : (t : Tables) → IsReached t (beginning t)
 begins t = record { past = []; run = refl; place = omega arith; master = refl }
 
--- the purges are the same behind a note
+-- the same purges stand after a note
 kept_where : (t : Tables) (p q : Progress) → q ≡ p → p.world.master ≡ p.master.purges → q.world.master ≡ q.master.purges
 kept_where t p q same is = subst (λ (x : Progress). x.world.master ≡ x.master.purges) (sym same) is
 
@@ -43,7 +44,7 @@ goes_on t p q note steps reached stands =
       master = purges_kept t p q note steps stands reached.master;
     }
 
--- a note of the run: behind so many events it stands for these
+-- a note of the run: it stands for these events, which begin after this many others
 pub record Placed (t : Tables) (steps : List Step) (note : Note) : Type 0 where
   pub offset : ℕ
   pub here : List Step
@@ -63,7 +64,7 @@ slice_get-before [] ys k x h = cc
 slice_get-before (a ∷ xs) ys zero x h = h
 slice_get-before (a ∷ xs) ys (suc k) x h = slice_get-before xs ys k x h
 
--- an item is behind what stands before it
+-- an item keeps its number, plus the length of what stands before it
 item_behind : {X : Type 0} (xs ys : List X) (k : ℕ) (x : X) → IsItem ys k x → IsItem (xs ++ ys) (length xs + k) x
 item_behind xs ys k x (low, is) = (omega (arith, low), slice_get-behind xs ys (k - 1) (length xs + k - 1) (omega (arith, low)) ∙ is)
 
@@ -94,7 +95,7 @@ later_placed t note here rest steps parts it = record {
       (subst (λ (s : List Step). IsItem s (length here + (it.offset + k)) step) (sym parts) (item_behind here rest (it.offset + k) step (it.at k step is)));
 }
 
--- each note of a run is placed
+-- each note of a run has its place among the events
 place_at : (t : Tables) (notes : List Note) (p q : Progress) (steps : List Step) → IsReached t p → AllStand t p notes steps q → (k : ℕ) (note : Note) → slice_get notes k ≡ Some note → Placed t steps note
 place_at t [] p q steps reached all k note is = cc
 place_at t (first ∷ notes) p q steps reached (here, rest, next, stands, parts, more) zero note is =

@@ -1,4 +1,5 @@
--- Nothing old is served, by what the entries say.
+-- Nothing old is served, by what the entries say: the three entries stand for three events, of
+-- which the safety of world_rules speaks. The copy's mark is not 0, so it is an origin's.
 use Rattle.std.proofs.Common.{◌≡◌, ℕ, ◌+◌, ◌<◌, List, ◌∙◌, ap, subst, inl, inr, arith}
 use Rattle.object_store.specs.declared.copy.WebCopy.{WebCopy}
 use Rattle.roster_tables.specs.declared.plain.Tables.{Tables}
@@ -16,7 +17,7 @@ use Rattle.entry_laws.proofs.Placing.{placed, both_placed}
 use Rattle.entry_laws.proofs.Reporting.{reports_done, issues_purge}
 use Rattle.entry_laws.proofs.Serving.{serves_in_world}
 
--- what has a mark is an origin's
+-- a copy with a mark greater than 0 comes from an origin
 from_origin : (t : Tables) (steps : List Step) (key : List ℕ) (c : WebCopy ℕ) → 0 < c.tag → HasSource t steps key c.tag c.answer → IsFromOrigin t steps key c.tag c.answer
 from_origin t steps key c marked (inl origin) = origin
 from_origin t steps key c marked (inr foreign) = absurd (omega (arith, marked, foreign.unmarked))

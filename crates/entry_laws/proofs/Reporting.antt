@@ -1,4 +1,6 @@
--- What a report of the master's book is in the world: the purge is done there too.
+-- A report of the master's book is a report in the world. The entry of a last acknowledgement
+-- stands for a datagram that makes the master report, and the purge is pending no more, so it is
+-- done; the entry of a status stands for the same status.
 use Rattle.std.proofs.Common.{◌≡◌, ℕ, ◌+◌, ◌-◌, ◌≤◌, ◌<◌, Bool, true, false, cond, not, ◌||◌, ◌&&◌, List, [], ◌∷◌, filter, length, Option, Some, None, Result, Ok, refl, sym, ◌∙◌, ap, subst, nat_eq, nat_lt, inl, inr, arith}
 use Rattle.std.specs.Prelude.{find}
 use Rattle.std.proofs.lemmas.Option.{none-some, same_Some, slice_get_within}
@@ -40,7 +42,7 @@ use Rattle.run_rules.specs.Recorded.{Progress, Goes, CallsIn, event_step}
 use Rattle.entry_laws.specs.Entries.{Issues, Reports}
 use Rattle.entry_laws.proofs.Placing.{IsReached, Placed}
 
--- A datagram that has the master tell how far a purge is
+-- A datagram that makes the master report a purge's status
 
 abbrev told_number : Seen → ℕ
 told_number (Told number s) = number
@@ -51,7 +53,7 @@ told_status (Told number s) = s
 told_status _ = status.Unknown
 
 module _ (t : Tables) (place : ℕ) (w : World) (number : ℕ) (s : Status) (new : World) where
-  -- where a turn is seen so, it is that status in the world that it leaves
+  -- a turn that is seen so reports the status in the world that it leaves
   abbrev TellsRight : Turn → Type 0
   TellsRight turn = Takes t place w turn (Told number s) new → s ≡ status_of (members_of t) new.master number
 
@@ -135,7 +137,7 @@ not_true : (b : Bool) → not b ≡ true → b ≡ false
 not_true true is = cc
 not_true false is = refl
 
--- what is taken out is not found
+-- a purge that is taken out is not found
 gone : (number : ℕ) (pending : List Purge) → find (is_numbered number) (filter (λ p. not (is_numbered number p)) pending) ≡ None
 gone number [] = refl
 gone number (p ∷ pending) =
@@ -152,7 +154,7 @@ module _ (t : Tables) (proper : IsRoster t) (from : Progress) (reached : IsReach
   lineage : HasLineage t reached.past from.world
   lineage = run_lineage t proper reached.past from.world reached.run
 
-  -- a pending purge has a number that was given
+  -- a pending purge has a number that was issued
   pending_given : (number : ℕ) (p : Purge) → pending_at from.world.master number ≡ Some p → (1 ≤ number) × (number ≤ from.world.master.last)
   pending_given number p is =
       let same : p.number ≡ number = pending-found from.world.master.pending number p is in
@@ -166,7 +168,7 @@ module _ (t : Tables) (proper : IsRoster t) (from : Progress) (reached : IsReach
       ap (λ (p : PurgeList). status_of (members_of t) p trans) it.left
       ∙ done_status (members_of t) (without_purge from.master.purges trans) trans low (subst (λ (p : PurgeList). trans ≤ p.last) reached.master high) (gone trans from.master.purges.pending)
 
-  -- the event that an entry stands for, which reports the purge done
+  -- the event that an entry stands for reports the purge done
   record IsDoneBy (here : List Step) (number : ℕ) : Type 0 where
     happens : WorldEvent
     is : here ≡ event_step happens (Told number status.Done) ∷ []

@@ -1,4 +1,5 @@
--- Worked rows: what some entries say, by computation.
+-- Worked examples: what some entries say, by computation. They show that the definitions of Entries
+-- accept what they should, and nothing else.
 use Rattle.std.proofs.Common.{◌≡◌, false, [], ◌∷◌, Some, None, Result, Ok, Err, refl, inl, inr}
 use Rattle.object_store.specs.declared.copy.WebCopy.{WebCopy}
 use Rattle.node_rules.specs.declared.event.Event.TheVariants as event
@@ -27,7 +28,7 @@ served_by kept outcome = Steps 2 record { seat = 1; place = 9; event = event.Fet
 gives : Served (Unit {0}) → Reply (Unit {0})
 gives served = record { serve = Some record { waiter = Some 1; asker = None; served = served }; send = []; begin = None }
 
--- a purge is issued where the master gave it a number, and not where it refused
+-- a purge is issued if the master gave it a number, and not if it refused
 issue_is_one : Issues (called (call.Issue (104 ∷ [])) (Ok (answer.Issue 3))) 3 (104 ∷ [])
 unfolding called
 issue_is_one = (refl, refl)
@@ -36,7 +37,7 @@ refusal_is_none : Issues (called (call.Issue (104 ∷ [])) (Err master_fault.Clo
 unfolding called
 refusal_is_none (same, gave) = cc
 
--- it is reported by the acknowledgement that made it done, and by a status
+-- it is reported done by the acknowledgement that made it done, and by a status
 acknowledgement_reports : Reports (called (call.Acknowledge 2 3 0) (Ok (answer.Acknowledge (Some 3)))) 3
 unfolding called
 acknowledgement_reports = inl refl
@@ -45,7 +46,8 @@ status_reports : Reports (called (call.Status 3) (Ok (answer.Status status.Done)
 unfolding called
 status_reports = inr (refl, refl)
 
--- and by no other's: an acknowledgement that others are missing behind, a purge that is pending, and another purge that is done
+-- it is not reported done by an acknowledgement after which others are missing, by the status of a
+-- pending purge, or by that of another purge
 missing_is_none : Reports (called (call.Acknowledge 2 3 0) (Ok (answer.Acknowledge None))) 3 → ⊥
 unfolding called
 missing_is_none (inl is) = cc
@@ -61,7 +63,7 @@ unfolding called
 another_is_none (inl is) = cc
 another_is_none (inr (asks, is)) = cc
 
--- a copy is served where the reply has it, and none with a status alone or a fault
+-- a copy is served if the reply has it, and none with a bare status or a fault
 copy_is_served : (kept : FloorMap) (c : WebCopy (Unit {0})) → Serves (served_by kept (Ok (gives (Copy c 5)))) c
 unfolding served_by gives
 copy_is_served kept c = refl
@@ -74,12 +76,12 @@ fault_serves_none : (kept : FloorMap) (c : WebCopy (Unit {0})) → Serves (serve
 unfolding served_by
 fault_serves_none kept c is = cc
 
--- and nothing begins with either
+-- an entry that serves a bare status begins nothing
 nothing_begins : (kept : FloorMap) → begun_by (served_by kept (Ok (gives (Status 504)))) ≡ None
 unfolding served_by gives
 nothing_begins kept = refl
 
--- nor is anything sent
+-- and sends nothing
 nothing_is_sent : (kept : FloorMap) → IsSentBack (served_by kept (Ok (gives (Status 504))))
 unfolding served_by gives
 nothing_is_sent kept = refl

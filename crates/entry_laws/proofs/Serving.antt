@@ -1,4 +1,6 @@
--- What an entry of a member serves is served in the world.
+-- What an entry of a member serves is served in the world, with its mark: the entry stands for the
+-- clock and then a step with the same outcome. A refused entry serves nothing, and neither does one
+-- that closes the node.
 use Rattle.std.proofs.Common.{◌≡◌, ℕ, ◌+◌, false, List, [], ◌∷◌, Option, Some, None, Result, Ok, Err, refl, sym, ◌∙◌, ap, subst, inl, inr, arith}
 use Rattle.std.specs.Prelude.{option_map}
 use Rattle.std.proofs.lemmas.Option.{none-some, same_Some}
@@ -30,7 +32,7 @@ use Rattle.entry_laws.proofs.Placing.{Placed}
 abbrev unmarked_copy : WebCopy ℕ → WebCopy (Unit {0})
 unmarked_copy c = retag_copy (λ _. tt) c
 
--- a copy with its mark, of what is served without
+-- a copy with its mark, which without it is this copy
 abbrev Marked : Option (WebCopy ℕ) → WebCopy (Unit {0}) → Type 0
 Marked o c = (copy : WebCopy ℕ) × (o ≡ Some copy) × (unmarked_copy copy ≡ c)
 
@@ -56,7 +58,7 @@ module _ {X : Type 0} (g : Setting) (s : NodeState X) (e : Event X) (mark : X) w
 second_is : (here : List Step) (one other : Step) → here ≡ one ∷ other ∷ [] → IsItem here 2 other
 second_is here one other is = subst (λ (s : List Step). IsItem s 2 other) (sym is) (omega arith, refl)
 
--- in the world it is served, with its mark
+-- in the world the copy is served, with its mark
 pub record IsServed (steps : List Step) (place : ℕ) (c : WebCopy (Unit {0})) : Type 0 where
   pub copy : WebCopy ℕ
   pub served : IsServedAt steps place copy

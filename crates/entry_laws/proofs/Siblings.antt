@@ -1,4 +1,5 @@
--- A sibling's request makes a member begin nothing, and send to nobody else.
+-- A sibling's request makes a member begin nothing, and send to nobody else: the entry stands for a
+-- step, of which the laws of world_rules and node_rules say this, and marks change none of it.
 use Rattle.std.proofs.Common.{◌≡◌, ℕ, ◌+◌, true, List, [], ◌∷◌, None, Result, Ok, Err, refl, sym, ◌∙◌, ap, subst, inl, inr}
 use Rattle.roster_tables.specs.declared.plain.Tables.{Tables}
 use Rattle.node_book.specs.declared.record.Record.{Record}
@@ -25,7 +26,7 @@ use Rattle.run_rules.specs.Recorded.{Progress, IsTaken, IsRecordedRun, event_ste
 use Rattle.entry_laws.specs.Entries.{IsOfSibling, begun_by, IsSentBack, SiblingsBeginNothing}
 use Rattle.entry_laws.proofs.Placing.{Placed, placed}
 
--- marks change neither who asks, nor what begins, nor what is sent
+-- marks change neither who requests, nor what begins, nor what is sent
 
 sibling_same : (g : Setting) (e : Event ℕ) → is_from_sibling g e ≡ is_from_sibling g (unmarked_event e)
 sibling_same g (event.Client ask now) = refl
@@ -55,13 +56,13 @@ back_same (event.ForeignAnswer serial peer key answer tag now) messages back = b
 back_same (event.FetchFailed serial now) messages back = back
 back_same (event.Expired serial now) messages back = back
 
--- a step that is taken so begins nothing
+-- a step by a sibling's request begins nothing
 takes_nothing : (t : Tables) (place id : ℕ) (w new : World) (met : Event ℕ) (serial : ℕ) (outcome : Result (Reply ℕ) StepFault) →
     is_from_sibling (setting t id) met ≡ true → Takes t place w (NodeSteps id met serial) (Replied id outcome) new → begun outcome ≡ None
 takes_nothing t place id w new met serial outcome asks (result, next, steps, is_seen, is_new) =
     ap (λ (s : Seen). begun (seen_outcome s outcome)) is_seen ∙ ((steps_are_lawful (setting t id) (node_at w.seats id) met place result next steps).siblings asks).begun_none
 
--- and what it sends goes back
+-- what such a step sends goes back to its source
 takes_back : (t : Tables) (place id : ℕ) (w new : World) (met : Event ℕ) (serial : ℕ) (outcome : Result (Reply ℕ) StepFault) →
     is_from_sibling (setting t id) met ≡ true → Takes t place w (NodeSteps id met serial) (Replied id outcome) new → SendsBack met (sent outcome)
 takes_back t place id w new met serial outcome asks (result, next, steps, is_seen, is_new) =

@@ -1,1 +1,2 @@
+-- what entries say of purges
 pub mod Entries

@@ -1,4 +1,4 @@
-//! What the entries of a recorded run say of purges.
+//! The law. Its function has no body: its clauses are theorems about the entries of a recorded run.
 ghost use Rattle.std.specs.Prelude.{List};
 ghost use Rattle.roster_tables.specs.declared.plain.Tables.{Tables};
 ghost use Rattle.roster.specs.Judged.{IsRoster};
@@ -8,8 +8,12 @@ ghost use Rattle.world_rules.specs.Run.{Step};
 ghost use Rattle.run_rules.specs.Recorded.{IsRecordedRun};
 ghost use Rattle.entry_laws.specs.Entries.{EntriesServeNothingOld, SiblingsBeginNothing};
 
-/// Once an entry of the master reports a purge done, whatever copy of its key a later entry of a member begins to serve is an origin's answer to a read that began after the purge was issued. And no
-/// entry of a sibling's request begins a round, a fetch or a read, or sends to anybody but who asked.
+/// Purges are safe, as the entries of a recorded run tell it.
+///
+/// `served`: once an entry of the master reports a purge done, each copy of its key that a later
+/// entry of a member begins to serve is an origin's response to a read that began after the purge
+/// was issued. `siblings`: no entry of a sibling's request begins a round, a fetch or a read, or
+/// sends to anybody but the requester.
 pub fn entries_are_safe()
     ensures served { (roster : Tables) (records : List Record) (entries : List MasterEntry) (steps : List Step) → IsRoster roster → (run : IsRecordedRun roster records entries steps) →
         EntriesServeNothingOld roster run.notes steps }

@@ -1,4 +1,5 @@
--- Each member is found by its own address, by either protocol.
+-- Each member is found by its own address, by either protocol: in a roster no two caches have the
+-- same address, so the first match is the member itself.
 use Rattle.std.proofs.Common.{◌≡◌, Bool, true, false, cond, ◌&&◌, ◌||◌, ℕ, nat_eq, List, [], ◌∷◌, ◌++◌, map, Option, Some, None, refl, sym, ◌∙◌, ap, inl, inr, subst}
 use Rattle.std.specs.Prelude.{find, option_map, is_some}
 use Rattle.std.specs.List.{list_any}
@@ -36,7 +37,7 @@ by_either : (a : Address) (c : Cache) (by : Udp) → same_address a c.icp ≡ fa
 by_either a c udp.Icp icp htcp = icp
 by_either a c udp.Htcp icp htcp = htcp
 
--- an address that is none of those of some caches is no member's among them
+-- an address that no cache of a list has is no member's in that list
 apart_from : (a : Address) (ms : List Member) (fs : List Cache) (id : ℕ) (m : Member) (by : Udp) → list_any (same_address a) (udp_of (map (λ m. m.cache) ms ++ fs)) ≡ false →
     find (λ m. nat_eq m.cache.id id) ms ≡ Some m → same_address a (address_by by m.cache) ≡ false
 apart_from a [] fs id m by h e = cc

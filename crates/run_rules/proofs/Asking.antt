@@ -1,4 +1,5 @@
--- What an ask that comes begins is under the next block of serials, which is taken then.
+-- What a request begins has a serial of the node's next block, which is then taken. By cases on the
+-- rules: each that begins something makes its serial of that block.
 use Rattle.std.proofs.Common.{◌≡◌, ℕ, ◌+◌, ◌*◌, ◌/◌, Bool, true, false, List, [], ◌∷◌, Option, Some, None, Result, Ok, Err, refl, sym, ◌∙◌, ap, arith}
 use Rattle.roster_tables.specs.declared.plain.Peer.{Peer}
 use Rattle.fetch_messages.specs.declared.ask.Ask.{Ask}
@@ -34,7 +35,7 @@ round_block block = omega arith
 read_block : (block : ℕ) → (32 * block + (0 + 1)) / 32 ≡ block
 read_block block = omega arith
 
--- where something begins, it does so under the block that was next
+-- if something begins, its serial is of the block that was next, and that block is taken
 pub record TakesBlock {X : Type 0} (s : NodeState X) (r : Stepped X) : Type 0 where
   pub block : (reply : Reply X) (b : Begin) → r.outcome ≡ Ok reply → reply.begin ≡ Some b → (serial_of b / 32 ≡ s.next) × (r.state.next ≡ s.next + 1)
 
@@ -83,7 +84,7 @@ module _ {X : Type 0} (g : Setting) (s : NodeState X) (mark : X) where
   comes_takes asker ask now true = refused _
   comes_takes asker ask now false = by_copy_takes (Some asker) ask now _
 
-  -- what a member's ask begins is under the next block, which is taken
+  -- what a member's request begins has a serial of the next block, which is taken
   pub ask_takes : (asker : ℕ) (ask : Ask) (now : ℕ) (reply : Reply X) (b : Begin) → (step g s (event.PeerAsk asker ask now) mark).outcome ≡ Ok reply → reply.begin ≡ Some b →
       (serial_of b / 32 ≡ s.next) × ((step g s (event.PeerAsk asker ask now) mark).state.next ≡ s.next + 1)
   unfolding step

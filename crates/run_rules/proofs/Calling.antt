@@ -1,4 +1,6 @@
--- An entry of the master stands for events of the world.
+-- An entry of the master that may follow stands for events of the world. The master's definition is
+-- the one that the world uses; an acknowledgement was sent, so its datagram is in the world; a
+-- refused call stands for no event and leaves the purges.
 use Rattle.std.proofs.Common.{◌≡◌, ℕ, ◌+◌, Bool, true, false, cond, ◌||◌, List, [], ◌∷◌, ◌++◌, Option, Some, None, Result, Ok, Err, refl, sym, ◌∙◌, ap, inl, inr, subst, arith}
 use Rattle.std.proofs.lemmas.List.Elements.{Contains-append_left}
 use Rattle.htcp_wire.specs.declared.message.Content.{Content}
@@ -43,7 +45,7 @@ use Rattle.run_rules.proofs.Matching.{NetworkMatches, datagrams_grow}
 use Rattle.run_rules.proofs.Following.{StandsIn, Matches, after_goes, place_goes}
 use Rattle.run_rules.proofs.Entries.{Follows, same_board, not_flawed}
 
--- What a call of the master comes to
+-- What a call of the master leads to
 
 err_ok : {A B : Type 0} (f : B) (x : A) → Err f ≡ Ok x → ⊥
 err_ok f x is = cc
@@ -140,7 +142,7 @@ hears_clear : (t : Tables) (w : World) (sender : Address) (m : Message) (trans c
 hears_clear t w sender (message.Icp m) trans code is = cc
 hears_clear t w sender (message.Htcp m) trans code is = hears_content t w sender m.trans trans code m.content is
 
--- What is sent then
+-- What is sent afterwards
 
 no_clears : (t : Tables) (c : MasterCall) (f : MasterFault) → clears_by t c (Err f) ≡ []
 no_clears t (call.Issue key) f = refl
@@ -186,14 +188,14 @@ module _ (t : Tables) (b : Board) (p : Progress) (m : Matches t b p) (place : �
   abbrev entry : MasterCall → Result MasterAnswer MasterFault → MasterEntry
   entry c a = record { place = place; call = c; answer = a }
 
-  -- what the master's book has before, with the purges of the world
+  -- the master's state before the entry, and the world with the same purges
   abbrev before : MasterState
   before = record { purges = w.master; closed = b.master.closed }
 
   before_same : before ≡ b.master
   before_same = ap (λ (x : PurgeList). record { purges = x; closed = b.master.closed }) m.purges
 
-  -- One event of the world is the call.
+  -- the call is one event of the world
   module _ (c : MasterCall) (a : Result MasterAnswer MasterFault) (next : MasterState) (happens : WorldEvent) (seen : Seen) (after : World) where
     abbrev one : Step
     one = event_step happens seen
@@ -225,7 +227,7 @@ module _ (t : Tables) (b : Board) (p : Progress) (m : Matches t b p) (place : �
           };
         }
 
-  -- No event is.
+  -- the call is no event
   by_nothing : (c : MasterCall) (f : MasterFault) (next : MasterState) → MasterCalls (members_of t) p.master c (Err f) next → next.purges ≡ w.master → Follows t p (Calls (entry c (Err f)) is_closed) (after_call t b (entry c (Err f)) next)
   by_nothing c f next calls same = record {
     steps = [];
@@ -242,7 +244,7 @@ module _ (t : Tables) (b : Board) (p : Progress) (m : Matches t b p) (place : �
     };
   }
 
-  -- of the world's purges, and of the master's, the same holds
+  -- what holds of the world's purges holds of the master's
   in_world : (c : MasterCall) (x : Called) → called (members_of t) b.master c ≡ x → called (members_of t) before c ≡ x
   in_world c x is = ap (λ (s : MasterState). called (members_of t) s c) before_same ∙ is
 
@@ -341,7 +343,7 @@ module _ (t : Tables) (b : Board) (p : Progress) (m : Matches t b p) (place : �
   follows_call c (Ok a) sent keyed next is = follows_ok c a sent keyed next is
   follows_call c (Err f) sent keyed next is = follows_err c f next is
 
--- a call that may be so stands for events of the world
+-- a call that may follow stands for events of the world
 pub call_follows : (t : Tables) (b : Board) (p : Progress) → Matches t b p → (e : MasterEntry) (is_closed : Bool) (next : Board) → JudgesCall t b e is_closed (Fine next) → Follows t p (Calls e is_closed) next
 call_follows t b p m e is_closed next (inl (sent, keyed, state, calls, is)) =
     subst (Follows t p (Calls e is_closed)) (sym (same_board next (after_call t b e state) is)) (follows_call t b p m e.place is_closed e.call e.answer sent keyed state calls)

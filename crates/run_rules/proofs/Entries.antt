@@ -1,4 +1,6 @@
--- An entry of a node stands for events of the world.
+-- An entry of a node that may follow stands for events of the world: the clock is set, and some
+-- event brings the node what it received (Meeting). An entry that was refused stands for no event.
+-- One that closed the node stands for a fault, after the step or without it.
 use Rattle.std.proofs.Common.{◌≡◌, ℕ, ◌+◌, Bool, true, false, cond, not, ◌&&◌, List, [], ◌∷◌, ◌++◌, Option, Some, None, Result, Ok, Err, refl, sym, ◌∙◌, ap, inl, inr, nat_le, subst, arith}
 use Rattle.std.proofs.lemmas.List.Elements.{Contains-append_left}
 use Rattle.floor_rules.specs.Floors.{FloorMap, HasRoom, floor, raised}
@@ -59,11 +61,11 @@ reply_unmarked : (o : Result (Reply ℕ) StepFault) (reply : Reply (Unit {0})) �
 reply_unmarked (Ok r) reply is = (r, refl, ok_same (retag_reply (λ _. tt) r) reply _ refl is)
 reply_unmarked (Err f) reply is = cc
 
--- the clock is no part of what was sent
+-- the clock does not change what was sent
 network_now : {n : Network} {w : World} {now : ℕ} → NetworkMatches n w → NetworkMatches n (with_clock w now)
 network_now h = record { datagrams = h.datagrams; asks = h.asks; answers = h.answers; waiting = h.waiting }
 
--- what was sent before is sent still
+-- what was sent before is still sent
 network_kept : (t : Tables) (n : Network) (w : World) (id : ℕ) (e : Event ℕ) (serial : ℕ) (o : Result (Reply ℕ) StepFault) (next : NodeState ℕ) → NetworkMatches n w → NetworkMatches n (after_node t w id e serial o next)
 network_kept t n w id e serial o next h = record {
   datagrams = λ d has. Contains-append_left w.datagrams _ d (h.datagrams d has);
@@ -95,7 +97,7 @@ purge_reaches g s (event.ForeignAnswer serial peer key answer tag now) x is = cc
 purge_reaches g s (event.FetchFailed serial now) x is = tt
 purge_reaches g s (event.Expired serial now) x is = tt
 
--- a fault of a step's own
+-- a fault that the function of a step returns
 abbrev IsOwn : StepFault → Type 0
 IsOwn fault.NoMemory = ⊥
 IsOwn fault.StoreFault = ⊥
@@ -108,7 +110,7 @@ own_steps g s e fault.Busy own is = is
 own_steps g s e fault.StoreFault own is = absurd own
 own_steps g s e fault.NoMemory own is = absurd own
 
--- a fault of memory, or of the store
+-- a fault of memory or of the store
 abbrev IsClosing : StepFault → Type 0
 IsClosing fault.NoMemory = Unit {0}
 IsClosing fault.StoreFault = Unit {0}
@@ -121,7 +123,7 @@ closing_steps g s e fault.Busy next closing closes = absurd closing
 closing_steps g s e fault.StoreFault next closing closes = closes
 closing_steps g s e fault.NoMemory next closing closes = inr closes
 
--- with the purge in its floors, where there was room for it, or without
+-- the floors with the purge, if there was room for it, or without
 kept_or_raised : (flag : Bool) (floors : FloorMap) (key : List ℕ) (n : ℕ) → (flag ≡ true → HasRoom floors key) → IsBeforeOrAfter floors key n (cond flag (raised floors key n) floors)
 kept_or_raised true floors key n room = inr (room refl, refl)
 kept_or_raised false floors key n room = inl refl
@@ -131,7 +133,7 @@ not_both_true true false h = refl
 not_both_true true true h = absurd (true_not_false (sym h))
 not_both_true false c h = absurd (true_not_false (sym h))
 
--- the note stands for events, behind which the world is where the run stands then
+-- the note stands for events, after which the world matches the state of the run
 pub record Follows (t : Tables) (p : Progress) (note : Note) (next : Board) : Type 0 where
   pub steps : List Step
   pub to : Progress
@@ -145,7 +147,7 @@ module _ (t : Tables) (b : Board) (p : Progress) (m : Matches t b p) (id : ℕ) 
   abbrev node : NodeState ℕ
   node = node_in p id
 
-  -- An open node meets an event and takes the step that is defined.
+  -- an open node takes the step that is defined
   module _ (is_open : node.closed ≡ false) (e : Event (Unit {0})) (how : Meets t p.world id e) where
     abbrev now : World
     now = with_clock p.world (moment e)
@@ -159,7 +161,7 @@ module _ (t : Tables) (b : Board) (p : Progress) (m : Matches t b p) (id : ℕ) 
     abbrev these : List Step
     these = event_step (world.Clock (moment e)) Nothing ∷ event_step how.happens (Replied id r.outcome) ∷ []
 
-    -- without marks it is the step that the run has
+    -- without marks it is the recorded step
     unmarked_step : step g (unmarked node) e tt ≡ retag_stepped (λ _. tt) r
     unmarked_step = subst (λ x. step g (unmarked node) x tt ≡ retag_stepped (λ _. tt) r) how.event (step-retag (λ _. tt) g node how.met (p.place + 1))
 
@@ -180,7 +182,7 @@ module _ (t : Tables) (b : Board) (p : Progress) (m : Matches t b p) (id : ℕ) 
       goes = record { run = runs; place = refl; master = refl; purges = m.purges ∙ sym (ap (λ x. x.purges) m.master) };
     }
 
-    -- what is sent is sent in the world
+    -- what it sends is sent in the world
     sends : (reply : Reply ℕ) → r.outcome ≡ Ok reply → NetworkMatches (with_reply t b.network id e (retag_reply (λ _. tt) reply)) q.world
     sends reply is =
         let taken = (m.after.sources.asks id is_open).taken in
@@ -192,7 +194,7 @@ module _ (t : Tables) (b : Board) (p : Progress) (m : Matches t b p) (id : ℕ) 
     open_after : r.state.closed ≡ false
     open_after = the_function_closes_no_node g node how.met (p.place + 1) ∙ is_open
 
-  -- the world stays, and so does the node
+  -- the world stays the same, and so does the node
   still : (st : Standing) (n : Network) → StandsIn t id st node → NetworkMatches n p.world → Matches t (with_network (with_node b id st) n) p
   still st n stands network = record {
     past = m.past;
@@ -208,7 +210,7 @@ module _ (t : Tables) (b : Board) (p : Progress) (m : Matches t b p) (id : ℕ) 
     abbrev note : Note
     note = Steps id entry is_closed kept
 
-    -- it replies
+    -- the step has a reply
     replied : node.closed ≡ false → Meets t p.world id entry.event → (next : NodeState (Unit {0})) (reply : Reply (Unit {0})) → entry.outcome ≡ Ok reply → IsStep g (unmarked node) entry next → Follows t p note (after_entry t b id entry (Open next))
     replied is_open how next reply is_ok is_step =
         let outcome : unmarked_outcome (r is_open entry.event how).outcome ≡ entry.outcome = ap (λ (x : Stepped (Unit {0})). x.outcome) (sym (unmarked_step is_open entry.event how) ∙ is_step) in
@@ -240,7 +242,7 @@ module _ (t : Tables) (b : Board) (p : Progress) (m : Matches t b p) (id : ℕ) 
     unchanged : (f : StepFault) → entry.outcome ≡ Err f → NodeStepsBy g (unmarked node) entry.event tt (Err f) (unmarked node) → ChangesNothing t p id entry [] p
     unchanged f is_err steps = (f, is_err, refl, refl, subst (λ (o : Result (Reply (Unit {0})) StepFault). NodeStepsBy g (unmarked node) entry.event tt o (unmarked node)) (sym is_err) steps)
 
-    -- it is refused
+    -- the step is refused
     refused : node.closed ≡ false → (f : StepFault) → IsOwn f → (next : NodeState (Unit {0})) → entry.outcome ≡ Err f → IsStep g (unmarked node) entry next → Follows t p note (after_entry t b id entry (Open next))
     refused is_open f own next is_err is_step =
         let outcome : (step g (unmarked node) entry.event tt).outcome ≡ Err f = ap (λ (x : Stepped (Unit {0})). x.outcome) is_step ∙ is_err in
@@ -256,7 +258,7 @@ module _ (t : Tables) (b : Board) (p : Progress) (m : Matches t b p) (id : ℕ) 
           matches = still (Open next) _ (member, is_open, state) (quiet_after f is_err);
         }
 
-    -- it wants memory, and stays open
+    -- the step lacks memory, and the node stays open
     wants : node.closed ≡ false → entry.outcome ≡ Err fault.NoMemory → Follows t p note (after_entry t b id entry (Open (unmarked node)))
     wants is_open is_err = record {
       steps = [];
@@ -265,7 +267,7 @@ module _ (t : Tables) (b : Board) (p : Progress) (m : Matches t b p) (id : ℕ) 
       matches = still (Open (unmarked node)) _ (member, is_open, refl) (quiet_after fault.NoMemory is_err);
     }
 
-    -- a closed node answers so
+    -- a closed node refuses so
     shut : node.closed ≡ true → (floors : FloorMap) → node.floors ≡ floors → entry.outcome ≡ Err fault.Closed → Follows t p note (after_entry t b id entry (Shut floors))
     shut is_shut floors has is_err = record {
       steps = [];
@@ -274,7 +276,8 @@ module _ (t : Tables) (b : Board) (p : Progress) (m : Matches t b p) (id : ℕ) 
       matches = still (Shut floors) _ (member, is_shut, has) (record { datagrams = m.network.datagrams; asks = m.network.asks; answers = m.network.answers; waiting = waits_dropped_here b.network.waiting p.world.waiting id m.network.waiting });
     }
 
-    -- It closes at a purge: it did not make it, or it made it and what it answered is never delivered.
+    -- The node closes at a purge: it did not make the purge, or it made it and its response is
+    -- never delivered.
     module _ (is_open : node.closed ≡ false) (f : StepFault) (closing : IsClosing f) (is_err : entry.outcome ≡ Err f) (key : List ℕ) (n : ℕ) (purges : purge_in g entry.event ≡ Some (key, n)) (heard : IsSent t b.network id entry.event) (proper : IsRoster t) where
       abbrev flag : Bool
       flag = nat_le n (floor kept key) && not (is_full node.floors key)
@@ -308,7 +311,7 @@ module _ (t : Tables) (b : Board) (p : Progress) (m : Matches t b p) (id : ℕ) 
         purges = purges_same;
       }
 
-      -- it did not
+      -- it did not make the purge
       without : flag ≡ false → Follows t p note (after_entry t b id entry (Shut left))
       without not_made =
           let goes = fault_goes p (m.purges ∙ sym (ap (λ x. x.purges) m.master)) in
@@ -327,7 +330,7 @@ module _ (t : Tables) (b : Board) (p : Progress) (m : Matches t b p) (id : ℕ) 
             };
           }
 
-      -- it did
+      -- it made the purge
       with_purge : flag ≡ true → Follows t p note (after_entry t b id entry (Shut left))
       with_purge made =
           let room : is_full node.floors key ≡ false = not_both_true (nat_le n (floor kept key)) (is_full node.floors key) made in
@@ -359,7 +362,7 @@ module _ (t : Tables) (b : Board) (p : Progress) (m : Matches t b p) (id : ℕ) 
       ends : Follows t p note (after_entry t b id entry (Shut left))
       ends = elim (either flag) [ inl made ↦ with_purge made | inr not_made ↦ without not_made ]
 
-    -- what an entry of an open node comes to
+    -- what an entry of an open node stands for
     module _ (proper : IsRoster t) (heard : IsSent t b.network id entry.event) (is_open : node.closed ≡ false) where
       replied_by : (reply : Reply (Unit {0})) → entry.outcome ≡ Ok reply → Reaches (unmarked node) entry.event → (st : Standing) (result : Result Standing Cause) → result ≡ Ok st → StepsBy g (unmarked node) entry result → Follows t p note (after_entry t b id entry st)
       replied_by reply is_ok reaches st result fine (inl (next, is_step, is)) =
@@ -392,7 +395,7 @@ module _ (t : Tables) (b : Board) (p : Progress) (m : Matches t b p) (id : ℕ) 
       open_by (Err fault.UnknownSerial) is_err st result fine steps = refused_by fault.UnknownSerial is_err tt st result fine steps
       open_by (Err fault.Busy) is_err st result fine steps = refused_by fault.Busy is_err tt st result fine steps
 
-    -- what an entry of a closed node comes to
+    -- what an entry of a closed node stands for
     shut_by_outcome : node.closed ≡ true → (floors : FloorMap) → node.floors ≡ floors → (o : Result (Reply (Unit {0})) StepFault) → entry.outcome ≡ o → (st : Standing) → Ok st ≡ shut_by floors o → Follows t p note (after_entry t b id entry st)
     shut_by_outcome is_shut floors has (Err fault.Closed) is_err st is =
         subst (λ (s : Standing). Follows t p note (after_entry t b id entry s)) (ok_same (Shut floors) st _ refl (sym is)) (shut is_shut floors has is_err)
@@ -416,7 +419,7 @@ module _ (t : Tables) (proper : IsRoster t) (b : Board) (p : Progress) (m : Matc
   fine_by (Ok st) next is = (st, refl, same_board next (after_entry t b id entry st) is)
   fine_by (Err cause) next is = absurd (not_flawed next cause is)
 
-  -- an entry that may be so stands for events of the world
+  -- an entry that may follow stands for events of the world
   pub entry_follows : (next : Board) → JudgesEntry t b id entry is_closed kept (Fine next) → Follows t p (Steps id entry is_closed kept) next
   entry_follows next (inl (heard, r, steps, is)) =
       let (st, fine, same) = fine_by r next is in

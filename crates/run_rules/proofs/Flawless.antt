@@ -1,4 +1,6 @@
--- A run without a flaw is a run of the world.
+-- The notes of a run without a flaw stand for events of the world: by induction over the notes,
+-- each leads from a world that matches the state of the run to another. A node that goes astray
+-- leads to a flaw, so none does.
 use Rattle.std.proofs.Common.{◌≡◌, ℕ, Bool, true, false, cond, ◌||◌, List, [], ◌∷◌, ◌++◌, map, Option, Some, None, Result, Ok, Err, refl, sym, ◌∙◌, ap, inl, inr, nat_eq, subst}
 use Rattle.std.specs.List.{AllByRecursion, list_any}
 use Rattle.std.proofs.Math.Decide.{ℕ_discrete}
@@ -52,7 +54,7 @@ module _ (t : Tables) (b : Board) (who : ℕ) (astray : standing_at b.posts who 
       ap (λ (x : Board). standing_at x.posts who) (same_board next (after_entry t b id entry st) is)
       ∙ standing_changed b.posts id who st astray (λ same. ok_same st Astray (Ok st) refl (subst (λ (s : Standing). StepsSo (setting t id) s entry is_closed kept (Ok st)) (ap (standing_at b.posts) (sym same) ∙ astray) steps))
 
-  -- once astray, always
+  -- a node that is astray stays so
   stays_astray : (note : Note) (next : Board) → Judges t b note (Fine next) → standing_at next.posts who ≡ Astray
   stays_astray (Opens id state) next (inl ((member, opens), is)) =
       ap (λ (x : Board). standing_at x.posts who) (same_board next (opened_board b id state) is)
@@ -83,12 +85,12 @@ never_by t b note (Some place) Later astray later v = yes_no place DoublePlace v
 never_by t b note None Later (who, astray) later (inl (next, judges, rest)) = later next (who, stays_astray t b who astray note next judges) rest
 never_by t b note None Later astray later (inr (cause, judges, v)) = yes_no (place_of note) cause v
 
--- such a run has a flaw
+-- a run with a node astray has a flaw
 never_yes : (t : Tables) (ls : List Listed) (b : Board) → GoesAstray b → HasVerdict t b ls Yes → ⊥
 never_yes t [] b (who, astray) v = yes_no 0 OtherState (v ∙ ap (λ c. cond c (No 0 OtherState) Yes) (any_astray b.posts who astray))
 never_yes t (l ∷ ls) b astray v = never_by t b l.note l.double (λ next. HasVerdict t next ls Yes) astray (λ next. never_yes t ls next) v
 
--- a note that may be so, and with which no node goes astray, stands for events of the world
+-- a note that may follow, and makes no node go astray, stands for events of the world
 note_follows : (t : Tables) → IsRoster t → (b : Board) (p : Progress) → Matches t b p → (note : Note) (next : Board) → (GoesAstray next → ⊥) → Judges t b note (Fine next) → Follows t p note next
 note_follows t proper b p m (Opens id state) next none (inl (can, is)) = opening_follows t b p m id state next can (same_board next (opened_board b id state) is)
 note_follows t proper b p m (Opens id state) next none (inr (cannot, is)) =
@@ -147,6 +149,6 @@ begins t = record {
   };
 }
 
--- notes without a flaw, from a new world on
+-- notes without a flaw, from the new world on
 pub flawless : (t : Tables) → IsRoster t → (ls : List Listed) → HasVerdict t new_board ls Yes → Flawless t (beginning t) ls
 flawless t proper ls v = follow_all t proper ls new_board (beginning t) (begins t) v

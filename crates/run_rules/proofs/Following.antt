@@ -1,4 +1,5 @@
--- Where a run stands, and the world that it is a run of.
+-- How the state of a run (a board) and the world match: each node's state is the recorded one
+-- without marks, the master's is the same, and what the run knows as sent is sent in the world.
 use Rattle.std.proofs.Common.{◌≡◌, ℕ, ◌+◌, ◌<◌, true, false, cond, List, [], ◌∷◌, ◌++◌, length, Option, Some, None, Ok, refl, sym, ◌∙◌, ap, nat_eq, subst, arith, length-append}
 use Rattle.std.specs.Prelude.{◌≢◌}
 use Rattle.std.specs.List.{AllByRecursion}
@@ -27,9 +28,9 @@ use Rattle.run_rules.specs.Recorded.{Progress, unmarked, unmarked_event, node_in
 use Rattle.run_rules.proofs.Asking.{ask_takes}
 use Rattle.run_rules.proofs.Matching.{NetworkMatches, BeginsNext, datagrams_grow, asks_grow, answers_grow, asks_same, answers_same, waits_by_event}
 
--- How nodes stand
+-- Standings of nodes
 
--- the node of the world is as the run says that it stands
+-- the node of the world has this standing
 abbrev pub StandsIn : Tables → ℕ → Standing → NodeState ℕ → Type 0
 StandsIn t id New node = node ≡ new_node
 StandsIn t id (Open s) node = (is_member t id ≡ true) × (node.closed ≡ false) × (unmarked node ≡ s)
@@ -51,7 +52,7 @@ standing_at-other (p ∷ ps) id other st ne =
     ∙ sym (ap (λ b. cond b p.standing (standing_at ps other)) (other_id p.id other (λ e. ne (sym e ∙ ids_same p.id id here)))))
     (λ _. ap (cond (nat_eq p.id other) p.standing) (standing_at-other ps id other st ne))
 
--- a node that has changed, and all others
+-- a node and its standing have changed, and all others not
 pub each_place : (t : Tables) (posts : List Post) (seats : List Seat) (id : ℕ) (st : Standing) (node : NodeState ℕ) → StandsIn t id st node → ((i : ℕ) → i ≢ id → StandsIn t i (standing_at posts i) (node_at seats i)) →
     (i : ℕ) → StandsIn t i (standing_at (with_standing posts id st) i) (node_at (with_node seats id node) i)
 each_place t posts seats id st node this those i =
@@ -64,7 +65,7 @@ each_place t posts seats id st node this those i =
           (subst (StandsIn t i (standing_at posts i)) (sym (node_at-other seats id i node ne)) (those i ne))
     ]
 
--- a node stands otherwise, and the world is the same
+-- a node's standing has changed, and the world not
 pub each_post : (t : Tables) (posts : List Post) (seats : List Seat) (id : ℕ) (st : Standing) → StandsIn t id st (node_at seats id) → ((i : ℕ) → StandsIn t i (standing_at posts i) (node_at seats i)) →
     (i : ℕ) → StandsIn t i (standing_at (with_standing posts id st) i) (node_at seats i)
 each_post t posts seats id st this those i =
@@ -73,9 +74,9 @@ each_post t posts seats id st this those i =
       | no ne ↦ subst (λ x. StandsIn t i x (node_at seats i)) (sym (standing_at-other posts id i st ne)) (those i)
     ]
 
--- Where the run and the world are
+-- The state of the run and the world
 
--- the world is where the run says that it stands
+-- the world matches the state of the run
 pub record Matches (t : Tables) (b : Board) (p : Progress) : Type 0 where
   pub past : List Step
   pub at : p.place ≡ length past + 1
@@ -89,14 +90,14 @@ appends : (past : List Step) (step : Step) (steps : List Step) → (past ++ step
 appends [] step steps = refl
 appends (first ∷ past) step steps = ap (λ (l : List Step). first ∷ l) (appends past step steps)
 
--- what holds after the past holds after more steps
+-- what holds after some steps holds after more steps
 pub after_run : (t : Tables) (past steps : List Step) (old new : World) → IsAfter t past old → Run t (length past + 1) old steps new → IsAfter t (past ++ steps) new
 after_run t past [] old new after run = subst (λ (l : List Step). IsAfter t l new) (sym (append_nil past)) (subst (IsAfter t past) (sym run) after)
 after_run t past (step ∷ steps) old new after (next, happens, run) =
     subst (λ (l : List Step). IsAfter t l new) (appends past step steps)
     (after_run t (past ++ step ∷ []) steps next new (after_one t past old after step.event step.seen next happens) (subst (λ (n : ℕ). Run t n next steps new) (sym (next_place past step)) run))
 
--- after a step, with its place
+-- the same for the progress of a run, with its place
 pub after_goes : (t : Tables) (b : Board) (p q : Progress) (steps : List Step) → (m : Matches t b p) → Run t p.place p.world steps q.world → IsAfter t (m.past ++ steps) q.world
 after_goes t b p q steps m run = after_run t m.past steps p.world q.world m.after (subst (λ (n : ℕ). Run t n p.world steps q.world) m.at run)
 

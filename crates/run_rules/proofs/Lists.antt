@@ -1,4 +1,4 @@
--- Finding in lists that grow at the end, or lose items.
+-- Finding in lists that grow at the end or lose items, by induction over the list.
 use Rattle.std.proofs.Common.{◌≡◌, ◌⊎◌, ℕ, zero, suc, ◌-◌, ◌<◌, Bool, true, false, cond, List, [], ◌∷◌, ◌++◌, length, filter, Option, Some, None, refl, sym, ◌∙◌, ap, inl, inr, nat_eq, subst, arith}
 use Rattle.std.specs.Prelude.{find, slice_get, Contains}
 use Rattle.std.specs.List.{slice_index_or}
@@ -18,7 +18,7 @@ index_got [] k x h e = absurd (omega (h, arith))
 index_got (y ∷ xs) zero x h e = ap Some e
 index_got (y ∷ xs) (suc k) x h e = index_got xs k x (omega (h, arith)) e
 
--- an element has a number
+-- an element of a list has a number
 pub contained_item : {A : Type 0} (xs : List A) (x : A) → Contains xs x → (number : ℕ) × (item xs number ≡ Some x)
 contained_item xs x (k, within, is) =
     let some : nat_eq (suc k) 0 ≡ false = other_id (suc k) 0 (λ e. omega (e, arith)) in
@@ -59,7 +59,7 @@ module _ {A : Type 0} (test : A → Bool) where
         | inr there ↦ inr there
       ])) e
 
-  -- what passes is kept
+  -- if every item that passes the test is kept, the same item is found
   pub found_kept : (keeps : A → Bool) → ((x : A) → test x ≡ true → keeps x ≡ true) → (xs : List A) → find test (filter keeps xs) ≡ find test xs
   found_kept keeps h [] = refl
   found_kept keeps h (x ∷ xs) =
@@ -70,7 +70,7 @@ module _ {A : Type 0} (test : A → Bool) where
         | inr fails ↦ ap (λ b. cond b (Some x) (find test xs)) fails
       ]))
 
-  -- what is kept does not pass
+  -- if no item that is kept passes the test, nothing is found
   pub found_gone : (keeps : A → Bool) → ((x : A) → keeps x ≡ true → test x ≡ false) → (xs : List A) → find test (filter keeps xs) ≡ None
   found_gone keeps h [] = refl
   found_gone keeps h (x ∷ xs) =

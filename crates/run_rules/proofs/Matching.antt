@@ -1,4 +1,5 @@
--- The world of a run, beside where its notes say that it stands.
+-- The network of a run and that of the world: what the run has as sent or waiting, the world has
+-- too, with serials and marks. This stays so, since both grow by the same reply.
 use Rattle.std.proofs.Common.{◌≡◌, ℕ, ◌+◌, ◌/◌, Bool, true, false, cond, not, ◌&&◌, List, [], ◌∷◌, ◌++◌, filter, Option, Some, None, refl, sym, ◌∙◌, ap, inl, inr, nat_eq, subst, arith}
 use Rattle.std.specs.Prelude.{find, Contains, option_map, ◌≢◌}
 use Rattle.std.specs.List.{AllByRecursion}
@@ -85,12 +86,12 @@ asks_same id (Some (begin.Round serial)) a has = absurd (contains_none a has)
 asks_same id (Some (begin.Read serial ask)) a has = absurd (contains_none a has)
 asks_same id (Some (begin.Peer serial peer ask)) a has = ask_by_id id serial peer ask (is_foreign_id peer) a has
 
--- a mark makes no difference to what is written
+-- marks do not change what is written
 text_same : (served : Served ℕ) → text_of (retag_served (λ _. tt) served) ≡ answer_of served
 text_same (Copy c age) = refl
 text_same (Status status) = refl
 
--- the key of what is answered is that of the ask in the world
+-- the key of the request that is answered is the same in the world
 abbrev KeyMatches : Option (List ℕ) → Option Answered → Type 0
 KeyMatches key asked = (k : List ℕ) → key ≡ Some k → (a : Answered) × (asked ≡ Some a) × (a.key ≡ k)
 
@@ -143,7 +144,7 @@ none_some x e = cc
 
 -- What waits
 
--- nothing waits as a block that is not taken
+-- no request waits as a block that is not taken
 not_taken : (id block : ℕ) (ws : List Waiting) → AllByRecursion (IsTaken id block) ws → find (is_waiting_as id block) ws ≡ None
 not_taken id block [] all = refl
 not_taken id block (w ∷ ws) all =
@@ -183,14 +184,14 @@ waits_more waits ws node at serial key match none id block x e = elim (found_whe
   | inr new ↦ waits_new ws node at serial key none id block x new
 ]
 
--- a block is taken as the next one changes
+-- a block is taken when the next one changes
 changed_waits : (id : ℕ) (serial : ℕ) (key : List ℕ) (before after : ℕ) → after ≡ before + 1 →
     cond {A = List Waiting} (nat_eq before after) [] (record { node = id; block = before; serial = serial; key = key } ∷ []) ≡ record { node = id; block = before; serial = serial; key = key } ∷ []
 changed_waits id serial key before after taken =
     let one : List Waiting = record { node = id; block = before; serial = serial; key = key } ∷ [] in
     ap (λ b. cond {A = List Waiting} b [] one) (other_id before after (λ same. omega (same, taken, arith)))
 
--- the block under which something begins is the one that was next
+-- what begins has a serial of the block that was next
 abbrev pub BeginsNext : Event ℕ → Option Begin → NodeState ℕ → NodeState ℕ → Type 0
 BeginsNext (event.PeerAsk asker ask now) (Some b) old new = (serial_of b / 32 ≡ old.next) × (new.next ≡ old.next + 1)
 BeginsNext _ _ old new = Unit {0}
@@ -210,7 +211,7 @@ waits_by_event waits ws id (event.PeerAsk asker ask now) serial (Some b) old new
     (subst (λ (n : ℕ). WaitsMatch (waits ++ record { node = id; block = n; key = ask.key } ∷ []) (ws ++ record { node = id; block = old.next; serial = serial; key = ask.key } ∷ [])) (sym block)
     (waits_more waits ws id old.next serial ask.key match (not_taken id old.next ws all)))
 
--- what waits as this is at this node
+-- a request that is found for a node waits at that node
 waits_at : (id block : ℕ) (n b : ℕ) → (nat_eq n id && nat_eq b block) ≡ true → n ≡ id
 waits_at id block n b h = ids_same n id (and_parts (nat_eq n id) (nat_eq b block) h).0
 
@@ -238,7 +239,7 @@ kept_there ws node id block other =
     found_kept (is_waiting_as id block) (λ (w : Waiting). not (nat_eq w.node node))
     (λ w is_so. ap not (other_id w.node node (λ same. apart node id other (sym same ∙ waits_at id block w.node w.block is_so)))) ws
 
--- What waited at a node waits no more
+-- What waited at a node is dropped
 
 pub waits_dropped_here : (waits : List Waits) (ws : List Waiting) (node : ℕ) → WaitsMatch waits ws → WaitsMatch (filter (λ (w : Waits). not (nat_eq w.node node)) waits) ws
 waits_dropped_here waits ws node match id block x e = elim (either (nat_eq node id)) [

@@ -1,4 +1,5 @@
--- What a node meets was sent, or comes from outside: some event of the world brings it.
+-- Some event of the world brings a node what its entry received. What a member or the master sent
+-- is in the world's lists, so its number delivers it. What others send is an event of its own.
 use Rattle.std.proofs.Common.{◌≡◌, ℕ, Bool, true, false, cond, List, Option, Some, None, refl, sym, ◌∙◌, ap, inl, inr, nat_eq, subst}
 use Rattle.std.specs.Prelude.{Contains, option_map, MatchOption}
 use Rattle.fetch_messages.specs.declared.ask.Ask.{Ask}
@@ -35,7 +36,7 @@ use Rattle.run_rules.proofs.Lists.{either, contained_item}
 use Rattle.run_rules.proofs.Addresses.{reached}
 use Rattle.run_rules.proofs.Matching.{NetworkMatches}
 
--- some event of the world, at the moment of this one, is this one at the node
+-- some event of the world, at the time of the node's event, is that event at the node
 pub record Meets (t : Tables) (w : World) (id : ℕ) (e : Event (Unit {0})) : Type 0 where
   pub happens : WorldEvent
   pub met : Event ℕ
@@ -45,7 +46,7 @@ pub record Meets (t : Tables) (w : World) (id : ℕ) (e : Event (Unit {0})) : Ty
   pub event : unmarked_event met ≡ e
 
 module _ (t : Tables) (proper : IsRoster t) (w : World) (id : ℕ) (member : is_member t id ≡ true) where
-  -- what comes to a member comes
+  -- a datagram for a member reaches it
   comes : (turn : Turn) → at_member t id turn ≡ turn
   comes turn = ap (λ b. cond b turn (Refused NoSuchPacket)) member
 
@@ -125,7 +126,7 @@ module _ (t : Tables) (proper : IsRoster t) (w : World) (id : ℕ) (member : is_
   foreign_turn serial peer now answer key (AtOrigin stamp asked mark) h = absurd (true_not_false (sym h))
   foreign_turn serial peer now answer key Nowhere h = absurd (true_not_false (sym h))
 
-  -- the ask that is fetching so
+  -- the request that fetches under the serial
   abbrev IsFetching : Option (Pending ℕ) → List ℕ → (Fetch (Unit {0}) → Bool) → Type 0
   IsFetching o key is_such = (p : Pending ℕ) × (o ≡ Some p) × (p.ask.key ≡ key) × (is_such (retag_fetch (λ _. tt) p.fetch) ≡ true)
 

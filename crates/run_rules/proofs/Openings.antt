@@ -1,4 +1,5 @@
--- A record that opens or closes as it may stands for events of the world.
+-- A record that may open or close so stands for events of the world: for none if it goes on from
+-- the node's state, else for a restart.
 use Rattle.std.proofs.Common.{◌≡◌, ℕ, ◌+◌, Bool, true, false, cond, [], ◌∷◌, ◌++◌, refl, sym, ◌∙◌, ap, inl, inr, nat_eq, subst}
 use Rattle.floor_rules.specs.Floors.{FloorMap}
 use Rattle.roster_tables.specs.declared.plain.Tables.{Tables}
@@ -20,7 +21,7 @@ use Rattle.run_rules.proofs.Matching.{NetworkMatches, waits_dropped_here}
 use Rattle.run_rules.proofs.Following.{StandsIn, Matches, each_place, each_post, after_goes, place_goes}
 use Rattle.run_rules.proofs.Entries.{Follows, network_closed, same_board, not_flawed}
 
--- who waits is forgotten, or not
+-- what waits at a node is dropped, or not
 opened_network : (n : Network) (w : World) (id : ℕ) (c : Bool) → NetworkMatches n w → NetworkMatches (cond c (without_waiting n id) n) w
 opened_network n w id true h = record { datagrams = h.datagrams; asks = h.asks; answers = h.answers; waiting = waits_dropped_here n.waiting w.waiting id h.waiting }
 opened_network n w id false h = h
@@ -32,7 +33,7 @@ module _ (t : Tables) (b : Board) (p : Progress) (m : Matches t b p) (id : ℕ) 
   abbrev after : Standing → Board
   after st = with_network (with_node b id st) (cond (nat_eq state.next 1) (without_waiting b.network id) b.network)
 
-  -- the node goes on as it stands
+  -- the node goes on from its state
   goes_on : (st : Standing) → StandsIn t id st node → IsKept (unmarked node) state → Follows t p (Opens id state) (after st)
   goes_on st stands kept = record {
     steps = [];
@@ -63,7 +64,7 @@ module _ (t : Tables) (b : Board) (p : Progress) (m : Matches t b p) (id : ℕ) 
     purges = m.purges ∙ sym (ap (λ x. x.purges) m.master);
   }
 
-  -- the node starts again with its floors
+  -- the node restarts with its floors
   starts_again : (floors : FloorMap) → node.floors ≡ floors → state ≡ opened floors → Follows t p (Opens id state) (after (Open state))
   starts_again floors has is =
       let fresh : state ≡ opened node.floors = is ∙ ap (λ (f : FloorMap). opened f) (sym has) in
@@ -99,7 +100,7 @@ module _ (t : Tables) (b : Board) (p : Progress) (m : Matches t b p) (id : ℕ) 
       (starts_again floors has is)
   opens_by Astray stands is = absurd stands
 
--- a node that opens as it may, which is one of a roster's members
+-- a record of a member that may open so
 pub opening_follows : (t : Tables) (b : Board) (p : Progress) → Matches t b p → (id : ℕ) (state : NodeState (Unit {0})) (next : Board) → CanOpen t b id state → next ≡ opened_board b id state → Follows t p (Opens id state) next
 opening_follows t b p m id state next (member, opens) is = subst (Follows t p (Opens id state)) (sym is) (opens_by t b p m id state member (standing_at b.posts id) (m.nodes id) opens)
 

@@ -1,4 +1,5 @@
--- What a step does to an open node that meets a purge.
+-- An open node that receives a purge of the master makes it, if there is room for its floor: it
+-- raises the floor and replies. By cases on the message.
 use Rattle.std.proofs.Common.{◌≡◌, ℕ, Bool, true, false, List, Option, Some, None, Result, Ok, Err, refl, sym, ◌∙◌, subst}
 use Rattle.htcp_wire.specs.declared.message.Content.{Content}
 use Rattle.htcp_wire.specs.declared.message.Content.TheVariants as content
@@ -19,7 +20,7 @@ use Rattle.node_rules.specs.Relation.{purge_in, purge_in_message, purge_in_conte
 use Rattle.node_rules.specs.Step.{open_step, step_if, step}
 use Rattle.node_rules.proofs.Cases.{branches, true_not_false}
 
--- the purge is made, and answered
+-- the purge is made, and the step has a reply
 pub record HasPurged {X : Type 0} (s : NodeState X) (key : List ℕ) (n : ℕ) (r : Stepped X) : Type 0 where
   pub reply : Reply X
   pub outcome : r.outcome ≡ Ok reply
@@ -89,7 +90,7 @@ module _ {X : Type 0} (g : Setting) (s : NodeState X) (mark : X) where
   if_purges e true key n is_open is room = absurd (true_not_false is_open)
   if_purges e false key n is_open is room = open_purges e key n is room
 
-  -- an open node makes a purge of the master, where there is room for its floor
+  -- an open node makes a purge of the master, if there is room for its floor
   pub step_purges : (e : Event X) (key : List ℕ) (n : ℕ) → s.closed ≡ false → purge_in g e ≡ Some (key, n) → is_full s.floors key ≡ false → IsPurged key n (step g s e mark)
   unfolding step
   step_purges e key n is_open is room = if_purges e s.closed key n is_open is room

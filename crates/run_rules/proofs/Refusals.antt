@@ -1,4 +1,5 @@
--- A step that is refused changes nothing.
+-- A step that is refused changes nothing: by cases on the rules of a node, each rule that refuses
+-- returns the old state.
 use Rattle.std.proofs.Common.{◌≡◌, ℕ, Bool, true, false, not, ◌&&◌, ◌||◌, List, [], ◌∷◌, Option, Some, None, Result, Ok, Err, refl, nat_le, nat_eq}
 use Rattle.roster_tables.specs.Ranges.{is_foreign_id}
 use Rattle.roster_tables.specs.declared.plain.Address.{Address}
@@ -44,7 +45,7 @@ pub no_fault : {A B : Type 0} (x : A) (f : B) → Ok x ≡ Err f → ⊥
 no_fault x f e = cc
 
 module _ {X : Type 0} (g : Setting) (s : NodeState X) (mark : X) where
-  -- where it is refused, the state is the old one
+  -- if the step is refused, the state is the old one
   abbrev Fair : Stepped X → Type 0
   Fair r = (f : StepFault) → r.outcome ≡ Err f → r.state ≡ s
 
@@ -248,7 +249,7 @@ module _ {X : Type 0} (g : Setting) (s : NodeState X) (mark : X) where
   closed_refuses_if e true h = refl
   closed_refuses_if e false h = cc
 
-  -- a closed node answers so
+  -- a closed node refuses so
   pub closed_refuses : (e : Event X) → s.closed ≡ true → step g s e mark ≡ refuses s Closed
   unfolding step
   closed_refuses e is_closed = closed_refuses_if e s.closed is_closed

@@ -1,4 +1,6 @@
--- In a run without a doubled place the places of all notes in their turns rise.
+-- If no place is doubled, the places of all notes in their order rise: the least turn is always
+-- taken, so a place that does not rise is shared by two tracks or does not rise in its own, and
+-- both are found as doubled.
 use Rattle.std.proofs.Common.{◌≡◌, ◌⊎◌, ℕ, zero, suc, ◌+◌, ◌≤◌, ◌<◌, true, false, cond, List, [], ◌∷◌, ◌++◌, length, map, filter, Option, Some, None, refl, sym, ◌∙◌, ap, inl, inr, nat_eq, nat_le, nat_lt, subst, arith}
 use Rattle.std.specs.List.{AllByRecursion, flat_map, filter_map, cons_option}
 use Rattle.std.proofs.lemmas.Bool.Decides.{nat_tests}
@@ -25,7 +27,7 @@ some_none_place d is = cc
 no_fall : (d : ℕ) → None ≡ Some d → ⊥
 no_fall d is = cc
 
--- the place is no less than the least that does not rise
+-- the place is at least the least one that does not rise
 abbrev IsLate : Option ℕ → ℕ → Type 0
 IsLate fall place = (d : ℕ) × (fall ≡ Some d) × (d ≤ place)
 
@@ -33,22 +35,22 @@ abbrev AllLate : Option ℕ → List ℕ → Type 0
 AllLate fall [] = Unit {0}
 AllLate fall (place ∷ places) = IsLate fall place × AllLate fall places
 
--- the place is above the last one, if there is one
+-- the place is greater than the last one, if there is one
 abbrev Above : Option ℕ → ℕ → Type 0
 Above None place = Unit {0}
 Above (Some last) place = last < place
 
--- The first of these places is above the last one, or is one that does not rise.
+-- the first of these places is greater than the last one, or is late
 abbrev IsNext : Option ℕ → Option ℕ → List ℕ → Type 0
 IsNext fall last [] = Unit {0}
 IsNext fall last (place ∷ places) = Above last place ⊎ IsLate fall place
 
--- what holds of each track behind a place
+-- what holds of each track after a place was taken
 abbrev GoOn : Option ℕ → Option ℕ → List (List Note) → Type 0
 GoOn fall last [] = Unit {0}
 GoOn fall last (track ∷ tracks) = (IsNext fall last (places_in track) × AllLate fall (falls (places_in track))) × GoOn fall last tracks
 
--- no track has a lesser turn
+-- no track has a lower turn
 abbrev AreAtLeast : ℕ → List (List Note) → Type 0
 AreAtLeast turn [] = Unit {0}
 AreAtLeast turn (track ∷ tracks) = ((a : ℕ) → turn_of track ≡ Some a → turn ≤ a) × AreAtLeast turn tracks
@@ -68,7 +70,7 @@ least_least ((note ∷ notes) ∷ tracks) o is turn below =
     let (here, there) = lesser_least (turn_by (place_in note)) (least (turns_of tracks)) (lesser (turn_by (place_in note)) (least (turns_of tracks))) refl in
     ((λ a same. omega (first, here, same_some (turn_by (place_in note)) a same, arith)), least_least tracks (least (turns_of tracks)) refl turn (λ b same. omega (first, there b same, arith)))
 
--- no other track has the turn
+-- no other track has this turn
 abbrev HasNone : ℕ → List (List Note) → Type 0
 HasNone turn [] = Unit {0}
 HasNone turn (track ∷ tracks) = (turn_of track ≡ Some turn → ⊥) × HasNone turn tracks
@@ -89,7 +91,7 @@ none_has turn (track ∷ tracks) none = (
 
 -- A place is taken
 
--- behind it the places of its track rise, or one is late
+-- after it the places of its track rise, or one is late
 next_of : (fall : Option ℕ) (p : ℕ) (ps : List ℕ) → AllLate fall (falls_from p ps) → IsNext fall (Some p) ps × AllLate fall (falls ps)
 next_of fall p [] late = (tt, tt)
 next_of fall p (f ∷ fs) late =
@@ -107,13 +109,13 @@ above_by : (fall last : Option ℕ) (q p : ℕ) → q ≡ p → Above last q ⊎
 above_by fall last q p same (inl above) early = subst (Above last) same above
 above_by fall last q p same (inr late) early = absurd (early (subst (IsLate fall) same late))
 
--- a track whose turn is neither this nor before has a later place
+-- a track whose turn is neither this nor an earlier one has a later place
 track_up : (fall : Option ℕ) (turn p : ℕ) (track : List Note) → turn ≡ p + 1 → ((a : ℕ) → turn_of track ≡ Some a → turn ≤ a) → (turn_of track ≡ Some turn → ⊥) → IsNext fall (Some p) (places_in track)
 track_up fall turn p [] is least other = tt
 track_up fall turn p (note ∷ notes) is least other =
     place_up fall turn p (place_in note) (places_in notes) is (λ a same. least a (ap Some same)) (λ same. other (ap Some same))
 
--- all others have
+-- all other tracks have later places
 others_up : (fall : Option ℕ) (last : Option ℕ) (turn p : ℕ) (tracks : List (List Note)) → turn ≡ p + 1 → GoOn fall last tracks → AreAtLeast turn tracks → HasNone turn tracks → GoOn fall (Some p) tracks
 others_up fall last turn p [] is on least none = tt
 others_up fall last turn p (track ∷ tracks) is on least none = ((track_up fall turn p track is least.0 none.0, on.0.1), others_up fall last turn p tracks is on.1 least.1 none.1)
@@ -180,7 +182,7 @@ took_turn turn (track ∷ tracks) rest note (inl (notes, its, left, turns)) = tu
 took_turn turn (track ∷ tracks) rest note (inr (others, left, elsewhere, took)) = took_turn turn tracks others note took
 
 module _ (fall : Option ℕ) where
-  -- a note is taken, and the rest goes on behind it
+  -- a note is taken, and the rest goes on after it
   taken_rise : (tracks : List (List Note)) (last : Option ℕ) (x : Taken) (turn : ℕ) (later : List (List Note) → List Listed) (place : Option ℕ) → least (turns_of tracks) ≡ Some turn → Took turn tracks x.note x.rest → place_in x.note ≡ place →
       GoOn fall last tracks → double_of fall (turns_of tracks) (place_in x.note) ≡ None → ((behind : Option ℕ) → GoOn fall behind x.rest → RiseFrom behind (places_of (later x.rest))) →
       RiseFrom last (cons_option (place_in x.note) (places_of (later x.rest)))
@@ -204,7 +206,7 @@ module _ (fall : Option ℕ) where
   rise zero tracks last on single = nothing_rises last
   rise (suc count) tracks last on single = rise_on tracks last (λ rest. order_by count fall rest) (next_note tracks) refl on single (λ rest behind on_later others. rise count rest behind on_later others)
 
--- At the beginning
+-- At the start
 
 later_late : (a : ℕ) (o : Option ℕ) (place : ℕ) → IsLate o place → IsLate (Some (lesser a o)) place
 later_late a o place (d, is, below) =
@@ -233,6 +235,6 @@ begin_on fall (track ∷ tracks) late =
     let (here, there) = late_parts fall (falls (places_in track)) (flat_map (λ track. falls (places_in track)) tracks) late in
     ((first_next fall (places_in track), here), begin_on fall tracks there)
 
--- where no place is doubled all places rise
+-- if no place is doubled, all places rise
 pub order_rises : (tracks : List (List Note)) → AllByRecursion (λ (l : Listed). l.double ≡ None) (order_of tracks) → AllRise (filter_map place_in (map note_of (order_of tracks)))
 order_rises tracks single = rise (least_fall tracks) (count_in tracks) tracks None (begin_on (least_fall tracks) tracks (all_late (flat_map (λ track. falls (places_in track)) tracks))) single

@@ -1,4 +1,5 @@
--- What notes stand for is a run of the world.
+-- What notes stand for is a run of the world: each note's events lead from one world to the next,
+-- and runs join.
 use Rattle.std.proofs.Common.{◌≡◌, ℕ, ◌+◌, List, [], ◌∷◌, ◌++◌, length, refl, sym, subst, inl, inr, arith, length-append}
 use Rattle.roster_tables.specs.declared.plain.Tables.{Tables}
 use Rattle.world_rules.specs.World.{World}
@@ -6,7 +7,7 @@ use Rattle.world_rules.specs.Run.{Step, Run}
 use Rattle.run_rules.specs.Notes.{Note, Opens, Steps, Closes, Calls}
 use Rattle.run_rules.specs.Recorded.{Progress, Goes, Stands, AllStand}
 
--- these events lead from the one to the other
+-- these events lead from p to q
 pub record Leads (roster : Tables) (p : Progress) (steps : List Step) (q : Progress) : Type 0 where
   pub run : Run roster p.place p.world steps q.world
   pub place : q.place ≡ p.place + length steps

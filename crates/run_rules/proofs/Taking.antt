@@ -1,4 +1,5 @@
--- All notes in their turns are the notes of each track in its order.
+-- The order of all notes keeps the order of each track, and leaves none out: by induction over the
+-- number of notes, each turn takes the first note of one track.
 use Rattle.std.proofs.Common.{◌≡◌, ◌⊎◌, ℕ, zero, suc, ◌+◌, Bool, true, false, cond, List, [], ◌∷◌, ◌++◌, length, map, filter, Option, Some, None, refl, sym, ◌∙◌, ap, inl, inr, nat_eq, nat_le, subst, arith, length-append}
 use Rattle.std.specs.Prelude.{option_map}
 use Rattle.std.specs.List.{flat_map}
@@ -20,7 +21,7 @@ none_taken x is = cc
 some_is_none : (x : Taken) → Some x ≡ None → ⊥
 some_is_none x is = cc
 
--- A note is taken from the first track that has its turn.
+-- a note is taken from the first track that has its turn
 abbrev pub Took : ℕ → List (List Note) → Note → List (List Note) → Type 0
 Took turn [] note rest = ⊥
 Took turn (track ∷ tracks) note rest =
@@ -56,7 +57,7 @@ pub took_at : (turn : ℕ) (tracks : List (List Note)) (x : Taken) → take_at t
 took_at turn [] x is = none_taken x is
 took_at turn (track ∷ tracks) x is = took_from turn track tracks (take_at turn tracks) x (λ y has. took_at turn tracks y has) is
 
--- The parts of all tracks that pass a test
+-- The notes of all tracks that pass a test
 
 abbrev pub parts : (Note → Bool) → List (List Note) → List Note
 parts test tracks = flat_map (λ track. filter test track) tracks
@@ -83,7 +84,7 @@ sole_first test track note notes tracks is (inl (none, sole)) = inl ((kept_none 
 sole_first test track note notes tracks is (inr none) = inr none
 
 module _ (test : Note → Bool) (turn : ℕ) where
-  -- where no track has such notes, none is taken
+  -- if no track has such notes, none is taken
   took_none : (tracks rest : List (List Note)) (note : Note) → Took turn tracks note rest → parts test tracks ≡ [] → (test note ≡ false) × (parts test rest ≡ [])
   took_none [] rest note took none = absurd took
   took_none (track ∷ tracks) rest note (inl (notes, is, left, turns)) none =
@@ -95,7 +96,7 @@ module _ (test : Note → Bool) (turn : ℕ) where
       let (fails, below) = took_none tracks others note took more in
       (fails, ap (parts test) left ∙ ap (λ (l : List Note). l ++ parts test others) first ∙ below)
 
-  -- the note is the first of them, if it is one, and the others stay
+  -- the note taken is the first of them, if it is one, and the others stay
   took_part : (tracks rest : List (List Note)) (note : Note) → Took turn tracks note rest → Sole test tracks → (parts test tracks ≡ cond (test note) (note ∷ parts test rest) (parts test rest)) × Sole test rest
   took_part [] rest note took sole = absurd took
   took_part (track ∷ tracks) rest note (inl (notes, is, left, turns)) sole =
@@ -115,7 +116,7 @@ module _ (test : Note → Bool) (turn : ℕ) where
         subst (Sole test) (sym left) (inr below),
       )
 
--- a note less
+-- one note fewer is left
 took_count : (turn : ℕ) (tracks rest : List (List Note)) (note : Note) → Took turn tracks note rest → count_in tracks ≡ suc (count_in rest)
 took_count turn [] rest note took = absurd took
 took_count turn (track ∷ tracks) rest note (inl (notes, is, left, turns)) =
@@ -124,7 +125,7 @@ took_count turn (track ∷ tracks) rest note (inr (others, left, elsewhere, took
     length-append track (flat_map (λ t. t) tracks) ∙ ap (λ n. length track + n) (took_count turn tracks others note took)
     ∙ later_suc (length track) (count_in others) ∙ ap suc (sym (length-append track (flat_map (λ t. t) others))) ∙ ap (λ (l : List (List Note)). suc (count_in l)) (sym left)
 
--- Some track has the least turn.
+-- some track has the least turn
 abbrev pub Has : ℕ → List (List Note) → Type 0
 Has turn [] = ⊥
 Has turn (track ∷ tracks) = (turn_of track ≡ Some turn) ⊎ Has turn tracks
@@ -164,7 +165,7 @@ found_at turn [] has = absurd has
 found_at turn (track ∷ tracks) (inl here) = found_from turn track tracks (take_at turn tracks) here
 found_at turn (track ∷ tracks) (inr there) = let (y, is) = found_at turn tracks there in kept_from turn track tracks (take_at turn tracks) y is
 
--- where none is left to take, all tracks are empty
+-- if no note is left to take, all tracks are empty
 empty_parts : (test : Note → Bool) (tracks : List (List Note)) → least (turns_of tracks) ≡ None → parts test tracks ≡ []
 empty_parts test [] is = refl
 empty_parts test ([] ∷ tracks) is = empty_parts test tracks is
@@ -179,7 +180,7 @@ none_left test [] is = refl
 none_left test ([] ∷ tracks) is = none_left test tracks is
 none_left test ((note ∷ notes) ∷ tracks) is = absurd (omega (is, arith))
 
--- All notes in their turns
+-- All notes in their order
 
 abbrev pub note_of : Listed → Note
 note_of l = l.note
@@ -199,7 +200,7 @@ module _ (test : Note → Bool) where
       let fewer : count_in x.rest ≡ count = omega (took_count turn tracks x.rest x.note took, many, arith) in
       ap (λ (l : List Note). cond (test x.note) (x.note ∷ l) l) (later x.rest fewer below) ∙ sym whole
 
-  -- those of all notes that pass, where only one track has any
+  -- the notes that pass, if only one track has any
   pub order_parts : (count : ℕ) (fall : Option ℕ) (tracks : List (List Note)) → count_in tracks ≡ count → Sole test tracks → filter test (map note_of (order_by count fall tracks)) ≡ parts test tracks
   order_parts zero fall tracks none sole = sym (none_left test tracks none)
   order_parts (suc count) fall tracks many sole = order_from fall tracks count (next_note tracks) refl many sole (λ rest fewer below. order_parts count fall rest fewer below)

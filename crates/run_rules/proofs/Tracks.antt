@@ -1,4 +1,5 @@
--- The tracks of a run: each node's notes stand in one of them, and the master's in another.
+-- The tracks of a run: each node's notes stand in one of them, and the master's in another. Nodes
+-- are listed once each, and a track's records are those of its node.
 use Rattle.std.proofs.Common.{◌≡◌, ℕ, Bool, true, false, cond, not, ◌||◌, List, [], ◌∷◌, ◌++◌, map, filter, refl, sym, ◌∙◌, ap, inl, inr, nat_eq, subst}
 use Rattle.std.specs.List.{list_any}
 use Rattle.floor_rules.specs.Floors.{FloorMap}
@@ -21,7 +22,7 @@ filter_append test (x ∷ xs) ys =
     (λ keeps. ap (λ (l : List Note). x ∷ l) (filter_append test xs ys) ∙ sym (ap (λ b. cond b (x ∷ filter test xs) (filter test xs) ++ filter test ys) keeps))
     (λ drops. filter_append test xs ys ∙ sym (ap (λ b. cond b (x ∷ filter test xs) (filter test xs) ++ filter test ys) drops))
 
--- A test that tells notes of a node by its id alone, and no other notes.
+-- a test that a note of a node passes by its id alone, and no other note
 pub record TellsNodes (test : Note → Bool) (b : ℕ → Bool) : Type 0 where
   pub opens : (id : ℕ) (state : NodeState (Unit {0})) → test (Opens id state) ≡ b id
   pub steps : (id : ℕ) (entry : NodeEntry) (is_closed : Bool) (kept : FloorMap) → test (Steps id entry is_closed kept) ≡ b id
@@ -74,7 +75,7 @@ module _ (test : Note → Bool) (b : ℕ → Bool) (tells : TellsNodes test b) w
       ∙ when_joined (b id) (notes_of r (filter (is_of id) rs)) (notes_of_all (filter (is_of id) rs)))
       (λ other. own_told id rs)
 
--- The nodes, each once
+-- The nodes, once each
 
 abbrev has_id : ℕ → List ℕ → Bool
 has_id id ids = list_any (λ i. nat_eq i id) ids
@@ -99,7 +100,7 @@ not_dropped : (b : Bool) → not b ≡ false → b ≡ true
 not_dropped true h = refl
 not_dropped false h = absurd (true_not_false h)
 
--- what is left out is no more there than before
+-- an id that is not in a list is not in it after others are left out
 left_out : (test : ℕ → Bool) (id : ℕ) (ids : List ℕ) → has_id id ids ≡ false → has_id id (filter test ids) ≡ false
 left_out test id [] none = refl
 left_out test id (i ∷ ids) none =
@@ -120,7 +121,7 @@ once_in : (rs : List Record) → Once (nodes_in rs)
 once_in [] = tt
 once_in (r ∷ rs) = (gone r.node (nodes_in rs), once_left (λ i. not (nat_eq i r.node)) (nodes_in rs) (once_in rs))
 
--- a node that is not among them has no records
+-- a node that is not listed has no records
 still_there : (id other : ℕ) (ids : List ℕ) → nat_eq other id ≡ false → has_id id (filter (λ i. not (nat_eq i other)) ids) ≡ false → has_id id ids ≡ false
 still_there id other [] apart none = refl
 still_there id other (i ∷ ids) apart none =
@@ -178,7 +179,7 @@ module _ (records : List Record) (entries : List MasterEntry) where
   its_notes id true has = refl
   its_notes id false has = sym (ap notes_of_all (no_records id records has))
 
-  -- a node's notes among all
+  -- a node's notes among all notes
   pub of_node : (id : ℕ) → Sole (is_of_node id) (tracks_of records entries) × (parts (is_of_node id) (tracks_of records entries) ≡ track id)
   of_node id =
       let (sole, whole) = node_parts id (nodes_in records) (once_in records) in
@@ -191,6 +192,6 @@ module _ (records : List Record) (entries : List MasterEntry) where
       let none : filter is_of_master (track i) ≡ [] = own_told is_of_master (λ _. false) tells_master i records in
       (inl (none, sole), ap (λ (l : List Note). l ++ parts is_of_master (tracks ids)) none ∙ rest)
 
-  -- the master's notes among all
+  -- the master's notes among all notes
   pub of_master : Sole is_of_master (tracks_of records entries) × (parts is_of_master (tracks_of records entries) ≡ calls_of entries)
   of_master = master_parts (nodes_in records)

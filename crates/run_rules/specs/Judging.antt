@@ -1,4 +1,5 @@
--- What a note comes to where a run stands: it may be so, or it has a flaw.
+-- The judgement on one note in a state of the run: it may follow, or it has a flaw. Judges, the
+-- last definition, covers all notes.
 use Rattle.std.specs.Prelude.{◌≡◌, ◌≢◌, ◌⊎◌, ℕ, Bool, true, false, nat_le, ◌==◌, not, ◌&&◌, ◌||◌, List, [], find, Option, Some, None, MatchOption, Result, Ok, Err, if◌then◌else◌}
 use Rattle.std.specs.FinMap.{empty}
 use Rattle.url_key.specs.Key.{IsKey}
@@ -34,34 +35,38 @@ use Rattle.run_rules.specs.Notes.{Note, Opens, Steps, Closes, Calls}
 use Rattle.run_rules.specs.Sent.{Network, with_reply, without_waiting, with_clears, IsSent, IsCallSent}
 use Rattle.run_rules.specs.Board.{Standing, New, Open, Shut, Astray, Board, standing_at, with_node, with_network, with_master}
 
+-- the judgement on a note
 pub data Judgement : Type 0 where
-  -- the run stands so now
+  -- it may follow, and this is the state after it
   Fine : (board : Board) → Judgement
   Flawed : (cause : Cause) → Judgement
 
 -- A record opens
 
--- as the node stands, or as it starts again with its floors
+-- A record may open in the node's present state, or in that of a restart with its floors. The state
+-- of a closed node counts only as closed, with nothing pending.
 abbrev pub OpensAs : Standing → NodeState (Unit {0}) → Type 0
 OpensAs New state = state ≡ opened empty
 OpensAs (Open s) state = (state ≡ s) ⊎ (state ≡ opened s.floors)
 OpensAs (Shut floors) state = ((state.closed ≡ true) × (state.pending ≡ [])) ⊎ (state ≡ opened floors)
 OpensAs Astray state = ⊥
 
--- how it stands then: a closed state is a closed node's
+-- the node's standing after it has opened in this state
 abbrev pub standing_in : Standing → NodeState (Unit {0}) → Standing
 standing_in (Shut floors) state = if state.closed then Shut floors else Open state
 standing_in standing state = Open state
 
--- A node that has taken no block of serials, as one that starts again, has no ask that waits.
+-- The board after the opening. A node that has taken no block of serials, such as one that has
+-- restarted, has nothing that waits.
 abbrev pub opened_board : Board → ℕ → NodeState (Unit {0}) → Board
 opened_board b id state =
     with_network (with_node b id (standing_in (standing_at b.posts id) state)) (if state.next == 1 then without_waiting b.network id else b.network)
 
+-- the node is a member's, and its record may open in this state
 abbrev pub CanOpen : Tables → Board → ℕ → NodeState (Unit {0}) → Type 0
 CanOpen roster b id state = (is_member roster id ≡ true) × OpensAs (standing_at b.posts id) state
 
--- what opens otherwise is judged as its record closes
+-- A record that may not open so makes its node astray; it is judged when the record closes.
 abbrev pub JudgesOpening : Tables → Board → ℕ → NodeState (Unit {0}) → Judgement → Type 0
 JudgesOpening roster b id state j =
     (CanOpen roster b id state × (j ≡ Fine (opened_board b id state)))
@@ -69,12 +74,14 @@ JudgesOpening roster b id state j =
 
 -- A record closes
 
+-- a record may close in the node's present state
 abbrev pub ClosesAs : Standing → NodeState (Unit {0}) → Type 0
 ClosesAs New state = ⊥
 ClosesAs (Open s) state = state ≡ s
 ClosesAs (Shut floors) state = (state.closed ≡ true) × (state.pending ≡ [])
 ClosesAs Astray state = ⊥
 
+-- a record that may not close so has the flaw OtherState
 abbrev pub JudgesClosing : Board → ℕ → NodeState (Unit {0}) → Judgement → Type 0
 JudgesClosing b id state j =
     (ClosesAs (standing_at b.posts id) state × (j ≡ Fine b))
@@ -82,85 +89,97 @@ JudgesClosing b id state j =
 
 -- An entry of a node
 
--- The floors that are stored where a purge of this key and number has failed, as those tell with which the node opens again. Where no more keys may have floors, none is.
+-- The floors that are stored after a purge of this key and number has failed. The floors with which
+-- the node next opens tell whether the purge is in them. If no more keys may have floors, it is
+-- not.
 abbrev pub stored_by : FloorMap → List ℕ → ℕ → FloorMap → FloorMap
 stored_by floors key number kept = if nat_le number (floor kept key) && not (is_full floors key) then raised floors key number else floors
 
--- A step that wanted memory changes nothing; but at a purge it may have closed the node.
+-- The standing after a step that lacked memory: it changes nothing, but at a purge it may have
+-- closed the node.
 abbrev pub wanting : NodeState (Unit {0}) → Option (List ℕ × ℕ) → Bool → FloorMap → Standing
 wanting s (Some x) true kept = Shut (stored_by s.floors x.0 x.1 kept)
 wanting s _ _ kept = Open s
 
--- A store of floors fails only at a purge, and closes the node.
+-- The standing after a step whose floor store failed: that comes only at a purge, and closes the
+-- node.
 abbrev pub failing : NodeState (Unit {0}) → Option (List ℕ × ℕ) → FloorMap → Result Standing Cause
 failing s (Some x) kept = Ok (Shut (stored_by s.floors x.0 x.1 kept))
 failing s None kept = Err OtherReply
 
--- the read of an origin, or the fetch from a foreign cache, that is pending under this serial, for this key
+-- whether a fetch is an origin read
 abbrev pub is_read : Fetch (Unit {0}) → Bool
 is_read (AtOrigin stamp asked mark) = true
 is_read _ = false
 
+-- whether a fetch is one from this foreign cache
 abbrev pub is_foreign_fetch : ℕ → Fetch (Unit {0}) → Bool
 is_foreign_fetch peer (AtPeer at asked) = is_foreign_id peer && (at == peer)
 is_foreign_fetch peer _ = false
 
+-- a request for this key is pending under this serial, and its fetch is of this kind
 abbrev pub IsPending : NodeState (Unit {0}) → ℕ → List ℕ → (Fetch (Unit {0}) → Bool) → Type 0
 IsPending s serial key is_such = MatchOption (find (λ p. fetch_serial p == serial) s.pending) ⊥ (λ p. (p.ask.key ≡ key) × (is_such p.fetch ≡ true))
 
--- what comes from outside comes to a read or a fetch that is pending
+-- a response of an origin or a foreign cache reaches a read or a fetch that is pending
 abbrev pub Reaches : NodeState (Unit {0}) → Event (Unit {0}) → Type 0
 Reaches s (event.OriginAnswer serial key answer now) = IsPending s serial key is_read
 Reaches s (event.ForeignAnswer serial peer key answer tag now) = IsPending s serial key (is_foreign_fetch peer)
 Reaches s _ = Unit {0}
 
--- the step that is defined has this outcome
+-- the step that node_rules defines has the entry's outcome, and leads to this state
 abbrev pub IsStep : Setting → NodeState (Unit {0}) → NodeEntry → NodeState (Unit {0}) → Type 0
 IsStep g s e next = step g s e.event tt ≡ record { state = next; outcome = e.outcome }
 
+-- the entry is the step that is defined, or has the flaw OtherReply
 abbrev pub StepsBy : Setting → NodeState (Unit {0}) → NodeEntry → Result Standing Cause → Type 0
 StepsBy g s e r =
     ((next : NodeState (Unit {0})) × IsStep g s e next × (r ≡ Ok (Open next)))
     ⊎ (((step g s e.event tt).outcome ≢ e.outcome) × (r ≡ Err OtherReply))
 
+-- an open node's entry with this outcome, and the node's standing after it or the flaw
 abbrev pub OpenStepsBy : Setting → NodeState (Unit {0}) → NodeEntry → Bool → FloorMap → Result (Reply (Unit {0})) StepFault → Result Standing Cause → Type 0
 OpenStepsBy g s e is_closed kept (Err fault.NoMemory) r = r ≡ Ok (wanting s (purge_in g e.event) is_closed kept)
 OpenStepsBy g s e is_closed kept (Err fault.StoreFault) r = r ≡ failing s (purge_in g e.event) kept
 OpenStepsBy g s e is_closed kept (Err f) r = StepsBy g s e r
 OpenStepsBy g s e is_closed kept (Ok reply) r = (Reaches s e.event × StepsBy g s e r) ⊎ ((Reaches s e.event → ⊥) × (r ≡ Err OtherReply))
 
--- a closed node answers Closed
+-- a closed node refuses each step with Closed
 abbrev pub shut_by : FloorMap → Result (Reply (Unit {0})) StepFault → Result Standing Cause
 shut_by floors (Err fault.Closed) = Ok (Shut floors)
 shut_by floors _ = Err OtherReply
 
+-- a node's entry, by its standing; of a node astray each entry passes
 abbrev pub StepsSo : Setting → Standing → NodeEntry → Bool → FloorMap → Result Standing Cause → Type 0
 StepsSo g New e is_closed kept r = r ≡ Err OtherReply
 StepsSo g (Open s) e is_closed kept r = OpenStepsBy g s e is_closed kept e.outcome r
 StepsSo g (Shut floors) e is_closed kept r = r ≡ shut_by floors e.outcome
 StepsSo g Astray e is_closed kept r = r ≡ Ok Astray
 
--- what the entry sends is sent; at a node that is closed nothing waits
+-- the network after an entry; at a node that is closed nothing waits
 abbrev pub network_after : Tables → Network → ℕ → NodeEntry → Standing → Network
 network_after roster n id e (Shut floors) = without_waiting n id
 network_after roster n id e standing = with_reply roster n id e.event (reply_in e.outcome)
 
--- the node stands so now
+-- the board after an entry
 abbrev pub after_entry : Tables → Board → ℕ → NodeEntry → Standing → Board
 after_entry roster b id e standing = with_network (with_node b id standing) (network_after roster b.network id e standing)
 
+-- the judgement, by the node's standing after the entry or the flaw
 abbrev pub judged : Tables → Board → ℕ → NodeEntry → Result Standing Cause → Judgement
 judged roster b id e (Ok standing) = Fine (after_entry roster b id e standing)
 judged roster b id e (Err cause) = Flawed cause
 
+-- whether a node is astray
 abbrev pub is_astray : Standing → Bool
 is_astray Astray = true
 is_astray _ = false
 
--- what comes from a member or from the master was sent before; of a node that is astray that is not asked
+-- what the entry received was sent before; this is not asked of a node that is astray
 abbrev pub IsHeard : Tables → Board → ℕ → Event (Unit {0}) → Type 0
 IsHeard roster b id e = is_astray (standing_at b.posts id) ≡ false → IsSent roster b.network id e
 
+-- an entry of a node: whether what it received was sent, then whether its step is right
 abbrev pub JudgesEntry : Tables → Board → ℕ → NodeEntry → Bool → FloorMap → Judgement → Type 0
 JudgesEntry roster b id e is_closed kept j =
     (IsHeard roster b id e.event × (r : Result Standing Cause) × StepsSo (setting roster id) (standing_at b.posts id) e is_closed kept r × (j ≡ judged roster b id e r))
@@ -168,28 +187,34 @@ JudgesEntry roster b id e is_closed kept j =
 
 -- An entry of the master
 
--- A call that wanted memory changes nothing; but one that writes may have closed the master.
+-- The master's state after a call that lacked memory: it changes nothing, but a call that writes
+-- may have closed the master.
 abbrev pub left_wanting : MasterState → Bool → Bool → MasterState
 left_wanting m true true = closing m
 left_wanting m _ _ = m
 
+-- the master's call may have this answer and lead to this state
 abbrev pub CallsBy : List ℕ → MasterState → MasterEntry → Bool → Result MasterAnswer MasterFault → MasterState → Type 0
 CallsBy members m e is_closed (Err master_fault.NoMemory) next =
     (m.closed ≡ false) × ((is_written members m.purges e.call || is_due e.call) ≡ true) × (next ≡ left_wanting m (is_written members m.purges e.call) is_closed)
 CallsBy members m e is_closed (Err master_fault.StoreFault) next = (m.closed ≡ false) × (is_written members m.purges e.call ≡ true) × (next ≡ closing m)
 CallsBy members m e is_closed answer next = called members m e.call ≡ record { state = next; outcome = answer }
 
+-- the same, with the answer of the entry
 abbrev pub CallsSo : Tables → MasterState → MasterEntry → Bool → MasterState → Type 0
 CallsSo roster m e is_closed next = CallsBy (members_of roster) m e is_closed e.answer next
 
+-- the board after a call
 abbrev pub after_call : Tables → Board → MasterEntry → MasterState → Board
 after_call roster b e m = with_network (with_master b m) (with_clears roster b.network e.call e.answer)
 
--- what is purged is the key of a URL
+-- a call that issues a purge has the key of a URL
 abbrev pub IsOfKey : MasterCall → Type 0
 IsOfKey (call.Issue key) = IsKey key
 IsOfKey _ = Unit {0}
 
+-- an entry of the master: whether what it received was sent, then whether its answer is right
+-- the judgement on a note
 abbrev pub JudgesCall : Tables → Board → MasterEntry → Bool → Judgement → Type 0
 JudgesCall roster b e is_closed j =
     (IsCallSent roster b.network e.call × IsOfKey e.call × (next : MasterState) × CallsSo roster b.master e is_closed next × (j ≡ Fine (after_call roster b e next)))

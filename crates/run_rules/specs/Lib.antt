@@ -1,3 +1,4 @@
+-- Reading order: each file uses only those above it.
 pub mod Notes
 pub mod Sent
 pub mod Board

@@ -1,4 +1,5 @@
--- What members and the master sent each other, as those that it comes to see it.
+-- What members and the master sent each other so far, as the receiver sees it: without serials and
+-- marks.
 use Rattle.std.specs.Prelude.{◌≡◌, ℕ, ◌/◌, Bool, true, false, ◌==◌, ◌&&◌, not, List, [], ◌∷◌, ◌++◌, filter, find, Contains, Option, Some, None, option_map, Result, Ok, if◌then◌else◌}
 use Rattle.fetch_messages.specs.declared.ask.Ask.{Ask}
 use Rattle.fetch_messages.specs.Answer.{AnswerText}
@@ -27,74 +28,78 @@ use Rattle.node_rules.specs.Messages.{protocol_of, clear_answer}
 use Rattle.world_rules.specs.World.{Datagram, datagrams_from, answer_of}
 use Rattle.world_rules.specs.Turn.{clears_of}
 
--- an ask that a member sent to a member
+-- a request that a member sent to a member
 pub record SentAsk : Type 0 where
   pub sender : ℕ
   pub receiver : ℕ
   pub ask : Ask
 
--- an answer that a member sent to a member, for the URL that was asked for
+-- a response that a member sent to a member, with the key that was requested
 pub record SentAnswer : Type 0 where
   pub sender : ℕ
   pub receiver : ℕ
   pub key : List ℕ
   pub answer : AnswerText
 
--- an ask of a member that waits at a member's node, as its block of serials
+-- a member's request that waits at another member's node, as that node's block of serials
 pub record Waits : Type 0 where
   pub node : ℕ
   pub block : ℕ
   pub key : List ℕ
 
--- all that was sent, and what waits
+-- all that was sent, and the members' requests that wait
 pub record Network : Type 0 where
   pub datagrams : List Datagram
   pub asks : List SentAsk
   pub answers : List SentAnswer
   pub waiting : List Waits
 
+-- nothing was sent
 abbrev pub silence : Network
 silence = record { datagrams = []; asks = []; answers = []; waiting = [] }
 
 -- What an entry of a node sends
 
--- the ask that it sends to a member
+-- the request that it sends to a member, if any
 abbrev pub asks_by : ℕ → Option Begin → List SentAsk
 asks_by id (Some (begin.Peer serial peer ask)) = if is_foreign_id peer then [] else record { sender = id; receiver = peer; ask = ask } ∷ []
 asks_by id _ = []
 
+-- whether this request waits at this node as this block
 abbrev pub is_waiting : ℕ → ℕ → Waits → Bool
 is_waiting id block w = (w.node == id) && (w.block == block)
 
--- the URL of the ask that the event is
+-- the key of the member's request that the event is, if it is one
 abbrev pub key_now : Event (Unit {0}) → Option (List ℕ)
 key_now (event.PeerAsk asker ask now) = Some ask.key
 key_now _ = None
 
--- the URL of the ask that is answered: the one that waits as the block, or else the event
+-- the key of the request that is answered: the one that waits as the block, or else the event
 abbrev pub key_by : List Waits → ℕ → Event (Unit {0}) → Option ℕ → Option (List ℕ)
 key_by waiting id e None = key_now e
 key_by waiting id e (Some block) = option_map (λ w. w.key) (find (is_waiting id block) waiting)
 
--- what is served, as it is written to a member
+-- what is served, as the response to a member
 abbrev pub text_of : Served (Unit {0}) → AnswerText
 text_of served = answer_of (retag_served (λ _. 0) served)
 
+-- the response to the member that asked, if a member did
 abbrev pub answer_for : ℕ → Option ℕ → Served (Unit {0}) → Option (List ℕ) → List SentAnswer
 answer_for id (Some asker) served (Some key) = record { sender = id; receiver = asker; key = key; answer = text_of served } ∷ []
 answer_for id _ served _ = []
 
--- the answer that it sends to a member; a client's is no part of the run
+-- the response that it sends to a member, if any; responses to clients are not part of the network
 abbrev pub answers_by : List Waits → ℕ → Event (Unit {0}) → Option (Serve (Unit {0})) → List SentAnswer
 answers_by waiting id e None = []
 answers_by waiting id e (Some serve) = answer_for id serve.asker serve.served (key_by waiting id e serve.waiter)
 
--- the ask of a member that waits for what it begins, as the block of that serial
+-- the member's request that begins to wait, if the event is one and begins something: the block is
+-- that of the serial begun
 abbrev pub waits_by : ℕ → Event (Unit {0}) → Option Begin → List Waits
 waits_by id (event.PeerAsk asker ask now) (Some b) = record { node = id; block = serial_of b / 32; key = ask.key } ∷ []
 waits_by id _ _ = []
 
--- all that an entry with this event and this reply sends
+-- the network after an entry with this event and this reply
 abbrev pub with_reply : Tables → Network → ℕ → Event (Unit {0}) → Reply (Unit {0}) → Network
 with_reply roster n id e reply = record {
   datagrams = n.datagrams ++ datagrams_from (member_of roster id) reply.send;
@@ -103,22 +108,25 @@ with_reply roster n id e reply = record {
   waiting = n.waiting ++ waits_by id e reply.begin;
 }
 
--- what waited at a node waits no more
+-- the network without what waited at a node
 abbrev pub without_waiting : Network → ℕ → Network
 without_waiting n id = record { datagrams = n.datagrams; asks = n.asks; answers = n.answers; waiting = filter (λ w. not (w.node == id)) n.waiting }
 
--- What an entry of the master sends: the CLR of a new purge to each member. What it sends again was sent before.
+-- What an entry of the master sends: the CLR of a new purge to each member. What it sends again was
+-- sent before.
 
+-- the CLRs that a call sends: those of a purge that it issued
 abbrev pub clears_by : Tables → MasterCall → Result MasterAnswer MasterFault → List Datagram
 clears_by roster (call.Issue key) (Ok (answer.Issue number)) = clears_of roster number key
 clears_by roster _ _ = []
 
+-- the network after a call of the master
 abbrev pub with_clears : Tables → Network → MasterCall → Result MasterAnswer MasterFault → Network
 with_clears roster n c a = record { datagrams = n.datagrams ++ clears_by roster c a; asks = n.asks; answers = n.answers; waiting = n.waiting }
 
--- What was sent of what comes
+-- Whether what an entry received was sent
 
--- the datagram comes to this member
+-- the datagram is for this member
 abbrev pub ComesTo : Tables → ℕ → Datagram → Type 0
 ComesTo roster id d = (is_master roster d.receiver ≡ false) × (member_at roster d.receiver (protocol_of d.message) ≡ Some id)
 
@@ -126,20 +134,21 @@ ComesTo roster id d = (is_master roster d.receiver ≡ false) × (member_at rost
 abbrev pub IsDatagramSent : Tables → Network → ℕ → Address → Message → Type 0
 IsDatagramSent roster n id from m = (d : Datagram) × Contains n.datagrams d × (d.sender ≡ from) × (d.message ≡ m) × ComesTo roster id d
 
--- What comes from a member or from the master was sent before; anybody else may send anything.
+-- What an entry received from a member or from the master was sent to it before. Anybody else may
+-- have sent anything.
 abbrev pub IsSent : Tables → Network → ℕ → Event (Unit {0}) → Type 0
 IsSent roster n id (event.Datagram from m now) = is_own roster from ≡ true → IsDatagramSent roster n id from m
 IsSent roster n id (event.PeerAsk asker ask now) = Contains n.asks (record { sender = asker; receiver = id; ask = ask })
 IsSent roster n id (event.PeerAnswer serial peer key answer tag now) = Contains n.answers (record { sender = peer; receiver = id; key = key; answer = answer })
 IsSent roster n id _ = Unit {0}
 
--- the datagram is a member's answer to a CLR of the master
+-- the datagram is a member's response to a CLR, to the master, with this TRANS-ID and this code
 pub record IsAnswerOf (roster : Tables) (id trans code : ℕ) (d : Datagram) : Type 0 where
   pub receiver : is_master roster d.receiver ≡ true
   pub sender : member_at roster d.sender udp.Htcp ≡ Some id
   pub says : clear_answer d.message ≡ Some (trans, code)
 
--- an acknowledgement that the master counts was sent before
+-- the acknowledgement that the master counts was sent before; other calls receive nothing
 abbrev pub IsCallSent : Tables → Network → MasterCall → Type 0
 IsCallSent roster n (call.Acknowledge id trans code) = (d : Datagram) × Contains n.datagrams d × IsAnswerOf roster id trans code d
 IsCallSent roster n _ = Unit {0}

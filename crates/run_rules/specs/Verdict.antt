@@ -1,4 +1,5 @@
--- The verdict on a run: the first flaw of its notes, or none.
+-- The verdict on a run: Yes, or the first flaw of its notes in their order. IsVerdictOn is the last
+-- definition.
 use Rattle.std.specs.Prelude.{◌≡◌, ◌⊎◌, ℕ, zero, suc, Bool, nat_le, List, [], ◌∷◌, length, Option, Some, None, if◌then◌else◌}
 use Rattle.std.specs.List.{flat_map, list_any}
 use Rattle.roster_tables.specs.declared.plain.Tables.{Tables}
@@ -12,29 +13,32 @@ use Rattle.run_rules.specs.Notes.{Note, Opens, Steps, Closes, Calls, Taken, trac
 use Rattle.run_rules.specs.Board.{Post, Board, new_board}
 use Rattle.run_rules.specs.Judging.{Fine, Flawed, Judges, is_astray as is_unknown}
 
--- a note in its turn, with the place that is doubled there, if one is
+-- a note in its turn, with the doubled place that is found there, if any
 pub record Listed : Type 0 where
   pub note : Note
   pub double : Option ℕ
 
--- the place that is doubled at a note of this place: one that does not rise and is no later, or its own where two tracks have it
+-- The doubled place that is found at a note with this place: one that does not rise in its track
+-- and is not later, else its own if two tracks have it.
 abbrev pub double_by : Option ℕ → Bool → Option ℕ → Option ℕ
 double_by fall is_shared None = None
 double_by None is_shared (Some place) = if is_shared then Some place else None
 double_by (Some fall) is_shared (Some place) = if nat_le fall place then Some fall else (if is_shared then Some place else None)
 
--- the same, where the tracks have these turns
+-- the same, by the turns of all tracks
 abbrev pub double_of : Option ℕ → List ℕ → Option ℕ → Option ℕ
 double_of fall turns place = double_by fall (nat_le 2 (count_of (turn_by place) turns)) place
 
+-- a note that is taken from these tracks, with the doubled place
 abbrev pub listed : Option ℕ → List (List Note) → Note → Listed
 listed fall tracks note = record { note = note; double = double_of fall (turns_of tracks) (place_in note) }
 
+-- the note that was taken, and the order of the rest
 abbrev pub order_on : Option ℕ → List (List Note) → (List (List Note) → List Listed) → Option Taken → List Listed
 order_on fall tracks later None = []
 order_on fall tracks later (Some t) = listed fall tracks t.note ∷ later t.rest
 
--- so many notes, each in its turn
+-- the first notes in their order, this many
 abbrev pub order_by : ℕ → Option ℕ → List (List Note) → List Listed
 order_by zero fall tracks = []
 order_by (suc count) fall tracks = order_on fall tracks (λ rest. order_by count fall rest) (next_note tracks)
@@ -43,36 +47,38 @@ order_by (suc count) fall tracks = order_on fall tracks (λ rest. order_by count
 abbrev pub count_in : List (List Note) → ℕ
 count_in tracks = length (flat_map (λ track. track) tracks)
 
--- all notes, each in its turn
+-- all notes in their order
 abbrev pub order_of : List (List Note) → List Listed
 order_of tracks = order_by (count_in tracks) (least_fall tracks) tracks
 
--- the place under which a flaw of a note is named
+-- the place that names a flaw of a note
 abbrev pub place_of : Note → ℕ
 place_of (Opens node state) = 0
 place_of (Steps node entry is_closed kept) = entry.place
 place_of (Closes node place state) = place
 place_of (Calls entry is_closed) = entry.place
 
+-- whether nothing is known of a node at the end
 abbrev pub is_astray : Post → Bool
 is_astray p = is_unknown p.standing
 
--- A node that is astray at the end is a flaw too. (None is: where a record opened as it may not, its closing has a flaw.)
+-- The verdict after the last note: a node that is astray is a flaw too. (None is: a record that may
+-- not open so has a flaw when it closes.)
 abbrev pub ending : Board → Verdict
 ending b = if list_any is_astray b.posts then No 0 OtherState else Yes
 
--- the first flaw is the verdict; where the note has none, this is said of where the run stands behind it
+-- The flaw of a note is the verdict; if it has none, the rest decides in the state after it.
 abbrev pub HasVerdictBy : Tables → Board → Note → Option ℕ → (Board → Type 0) → Verdict → Type 0
 HasVerdictBy roster b note (Some place) Later v = v ≡ No place DoublePlace
 HasVerdictBy roster b note None Later v =
     ((next : Board) × Judges roster b note (Fine next) × Later next)
     ⊎ ((cause : Cause) × Judges roster b note (Flawed cause) × (v ≡ No (place_of note) cause))
 
--- This is the verdict on these notes, where the run stands so before them.
+-- the verdict on these notes, in this state of the run before them
 abbrev pub HasVerdict : Tables → Board → List Listed → Verdict → Type 0
 HasVerdict roster b [] v = v ≡ ending b
 HasVerdict roster b (l ∷ ls) v = HasVerdictBy roster b l.note l.double (λ next. HasVerdict roster next ls v) v
 
--- the verdict on what is kept of a run
+-- the verdict on records and entries
 abbrev pub IsVerdictOn : Tables → List Record → List MasterEntry → Verdict → Type 0
 IsVerdictOn roster records entries v = HasVerdict roster new_board (order_of (tracks_of records entries)) v

@@ -1,4 +1,4 @@
-//! Laws of the definitions. Each function does nothing: its clauses are the law.
+//! The laws. Each function has no body: its clauses are theorems about the definitions.
 ghost use Rattle.std.specs.Prelude.{List};
 ghost use Rattle.roster_tables.specs.declared.plain.Tables.{Tables};
 ghost use Rattle.roster.specs.Judged.{IsRoster};
@@ -10,13 +10,14 @@ ghost use Rattle.run_rules.specs.declared.verdict.Verdict.TheVariants.{Yes};
 ghost use Rattle.run_rules.specs.Verdict.{IsVerdictOn};
 ghost use Rattle.run_rules.specs.Recorded.{IsRecordedRun};
 
-/// What is kept of a run, and found without a flaw, is a run of the world.
+/// Records and entries with the verdict `Yes` are a run of the model.
 pub fn flawless_runs_are_runs_of_the_world()
     ensures { (roster : Tables) (records : List Record) (entries : List MasterEntry) → IsRoster roster → IsVerdictOn roster records entries Yes →
         (steps : List Step) × IsRecordedRun roster records entries steps }
 {}
 
-/// Purges are safe in each recorded run: nothing old is served once a purge is reported done, and no request to a sibling begins anything.
+/// Purges are safe in each recorded run. `served`: once a purge is reported done, nothing old is
+/// served. `siblings`: no request to a sibling begins anything.
 pub fn recorded_runs_are_safe()
     ensures served { (roster : Tables) (records : List Record) (entries : List MasterEntry) (steps : List Step) → IsRoster roster → IsRecordedRun roster records entries steps → NothingOldIsServed steps }
     ensures siblings { (roster : Tables) (records : List Record) (entries : List MasterEntry) (steps : List Step) → IsRecordedRun roster records entries steps → SiblingsAskNothing roster steps }

@@ -1,8 +1,29 @@
-//! What is kept of a run, and when it is a run of the world.
+//! When what a running hierarchy recorded is a run of the model of `world_rules`, and the verdict
+//! on it. The crate has definitions, laws and the types `Verdict` and `Cause`, and no code that
+//! runs; `run_check` computes the verdict. It touches no file, socket, clock or thread.
 //!
-//! A run leaves records, the books of its members (`node_book`), and the entries of its master (`purge_master`). `specs/Notes` cuts them into notes and puts these into the one order of their
-//! places. `specs/Judging` says of each note whether it may be so where the run stands before it (`specs/Board`, `specs/Sent`), or which flaw it has; `specs/Verdict` is the first flaw, or
-//! none. `specs/Recorded` says what it means that all of it is a run of the world of `world_rules`. The laws join the two: a run of which the verdict is `Yes` is one, and purges are safe in it.
+//! A run leaves the records of its members (`Record` of `node_book`) and the entries of its master
+//! (`MasterEntry` of `purge_master`). Each entry has a place: its number in a count that all
+//! members and the master share.
+//!
+//! Read in this order:
+//!
+//! - `specs/Notes`: cuts records and entries into notes (a record opens, a step, a record closes, a
+//!   master's call), and puts all notes into the one order of their places.
+//! - `specs/Sent`: what was sent so far. `specs/Board`: the state of the run after some notes.
+//! - `specs/Judging`: whether a note may follow in that state, or which flaw it has.
+//! - `specs/Verdict`: the verdict is `Yes`, or the first flaw with its place (`IsVerdictOn`).
+//! - `specs/Recorded`: what it means that records and entries are a run of the model
+//!   (`IsRecordedRun`).
+//! - `src/laws.rt` joins the two: a run with the verdict `Yes` is a run of the model
+//!   (`flawless_runs_are_runs_of_the_world`), and purges are safe in each such run
+//!   (`recorded_runs_are_safe`). `entry_laws` says the latter of the entries themselves.
+//!
+//! `proofs/Lib` gives the order of reading of the proofs.
+//!
+//! Not promised: that what was recorded is all that was done, or that an origin's response is the
+//! one to the read under which it was entered. The converse is not proved either: that each run of
+//! the model would get `Yes`.
 #![tactic(auto)]
 
 pub mod laws;

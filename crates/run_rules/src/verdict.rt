@@ -1,23 +1,28 @@
-/// What is wrong with what is kept of a run. Of several at one place the first of these is named.
+/// What is wrong with the records and entries of a run. If several hold at one note, the first of
+/// these is named.
 #[derive(Clone, Copy, Debug, PartialEq, Eq)]
 pub enum Cause {
-    /// The place comes twice, or is not above the one before it in its node's records or in the master's list.
+    /// The place stands twice, or is not greater than the place before it in the records of the
+    /// same node or in the master's list.
     DoublePlace,
-    /// What came from a member or from the master was not sent to this receiver before.
+    /// What an entry received from a member or from the master was not sent to this receiver
+    /// before.
     NotSent,
-    /// A node's step, or a call of the master, has no such outcome there.
+    /// A node's step, or a call of the master, cannot have this outcome there. Or a step received a
+    /// response of an origin or a foreign cache that nothing pending asked for.
     OtherReply,
-    /// A record closes in a state to which its entries do not lead, or opened in one that is neither the last nor that of its restart, or the roster has no such member. The place is that of the
-    /// record's last entry, 0 where it has none.
+    /// A record closes in a state to which its entries do not lead; or it opened in a state that is
+    /// neither the node's last one nor that of a restart; or the roster has no such member. The
+    /// place is that of the record's last entry, 0 if it has none.
     OtherState,
 }
 
-/// The verdict on what is kept of a run.
+/// The verdict on the records and entries of a run.
 #[derive(Clone, Copy, Debug, PartialEq, Eq)]
 pub enum Verdict {
-    /// It is a run of the world, and purges are safe in it.
+    /// They are a run of the model, and purges are safe in it.
     Yes,
-    /// It is none.
+    /// They have a flaw.
     No {
         /// The place of the first flaw.
         place: u64,

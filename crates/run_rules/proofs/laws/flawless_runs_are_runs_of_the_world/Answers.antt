@@ -1,3 +1,5 @@
+-- Flawless gives the events; Taking and Tracks have that the order of notes keeps each track;
+-- Rising that its places rise.
 use Rattle.std.proofs.Common.{refl, ◌∙◌}
 use Rattle.run_rules.specs.Notes.{tracks_of}
 use Rattle.run_rules.specs.Verdict.{order_of, count_in}
