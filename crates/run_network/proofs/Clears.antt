@@ -1,4 +1,5 @@
--- The CLRs of a new purge, one after another.
+-- The CLRs of a new purge, one after another: the loop goes over the possible ids 1 to 16, and an
+-- id that is no member's adds nothing.
 use Rattle.std.proofs.Common.{◌≡◌, ℕ, ◌+◌, ◌<◌, Bool, true, false, cond, List, [], ◌∷◌, ◌++◌, length, take, get_or, filter, flat_map, map, is_some, Option, Some, None, append-nil, append_assoc, refl, sym, ◌∙◌, ap, subst}
 use Rattle.std.proofs.lemmas.List.{take_more, map-append}
 use Rattle.std.proofs.lemmas.Grind.{flat_map-append}
@@ -32,12 +33,12 @@ all_kept f test (id ∷ ids) none = left_out f (test id) id ids (filter test ids
 abbrev pub clear_of : Tables → ℕ → List ℕ → ℕ → List Datagram
 clear_of t number key id = clear_to t (Some (clear number key)) (member_of t id)
 
--- a CLR to each possible id that a member has is one to each member
+-- a CLR for each possible id, if a member has it, is one CLR to each member
 pub clears_to_all : (t : Tables) (number : ℕ) (key : List ℕ) → flat_map (clear_of t number key) possible_ids ≡ clears_of t number key
 unfolding members_of
 clears_to_all t number key = all_kept (clear_of t number key) (is_member t) possible_ids (λ id e. nobody t (clear number key) (member_of t id) e)
 
--- Holding so far, and one more
+-- What is held so far, and one more
 
 abbrev pub Held : Tables → Letters → Letters → List Datagram → Type 0
 Held t before after more = (sent : List Datagram) → HoldsLetters t before sent → HoldsLetters t after (sent ++ more)

@@ -1,4 +1,5 @@
--- Looking for an item that says this.
+-- Looking an item up. A loop over a bag finds it exactly if it is there; and since equal items have
+-- equal prints, it is in no other bag.
 use Rattle.std.proofs.Common.{◌≡◌, ◌⊎◌, ◌↔◌, ℕ, ◌+◌, ◌<◌, true, false, cond, List, [], ◌∷◌, ◌++◌, length, take, drop, take-append-drop, get_or, nat_eq, eqb-true, sym, ◌∙◌, ap, subst, inl, inr, arith}
 use Rattle.std.specs.Prelude.{OnOk, Result, Ok, Err}
 use Rattle.std.proofs.lemmas.List.{take_more, take_all, get_or_default}
@@ -30,12 +31,12 @@ module _ {T X : Type 0} (view : T → X) where
   within : (xs : List T) (n : ℕ) (x : X) → Has view (take n xs) x → Has view xs x
   within xs n x h = subst (λ l. Has view l x) (take-append-drop n xs) (has_left (take n xs) (drop n xs) x h)
 
-  -- the item of this place says it
+  -- the item at this index is it
   pub has_at : (xs : List T) (i : ℕ) (t : T) (x : X) → i < length xs → t ≡ get_or xs i t → view t ≡ x → Has view xs x
   has_at xs i t x less is says =
       within xs (i + 1) x (subst (λ l. Has view l x) (sym (take_more xs i t less)) (has_right (take i xs) (get_or xs i t ∷ []) x (inl (ap view (sym is) ∙ says))))
 
-  -- so far none says it
+  -- none so far is it
   pub none_more : (xs : List T) (i : ℕ) (t : T) (x : X) → i < length xs → t ≡ get_or xs i t → (Has view (take i xs) x → ⊥) → (view t ≡ x → ⊥) → Has view (take (i + 1) xs) x → ⊥
   none_more xs i t x less is before other h =
       elim (has_where (take i xs) (get_or xs i t ∷ []) x (subst (λ l. Has view l x) (take_more xs i t less) h)) [
@@ -49,7 +50,7 @@ module _ {T X : Type 0} (view : T → X) where
   pub none_more_or : (xs : List T) (i : ℕ) (d : T) (x : X) → i < length xs → (Has view (take i xs) x → ⊥) → (view (get_or xs i d) ≡ x → ⊥) → Has view (take (i + 1) xs) x → ⊥
   none_more_or xs i d x less before other = none_more xs i (get_or xs i d) x less (get_or_default xs i d (get_or xs i d) less) before other
 
-  -- none says it
+  -- none is it
   pub none_at_all : (xs : List T) (i : ℕ) (x : X) → i ≡ length xs → (Has view (take i xs) x → ⊥) → Has view xs x → ⊥
   none_at_all xs i x all none h = none (subst (λ l. Has view l x) (sym (take_all i xs (omega (all, arith)))) h)
 
@@ -83,11 +84,11 @@ module _ {T X : Type 0} (view : T → X) where
     pub has_put : (x : X) → Has view (after (print x)) x ↔ (Has view (before (print x)) x ⊎ (y ≡ x))
     has_put x = (put_only x, λ h. elim h [ inl old ↦ put_old x old | inr new ↦ put_new x new ])
 
--- what is there already is no more
+-- adding what is there already changes nothing
 pub has_already : {X : Type 0} (P : X → Type 0) (y : X) → P y → (x : X) → P x ↔ (P x ⊎ (y ≡ x))
 has_already P y is x = (λ h. inl h, λ h. elim h [ inl old ↦ old | inr same ↦ subst P same is ])
 
--- A call that puts an item into its bag
+-- A call that adds an item to its bag
 
 pub put_on : {T X R E : Type 0} (r : Result R E) (view : T → X) (print : X → ℕ) (before after : ℕ → List T) (t : T) (y : X) (number : ℕ) → view t ≡ y → number ≡ print y →
     OnOk r ((n : ℕ) → after n ≡ cond (nat_eq number n) (before number ++ t ∷ []) (before n)) → OnOk r ((x : X) → Has view (after (print x)) x ↔ (Has view (before (print x)) x ⊎ (y ≡ x)))
@@ -95,7 +96,7 @@ put_on (Ok r) view print before after t y number says is puts =
     has_put view print before after t y says (subst (λ m. (n : ℕ) → after n ≡ cond (nat_eq m n) (before m ++ t ∷ []) (before n)) is puts)
 put_on (Err e) view print before after t y number says is puts = tt
 
--- an item of a number
+-- an item under a number
 module _ {T : Type 0} (before after : ℕ → List T) (y : T) (number trans : ℕ) (is : number ≡ trans) (puts : (n : ℕ) → after n ≡ cond (nat_eq number n) (before number ++ y ∷ []) (before n)) where
   there : (n : ℕ) → nat_eq number n ≡ true → after n ≡ before n ++ y ∷ []
   there n same = puts n ∙ ap (λ b. cond b (before number ++ y ∷ []) (before n)) same ∙ ap (λ m. before m ++ y ∷ []) (eqb-true number n same)

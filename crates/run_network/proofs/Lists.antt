@@ -1,4 +1,5 @@
--- One item more is sent.
+-- One more item is sent: what is held are the items of the longer list, since each is an old one or
+-- the new one.
 use Rattle.std.proofs.Common.{◌≡◌, ◌⊎◌, ◌↔◌, List, [], ◌∷◌, ◌++◌, append-nil, sym, subst, inl, inr}
 use Rattle.std.specs.Prelude.{Contains, OnOk, Result, Ok, Err}
 use Rattle.std.proofs.lemmas.List.Elements.{Contains-append_left, Contains-push, Contains-push_cases}
@@ -17,7 +18,7 @@ module _ {X : Type 0} (old new : X → Type 0) (y : X) (puts : (x : X) → new x
 pub holds_none : {X : Type 0} (has : X → Type 0) → ((x : X) → has x → ⊥) → (x : X) → has x ↔ Contains [] x
 holds_none has none x = (λ h. absurd (none x h), λ h. absurd (contains_none x h))
 
--- nothing more is sent
+-- nothing is added
 pub holds_same : {X : Type 0} (has : X → Type 0) (sent : List X) → ((x : X) → has x ↔ Contains sent x) → (x : X) → has x ↔ Contains (sent ++ []) x
 holds_same {X} has sent holds = subst (λ l. (x : X) → has x ↔ Contains l x) (sym (append-nil sent)) holds
 

@@ -1,4 +1,4 @@
--- All that a reply sends.
+-- Adding all that a reply sends, part by part: each part changes its own list and no other.
 use Rattle.std.proofs.Common.{◌≡◌, ℕ, List, ◌++◌, Option, subst}
 use Rattle.std.specs.Prelude.{OnOk, Result, Ok, Err}
 use Rattle.roster_tables.specs.declared.plain.Tables.{Tables}
@@ -18,7 +18,7 @@ use Rattle.run_network.specs.Held.{Holds, HoldsLetters, HoldsAsks, HoldsAnswers,
 abbrev net : Letters → Asks → Answers → HeldWaits → Held
 net letters asks answers waits = record { letters = letters; asks = asks; answers = answers; waits = waits }
 
--- the answer that is sent, where the asks that wait are these
+-- the response that is sent, by the requests that wait
 pub answered_on : {R E : Type 0} (r : Result R E) (old : Held) (new : Answers) (node : ℕ) (e : Event (Unit {0})) (serve : Option (Serve (Unit {0}))) (more : List SentAnswer) →
     ((waiting : List Waits) → HoldsWaits old.waits waiting → more ≡ answers_by waiting node e serve) →
     OnOk r ((sent : List SentAnswer) → HoldsAnswers old.answers sent → HoldsAnswers new (sent ++ more)) →

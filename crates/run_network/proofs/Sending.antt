@@ -1,4 +1,5 @@
--- One datagram more is sent.
+-- One more datagram is sent. By its receiver it is a datagram to a member, a response to a CLR for
+-- the master, or nothing that is looked for; in each case what is held stays exact.
 use Rattle.std.proofs.Common.{◌≡◌, ◌⊎◌, ◌↔◌, ℕ, true, false, List, [], ◌∷◌, ◌++◌, Some, None, sym, ◌∙◌, ap, subst, inl, inr}
 use Rattle.std.specs.Prelude.{OnOk, Result, Ok, Err}
 use Rattle.std.proofs.lemmas.List.Elements.{Contains-append_left, Contains-push, Contains-push_cases}
@@ -39,7 +40,7 @@ module _ (roster : Tables) (sent : List Datagram) (d : Datagram) where
   answered_still : (trans : ℕ) (a : Acknowledgement) → IsAnswered roster sent trans a → IsAnswered roster (sent ++ d ∷ []) trans a
   answered_still trans a (x, among, is) = (x, Contains-append_left sent (d ∷ []) x among, is)
 
-  -- it was sent before, or is the new one
+  -- a datagram was sent before, or is the new one
   sent_where : (l : Letter) → IsSentTo roster (sent ++ d ∷ []) l → IsSentTo roster sent l ⊎ ((d.sender ≡ l.sender) × (d.message ≡ l.message) × ComesTo roster l.receiver d)
   sent_where l (x, among, from, says, comes) =
       elim (Contains-push_cases sent d x among) [
@@ -54,7 +55,7 @@ module _ (roster : Tables) (sent : List Datagram) (d : Datagram) where
         | inr new ↦ inr (subst (λ (y : Datagram). IsAnswerOf roster a.member trans a.code y) (sym new) is)
       ]
 
-  -- it comes to a member
+  -- the new one is for a member
   pub to_member : (old new : Letters) (id : ℕ) → is_master roster d.receiver ≡ false → member_at roster d.receiver (udp_of d.message) ≡ Some id →
       ((l : Letter) → HasLetter new l ↔ (HasLetter old l ⊎ (record { sender = d.sender; receiver = id; message = d.message } ≡ l))) →
       ((trans : ℕ) (a : Acknowledgement) → HasAcknowledged new trans a ↔ HasAcknowledged old trans a) →
@@ -79,7 +80,7 @@ module _ (roster : Tables) (sent : List Datagram) (d : Datagram) where
     );
   }
 
-  -- it comes to nobody
+  -- the new one is for nobody
   pub to_nobody : (old : Letters) → is_master roster d.receiver ≡ false → member_at roster d.receiver (udp_of d.message) ≡ None → HoldsLetters roster old sent → HoldsLetters roster old (sent ++ d ∷ [])
   to_nobody old other nobody holds = record {
     sent_to = λ l. (
@@ -92,7 +93,7 @@ module _ (roster : Tables) (sent : List Datagram) (d : Datagram) where
     );
   }
 
-  -- it is a member's answer to a CLR of the master
+  -- the new one is a member's response to a CLR, for the master
   pub to_master : (old new : Letters) (id trans code : ℕ) → is_master roster d.receiver ≡ true → member_at roster d.sender udp.Htcp ≡ Some id → clear_answer d.message ≡ Some (trans, code) →
       ((l : Letter) → HasLetter new l ↔ HasLetter old l) →
       ((number : ℕ) (a : Acknowledgement) → HasAcknowledged new number a ↔ (HasAcknowledged old number a ⊎ ((trans ≡ number) × (record { member = id; code = code } ≡ a)))) →
@@ -127,7 +128,7 @@ module _ (roster : Tables) (sent : List Datagram) (d : Datagram) where
     );
   }
 
-  -- the master does not heed it
+  -- the new one is for the master, who ignores it
   pub unheeded : (old : Letters) → is_master roster d.receiver ≡ true → ((id trans code : ℕ) → member_at roster d.sender udp.Htcp ≡ Some id → clear_answer d.message ≡ Some (trans, code) → ⊥) →
       HoldsLetters roster old sent → HoldsLetters roster old (sent ++ d ∷ [])
   unheeded old master no_answer holds = record {
@@ -164,7 +165,7 @@ pub to_master_on : {R E : Type 0} (r : Result R E) (roster : Tables) (d : Datagr
 to_master_on (Ok r) roster d old new id trans code master from says letters answers = λ sent holds. to_master roster sent d old new id trans code master from says letters answers holds
 to_master_on (Err e) roster d old new id trans code master from says letters answers = tt
 
--- the same of two messages that are the same
+-- what holds of a message holds of an equal one
 pub message_on : {R E : Type 0} (r : Result R E) (roster : Tables) (old new : Letters) (sender receiver : Address) (one other : Message) → one ≡ other →
     OnOk r ((sent : List Datagram) → HoldsLetters roster old sent → HoldsLetters roster new (sent ++ record { sender = sender; receiver = receiver; message = one } ∷ [])) →
     OnOk r ((sent : List Datagram) → HoldsLetters roster old sent → HoldsLetters roster new (sent ++ record { sender = sender; receiver = receiver; message = other } ∷ []))

@@ -1,4 +1,5 @@
--- One ask more waits, or those of a node wait no more.
+-- One more request waits, or those of a node are dropped. A look-up takes the first of a node and
+-- block, so a second one under the same block changes nothing.
 use Rattle.std.proofs.Common.{◌≡◌, ℕ, Bool, true, false, cond, not, ◌&&◌, List, [], ◌∷◌, ◌++◌, filter, Option, Some, None, nat_eq, eqb-true, refl, sym, ◌∙◌, ap, inl, inr, arith}
 use Rattle.std.specs.Prelude.{find, option_map, OnOk, Result, Ok, Err}
 use Rattle.std.specs.HashMap.{get}
@@ -47,7 +48,7 @@ and_then_cond : {A : Type 0} (f : A → Option (List ℕ)) (b : Bool) (o : Optio
 and_then_cond f true o = refl
 and_then_cond f false o = refl
 
--- what waited at a node is taken away
+-- what waited at a node is dropped
 pub forgotten : (old new : HeldWaits) (node : ℕ) → ((n : ℕ) → get nat_eq new.nodes n ≡ cond (nat_eq node n) None (get nat_eq old.nodes n)) → (waiting : List Waits) → HoldsWaits old waiting →
     HoldsWaits new (filter (λ (w : Waits). not (nat_eq w.node node)) waiting)
 forgotten old new node gone waiting holds n b =

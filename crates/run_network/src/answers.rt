@@ -1,4 +1,4 @@
-//! Answers that members sent to members.
+//! Responses that members sent to members.
 ghost use Rattle.std.specs.Prelude.{◌≡◌, ◌⊎◌, ◌↔◌, [], ◌++◌, List, option_map, IsTrue, OnOk};
 ghost use Rattle.run_rules.specs.Sent.{SentAnswer as AnAnswer, answer_for, text_of};
 ghost use Rattle.run_network.specs.Bags.{Has};
@@ -15,7 +15,7 @@ use std::alloc::{AllocError, Global};
 use std::hash::RandomState;
 use url_key::Key;
 
-/// An answer that a member sent to a member, for the URL that was asked for.
+/// A response that a member sent to a member, for the key that was requested.
 #[derive(Drop)]
 pub struct SentAnswer<'a> {
     sender: u8,
@@ -24,7 +24,7 @@ pub struct SentAnswer<'a> {
     served: &'a Served<()>,
 }
 
-/// The answers that were sent.
+/// The responses that were sent.
 ///
 /// A contract sees them by `HasAnswer`.
 #[derive(Drop)]
@@ -33,7 +33,7 @@ pub struct Answers<'a> {
     bags: Bags<SentAnswer<'a>>,
 }
 
-/// Whether an answer that was sent is this one.
+/// Whether a response that was sent is this one.
 fn is_answer(
     sent: &SentAnswer<'_>,
     sender: u8,
@@ -49,7 +49,7 @@ fn is_answer(
         && Written::of_served(sent.served).is(answer)
 }
 
-/// Whether one of these answers is this one.
+/// Whether this response is among these.
 fn has_answer_in(
     answers: &[SentAnswer<'_>],
     sender: u8,
@@ -68,7 +68,7 @@ fn has_answer_in(
 }
 
 impl<'a> Answers<'a> {
-    /// Nothing was sent. It takes no memory.
+    /// No responses. Allocates nothing.
     pub(crate) fn new(alloc: Global, keys: RandomState) -> Answers<'a>
         ensures { HoldsAnswers result [] }
     {
@@ -78,7 +78,7 @@ impl<'a> Answers<'a> {
         }
     }
 
-    /// Whether an answer was sent.
+    /// Whether this response was sent.
     pub(crate) fn has_answer(&self, sender: u8, receiver: u8, key: &Key, answer: &Answer) -> bool
         ensures { IsTrue result ↔ HasAnswer self.now (record { sender = sender; receiver = receiver; key = key.now; answer = answer.now }) }
     {
@@ -87,7 +87,7 @@ impl<'a> Answers<'a> {
         has_answer_in(self.bags.bag(print), sender, receiver, key, &answer)
     }
 
-    /// What is served is sent as an answer.
+    /// Adds what is served, as a response, unless it is held already.
     fn add(
         &mut self,
         alloc: Global,
@@ -112,7 +112,7 @@ impl<'a> Answers<'a> {
         self.bags.put(alloc, print, sent)
     }
 
-    /// What a member serves is sent, if a member asked, for the URL that was asked for.
+    /// Adds what a member serves, if a member asked, for the key that was requested.
     pub(crate) fn post(
         &mut self,
         alloc: Global,

@@ -1,4 +1,4 @@
-//! Asks that members sent to members.
+//! Requests that members sent to members.
 ghost use Rattle.std.specs.Prelude.{◌≡◌, ◌⊎◌, ◌↔◌, [], ◌++◌, List, IsTrue, OnOk};
 ghost use Rattle.run_rules.specs.Sent.{SentAsk as AnAsk, asks_by};
 ghost use Rattle.run_network.specs.Bags.{Has};
@@ -13,7 +13,7 @@ use roster::is_foreign;
 use std::alloc::{AllocError, Global};
 use std::hash::RandomState;
 
-/// An ask that a member sent to a member.
+/// A request that a member sent to a member.
 #[derive(Drop)]
 pub struct SentAsk<'a> {
     sender: u8,
@@ -21,7 +21,7 @@ pub struct SentAsk<'a> {
     ask: &'a Ask,
 }
 
-/// The asks that were sent.
+/// The requests that were sent.
 ///
 /// A contract sees them by `HasAsk`.
 #[derive(Drop)]
@@ -30,14 +30,14 @@ pub struct Asks<'a> {
     bags: Bags<SentAsk<'a>>,
 }
 
-/// Whether an ask is this one.
+/// Whether a request that was sent is this one.
 fn is_ask(sent: &SentAsk<'_>, sender: u8, receiver: u8, ask: &Ask) -> bool
     ensures { IsTrue result ↔ (ask_in sent.now ≡ record { sender = sender; receiver = receiver; ask = ask.now }) }
 {
     sent.sender == sender && sent.receiver == receiver && same_ask(sent.ask, ask)
 }
 
-/// Whether one of these asks is this one.
+/// Whether this request is among these.
 fn has_ask_in(asks: &[SentAsk<'_>], sender: u8, receiver: u8, ask: &Ask) -> bool
     ensures { IsTrue result ↔ Has ask_in asks.now (record { sender = sender; receiver = receiver; ask = ask.now }) }
 {
@@ -50,7 +50,7 @@ fn has_ask_in(asks: &[SentAsk<'_>], sender: u8, receiver: u8, ask: &Ask) -> bool
 }
 
 impl<'a> Asks<'a> {
-    /// Nothing was sent. It takes no memory.
+    /// No requests. Allocates nothing.
     pub(crate) fn new(alloc: Global, keys: RandomState) -> Asks<'a>
         ensures { HoldsAsks result [] }
     {
@@ -60,7 +60,7 @@ impl<'a> Asks<'a> {
         }
     }
 
-    /// Whether an ask was sent.
+    /// Whether this request was sent.
     pub(crate) fn has_ask(&self, sender: u8, receiver: u8, ask: &Ask) -> bool
         ensures { IsTrue result ↔ HasAsk self.now (record { sender = sender; receiver = receiver; ask = ask.now }) }
     {
@@ -68,7 +68,7 @@ impl<'a> Asks<'a> {
         has_ask_in(self.bags.bag(print), sender, receiver, ask)
     }
 
-    /// An ask more.
+    /// Adds a request that is not held yet.
     fn put(&mut self, alloc: Global, sent: SentAsk<'a>) -> Result<(), AllocError>
         ensures { OnOk result ((a : AnAsk) → HasAsk self.new a ↔ (HasAsk self.old a ⊎ (ask_in sent.entry ≡ a))) }
     {
@@ -76,7 +76,7 @@ impl<'a> Asks<'a> {
         self.bags.put(alloc, print, sent)
     }
 
-    /// An ask is sent.
+    /// Adds a request, unless it is held already.
     fn add(
         &mut self,
         alloc: Global,
@@ -99,7 +99,7 @@ impl<'a> Asks<'a> {
         )
     }
 
-    /// What a member begins is sent, if it is an ask of a member.
+    /// Adds what a member begins, if it is a fetch from a member.
     pub(crate) fn post(
         &mut self,
         alloc: Global,

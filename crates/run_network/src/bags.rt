@@ -1,11 +1,11 @@
-//! Items that lie in bags, each bag under a number.
+//! Lists of items (bags), each under a number.
 ghost use Rattle.std.specs.Prelude.{◌≡◌, ℕ, ◌==◌, ◌∷◌, ◌++◌, [], OnOk, if◌then◌else◌};
 ghost use Rattle.run_network.specs.Bags.{bag_of};
 
 use std::alloc::{AllocError, Global};
 use std::collections::HashMap;
 
-/// Items in bags, each bag under a number.
+/// Items in bags, each bag under a number (a print or a TRANS-ID).
 ///
 /// A contract sees the items of each number, by `bag_of`.
 #[derive(Drop)]
@@ -14,7 +14,7 @@ pub struct Bags<T> {
 }
 
 impl<T> Bags<T> {
-    /// No items. It takes no memory.
+    /// No items. Allocates nothing.
     pub(crate) fn new(alloc: Global) -> Bags<T>
         ensures { (number : ℕ) → bag_of result number ≡ [] }
     {
@@ -23,7 +23,7 @@ impl<T> Bags<T> {
         }
     }
 
-    /// The items of a number.
+    /// The items under a number.
     pub(crate) fn bag(&self, number: u64) -> &[T]
         ensures { result.now ≡ bag_of self.now number }
     {
@@ -35,7 +35,9 @@ impl<T> Bags<T> {
 }
 
 impl<T: Drop> Bags<T> {
-    /// Puts an item into the bag of a number. Where there is no memory for it, nothing is said of that bag.
+    /// Adds an item under a number.
+    ///
+    /// Fault: an allocation failed; nothing is promised of the bags then.
     pub(crate) fn put(&mut self, alloc: Global, number: u64, item: T) -> Result<(), AllocError>
         ensures { OnOk result ((other : ℕ) → bag_of self.new other ≡ (if number == other then bag_of self.old number ++ item ∷ [] else bag_of self.old other)) }
     {

@@ -20,7 +20,7 @@ use std::alloc::{AllocError, Global};
 use std::hash::RandomState;
 use url_key::Key;
 
-/// A datagram that comes to a member.
+/// A datagram to a member.
 #[derive(Drop)]
 pub struct Letter {
     sender: Address,
@@ -28,14 +28,15 @@ pub struct Letter {
     message: Sent,
 }
 
-/// A member's answer to a CLR of the master.
+/// A member's response to a CLR, sent to the master.
 #[derive(Drop)]
 pub struct Acknowledgement {
     member: u8,
     code: u8,
 }
 
-/// The datagrams that were sent: those that come to a member, and of those that come to the master each answer to a CLR.
+/// The datagrams that were sent: those to members, and of those to the master each response to a
+/// CLR. Others are not held, since nobody looks for them.
 ///
 /// A contract sees them by `HasLetter` and `HasAcknowledged`.
 #[derive(Drop)]
@@ -54,7 +55,7 @@ fn is_letter(letter: &Letter, sender: Address, receiver: u8, message: &Message) 
         && same_message(letter.message.message(), message)
 }
 
-/// Whether one of these datagrams is this one.
+/// Whether this datagram is among these.
 fn has_letter_in(letters: &[Letter], sender: Address, receiver: u8, message: &Message) -> bool
     ensures { IsTrue result ↔ Has (λ l. l) letters.now (record { sender = sender; receiver = receiver; message = message.now }) }
 {
@@ -66,14 +67,14 @@ fn has_letter_in(letters: &[Letter], sender: Address, receiver: u8, message: &Me
     false
 }
 
-/// Whether an answer to a CLR is this one.
+/// Whether a response to a CLR is this one.
 fn is_answer(answer: &Acknowledgement, member: u8, code: u8) -> bool
     ensures { IsTrue result ↔ (answer.now ≡ record { member = member; code = code }) }
 {
     answer.member == member && answer.code == code
 }
 
-/// Whether one of these answers to CLRs is this one.
+/// Whether this response to a CLR is among these.
 fn has_acknowledged_in(answers: &[Acknowledgement], member: u8, code: u8) -> bool
     ensures { IsTrue result ↔ Has (λ a. a) answers.now (record { member = member; code = code }) }
 {
@@ -86,7 +87,7 @@ fn has_acknowledged_in(answers: &[Acknowledgement], member: u8, code: u8) -> boo
 }
 
 impl Letters {
-    /// Nothing was sent. It takes no memory.
+    /// No datagrams. Allocates nothing.
     pub(crate) fn new(alloc: Global, keys: RandomState) -> Letters
         ensures letters { (l : ALetter) → HasLetter result l → ⊥ }
         ensures acknowledged { (trans : ℕ) (a : AnAcknowledgement) → HasAcknowledged result trans a → ⊥ }
@@ -98,7 +99,7 @@ impl Letters {
         }
     }
 
-    /// Whether a datagram was sent to this member.
+    /// Whether this datagram was sent to this member.
     pub(crate) fn has_letter(&self, sender: Address, receiver: u8, message: &Message) -> bool
         ensures { IsTrue result ↔ HasLetter self.now (record { sender = sender; receiver = receiver; message = message.now }) }
     {
@@ -106,7 +107,7 @@ impl Letters {
         has_letter_in(self.bags.bag(print), sender, receiver, message)
     }
 
-    /// Whether a member has answered the CLR of this TRANS-ID with this code.
+    /// Whether a member has responded to the CLR with this TRANS-ID by this code.
     pub(crate) fn has_acknowledged(&self, member: u8, trans: u32, code: u8) -> bool
         ensures { IsTrue result ↔ HasAcknowledged self.now trans (record { member = member; code = code }) }
     {
@@ -114,7 +115,7 @@ impl Letters {
         has_acknowledged_in(answers, member, code)
     }
 
-    /// A datagram more.
+    /// Adds a datagram that is not held yet.
     fn put_letter(&mut self, alloc: Global, letter: Letter) -> Result<(), AllocError>
         ensures letters { OnOk result ((l : ALetter) → HasLetter self.new l ↔ (HasLetter self.old l ⊎ (letter ≡ l))) }
         ensures acknowledged { OnOk result ((trans : ℕ) (a : AnAcknowledgement) → HasAcknowledged self.new trans a ↔ HasAcknowledged self.old trans a) }
@@ -124,7 +125,7 @@ impl Letters {
         self.bags.put(alloc, print, letter)
     }
 
-    /// A datagram is sent to a member. What was sent before stays as it is.
+    /// Adds a datagram to a member, unless it is held already.
     fn add_letter(
         &mut self,
         alloc: Global,
@@ -150,7 +151,7 @@ impl Letters {
         )
     }
 
-    /// A member answers a CLR. What was sent before stays as it is.
+    /// Adds a member's response to a CLR, unless it is held already.
     fn add_acknowledged(
         &mut self,
         alloc: Global,
@@ -169,7 +170,7 @@ impl Letters {
             .put(alloc, number, Acknowledgement { member, code })
     }
 
-    /// A datagram is sent to the master.
+    /// Adds a datagram to the master, if it is a member's response to a CLR.
     fn tell_master(
         &mut self,
         alloc: Global,
@@ -189,7 +190,7 @@ impl Letters {
         }
     }
 
-    /// A datagram is sent.
+    /// Adds a datagram, by its receiver.
     fn send(
         &mut self,
         alloc: Global,
@@ -210,7 +211,7 @@ impl Letters {
         }
     }
 
-    /// The datagrams of a cache are sent.
+    /// Adds the datagrams of a cache's messages to be sent.
     fn send_all(
         &mut self,
         alloc: Global,
@@ -228,7 +229,7 @@ impl Letters {
         Ok(())
     }
 
-    /// The datagrams of a member are sent.
+    /// Adds the datagrams of a member's messages to be sent.
     pub(crate) fn post(
         &mut self,
         alloc: Global,
@@ -244,7 +245,7 @@ impl Letters {
         }
     }
 
-    /// The CLR of a new purge is sent to the member of this id, if there is one.
+    /// Adds the CLR of a new purge to the member with this id, if there is one.
     fn clear_one(
         &mut self,
         alloc: Global,
@@ -264,7 +265,7 @@ impl Letters {
         }
     }
 
-    /// The CLR of a new purge is sent to each member.
+    /// Adds the CLR of a new purge to each member.
     pub(crate) fn clear_all(
         &mut self,
         alloc: Global,

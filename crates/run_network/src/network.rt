@@ -1,4 +1,4 @@
-//! All that was sent, and what waits.
+//! `Network`: all that was sent in a run, and the requests that wait.
 ghost use Rattle.std.specs.Prelude.{◌↔◌, ◌≡◌, List, option_map, IsTrue, OnOk};
 ghost use Rattle.roster_tables.specs.declared.plain.Tables.{Tables};
 ghost use Rattle.node_rules.specs.State.{serial_of as serial_of_begin};
@@ -16,12 +16,12 @@ use std::alloc::{AllocError, Global};
 use std::hash::RandomState;
 use url_key::Key;
 
-/// The serials of a block.
+/// How many serials a block has.
 const SERIALS: u32 = 32;
 
-/// All that was sent in a run, and what waits.
+/// All that was sent in a run so far, and the members' requests that wait.
 ///
-/// A contract sees which network it holds, by `Holds`: it has what that one has, and nothing else.
+/// A contract sees which network of `run_rules` it holds, by `Holds`: all of it, and nothing else.
 #[derive(Drop)]
 pub struct Network<'a> {
     letters: Letters,
@@ -42,7 +42,8 @@ fn serial_of(begin: &Begin) -> u32
 }
 
 impl<'a> Network<'a> {
-    /// Nothing was sent. What was sent is found by hashes with these keys, which are best random ones, so that nobody can pick texts whose look-ups are slow. It takes no memory.
+    /// A network in which nothing was sent. `keys` are the keys of its hashes: use random ones, so
+    /// that nobody can pick texts whose look-ups are slow. Allocates nothing.
     pub fn new(alloc: Global, keys: RandomState) -> Network<'a>
         ensures { (roster : Tables) → Holds roster result silence }
     {
@@ -54,7 +55,8 @@ impl<'a> Network<'a> {
         }
     }
 
-    /// Whether what comes to a node was sent before, where it comes from a member or from the master.
+    /// Whether what a node received was sent to it before. True for all that does not come from a
+    /// member or from the master.
     pub fn is_sent(&self, roster: &Roster, node: u8, event: &Event<()>) -> bool
         ensures { (sent : ANetwork) → Holds roster.now self.now sent → IsTrue result ↔ IsSent roster.now sent node event.now }
     {
@@ -73,7 +75,8 @@ impl<'a> Network<'a> {
         }
     }
 
-    /// Whether what a call of the master counts was sent before.
+    /// Whether the acknowledgement that a call of the master counts was sent before. True for other
+    /// calls.
     pub fn is_call_sent(&self, call: &MasterCall) -> bool
         ensures { (roster : Tables) (sent : ANetwork) → Holds roster self.now sent → IsTrue result ↔ IsCallSent roster sent call.now }
     {
@@ -87,7 +90,8 @@ impl<'a> Network<'a> {
         }
     }
 
-    /// The URL of the ask that is answered: the one that waits as the block, or else the event.
+    /// The key of the member's request that is answered: the one that waits as the block, or else
+    /// the event, if it is one.
     fn key_for(&self, node: u8, event: &'a Event<()>, waiter: Option<u32>) -> Option<&'a Key>
         ensures { (waiting : List AWait) → HoldsWaits self.now.waits waiting → option_map (λ k. k.now) result ≡ key_by waiting node event.now waiter }
     {
@@ -98,7 +102,7 @@ impl<'a> Network<'a> {
         }
     }
 
-    /// What a node serves is sent, if a member asked.
+    /// Adds the response of what a node serves, if a member asked.
     fn answer(
         &mut self,
         alloc: Global,
@@ -117,7 +121,7 @@ impl<'a> Network<'a> {
         }
     }
 
-    /// The ask of a member waits for what begins.
+    /// Notes that the event waits, if it is a member's request and begins something.
     fn wait(
         &mut self,
         alloc: Global,
@@ -136,7 +140,9 @@ impl<'a> Network<'a> {
         }
     }
 
-    /// All is sent that a node's reply to an event sends. Where there is no memory for it, nothing is said of the network.
+    /// Adds all that a node's reply to an event sends.
+    ///
+    /// Fault: an allocation failed; nothing is promised of the network then.
     pub fn send(
         &mut self,
         alloc: Global,
@@ -154,14 +160,16 @@ impl<'a> Network<'a> {
         self.wait(alloc, node, event, &reply.begin)
     }
 
-    /// What waited at a node waits no more. It takes no memory.
+    /// Drops what waits at a node. Allocates nothing.
     pub fn forget(&mut self, node: u8)
         ensures { (roster : Tables) (sent : ANetwork) → Holds roster self.old sent → Holds roster self.new (without_waiting sent node) }
     {
         self.waits.forget(node);
     }
 
-    /// All is sent that the master's answer to a call sends: the CLR of a new purge to each member. Where there is no memory for it, nothing is said of the network.
+    /// Adds all that a call of the master sends: the CLR of a new purge to each member.
+    ///
+    /// Fault: an allocation failed; nothing is promised of the network then.
     pub fn clear(
         &mut self,
         alloc: Global,

@@ -1,4 +1,5 @@
-//! Prints: numbers that equal items share, by hashes with keys that nobody outside knows.
+//! Prints: hashes of items, by SipHash with keys that nobody outside knows. Equal items have equal
+//! prints.
 ghost use Rattle.std.specs.Prelude.{◌≡◌, map};
 ghost use Rattle.fetch_messages.specs.Field.{field_text};
 ghost use Rattle.run_network.specs.Written.{written_text};
@@ -11,7 +12,7 @@ use node_rules::Message;
 use roster::Address;
 use std::hash::{BuildHasher, DefaultHasher, Hash, Hasher, RandomState};
 
-/// ICP's request number, or HTCP's TRANS-ID.
+/// A message's ICP request number or HTCP TRANS-ID.
 fn number_in(message: &Message) -> u32
     ensures { result ≡ prints.number_in message.now }
 {
@@ -21,7 +22,7 @@ fn number_in(message: &Message) -> u32
     }
 }
 
-/// The URL that a message names; nothing where it names none.
+/// The URL that a message names; empty if it names none.
 fn text_in(message: &Message) -> &[u8]
     ensures { result.now ≡ prints.text_in message.now }
 {
@@ -31,7 +32,7 @@ fn text_in(message: &Message) -> &[u8]
     }
 }
 
-/// The URL that HTCP's content names; nothing where it names none.
+/// The URL that an HTCP message names; empty if it names none.
 fn uri_in(content: &Content) -> &[u8]
     ensures { result.now ≡ prints.uri_in content.now }
 {
@@ -42,7 +43,7 @@ fn uri_in(content: &Content) -> &[u8]
     }
 }
 
-/// The print of a datagram.
+/// The print of a datagram: of its sender, receiver, number and URL.
 #[tactic(auto, unfolding(crate::specs::Prints::letter_print))]
 pub(crate) fn letter_print(
     keys: RandomState,
@@ -56,7 +57,7 @@ pub(crate) fn letter_print(
     keys.hash_one((sender.ip, sender.port, receiver, number, text_in(message)))
 }
 
-/// The print of an ask.
+/// The print of a request: of its sender, receiver and key.
 #[tactic(auto, unfolding(crate::specs::Prints::ask_print))]
 pub(crate) fn ask_print(keys: RandomState, sender: u8, receiver: u8, key: &[u8]) -> u64
     ensures { result ≡ prints.ask_print keys sender receiver key.now }
@@ -64,7 +65,7 @@ pub(crate) fn ask_print(keys: RandomState, sender: u8, receiver: u8, key: &[u8])
     keys.hash_one((sender, receiver, key))
 }
 
-/// Writes a text.
+/// Feeds a text to the hash: its length and its octets.
 fn write_text(hasher: &mut DefaultHasher, text: &[u8])
     ensures { hasher.new ≡ prints.written_to hasher.old (prints.text_writes text.now) }
 {
@@ -72,7 +73,7 @@ fn write_text(hasher: &mut DefaultHasher, text: &[u8])
     hasher.write(text);
 }
 
-/// Writes a field.
+/// Feeds a field to the hash: its name and its value.
 fn write_field(hasher: &mut DefaultHasher, field: &Field)
     ensures { hasher.new ≡ prints.written_to hasher.old (prints.field_writes (field_text field.now)) }
 {
@@ -80,7 +81,7 @@ fn write_field(hasher: &mut DefaultHasher, field: &Field)
     write_text(hasher, field.value.as_bytes());
 }
 
-/// Writes fields.
+/// Feeds fields to the hash: their number, and each.
 fn write_fields(hasher: &mut DefaultHasher, fields: &[Field])
     ensures { hasher.new ≡ prints.written_to hasher.old (prints.fields_writes (map field_text fields.now)) }
 {
@@ -90,7 +91,9 @@ fn write_fields(hasher: &mut DefaultHasher, fields: &[Field])
     }
 }
 
-/// The print of an answer, by all that is written of it, so that few answers share one, however many there are of one URL. Its time grows with the answer's octets.
+/// The print of a response: of its sender, receiver and key, and all that is written of it. So few
+/// responses share one, however many there are for one key. Its time grows with the response's
+/// octets.
 #[tactic(auto, unfolding(crate::specs::Prints::answer_print))]
 pub(crate) fn answer_print(
     keys: RandomState,

@@ -1,4 +1,4 @@
-//! Asks of members that wait at members' nodes.
+//! Requests of members that wait at other members' nodes.
 ghost use Rattle.std.specs.Prelude.{◌≡◌, ℕ, [], ◌∷◌, ◌++◌, List, ◌==◌, nat_eq, not, false, Some, None, filter, option_map, OnOk, if◌then◌else◌};
 ghost use Rattle.std.specs.HashMap.{get};
 ghost use Rattle.run_rules.specs.Sent.{Waits as AWait};
@@ -8,15 +8,15 @@ use std::alloc::{AllocError, Global};
 use std::collections::HashMap;
 use url_key::Key;
 
-/// What waits, by the node at which it waits and its block of serials: the URL that is asked for.
+/// The keys of the requests that wait, by node and block of serials.
 ///
-/// A contract sees it by `key_at`.
+/// A contract sees them by `key_at`.
 #[derive(Drop)]
 pub struct Waits<'a> {
     nodes: HashMap<u8, HashMap<u32, &'a Key>>,
 }
 
-/// Puts a URL under a block, unless one lies there.
+/// Enters a key under a block, unless the block has one.
 fn enter<'a>(blocks: &mut HashMap<u32, &'a Key>, block: u32, key: &'a Key) -> Result<(), AllocError>
     ensures { OnOk result ((other : ℕ) → option_map (λ k. k.now) (get nat_eq blocks.new other) ≡ or_else (option_map (λ k. k.now) (get nat_eq blocks.old other)) (if block == other then Some key.now else None)) }
 {
@@ -27,7 +27,7 @@ fn enter<'a>(blocks: &mut HashMap<u32, &'a Key>, block: u32, key: &'a Key) -> Re
 }
 
 impl<'a> Waits<'a> {
-    /// Nothing waits. It takes no memory.
+    /// Nothing waits. Allocates nothing.
     pub(crate) fn new(alloc: Global) -> Waits<'a>
         ensures { HoldsWaits result [] }
     {
@@ -36,7 +36,7 @@ impl<'a> Waits<'a> {
         }
     }
 
-    /// The URL of what waits at a node as this block.
+    /// The key of the request that waits at a node as this block, if any.
     pub(crate) fn key(&self, node: u8, block: u32) -> Option<&'a Key>
         ensures { option_map (λ k. k.now) result ≡ key_at self.now node block }
     {
@@ -46,7 +46,7 @@ impl<'a> Waits<'a> {
         }
     }
 
-    /// Takes what waits at a node, by its blocks, to be put back by `put`. It takes no memory.
+    /// Takes out what waits at a node, by blocks; `put` puts it back. Allocates nothing.
     fn take(&mut self, alloc: Global, node: u8) -> HashMap<u32, &'a Key>
         ensures taken { (block : ℕ) → option_map (λ k. k.now) (get nat_eq result block) ≡ key_at self.old node block }
         ensures others { (other block : ℕ) → (node == other) ≡ false → key_at self.new other block ≡ key_at self.old other block }
@@ -57,7 +57,7 @@ impl<'a> Waits<'a> {
         }
     }
 
-    /// This waits at a node, by its blocks.
+    /// Puts what waits at a node, by blocks.
     fn put(&mut self, node: u8, blocks: HashMap<u32, &'a Key>) -> Result<(), AllocError>
         ensures { OnOk result ((other block : ℕ) → key_at self.new other block ≡ (if node == other then option_map (λ k. k.now) (get nat_eq blocks.entry block) else key_at self.old other block)) }
     {
@@ -65,7 +65,7 @@ impl<'a> Waits<'a> {
         Ok(())
     }
 
-    /// An ask waits at a node as this block, unless one does already.
+    /// Notes that a request waits at a node as this block, unless one does already.
     pub(crate) fn add(
         &mut self,
         alloc: Global,
@@ -80,7 +80,7 @@ impl<'a> Waits<'a> {
         self.put(node, blocks)
     }
 
-    /// What waited at a node waits no more. It takes no memory.
+    /// Drops what waits at a node. Allocates nothing.
     pub(crate) fn forget(&mut self, node: u8)
         ensures { (waiting : List AWait) → HoldsWaits self.old waiting → HoldsWaits self.new (filter (λ w. not (w.node == node)) waiting) }
     {

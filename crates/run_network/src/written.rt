@@ -1,4 +1,4 @@
-//! Answers as they are written to a member.
+//! What is written of a response to a member.
 ghost use Rattle.std.specs.Prelude.{◌≡◌, ◌↔◌, IsTrue};
 ghost use Rattle.run_rules.specs.Sent.{text_of};
 ghost use Rattle.run_network.specs.Written.{written_text};
@@ -7,7 +7,7 @@ use fetch_messages::{Answer, Field};
 use node_equality::same_fields;
 use node_rules::Served;
 
-/// What is written of an answer. Two answers whose parts are the same are the same answer.
+/// What is written of a response. Two responses with the same parts count as the same.
 ///
 /// A contract sees it by `written_text`.
 #[derive(Clone, Copy)]
@@ -21,7 +21,7 @@ pub(crate) struct Written<'a> {
 }
 
 impl<'a> Written<'a> {
-    /// What is written of an answer.
+    /// What is written of a response that was received.
     pub(crate) fn of(answer: &'a Answer) -> Written<'a>
         ensures { written_text result ≡ answer.now }
     {
@@ -34,7 +34,7 @@ impl<'a> Written<'a> {
         }
     }
 
-    /// What is written to a member of what is served.
+    /// What is written to a member for what is served.
     pub(crate) fn of_served(served: &'a Served<()>) -> Written<'a>
         ensures { written_text result ≡ text_of served.now }
     {
@@ -56,7 +56,7 @@ impl<'a> Written<'a> {
         }
     }
 
-    /// Whether the same is written.
+    /// Whether two are the same, octet by octet.
     pub(crate) fn is(&self, other: &Written<'_>) -> bool
         ensures { IsTrue result ↔ (written_text self.now ≡ written_text other.now) }
     {
@@ -68,7 +68,7 @@ impl<'a> Written<'a> {
     }
 }
 
-/// An answer's age in seconds, if it bears one.
+/// The age of a response in seconds, if it has one.
 fn age_of(answer: &Answer) -> Option<u64>
     ensures { result ≡ answer.now.age }
 {

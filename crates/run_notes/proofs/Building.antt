@@ -1,4 +1,5 @@
--- Tracks are built from their ends.
+-- Tracks are built from their ends: each note that is pushed stands before those of the later
+-- items, as the definitions of run_rules have it.
 use Rattle.std.proofs.Common.{◌≡◌, ℕ, zero, suc, ◌+◌, ◌-◌, ◌<◌, ◌≤◌, Bool, true, false, cond, not, List, [], ◌∷◌, ◌++◌, length, drop, get_or, filter, Option, Some, None, unwrap_or, nat_eq, refl, sym, ◌∙◌, ap, append_assoc, arith}
 use Rattle.std.specs.Prelude.{slice_get, option_map}
 use Rattle.std.proofs.lemmas.List.{drop_more}
@@ -9,13 +10,13 @@ use Rattle.purge_master.specs.declared.book.MasterEntry.{MasterEntry}
 use Rattle.node_rules.proofs.Cases.{branches}
 use Rattle.run_rules.specs.Notes.{Note, Opens, Steps, Closes, Calls, steps_of, is_closed_before, is_closed_answer, last_place, kept_by, record_notes, notes_of, notes_of_all, is_of, calls_of, is_shut_before, is_shut_by, is_status, nodes_in}
 
--- the items from there on are this one and those behind it
+-- the items from an index on are the one there and those after it
 pub from_there : {A : Type 0} (xs : List A) (at : ℕ) (x : A) → 0 < at → at ≤ length xs → x ≡ get_or xs (at - 1) x → drop (at - 1) xs ≡ x ∷ drop at xs
 from_there xs at x some within is =
     let next : at - 1 + 1 ≡ at = omega (some, arith) in
     drop_more xs (at - 1) x (omega (some, within, arith)) ∙ ap (λ n. get_or xs (at - 1) x ∷ drop n xs) next ∙ ap (λ y. y ∷ drop at xs) (sym is)
 
--- an entry's note comes before those behind it
+-- an entry's note comes before those of later entries
 pub steps_more : (id : ℕ) (closing : Bool) (kept : FloorMap) (all behind : List NodeEntry) (e : NodeEntry) (is_closed : Bool) (so_far rest : List Note) →
     all ≡ e ∷ behind → is_closed ≡ is_closed_before behind closing → so_far ≡ steps_of id closing kept behind ++ rest → Steps id e is_closed kept ∷ so_far ≡ steps_of id closing kept all ++ rest
 steps_more id closing kept all behind e is_closed so_far rest here closed before =
@@ -41,7 +42,7 @@ record_before r kept rest steps is =
 
 -- The records of one node
 
--- the floors with which the next of them opens an open node, or else these
+-- the floors with which the next of these records opens an open node, or else these
 abbrev pub KeptBy : List Record → Option FloorMap → Type 0
 KeptBy rs later = (floors : FloorMap) → kept_by floors rs ≡ unwrap_or later floors
 
@@ -51,7 +52,7 @@ own_record id all behind r here own = ap (λ l. filter (is_of id) l) here ∙ ap
 pub other_record : (id : ℕ) (all behind : List Record) (r : Record) → all ≡ r ∷ behind → nat_eq r.node id ≡ false → filter (is_of id) all ≡ filter (is_of id) behind
 other_record id all behind r here other = ap (λ l. filter (is_of id) l) here ∙ ap (λ b. cond b (r ∷ filter (is_of id) behind) (filter (is_of id) behind)) other
 
--- its notes are those behind which it is kept so
+-- a record's notes, with the floors with which the node next opens
 pub notes_more : (r : Record) (rs : List Record) (later : Option FloorMap) (so_far : List Note) → KeptBy rs later → so_far ≡ notes_of_all rs → record_notes r (unwrap_or later r.closing.floors) ++ so_far ≡ notes_of_all (r ∷ rs)
 notes_more r rs later so_far kept before = ap (λ k. record_notes r k ++ so_far) (sym (kept r.closing.floors)) ∙ ap (λ l. notes_of r rs ++ l) before
 

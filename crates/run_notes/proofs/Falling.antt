@@ -1,4 +1,5 @@
--- The least place that is not above the one before it.
+-- The least place that is not greater than the one before it: the loop goes from the end of a track
+-- to its start, and each note adds the fall between it and the next.
 use Rattle.std.proofs.Common.{◌≡◌, ℕ, ◌+◌, ◌<◌, ◌≤◌, Bool, true, false, cond, not, List, [], ◌∷◌, ◌++◌, length, take, get_or, Option, Some, None, nat_le, nat_lt, append-nil, refl, sym, ◌∙◌, ap, arith}
 use Rattle.std.specs.Global.{Vec}
 use Rattle.std.specs.List.{flat_map, cons_option}
@@ -25,7 +26,7 @@ falls_more : (p : ℕ) (ps : List ℕ) → least (falls (p ∷ ps)) ≡ fall_wit
 falls_more p [] = refl
 falls_more p (q ∷ ps) = by_order (nat_lt p q) q (falls_from q ps) ∙ ap (λ b. cond b (Some (lesser q (least (falls_from q ps)))) (least (falls_from q ps))) (sym (le_not_lt p q))
 
--- the least fall so far, and the first place so far
+-- the least fall and the first place of the notes seen so far
 pub record Fallen (places : List ℕ) (first least_one : Option ℕ) : Type 0 where
   pub next : first ≡ first_of places
   pub fall : least_one ≡ least (falls places)

@@ -1,4 +1,5 @@
--- Tracks that are held with their next note as the last.
+-- A track is held with its next note as the last, so pushing a note puts it first in the track. By
+-- induction over the held notes.
 use Rattle.std.proofs.Common.{◌≡◌, ℕ, zero, suc, ◌+◌, ◌-◌, ◌<◌, List, [], ◌∷◌, ◌++◌, length, take, get_or, Option, Some, None, refl, sym, ◌∙◌, ap, arith}
 use Rattle.std.specs.Prelude.{slice_get, option_map}
 use Rattle.std.proofs.lemmas.List.{take_more}
@@ -10,14 +11,14 @@ pushed_onto : (done : List Note) (xs : List Held) (n : Held) → onto done (xs +
 pushed_onto done [] n = refl
 pushed_onto done (x ∷ xs) n = pushed_onto (note_of x ∷ done) xs n
 
--- what is pushed comes next
+-- the note that is pushed comes next
 pub pushed : (xs : List Held) (n : Held) → track_of (xs ++ n ∷ []) ≡ note_of n ∷ track_of xs
 pushed xs n = pushed_onto [] xs n
 
 pub pushed_is : (xs ys : List Held) (n : Held) → ys ≡ xs ++ n ∷ [] → track_of ys ≡ note_of n ∷ track_of xs
 pushed_is xs ys n is = ap track_of is ∙ pushed xs n
 
--- one more of the notes comes before those behind it
+-- one more of the held notes comes before the others in the track
 pub one_more : (xs : List Held) (i : ℕ) (n : Held) → i < length xs → n ≡ get_or xs i n → track_of (take (i + 1) xs) ≡ note_of n ∷ track_of (take i xs)
 one_more xs i n less is = ap track_of (take_more xs i n less) ∙ pushed (take i xs) (get_or xs i n) ∙ ap (λ m. note_of m ∷ track_of (take i xs)) (sym is)
 

@@ -1,4 +1,5 @@
--- The note that comes next is taken from its track.
+-- The next note is the first of the track at the index that was found, and the order goes on with
+-- the rest. By induction over the tracks, as the look-up goes over them.
 use Rattle.std.proofs.Common.{◌≡◌, ◌⊎◌, ℕ, zero, suc, ◌+◌, Bool, true, false, cond, List, [], ◌∷◌, ◌++◌, length, set, map, Option, Some, None, nat_le, nat_eq, eqb-true, refl, sym, ◌∙◌, ap, subst, inl, inr, length-append, arith}
 use Rattle.std.specs.Prelude.{slice_get, option_map}
 use Rattle.std.specs.List.{flat_map, cons_option}
@@ -12,7 +13,7 @@ use Rattle.run_notes.specs.Held.{place_at, place_in_rest, has_turn}
 none_some : {A : Type 0} {B : Type 0} (x : A) → None ≡ Some x → B
 none_some x e = absurd (none-some x e)
 
--- the note that has its turn there
+-- the track at this index begins with this note
 abbrev Gets : List (List Note) → ℕ → Note → List Note → Type 0
 Gets tracks at note notes = slice_get tracks at ≡ Some (note ∷ notes)
 
@@ -24,13 +25,13 @@ here_taken turn track tracks later note notes is passes =
     ap (λ t. take_from turn t tracks later) is
     ∙ ap (λ b. cond b (Some (record { note = note; rest = notes ∷ tracks })) (option_map (λ (t : Taken). record { note = t.note; rest = (note ∷ notes) ∷ t.rest }) later)) passes_here
 
--- it has not
+-- the first track does not have the turn
 later_taken : (turn : ℕ) (track : List Note) (tracks : List (List Note)) (x : Taken) → has_turn turn (turn_of track) ≡ false → take_from turn track tracks (Some x) ≡ Some (record { note = x.note; rest = track ∷ x.rest })
 later_taken turn [] tracks x fails = refl
 later_taken turn (n ∷ ns) tracks x fails =
     ap (λ b. cond b (Some (record { note = n; rest = ns ∷ tracks })) (Some (record { note = x.note; rest = (n ∷ ns) ∷ x.rest }))) fails
 
--- where the place is counted from the rest
+-- the index, counted from the rest
 later_place : (o : Option ℕ) (at : ℕ) → option_map suc o ≡ Some at → (before : ℕ) × (o ≡ Some before) × (at ≡ suc before)
 later_place None at e = none_some at e
 later_place (Some before) at e = (before, refl, sym (same_some (suc before) at e))

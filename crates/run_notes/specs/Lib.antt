@@ -1,1 +1,2 @@
+-- how tracks are held
 pub mod Held

@@ -1,4 +1,4 @@
-//! Places that are not above the one before them.
+//! Falls: places that are not greater than the one before them in their track.
 ghost use Rattle.std.specs.Prelude.{◌≡◌, Some};
 ghost use Rattle.std.specs.List.{flat_map};
 ghost use Rattle.run_rules.specs.Notes.{lesser as lesser_of, least, falls, places_in, least_fall as least_fall_of};
@@ -6,7 +6,7 @@ ghost use Rattle.run_notes.specs.Held.{track_of, tracks_in, fall_with as fall_by
 
 use crate::Note;
 
-/// The lesser of a place and another, if there is one.
+/// The lesser of a place and another, if there is another.
 fn lesser(place: u64, other: Option<u64>) -> u64
     ensures { result ≡ lesser_of place other }
 {
@@ -16,7 +16,8 @@ fn lesser(place: u64, other: Option<u64>) -> u64
     }
 }
 
-/// The least place that falls, where a place comes before the next one, and among those behind it this is the least.
+/// The least fall of a track that begins with `place`: `next` is the place after it, and `fall` the
+/// least fall from there on.
 fn fall_with(place: u64, next: Option<u64>, fall: Option<u64>) -> Option<u64>
     ensures { result ≡ fall_by place next fall }
 {
@@ -26,7 +27,7 @@ fn fall_with(place: u64, next: Option<u64>, fall: Option<u64>) -> Option<u64>
     }
 }
 
-/// The least place of a track that is not above the one before it.
+/// The least place of a track that is not greater than the one before it, if there is one.
 fn fall_in(track: &[Note<'_>]) -> Option<u64>
     ensures { result ≡ least (falls (places_in (track_of track.now))) }
 {
@@ -41,7 +42,7 @@ fn fall_in(track: &[Note<'_>]) -> Option<u64>
     fall
 }
 
-/// The lesser of two places, if there are any.
+/// The lesser of two places, or the one that there is.
 fn lesser_of_both(one: Option<u64>, other: Option<u64>) -> Option<u64>
     ensures { result ≡ lesser_fall one other }
 {
@@ -51,7 +52,8 @@ fn lesser_of_both(one: Option<u64>, other: Option<u64>) -> Option<u64>
     }
 }
 
-/// The least place of all tracks that is not above the one before it in its own.
+/// The least place of all tracks that is not greater than the one before it in its own track, if
+/// there is one.
 pub(crate) fn least_fall(tracks: &[Vec<Note<'_>>]) -> Option<u64>
     ensures { result ≡ least_fall_of (tracks_in tracks.now) }
 {

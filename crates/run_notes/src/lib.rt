@@ -1,7 +1,18 @@
-//! What is kept of a run, cut into notes, and these in the one order of their places.
+//! The notes of a recorded run, one after another in the order of their places. `run_rules` defines
+//! the notes, their tracks (one for each member, one for the master) and their order (`specs/Notes`
+//! there); this crate computes them, without copying a record or an entry.
 //!
-//! `run_rules` defines the notes of a member's records and of a master's entries, the tracks of all of them, and which note comes next. `Notes` holds the tracks and hands the notes out in
-//! that order, each in a time that the number of notes does not change.
+//! `Notes::new` makes the tracks from the records of the members and the entries of the master.
+//! `Notes::take` returns the next note as a `Listed`: the `Note`, and the doubled place that is
+//! found there, if any. A take looks only at the first note of each track, so its time does not
+//! grow with the number of notes. The crate touches no file, socket, clock or thread.
+//!
+//! A contract sees `Notes` as the list of notes that are left (`order_in` of `specs/Held`).
+//!
+//! Read `src/note.rt` (`Note`), `src/tracks.rt` (tracks from records and entries), `src/order.rt`
+//! (`Notes`: which note is next), `src/falls.rt` (the least place that does not rise in its track),
+//! and `specs/Held` (how tracks are held). The proofs in the same order: `proofs/Stacks` and
+//! `Building`, `Taking`, `Falling`.
 #![tactic(auto)]
 
 mod falls;

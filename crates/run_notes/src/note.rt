@@ -1,4 +1,4 @@
-//! Notes, and the tracks that are made of them. A track is held as a list whose last note is the next one.
+//! Notes. A track of notes is held as a list whose last note is the next one.
 ghost use Rattle.std.specs.Prelude.{◌≡◌};
 ghost use Rattle.run_rules.specs.Notes.{place_in, turn_by};
 ghost use Rattle.run_notes.specs.Held.{note_of};
@@ -8,47 +8,48 @@ use node_book::NodeEntry;
 use node_rules::NodeState;
 use purge_master::MasterEntry;
 
-/// What is noted of a run.
+/// One item of a recorded run. It refers to the records and entries, and copies nothing.
 #[derive(Clone, Copy)]
 pub enum Note<'a> {
-    /// A member's record opens.
+    /// A record of a member opens.
     Opens {
         /// The member's id, as the record has it.
         node: u8,
-        /// The state in which it opens.
+        /// The member's state.
         state: &'a NodeState<()>,
     },
-    /// It has an entry.
+    /// A record of a member has an entry.
     Steps {
         /// The member's id, as the record has it.
         node: u8,
         /// The entry.
         entry: &'a NodeEntry,
-        /// Whether what its records say next tells that the node is closed behind the entry.
+        /// Whether the next item of its records tells that the node is closed after the entry.
         is_closed: bool,
-        /// The floors with which, by its records, it opens again once it is closed.
+        /// The floors with which, by its records, the node opens next; if it opens no more, those
+        /// with which this record closes.
         kept: &'a Floors,
     },
-    /// It closes.
+    /// A record of a member closes.
     Closes {
         /// The member's id, as the record has it.
         node: u8,
-        /// The place of the record's last entry, 0 where it has none.
+        /// The place of the record's last entry, 0 if it has none.
         place: u64,
-        /// The state in which it closes.
+        /// The member's state.
         state: &'a NodeState<()>,
     },
     /// The master's list has an entry.
     Calls {
         /// The entry.
         entry: &'a MasterEntry,
-        /// Whether what the list says next tells that the master is closed behind the entry.
+        /// Whether the next entries tell that the master is closed after this one.
         is_closed: bool,
     },
 }
 
 impl Note<'_> {
-    /// Its place, if it has one: an opening and a closing have none.
+    /// Returns the note's place. An opening and a closing have none.
     pub fn place(&self) -> Option<u64>
         ensures { result ≡ place_in (note_of self.now) }
     {
@@ -59,7 +60,7 @@ impl Note<'_> {
         }
     }
 
-    /// Its turn: 0 is at once, and else it is one more than its place.
+    /// Returns the note's turn: 0 (at once) if it has no place, else its place plus 1.
     pub(crate) fn turn(&self) -> u128
         ensures { result ≡ turn_by (place_in (note_of self.now)) }
     {

@@ -1,4 +1,5 @@
-//! Which note comes next: an opening or a closing at once, else the entry of the least place; of several the one of the first track.
+//! Which note comes next: an opening or a closing at once, else the entry with the least place. If
+//! several tracks have it, the one of the first track.
 ghost use Rattle.std.specs.Prelude.{◌≡◌, ◌≤◌, ◌<◌, ◌∷◌, [], length, nat_le, Some, None, MatchOption, IfSome, IfOk, if◌then◌else◌};
 ghost use Rattle.run_rules.specs.Notes.{turn_of as turn_of_track, turns_of, least, count_of, tracks_of};
 ghost use Rattle.run_rules.specs.Verdict.{double_by, order_of};
@@ -11,25 +12,27 @@ use node_book::Record;
 use purge_master::MasterEntry;
 use std::alloc::{AllocError, Global};
 
-/// A note in its turn.
+/// A note that was taken.
 #[derive(Clone, Copy)]
 pub struct Listed<'a> {
     /// The note.
     pub note: Note<'a>,
-    /// The place that is doubled there, if one is.
+    /// The doubled place that is found at this note, if any: one that is not greater than the one
+    /// before it in its track, and not later than this note's; or this note's own, if two tracks
+    /// have it.
     pub double: Option<u64>,
 }
 
-/// The notes of a run that are left, each in its turn.
+/// The notes of a run that are not taken yet.
 ///
-/// A contract sees them as a list, by `order_in`.
+/// A contract sees them as a list in their order, by `order_in`.
 #[derive(Drop)]
 pub struct Notes<'a> {
     tracks: Vec<Vec<Note<'a>>>,
     fall: Option<u64>,
 }
 
-/// The turn of the first note of a track, if there is one.
+/// The turn of the next note of a track, if there is one.
 fn turn_of(track: &[Note<'_>]) -> Option<u128>
     ensures { result ≡ turn_of_track (track_of track.now) }
 {
@@ -39,7 +42,7 @@ fn turn_of(track: &[Note<'_>]) -> Option<u128>
     }
 }
 
-/// The least of the tracks' turns, if there is one.
+/// The least turn of all tracks, if there is one.
 fn least_turn(tracks: &[Vec<Note<'_>>]) -> Option<u128>
     ensures { result ≡ least (turns_of (tracks_in tracks.now)) }
 {
@@ -53,7 +56,7 @@ fn least_turn(tracks: &[Vec<Note<'_>>]) -> Option<u128>
     }
 }
 
-/// Where the first track stands that has this turn.
+/// The index of the first track that has this turn, if any.
 fn place_at(tracks: &[Vec<Note<'_>>], turn: u128) -> Option<usize>
     ensures place { result ≡ place_of_turn turn (tracks_in tracks.now) }
     ensures below { IfSome result (λ place. place < length tracks.now) }
@@ -90,7 +93,8 @@ fn count_at(tracks: &[Vec<Note<'_>>], turn: u128) -> usize
     }
 }
 
-/// The place that is doubled at a note of this place: one that does not rise and is no later, or its own where two tracks have it.
+/// The doubled place that is found at a note with this place: the least fall if it is not later, or
+/// its own if two tracks have it (`is_shared`).
 fn double_at(fall: Option<u64>, is_shared: bool, place: Option<u64>) -> Option<u64>
     ensures { result ≡ double_by fall is_shared place }
 {
@@ -103,7 +107,10 @@ fn double_at(fall: Option<u64>, is_shared: bool, place: Option<u64>) -> Option<u
 }
 
 impl<'a> Notes<'a> {
-    /// The notes of these records and entries.
+    /// All notes of these records and entries. Records of one node must stand in the order in which
+    /// they were kept.
+    ///
+    /// Fault: an allocation failed.
     pub fn new(
         alloc: Global,
         records: &'a [Record],
@@ -116,7 +123,7 @@ impl<'a> Notes<'a> {
         Ok(Notes { tracks, fall })
     }
 
-    /// Takes the note that comes next; none where all are taken. It takes no memory.
+    /// Takes the next note; `None` if all are taken. Allocates nothing.
     pub fn take(&mut self) -> Option<Listed<'a>>
         ensures { MatchOption result (order_in self.old ≡ []) (λ listed. order_in self.old ≡ listed_of listed ∷ order_in self.new) }
     {

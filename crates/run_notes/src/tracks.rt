@@ -1,4 +1,4 @@
-//! What is kept of a run, cut into tracks.
+//! The tracks of a run, from its records and entries. Each is built from its end.
 ghost use Rattle.std.specs.Prelude.{◌≡◌, ◌∷◌, ◌++◌, ◌==◌, [], not, filter, OnOk, IfOk};
 ghost use Rattle.run_rules.specs.Notes.{is_closed_answer as is_answer_of_closed, steps_of, last_place as last_place_of, record_notes, notes_of_all, is_of, is_status as is_status_of, is_shut_answer as is_answer_of_shut, is_shut_by, calls_of, nodes_in as nodes_of, tracks_of};
 ghost use Rattle.run_notes.specs.Held.{track_of, tracks_in};
@@ -11,14 +11,15 @@ use purge_master::MasterEntry;
 use purge_rules::{MasterAnswer, MasterCall, MasterFault};
 use std::alloc::{AllocError, Global};
 
-/// Whether this is the answer of a closed node.
+/// Whether a step was refused because the node is closed.
 fn is_closed_answer(outcome: &Result<Reply<()>, StepFault>) -> bool
     ensures { result ≡ is_answer_of_closed outcome.now }
 {
     matches!(outcome, Err(StepFault::Closed))
 }
 
-/// Puts the notes of entries before those of a track.
+/// Puts the notes of entries before those of a track. `is_closing` says whether the record closes
+/// with a closed node.
 fn push_steps<'a>(
     track: &mut Vec<Note<'a>>,
     node: u8,
@@ -42,7 +43,7 @@ fn push_steps<'a>(
     Ok(())
 }
 
-/// The place of the last entry, 0 where there is none.
+/// The place of the last entry, 0 if there is none.
 fn last_place(entries: &[NodeEntry]) -> u64
     ensures { result ≡ last_place_of 0 entries.now }
 {
@@ -52,7 +53,8 @@ fn last_place(entries: &[NodeEntry]) -> u64
     }
 }
 
-/// Puts a record's notes before those of a track. The node opens with these floors once the record is behind it.
+/// Puts a record's notes before those of a track. `kept` are the floors with which the node next
+/// opens after the record.
 fn push_record<'a>(
     track: &mut Vec<Note<'a>>,
     record: &'a Record,
@@ -98,21 +100,22 @@ fn node_track<'a>(
     Ok(track)
 }
 
-/// Whether the call asks how far a purge is.
+/// Whether a call asks for a purge's status.
 fn is_status(call: &MasterCall) -> bool
     ensures { result ≡ is_status_of call.now }
 {
     matches!(call, MasterCall::Status(_))
 }
 
-/// Whether this is the answer of a closed master.
+/// Whether a call was refused because the master is closed.
 fn is_shut_answer(answer: &Result<MasterAnswer, MasterFault>) -> bool
     ensures { result ≡ is_answer_of_shut answer.now }
 {
     matches!(answer, Err(MasterFault::Closed))
 }
 
-/// Whether a master is closed whose list goes on with this entry, and, where the entry tells nothing of it, is closed behind it.
+/// Whether the master is closed before this entry. A status tells nothing; then `later` decides,
+/// which says whether it is closed after the entry.
 fn is_shut_before(entry: &MasterEntry, later: bool) -> bool
     ensures { result ≡ is_shut_by (is_status_of entry.now.call) entry.now.answer later }
 {
@@ -137,14 +140,14 @@ fn master_track<'a>(alloc: Global, entries: &'a [MasterEntry]) -> Result<Vec<Not
     Ok(track)
 }
 
-/// Drops a node from these.
+/// Drops an id from a list.
 fn drop_node(nodes: &mut Vec<u8>, node: u8)
     ensures { nodes.new.items ≡ filter (λ id. not (id == node)) nodes.old.items }
 {
     nodes.retain(|other| *other != node);
 }
 
-/// The nodes that have records, in the order in which they first come.
+/// The nodes that have records, each once, in the order of their first records.
 fn nodes_in(alloc: Global, records: &[Record]) -> Result<Vec<u8>, AllocError>
     ensures { IfOk result (λ nodes. nodes.items ≡ nodes_of records.now) }
 {
@@ -157,7 +160,7 @@ fn nodes_in(alloc: Global, records: &[Record]) -> Result<Vec<u8>, AllocError>
     Ok(nodes)
 }
 
-/// All tracks: those of the nodes, and the master's.
+/// All tracks: those of the nodes, then the master's.
 pub(crate) fn tracks<'a>(
     alloc: Global,
     records: &'a [Record],

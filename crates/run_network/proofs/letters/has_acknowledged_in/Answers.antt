@@ -1,3 +1,5 @@
+-- The loop finds the response at some index, or none is it so far, and so none at the end
+-- (Finding).
 use Rattle.std.proofs.Common.{refl, sym, ◌∙◌, arith}
 use Rattle.node_rules.proofs.Cases.{true_not_false}
 use Rattle.run_network.specs.declared.letters.Acknowledgement.{Acknowledgement}

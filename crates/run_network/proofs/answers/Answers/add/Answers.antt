@@ -1,3 +1,4 @@
+-- A response that is found under its print is held already; else it is put under that print.
 use Rattle.std.proofs.Common.{◌≡◌, refl, ◌∙◌, ap, subst}
 use Rattle.fetch_messages.specs.Answer.{AnswerText}
 use Rattle.run_rules.specs.Sent.{SentAnswer, text_of}

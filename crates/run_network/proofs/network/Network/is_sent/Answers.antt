@@ -1,3 +1,4 @@
+-- For each kind of event, what is held is exactly what was sent (Holds), so the look-up decides.
 use Rattle.std.proofs.Common.{◌≡◌, ◌↔◌, ℕ, Bool, true, subst, sym, ◌∙◌}
 use Rattle.std.specs.Prelude.{IsTrue}
 use Rattle.roster_tables.specs.declared.plain.Address.{Address}
@@ -11,7 +12,7 @@ use Rattle.run_network.specs.Held.{HasLetter, HoldsLetters}
 use Rattle.run_network.proofs.Sending.{letter}
 use Rattle.run_network.proofs.network.Network.is_sent.Goals as goal
 
--- a datagram of a member or of the master was sent where the letters have it
+-- a datagram of a member or of the master was sent exactly if it is held
 datagram_sent : (roster : Tables) (sent : Network) (letters : Letters) (node : ℕ) (from : Address) (m : Message) (now : ℕ) (b : Bool) → HoldsLetters roster letters sent.datagrams → is_own roster from ≡ true →
     IsTrue b ↔ HasLetter letters (letter from node m) → IsTrue b ↔ IsSent roster sent node (event.Datagram from m now)
 datagram_sent roster sent letters node from m now b held own has = (

@@ -1,3 +1,5 @@
+-- The least turn is a track's, so an index is found and its track has a note: the two early exits
+-- do not happen. The note that is taken is the next, by Taking.
 use Rattle.std.proofs.Common.{◌≡◌, ℕ, List, [], ◌∷◌, length, map, set, Option, Some, None, ◌<◌, nat_le, refl, sym, ◌∙◌, ap, subst, arith}
 use Rattle.std.specs.Prelude.{slice_get}
 use Rattle.std.specs.Global.{Vec}
