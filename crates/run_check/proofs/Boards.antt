@@ -1,4 +1,5 @@
--- What a note leaves of a board as it is held.
+-- What a note makes of the state that is held: the node's standing is taken out and another put in,
+-- all else stays, so the invariant holds and the board is the one that run_rules has.
 use Rattle.std.proofs.Common.{◌≡◌, ℕ, Bool, List, Ok, Err, None, sym, ◌∙◌, ap, subst}
 use Rattle.floor_rules.specs.Floors.{FloorMap}
 use Rattle.roster_tables.specs.declared.plain.Tables.{Tables}
@@ -20,7 +21,7 @@ use Rattle.run_check.proofs.Judging.{opening_judged, entry_judged}
 
 module _ (roster : Tables) (old : Held) (taken : Posts) (id : ℕ) (before : HeldStanding) (sent : Network) (board : IsBoard roster old sent)
     (stood : standing_of before ≡ standing_at (posts_of old.posts) id) (others : (s : Standing) → with_standing (posts_of taken) id s ≡ with_standing (posts_of old.posts) id s) where
-  -- a board on which the node stands so now, and all else is the same
+  -- the state in which the node's standing has changed, and all else is the same
   module _ (now : Held) (after : HeldStanding) (posts : posts_of now.posts ≡ with_standing (posts_of taken) id (standing_of after)) (seated : AreSeated roster now.posts) (ledger : now.ledger ≡ old.ledger) where
     same_board : (n : Network) → record { posts = with_standing (posts_of old.posts) id (standing_of after); master = master_of old.ledger; network = n } ≡ board_of now n
     same_board n =

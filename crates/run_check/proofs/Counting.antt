@@ -1,4 +1,5 @@
--- What an acknowledgement counts.
+-- What an acknowledgement counts: the purge that is found gets the member's mark, and ends if all
+-- members are then marked, as counted of purge_rules says.
 use Rattle.std.proofs.Common.{◌≡◌, ℕ, Bool, true, false, cond, List, [], ◌∷◌, find, Some, None, nat_eq, eqb-true, sym, ◌∙◌, ap, inl, inr}
 use Rattle.std.proofs.lemmas.Option.{none-some}
 use Rattle.purge_rules.specs.declared.purges.Purge.{Purge}
@@ -7,7 +8,7 @@ use Rattle.purge_rules.specs.Purges.{PurgeList, is_numbered, pending_at, with_ma
 use Rattle.purge_rules.specs.Calls.{Acknowledged, counted}
 use Rattle.run_rules.proofs.Lists.{either, same_some}
 
--- a purge that is found under a number has it
+-- a purge that is found under a number has that number
 found_number : (ps : List Purge) (number : ℕ) (p : Purge) → find (is_numbered number) ps ≡ Some p → p.number ≡ number
 found_number [] number p is = absurd (none-some p is)
 found_number (q ∷ ps) number p is =

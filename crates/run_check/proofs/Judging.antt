@@ -1,4 +1,5 @@
--- What a note comes to, and the verdict that follows.
+-- The judgement on a note, and the verdict that follows from it: by the definitions of run_rules,
+-- case by case.
 use Rattle.std.proofs.Common.{◌≡◌, ℕ, Bool, true, false, cond, not, ◌&&◌, List, ◌∷◌, None, Result, nat_eq, refl, sym, ◌∙◌, ap, subst, inl, inr}
 use Rattle.floor_rules.specs.Floors.{FloorMap}
 use Rattle.roster_tables.specs.declared.plain.Tables.{Tables}
@@ -62,7 +63,7 @@ call_unsent roster b e is_closed unsent = inr (inr (unsent, refl))
 
 -- The verdict
 
--- a note that may be so is followed by the verdict on the rest
+-- if a note may follow, the verdict is that on the rest
 pub goes_on : (roster : Tables) (b : Board) (l : Listed) (ls : List Listed) (next : Board) (v : Verdict) → l.double ≡ None → Judges roster b l.note (Fine next) → HasVerdict roster next ls v →
     HasVerdict roster b (l ∷ ls) v
 goes_on roster b l ls next v single judges later = subst (λ p. HasVerdictBy roster b l.note p (λ next. HasVerdict roster next ls v) v) (sym single) (inl (next, judges, later))

@@ -1,4 +1,5 @@
--- Nodes that have records, by their places.
+-- Looking up and changing a node's standing by its index is what run_rules does by its id: by
+-- induction over the nodes, whose first match both take.
 use Rattle.std.proofs.Common.{◌≡◌, ℕ, ◌<◌, suc, true, cond, List, [], ◌∷◌, ◌++◌, map, length, get_or, set, Option, Some, None, nat_eq, eqb-true, refl, sym, ◌∙◌, ap, subst, inl, inr, arith}
 use Rattle.std.specs.Prelude.{All, slice_get, option_map}
 use Rattle.std.proofs.lemmas.List.{map-set, map-append}
@@ -73,7 +74,7 @@ comes_last (q ∷ posts) id s none =
 own : (id : ℕ) → nat_eq id id ≡ true
 own id = grind arith
 
--- what it was before makes no difference
+-- the standing that was there before makes no difference
 pub put_over : (posts : List Post) (id : ℕ) (r s : Standing) → with_standing (with_standing posts id r) id s ≡ with_standing posts id s
 put_over [] id r s = ap (λ b. cond b (post id s ∷ []) (post id r ∷ post id s ∷ [])) (own id)
 put_over (q ∷ posts) id r s =
@@ -94,7 +95,7 @@ put_over (q ∷ posts) id r s =
 abbrev held : ℕ → HeldStanding → HeldPost
 held id s = record { id = id; standing = s }
 
--- all of these are seated
+-- the invariant holds of all of these
 abbrev pub AllSeated : Tables → List HeldPost → Type 0
 AllSeated roster posts = All (λ q. IsSound roster q.id q.standing) posts
 
@@ -102,7 +103,7 @@ module _ (posts : List HeldPost) (id at : ℕ) (p : HeldPost) (place : place_of 
   pub held_at : IsAt (map post_of posts) id at (post_of p)
   held_at = is_at (map post_of posts) id at (post_of p) place (slice_get-map post_of posts at ∙ ap (option_map post_of) (slice_get_read posts (length posts) at p refl below read))
 
-  -- it stands so now
+  -- the node has this standing now
   pub put_there : (s : HeldStanding) → map post_of (set posts at (record { id = p.id; standing = s })) ≡ with_standing (map post_of posts) id (standing_of s)
   put_there s =
       map-set post_of posts at (held p.id s)

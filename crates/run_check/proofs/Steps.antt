@@ -1,4 +1,5 @@
--- A step of a node over floors in memory.
+-- A step of a node over floors in memory. Its store never fails, so without want of memory it is
+-- the function's step; a copy of an event is equal to it; and after it the store has the floors.
 use Rattle.std.proofs.Common.{◌≡◌, ◌≢◌, ℕ, List, Option, true, false, refl, sym, ◌∙◌, ap, Result, Ok, Err, inl, inr, arith}
 use Rattle.floor_rules.specs.Floors.{FloorMap}
 use Rattle.floor_rules.specs.Store.{HaveRisen}
@@ -28,7 +29,7 @@ NodeHere = NodeText (Unit {0}) FloorMap
 abbrev Outcome : Type 0
 Outcome = Result (Reply (Unit {0})) StepFault
 
--- where neither memory nor the store fails, the step is the function's
+-- if neither memory nor the store fails, the step is the function's
 by_function : {X : Type 0} (g : Setting) (s : NodeState X) (e : Event X) (mark : X) (outcome : Result (Reply X) StepFault) (next : NodeState X) →
     outcome ≢ Err fault.NoMemory → outcome ≢ Err fault.StoreFault → Steps g s e mark outcome next → step g s e mark ≡ record { state = next; outcome = outcome }
 by_function g s e mark (Ok reply) next memory store steps = steps
@@ -54,14 +55,14 @@ stepped roster id before after e outcome seated cause steps memory =
     ap (λ g. step g before.state e tt) (sym (same_setting roster id before seated))
     ∙ by_function (setting_of before key_of) before.state e tt outcome after.state memory (never_fails outcome cause) (steps key_of gives_keys)
 
--- also where the event that it took is a copy
+-- also if the event that it took is a copy
 pub copy_stepped : (roster : Tables) (id : ℕ) (before after : NodeHere) (e copy : Event (Unit {0})) (outcome : Outcome) → copy ≡ e → IsSeated roster id before → FailsWithCause (Unit {0}) (HaveRisen 0 0) outcome →
     ((key_of : List ℕ → Option (List ℕ)) → GivesKeys key_of → Steps (setting_of before key_of) before.state copy tt outcome after.state) → outcome ≢ Err fault.NoMemory →
     step (setting roster id) before.state e tt ≡ record { state = after.state; outcome = outcome }
 copy_stepped roster id before after e copy outcome same seated cause steps memory =
     ap (λ x. step (setting roster id) before.state x tt) (sym same) ∙ stepped roster id before after copy outcome seated cause steps memory
 
--- it is open behind it, and its store has its floors
+-- the node is open after it, and its store has its floors
 pub seated_after : (roster : Tables) (id : ℕ) (before after : NodeHere) (e : Event (Unit {0})) (outcome : Outcome) → IsSeated roster id before → IsSameMember before after →
     step (setting roster id) before.state e tt ≡ record { state = after.state; outcome = outcome } → IsTied after.state.closed after.state.floors true (Unit {0}) after.store → IsSeated roster id after
 seated_after roster id before after e outcome seated same is tied =

@@ -1,4 +1,4 @@
--- Where a run stands, as it is held.
+-- How the checker holds the state of a run, and what a note makes of it.
 use Rattle.std.specs.Prelude.{◌≡◌, ℕ, All, not, ◌&&◌, ◌==◌, List, [], ◌∷◌, map, Option, Some, None, if◌then◌else◌}
 use Rattle.roster_tables.specs.declared.plain.Tables.{Tables}
 use Rattle.purge_rules.specs.Members.{members_of}
@@ -14,36 +14,40 @@ use Rattle.run_check.specs.declared.board.Posts.{Posts}
 use Rattle.run_check.specs.declared.board.Board.{Board as Held}
 use Rattle.run_check.specs.Held.{standing_of, IsSound, master_of}
 
+-- a node's id and standing, as run_rules has them
 abbrev pub post_of : HeldPost → Post
 post_of p = record { id = p.id; standing = standing_of p.standing }
 
+-- all nodes, as run_rules has them
 abbrev pub posts_of : Posts → List Post
 posts_of p = map post_of p.posts.items
 
--- the place of the first of these that has this id
+-- the index of the first of these with this id, if any
 abbrev pub place_of : ℕ → List Post → Option ℕ
 place_of id [] = None
 place_of id (p ∷ ps) = place_in_rest (p.id == id) (place_of id ps)
 
--- each open node is that of its id, and its store has its floors
+-- each open node is the member's with its id, and its store has its floors
 abbrev pub AreSeated : Tables → Posts → Type 0
 AreSeated roster p = All (λ q. IsSound roster q.id q.standing) p.posts.items
 
--- the board, where the network is this one
+-- the state of the run, with this network
 abbrev pub board_of : Held → Network → Board
 board_of b sent = record { posts = posts_of b.posts; master = master_of b.ledger; network = sent }
 
--- what waits at a node whose record opens with this block of serials, and that stands so then: nothing where it has taken no block
+-- the network after a record of a node opens: nothing waits there if the node has taken no block of
+-- serials (the next is 1) and is not astray
 abbrev pub opened_network : Network → ℕ → ℕ → Standing → Network
 opened_network sent id next after = if (next == 1) && not (is_astray after) then without_waiting sent id else sent
 
--- what is held is in order, and holds this network
+-- the invariant: the nodes and the members are right, and this network is held
 pub record IsBoard (roster : Tables) (b : Held) (sent : Network) : Type 0 where
   pub seated : AreSeated roster b.posts
   pub members : b.ledger.members ≡ members_of roster
   pub network : Holds roster b.network sent
 
--- what the note comes to where the run stood so: it stands so now, or the note has this flaw
+-- the judgement on a note in this state of the run: it may follow, and this is held now, or it has
+-- this flaw
 abbrev pub IsJudged : Tables → Board → Note → Held → Option Cause → Type 0
 IsJudged roster before note now None = (sent : Network) × IsBoard roster now sent × Judges roster before note (Fine (board_of now sent))
 IsJudged roster before note now (Some cause) = Judges roster before note (Flawed cause)

@@ -1,4 +1,4 @@
--- How nodes and the master are held, and what becomes of them.
+-- How the checker holds nodes and the master, and what its calls make of them.
 use Rattle.std.specs.Prelude.{◌≡◌, ◌⊎◌, ℕ, Bool, true, false, ◌||◌, List, Result, Ok, Err}
 use Rattle.floor_rules.specs.Floors.{FloorMap}
 use Rattle.roster_tables.specs.declared.plain.Tables.{Tables}
@@ -20,67 +20,71 @@ use Rattle.run_check.specs.declared.ledger.Ledger.{Ledger}
 
 -- Nodes
 
+-- a node's standing, as run_rules has it
 abbrev pub standing_of : Held → Standing
 standing_of held.New = New
 standing_of (held.Open node) = Open node.state
 standing_of (held.Shut floors) = Shut floors
 standing_of held.Astray = Astray
 
--- the node is this member's and open, and its store has its floors
+-- the node is this member's, is open, and its store has its floors
 pub record IsSeated (tables : Tables) (member : ℕ) (n : NodeText (Unit {0}) FloorMap) : Type 0 where
   pub roster : n.roster ≡ tables
   pub id : n.id ≡ member
   pub is_open : n.state.closed ≡ false
   pub stored : n.store ≡ n.state.floors
 
+-- the invariant of a standing: an open node is this member's
 abbrev pub IsSound : Tables → ℕ → Held → Type 0
 IsSound roster id (held.Open node) = IsSeated roster id node
 IsSound roster id _ = Unit {0}
 
--- a step that may be so leaves the node so
+-- the same for the standing after a step without a flaw
 abbrev pub AreSound : Tables → ℕ → Result Held Cause → Type 0
 AreSound roster id (Ok standing) = IsSound roster id standing
 AreSound roster id (Err cause) = Unit {0}
 
+-- the standing after a step or its flaw, as run_rules has it
 abbrev pub stepped_of : Result Held Cause → Result Standing Cause
 stepped_of (Ok standing) = Ok (standing_of standing)
 stepped_of (Err cause) = Err cause
 
--- it starts again with these floors, if this is its state then; else it is astray
+-- the node restarts with these floors, if the state is that of a restart; else it is astray
 abbrev pub IsRestart : FloorMap → NodeState (Unit {0}) → Standing → Type 0
 IsRestart floors state after = ((state ≡ opened floors) × (after ≡ Open state)) ⊎ ((state ≡ opened floors → ⊥) × (after ≡ Astray))
 
--- a member's node that stood so stands so after its record opened in this state
+-- the standing of a member's node before and after its record opens in this state
 abbrev pub IsOpening : Standing → NodeState (Unit {0}) → Standing → Type 0
 IsOpening before state after = (OpensAs before state × (after ≡ standing_in before state)) ⊎ ((OpensAs before state → ⊥) × (after ≡ Astray))
 
--- a node that stood so stands so after its record opened in this state
+-- the standing of a node before and after its record opens in this state
 abbrev pub IsOpened : Tables → ℕ → Standing → NodeState (Unit {0}) → Standing → Type 0
 IsOpened roster id before state after =
     (((is_member roster id ≡ true) × OpensAs before state) × (after ≡ standing_in before state)) ⊎ (((is_member roster id ≡ true) × OpensAs before state → ⊥) × (after ≡ Astray))
 
 -- The master
 
+-- the master's state, as purge_rules has it
 abbrev pub master_of : Ledger → MasterState
 master_of l = record { purges = l.purges; closed = l.closed }
 
--- whether the call is answered so; if it is, the master is left so
+-- whether the call has this outcome; if it has, this is the master's state after it
 abbrev pub IsAnswered : Called → Result MasterAnswer MasterFault → MasterState → Bool → Type 0
 IsAnswered c answer next true = c ≡ record { state = next; outcome = answer }
 IsAnswered c answer next false = c.outcome ≡ answer → ⊥
 
--- whether the call may want memory; if it does, the master is left so
+-- whether the call may lack memory; if it does, this is the master's state after it
 abbrev pub IsWanting : List ℕ → MasterState → MasterCall → Bool → MasterState → Bool → Type 0
 IsWanting members m c is_closed next true =
     (m.closed ≡ false) × ((is_written members m.purges c || is_due c) ≡ true) × (next ≡ left_wanting m (is_written members m.purges c) is_closed)
 IsWanting members m c is_closed next false = (m.closed ≡ false) × ((is_written members m.purges c || is_due c) ≡ true) → ⊥
 
--- whether the store may fail at the call; if it does, the master is left so
+-- whether the store may fail at the call; if it does, this is the master's state after it
 abbrev pub IsFailing : List ℕ → MasterState → MasterCall → MasterState → Bool → Type 0
 IsFailing members m c next true = (m.closed ≡ false) × (is_written members m.purges c ≡ true) × (next ≡ closing m)
 IsFailing members m c next false = (m.closed ≡ false) × (is_written members m.purges c ≡ true) → ⊥
 
--- whether the entry may be so; if it is, the master is left so
+-- whether the entry is right; if it is, this is the master's state after it
 abbrev pub IsTaken : List ℕ → MasterState → MasterEntry → Bool → MasterState → Bool → Type 0
 IsTaken members m e is_closed next true = CallsBy members m e is_closed e.answer next
 IsTaken members m e is_closed next false = (later : MasterState) → CallsBy members m e is_closed e.answer later → ⊥

@@ -1,4 +1,4 @@
-//! Where a run stands after some of its notes.
+//! The state of a run after some of its notes, and the judgement on the next one.
 ghost use Rattle.std.specs.Prelude.{◌≡◌, ◌↔◌, ◌<◌, ℕ, [], None, map, length, IsTrue, IfSome, IfOk, OnOk};
 ghost use Rattle.std.specs.List.{list_any};
 ghost use Rattle.roster_tables.specs.declared.plain.Tables.{Tables};
@@ -30,20 +30,21 @@ use std::alloc::{AllocError, Global};
 use std::hash::RandomState;
 use std::mem::replace;
 
-/// A node that has records, and how it stands.
+/// A node that has records, and its standing.
 #[derive(Drop)]
 pub(crate) struct Post {
     pub id: u8,
     pub standing: Standing,
 }
 
-/// The nodes that have records so far, in the order in which they came.
+/// The nodes that have records so far, in the order of their first records.
 #[derive(Drop)]
 pub(crate) struct Posts {
     posts: Vec<Post>,
 }
 
-/// Where a run stands. Its nodes find their copies by hashes with these keys.
+/// The state of a run: each node's standing, the master's purges, and what was sent. `keys` are the
+/// keys of the hashes by which nodes find their copies.
 #[derive(Drop)]
 pub(crate) struct Board<'a> {
     keys: RandomState,
@@ -52,7 +53,7 @@ pub(crate) struct Board<'a> {
     network: Network<'a>,
 }
 
-/// The place of the node of this id.
+/// The index of the node with this id, if it has records.
 fn place_of(posts: &[Post], id: u8) -> Option<usize>
     ensures place { result ≡ place_in_posts id (map post_of posts.now) }
     ensures below { IfSome result (λ place. place < length posts.now) }
@@ -71,7 +72,7 @@ fn place_of(posts: &[Post], id: u8) -> Option<usize>
     }
 }
 
-/// Whether nothing is known of a node that stands so.
+/// Whether nothing is known of a node with this standing.
 fn is_astray(standing: &Standing) -> bool
     ensures { result ≡ judging.is_astray (standing_of standing.now) }
 {
@@ -89,7 +90,7 @@ fn is_any_astray(posts: &[Post]) -> bool
 }
 
 impl Posts {
-    /// No node has a record. It takes no memory.
+    /// No node has a record. Allocates nothing.
     fn new(alloc: Global) -> Posts
         ensures { posts_of result ≡ [] }
     {
@@ -98,7 +99,7 @@ impl Posts {
         }
     }
 
-    /// Whether the node of this id is astray.
+    /// Whether the node with this id is astray.
     fn is_astray(&self, id: u8) -> bool
         ensures { result ≡ judging.is_astray (standing_at (posts_of self.now) id) }
     {
@@ -108,7 +109,7 @@ impl Posts {
         }
     }
 
-    /// Takes how the node of this id stands, to be put back by `put`.
+    /// Takes out the standing of the node with this id; `put` puts one back.
     fn take(&mut self, id: u8) -> Standing
         ensures standing { standing_of result ≡ standing_at (posts_of self.old) id }
         ensures others { (standing : AStanding) → with_standing (posts_of self.new) id standing ≡ with_standing (posts_of self.old) id standing }
@@ -121,7 +122,7 @@ impl Posts {
         }
     }
 
-    /// The node of this id stands so now.
+    /// Puts the standing of the node with this id.
     fn put(&mut self, id: u8, standing: Standing) -> Result<(), AllocError>
         ensures posts { OnOk result (posts_of self.new ≡ with_standing (posts_of self.old) id (standing_of standing)) }
         ensures seated { OnOk result ((roster : Tables) → AreSeated roster self.old → IsSound roster id standing → AreSeated roster self.new) }
@@ -133,7 +134,7 @@ impl Posts {
         Ok(())
     }
 
-    /// Whether the record of the node of this id may close in this state.
+    /// Whether the record of the node with this id may close in this state.
     fn may_close(&self, id: u8, state: &NodeState<()>) -> Result<bool, AllocError>
         ensures { IfOk result (λ may. IsTrue may ↔ ClosesAs (standing_at (posts_of self.now) id) state.now) }
     {
@@ -145,7 +146,8 @@ impl Posts {
 }
 
 impl<'a> Board<'a> {
-    /// Nothing is stored and nothing is sent. Nodes find their copies, and the network what was sent, by hashes with these keys.
+    /// The state at the start of a run: nothing is stored and nothing was sent. `keys` are the keys
+    /// of the hashes of nodes and network. Allocates nothing.
     pub(crate) fn new(alloc: Global, keys: RandomState, roster: &Roster) -> Board<'a>
         ensures board { board_of result silence ≡ new_board }
         ensures holds { IsBoard roster.now result silence }
@@ -158,7 +160,7 @@ impl<'a> Board<'a> {
         }
     }
 
-    /// What an entry sends is sent; at a node that is closed nothing waits.
+    /// Adds what a node's entry sends. At a node that is closed, drops what waits.
     fn send(
         &mut self,
         alloc: Global,
@@ -181,7 +183,8 @@ impl<'a> Board<'a> {
         }
     }
 
-    /// A record opens with this block of serials, and the node stands so then: what waited there waits no more where it has taken no block.
+    /// Drops what waits at a node whose record opens, if the node has taken no block of serials
+    /// (`next` is 1) and is not astray.
     fn forget(&mut self, node: u8, next: u32, after: &Standing)
         ensures network { (roster : Tables) (sent : ANetwork) → Holds roster self.old.network sent → Holds roster self.new.network (opened_network sent node next (standing_of after.now)) }
         ensures posts { self.new.posts ≡ self.old.posts }
@@ -192,7 +195,7 @@ impl<'a> Board<'a> {
         }
     }
 
-    /// A record opens.
+    /// A record opens. A record that may not open so makes its node astray.
     fn opens(
         &mut self,
         alloc: Global,
@@ -209,14 +212,15 @@ impl<'a> Board<'a> {
         Ok(())
     }
 
-    /// Whether what comes to a node was sent before, where it comes from a member or from the master. Of a node that is astray that is not asked.
+    /// Whether what a node received was sent to it before. True for what comes from neither a
+    /// member nor the master, and for a node that is astray.
     fn is_heard(&self, roster: &Roster, node: u8, event: &Event<()>) -> bool
         ensures { (sent : ANetwork) → Holds roster.now self.now.network sent → IsTrue result ↔ judging.IsHeard roster.now (board_of self.now sent) node event.now }
     {
         self.posts.is_astray(node) || self.network.is_sent(roster, node, event)
     }
 
-    /// A node has an entry: what is wrong with it, if anything is.
+    /// A node has an entry. Returns its flaw, if it has one.
     fn steps(
         &mut self,
         alloc: Global,
@@ -242,7 +246,7 @@ impl<'a> Board<'a> {
         }
     }
 
-    /// A record closes: what is wrong with it, if anything is.
+    /// A record closes. Returns its flaw, if it has one.
     fn closes(&self, node: u8, state: &NodeState<()>) -> Result<Option<Cause>, AllocError>
         ensures { IfOk result (λ flaw. (roster : Tables) (place : ℕ) (sent : ANetwork) → IsBoard roster self.now sent → IsJudged roster (board_of self.now sent) (notes.Closes node place state.now) self.now flaw) }
     {
@@ -253,7 +257,7 @@ impl<'a> Board<'a> {
         }
     }
 
-    /// The master has an entry: what is wrong with it, if anything is.
+    /// The master has an entry. Returns its flaw, if it has one.
     fn calls(
         &mut self,
         alloc: Global,
@@ -275,7 +279,7 @@ impl<'a> Board<'a> {
         Ok(None)
     }
 
-    /// Takes a note, and tells what is wrong with it, if anything is.
+    /// Takes the next note. Returns its flaw, if it has one; nothing is promised of the state then.
     pub(crate) fn judge(
         &mut self,
         alloc: Global,
@@ -300,7 +304,7 @@ impl<'a> Board<'a> {
         }
     }
 
-    /// The verdict at the end of a run in which each note may be so.
+    /// The verdict at the end of a run in which no note has a flaw.
     pub(crate) fn ending(&self) -> Verdict
         ensures { (sent : ANetwork) → result ≡ ending_of (board_of self.now sent) }
     {
@@ -315,7 +319,7 @@ impl<'a> Board<'a> {
     }
 }
 
-/// The text of the key that a call purges, if it purges one.
+/// The text of the key that a call purges, if it issues a purge.
 fn purged(call: &MasterCall) -> Option<&[u8]>
     ensures { IsOfKey call.now }
 {

@@ -1,4 +1,4 @@
-//! The verdict on what is kept of a run.
+//! The verdict on the records and entries of a run.
 ghost use Rattle.std.specs.Prelude.{◌≡◌, IfOk};
 ghost use Rattle.run_rules.specs.Verdict.{IsVerdictOn, place_of as place_of_note};
 ghost use Rattle.run_notes.specs.Held.{note_of};
@@ -12,7 +12,7 @@ use run_rules::{Cause, Verdict};
 use std::alloc::{AllocError, Global};
 use std::hash::RandomState;
 
-/// The place under which a flaw of a note is named.
+/// The place that names a flaw of a note.
 fn place_of(note: &Note<'_>) -> u64
     ensures { result ≡ place_of_note (note_of note.now) }
 {
@@ -24,13 +24,14 @@ fn place_of(note: &Note<'_>) -> u64
     }
 }
 
-/// The verdict on what is kept of a run, the members' records and the master's entries: whether it is a run of the world of this roster, and if not, the place of the first flaw and what is
-/// wrong there.
+/// Returns the verdict on a run, by the members' records and the master's entries: `Yes` if they
+/// are a run of the model with this roster, else the first flaw and its place.
 ///
-/// A node's records come in the order in which they were kept, and records of different nodes in any order. What was sent, and each node's copies, are found by hashes with these keys,
-/// which are best random ones, so that nobody can pick texts whose look-ups are slow. It takes about as long as the members and the master took for the run.
+/// Records of one node must stand in the order in which they were kept; records of different nodes
+/// may stand in any order. `keys` are the keys of the hashes that find what was sent and the nodes'
+/// copies: use random ones, so that nobody can pick texts whose look-ups are slow.
 ///
-/// Fault: there was no memory for the check. It is never a verdict.
+/// Fault: an allocation failed. This is never a verdict.
 pub fn check_run(
     alloc: Global,
     keys: RandomState,

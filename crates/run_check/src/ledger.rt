@@ -1,4 +1,4 @@
-//! The master's purges, and its calls.
+//! The master's purges, and the replay of its calls.
 ghost use Rattle.std.specs.Prelude.{◌≡◌, ◌↔◌, ◌≤◌, true, false, option_map, IsTrue, IfOk, OnOk};
 ghost use Rattle.purge_rules.specs.declared.calls.MasterCall.TheVariants as calls;
 ghost use Rattle.purge_rules.specs.Members.{members_of};
@@ -14,13 +14,13 @@ use roster::Roster;
 use std::alloc::{AllocError, Global};
 use url_key::Key;
 
-/// The greatest number of a purge.
+/// The greatest number that a purge may have, 2^32 - 1.
 const LAST_NUMBER: u32 = 4294967295;
 
-/// What a call answers.
+/// What a call of the master returns.
 type Outcome = Result<MasterAnswer, MasterFault>;
 
-/// What the master of a roster's members stands on: its purges, and whether it is closed.
+/// The master's state: the members that it counts, its purges, and whether it is closed.
 #[derive(Drop)]
 pub(crate) struct Ledger {
     members: MemberSet,
@@ -28,14 +28,15 @@ pub(crate) struct Ledger {
     closed: bool,
 }
 
-/// Whether a call lists what is due.
+/// Whether a call asks for what is due.
 fn is_due(call: &MasterCall) -> bool
     ensures { result ≡ is_due_call call.now }
 {
     matches!(call, MasterCall::Due)
 }
 
-/// Whether an acknowledgement marks a member that was not marked, or makes a purge done.
+/// Whether an acknowledgement changes what is stored: it marks a member that was not marked, or
+/// makes a purge done.
 fn is_news(members: MemberSet, member: u8, purge: Option<&Purge>) -> bool
     ensures { result ≡ is_news_of members member (option_map (λ p. p.now) purge.entry) }
 {
@@ -45,7 +46,7 @@ fn is_news(members: MemberSet, member: u8, purge: Option<&Purge>) -> bool
     }
 }
 
-/// Whether the same is due, in the same order.
+/// Whether two lists of what is due are the same.
 fn same_due(one: &[(u32, u8)], other: &[(u32, u8)]) -> bool
     ensures { IsTrue result ↔ (one.now ≡ other.now) }
 {
@@ -67,7 +68,7 @@ fn same_answer(one: &MasterAnswer, other: &MasterAnswer) -> bool
     }
 }
 
-/// Whether two outcomes of a call are the same answer, or the same fault.
+/// Whether two outcomes of a call are the same answer or the same fault.
 fn same_outcome(one: &Outcome, other: &Outcome) -> bool
     ensures { IsTrue result ↔ (one.now ≡ other.now) }
 {
@@ -79,7 +80,7 @@ fn same_outcome(one: &Outcome, other: &Outcome) -> bool
 }
 
 impl Ledger {
-    /// Nothing was issued.
+    /// The master at the start: nothing was issued. Allocates nothing.
     pub(crate) fn new(alloc: Global, roster: &Roster) -> Ledger
         ensures members { result.members ≡ members_of roster.now }
         ensures state { master_of result ≡ opened no_purges }
@@ -91,7 +92,7 @@ impl Ledger {
         }
     }
 
-    /// Why no number is given, if none is.
+    /// Why the master would refuse to issue a purge, if it would.
     fn issue_fault(&self) -> Option<MasterFault>
         ensures { result ≡ issue_fault_of self.now.purges }
     {
@@ -123,7 +124,7 @@ impl Ledger {
         }
     }
 
-    /// A purge of the key is issued.
+    /// Issues a purge of the key, or refuses.
     fn issue(&mut self, alloc: Global, key: &Key) -> Result<Outcome, AllocError>
         requires { self.old.closed ≡ false }
         ensures called { IfOk result (λ outcome. called self.old.members (master_of self.old) (calls.Issue key.now) ≡ record { state = master_of self.new; outcome = outcome }) }
@@ -139,7 +140,8 @@ impl Ledger {
         }
     }
 
-    /// A member of the roster has acknowledged the purge of a number: the purge that is done by it, if one is.
+    /// A member of the roster has acknowledged the purge with this number. Returns the number if
+    /// the purge is now done.
     fn count(&mut self, member: u8, number: u32) -> Option<u32>
         requires { (1 ≤ member) × (member ≤ 16) }
         ensures counted { record { purges = self.new.purges; done = result } ≡ counted self.old.members self.old.purges member (pending_at self.old.purges number) }
@@ -157,7 +159,7 @@ impl Ledger {
         }
     }
 
-    /// A member responds to a CLR.
+    /// A member responds to a CLR; only a code that acknowledges counts.
     fn acknowledge(&mut self, member: u8, trans: u32, code: u8) -> Outcome
         requires { self.old.closed ≡ false }
         ensures called { called self.old.members (master_of self.old) (calls.Acknowledge member trans code) ≡ record { state = master_of self.new; outcome = result } }
@@ -169,7 +171,7 @@ impl Ledger {
         Ok(MasterAnswer::Acknowledge(None))
     }
 
-    /// How far the purge of a number is.
+    /// Returns the status of the purge with this number.
     fn status(&self, number: u32) -> Outcome
         ensures { called self.now.members (master_of self.now) (calls.Status number) ≡ record { state = master_of self.now; outcome = result } }
     {
@@ -194,7 +196,7 @@ impl Ledger {
         }
     }
 
-    /// A closed master takes a call: it still tells a status.
+    /// A closed master takes a call: it reports a status, and refuses all else.
     fn closed_call(&self, call: &MasterCall) -> Outcome
         requires { self.now.closed ≡ true }
         ensures { called self.now.members (master_of self.now) call.now ≡ record { state = master_of self.now; outcome = result } }
@@ -205,7 +207,7 @@ impl Ledger {
         }
     }
 
-    /// Takes a call, and tells whether this is what it answers.
+    /// Takes a call. Returns whether its outcome is this one.
     fn answers(
         &mut self,
         alloc: Global,
@@ -223,7 +225,8 @@ impl Ledger {
         Ok(same_outcome(&outcome, answer))
     }
 
-    /// A call wants memory, and what the master's list says next tells whether that closes it. Tells whether the call may want memory.
+    /// A call lacked memory. `is_closed` says whether the master's next entries tell that it is
+    /// closed. Returns whether the call may lack memory.
     fn wants_memory(&mut self, call: &MasterCall, is_closed: bool) -> bool
         ensures wants { IsWanting self.old.members (master_of self.old) call.now is_closed (master_of self.new) result }
         ensures members { self.new.members ≡ self.old.members }
@@ -236,7 +239,8 @@ impl Ledger {
         true
     }
 
-    /// The store fails at a call, which closes the master. Tells whether the call comes to the store.
+    /// The store failed at a call, which closes the master. Returns whether the call may reach the
+    /// store.
     fn fails(&mut self, call: &MasterCall) -> bool
         ensures fails { IsFailing self.old.members (master_of self.old) call.now (master_of self.new) result }
         ensures members { self.new.members ≡ self.old.members }
@@ -248,7 +252,8 @@ impl Ledger {
         true
     }
 
-    /// Takes the call of an entry, and tells whether it may have the entry's answer. What the master's list says next tells whether the master is closed behind it.
+    /// Takes the call of an entry. Returns whether it may have the entry's answer. `is_closed` says
+    /// whether the next entries tell that the master is closed after it.
     pub(crate) fn take(
         &mut self,
         alloc: Global,

@@ -1,4 +1,4 @@
-//! Records open and close.
+//! A node's record opens or closes.
 ghost use Rattle.std.specs.Prelude.{◌≡◌, ◌↔◌, true, IsTrue, IfOk};
 ghost use Rattle.roster.specs.Lookups.{is_member as is_member_of};
 ghost use Rattle.run_rules.specs.Board.{Open, Shut};
@@ -15,7 +15,8 @@ use roster::Roster;
 use std::alloc::{AllocError, Global};
 use std::hash::RandomState;
 
-/// A member's node starts again with these floors, if this is its state then; else it is astray.
+/// A member's node restarts with these floors, if its recorded state is that of a restart; else it
+/// is astray.
 fn restarted(
     alloc: Global,
     keys: RandomState,
@@ -38,7 +39,7 @@ fn restarted(
     }
 }
 
-/// The record of a member opens whose node is open.
+/// A record of a member opens, and its node is open.
 fn open_goes_on(
     alloc: Global,
     keys: RandomState,
@@ -58,7 +59,7 @@ fn open_goes_on(
     }
 }
 
-/// The record of a member opens whose node has closed.
+/// A record of a member opens, and its node is closed.
 fn shut_goes_on(
     alloc: Global,
     keys: RandomState,
@@ -78,7 +79,8 @@ fn shut_goes_on(
     }
 }
 
-/// How a member's node stands as its record opens in this state: as it stood, or as it starts again with its floors; else it is astray.
+/// The standing of a member's node after its record opens in this state: the state is the node's,
+/// or that of a restart with its floors; else the node is astray.
 fn goes_on(
     alloc: Global,
     keys: RandomState,
@@ -99,7 +101,8 @@ fn goes_on(
     }
 }
 
-/// How a node stands as its record opens in this state: nothing is known of it where the roster has no such member, or where it may not open so.
+/// The standing of a node after its record opens in this state. It is astray if the roster has no
+/// such member, or if the record may not open so.
 pub(crate) fn opens(
     alloc: Global,
     keys: RandomState,
@@ -118,7 +121,7 @@ pub(crate) fn opens(
     }
 }
 
-/// Whether the record of a node that stands so may close in this state.
+/// Whether the record of a node with this standing may close in this state.
 pub(crate) fn may_close(standing: &Standing, state: &NodeState<()>) -> Result<bool, AllocError>
     ensures { IfOk result (λ may. IsTrue may ↔ ClosesAs (standing_of standing.now) state.now) }
 {

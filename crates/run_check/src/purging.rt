@@ -1,4 +1,4 @@
-//! The purge that an event brings, and the floors that are stored where it fails.
+//! The purge that an event brings, and the floors that are stored if it fails.
 ghost use Rattle.std.specs.Prelude.{◌≡◌, ◌≤◌, ℕ, IfOk, IfSome};
 ghost use Rattle.node_rules.specs.Relation.{purge_in as purge_of_event, purge_in_message, purge_meant};
 ghost use Rattle.node_core.specs.View.{HasKeyOf};
@@ -13,7 +13,7 @@ use roster::{Address, Roster};
 use std::alloc::{AllocError, Global};
 use url_key::{Key, KeyFault};
 
-/// Reads a text as a key, if it has one.
+/// Reads the key of a text, if it has one.
 fn read_key(alloc: Global, text: &[u8]) -> Result<Option<Key>, AllocError>
     ensures { IfOk result (HasKeyOf text.now) }
 {
@@ -24,14 +24,15 @@ fn read_key(alloc: Global, text: &[u8]) -> Result<Option<Key>, AllocError>
     }
 }
 
-/// The key of a text, if it has one.
+/// The key of a text, if it has one, in the words of `key_texts`.
 fn key_of(alloc: Global, text: &[u8]) -> Result<Option<Key>, AllocError>
     ensures { IfOk result (λ key. key ≡ key_of_octets text.now) }
 {
     read_key(alloc, text)
 }
 
-/// The purge that a CLR of this SPECIFIER brings, its key and its number: a good numbered one of the master.
+/// The key and number of the purge that a CLR with this SPECIFIER brings, if any: the CLR comes
+/// from the master, and its header has one number, at least 1, that is its TRANS-ID.
 fn purge_by(
     alloc: Global,
     roster: &Roster,
@@ -56,7 +57,7 @@ fn purge_by(
     }
 }
 
-/// The purge that a message brings.
+/// The key and number of the purge that a message brings, if any.
 fn purge_by_message(
     alloc: Global,
     roster: &Roster,
@@ -75,7 +76,7 @@ fn purge_by_message(
     }
 }
 
-/// The purge that an event brings, its key and its number, if it brings one.
+/// The key and number of the purge that an event brings, if any.
 pub(crate) fn purge_in(
     alloc: Global,
     roster: &Roster,
@@ -92,7 +93,8 @@ pub(crate) fn purge_in(
     }
 }
 
-/// The floors that are stored where a purge of this key and number has failed, and the node opens again with those that it kept.
+/// The floors that are stored after a purge of this key and number has failed. `kept` are the
+/// floors with which the node opens next; they tell whether the purge is in them.
 pub(crate) fn stored(
     alloc: Global,
     mut floors: MemoryFloors,

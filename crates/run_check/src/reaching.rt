@@ -1,4 +1,4 @@
-//! Whether what comes from outside comes to a read or a fetch that is pending.
+//! Whether a response of an origin or of a foreign cache reaches a read or a fetch that is pending.
 ghost use Rattle.std.specs.Prelude.{◌≡◌, ◌↔◌, IsTrue};
 ghost use Rattle.run_rules.specs.Judging.{Reaches, IsPending, is_read as is_origin_fetch, is_foreign_fetch as is_fetch_from};
 
@@ -9,7 +9,7 @@ use node_rules::{Event, Fetch};
 use roster::is_foreign;
 use url_key::Key;
 
-/// Whether a fetch is a read of the origin.
+/// Whether a fetch is an origin read.
 fn is_read(fetch: &Fetch<()>) -> bool
     ensures { result ≡ is_origin_fetch fetch.now }
 {
@@ -26,7 +26,7 @@ fn is_foreign_fetch(fetch: &Fetch<()>, cache: u8) -> bool
     }
 }
 
-/// Whether a read of the origin is pending under this serial, for this key.
+/// Whether an origin read is pending under this serial, for this key.
 fn has_read(node: &Node<(), MemoryFloors>, serial: u32, key: &Key) -> bool
     ensures { IsTrue result ↔ IsPending node.now.state serial key.now is_origin_fetch }
 {
@@ -48,7 +48,8 @@ fn has_foreign_fetch(node: &Node<(), MemoryFloors>, serial: u32, cache: u8, key:
     }
 }
 
-/// Whether an event comes to a read or a fetch that is pending, where it comes from outside.
+/// Whether a response of an origin or of a foreign cache reaches a read or a fetch that is pending.
+/// True for other events.
 pub(crate) fn reaches(node: &Node<(), MemoryFloors>, event: &Event<()>) -> bool
     ensures { IsTrue result ↔ Reaches node.now.state event.now }
 {

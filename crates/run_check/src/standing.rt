@@ -1,4 +1,4 @@
-//! How a node stands.
+//! The standing of a node: what is known of it.
 ghost use Rattle.std.specs.Prelude.{◌≡◌, true, IfOk};
 ghost use Rattle.roster.specs.Lookups.{is_member};
 ghost use Rattle.node_rules.specs.State.{opened};
@@ -11,20 +11,20 @@ use roster::Roster;
 use std::alloc::{AllocError, Global};
 use std::hash::RandomState;
 
-/// How a node stands.
+/// The standing of a node.
 #[derive(Drop)]
 pub(crate) enum Standing {
-    /// It has no record yet, and nothing, not even a floor.
+    /// It has no record yet, and holds nothing, not even a floor.
     New,
     /// It is open.
     Open(Node<(), MemoryFloors>),
-    /// It has closed, and these floors are stored.
+    /// It is closed, and these floors are stored.
     Shut(MemoryFloors),
-    /// Its record opened in a state that the run does not allow: nothing is known of it.
+    /// Its record opened in a state that the run does not allow; nothing is known of it.
     Astray,
 }
 
-/// A node that opens with these floors, and finds its copies by hashes with these keys.
+/// A node that opens with these floors. `keys` are the keys of the hashes that find its copies.
 pub(crate) fn opened_with(
     alloc: Global,
     keys: RandomState,

@@ -1,4 +1,4 @@
-//! Whether two states of a node are the same: in each field, and octet by octet.
+//! Whether two states of a node are the same, field by field and octet by octet.
 ghost use Rattle.std.specs.Prelude.{◌≡◌, ◌↔◌, true, [], IsTrue};
 ghost use Rattle.node_rules.specs.State.{opened};
 
@@ -32,7 +32,7 @@ fn same_round(one: &Round, other: &Round) -> bool
         && same_told(one.told(), other.told())
 }
 
-/// Whether two asks have the same round, or none.
+/// Whether two pending requests have the same round, or none.
 fn same_rounds(one: &Option<Round>, other: &Option<Round>) -> bool
     ensures { IsTrue result ↔ (one.now ≡ other.now) }
 {
@@ -68,7 +68,7 @@ fn same_fetch(one: &Fetch<()>, other: &Fetch<()>) -> bool
     }
 }
 
-/// Whether two asks that wait are the same.
+/// Whether two pending requests are the same.
 fn same_pending(one: &Pending<()>, other: &Pending<()>) -> bool
     ensures { IsTrue result ↔ (one.now ≡ other.now) }
 {
@@ -82,7 +82,7 @@ fn same_pending(one: &Pending<()>, other: &Pending<()>) -> bool
         && same_fetch(&one.fetch, &other.fetch)
 }
 
-/// Whether the same asks wait, in the same order.
+/// Whether the same requests are pending, in the same order.
 fn same_asks(one: &[Pending<()>], other: &[Pending<()>]) -> bool
     ensures { IsTrue result ↔ (one.now ≡ other.now) }
 {
@@ -121,7 +121,7 @@ pub(crate) fn same_state(one: &NodeState<()>, other: &NodeState<()>) -> bool
         && same_copies(one.copies.as_slice(), other.copies.as_slice())
 }
 
-/// Whether a state is that of a node as it opens with these floors.
+/// Whether a state is that of a node that has just opened with these floors.
 pub(crate) fn is_opened(state: &NodeState<()>, floors: &Floors) -> bool
     ensures { IsTrue result ↔ (state.now ≡ opened floors.now) }
 {
@@ -132,7 +132,7 @@ pub(crate) fn is_opened(state: &NodeState<()>, floors: &Floors) -> bool
         && state.floors.same(floors)
 }
 
-/// Whether a state is that of a node that has closed: with no ask pending.
+/// Whether a state is that of a closed node, with nothing pending.
 pub(crate) fn is_shut(state: &NodeState<()>) -> bool
     ensures { IsTrue result ↔ ((state.now.closed ≡ true) × (state.now.pending ≡ [])) }
 {

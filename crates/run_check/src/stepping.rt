@@ -1,4 +1,4 @@
-//! An entry of a node is played on the node itself.
+//! An entry of a node is replayed on a node of the checker.
 ghost use Rattle.std.specs.Prelude.{◌≡◌, ◌↔◌, ◌≤◌, IsTrue, IfOk, Err};
 ghost use Rattle.node_rules.specs.declared.reply.StepFault.TheVariants as fault;
 ghost use Rattle.node_rules.specs.Relation.{purge_in as purge_of_event};
@@ -21,14 +21,15 @@ use run_rules::Cause;
 use std::alloc::{AllocError, Global};
 use url_key::Key;
 
-/// Whether a step wanted memory.
+/// Whether a step lacked memory.
 fn has_wanted_memory(outcome: &Result<Reply<()>, StepFault>) -> bool
     ensures { IsTrue result ↔ (outcome.now ≡ Err fault.NoMemory) }
 {
     matches!(outcome, Err(StepFault::NoMemory))
 }
 
-/// An open node takes the step of an entry: it stands as the step leaves it where the outcome is the entry's.
+/// An open node takes the step of an entry. Returns the node after it, or `OtherReply` if the
+/// outcome is not the entry's.
 fn play(
     alloc: Global,
     roster: &Roster,
@@ -51,7 +52,7 @@ fn play(
     }
 }
 
-/// A node closes at a purge of this key and number.
+/// A node closes at a purge of this key and number. `kept` are the floors with which it next opens.
 fn closed_by(
     alloc: Global,
     roster: &Roster,
@@ -67,7 +68,8 @@ fn closed_by(
     Ok(Standing::Shut(floors))
 }
 
-/// An open node's step wanted memory: nothing changes, but at a purge it may have closed the node.
+/// An open node's step lacked memory: nothing changes, but at a purge the node may have closed
+/// (`is_closed`).
 fn wants_memory(
     alloc: Global,
     roster: &Roster,
@@ -86,7 +88,8 @@ fn wants_memory(
     }
 }
 
-/// An open node's store of floors failed: that is so at a purge alone, and closes the node.
+/// An open node's floor store failed: that comes only at a purge, and closes the node. Otherwise
+/// returns `OtherReply`.
 fn fails(
     alloc: Global,
     roster: &Roster,
@@ -104,7 +107,7 @@ fn fails(
     }
 }
 
-/// An open node has an entry.
+/// An open node has an entry, by the outcome that is recorded.
 fn open_steps(
     alloc: Global,
     roster: &Roster,
@@ -134,7 +137,7 @@ fn open_steps(
     }
 }
 
-/// A closed node has an entry: it answers that it is closed.
+/// A closed node has an entry: its outcome must be `Closed`.
 fn shut_steps(
     floors: MemoryFloors,
     outcome: &Result<Reply<()>, StepFault>,
@@ -147,7 +150,9 @@ fn shut_steps(
     }
 }
 
-/// How a node that stands so stands after an entry, or why it may not have the entry. What its records say next tells whether it is closed then, and with which floors it opens again.
+/// The standing of a node after an entry, or the entry's flaw. `is_closed` and `kept` are what the
+/// node's next records tell: whether it is closed after the entry, and with which floors it opens
+/// next.
 pub(crate) fn steps(
     alloc: Global,
     roster: &Roster,

@@ -1,3 +1,5 @@
+-- The loop's invariant: the verdict on the notes that are left is the verdict on all. A flaw or the
+-- end decides it (Judging).
 use Rattle.std.proofs.Common.{sym, subst}
 use Rattle.run_rules.specs.Verdict.{HasVerdict}
 use Rattle.run_notes.specs.Held.{note_of, listed_of, order_in}

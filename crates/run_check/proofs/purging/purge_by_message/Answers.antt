@@ -1,3 +1,4 @@
+-- By cases on the message: only an HTCP CLR brings a purge.
 use Rattle.std.proofs.Common.{◌≡◌, ℕ, Bool, sym, ◌∙◌, ap}
 use Rattle.std.proofs.lemmas.Result.{IfOk-weaker}
 use Rattle.htcp_wire.specs.declared.message.Htcp.{Htcp}

@@ -1,3 +1,5 @@
+-- The replayed step is the function's (Steps), so it has the entry's outcome exactly if the
+-- definition does.
 use Rattle.std.proofs.Common.{◌≢◌, Err, sym, ◌∙◌}
 use Rattle.std.proofs.lemmas.Bool.{false≢true}
 use Rattle.node_rules.specs.declared.reply.StepFault.TheVariants as fault

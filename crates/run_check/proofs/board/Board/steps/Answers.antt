@@ -1,3 +1,5 @@
+-- Each way through the code is one case of JudgesEntry: not sent, a flaw of the step, or the state
+-- after it (Judging, Boards).
 use Rattle.std.proofs.Common.{◌≡◌, sym, ◌∙◌, ap, subst}
 use Rattle.node_rules.specs.State.{setting}
 use Rattle.run_rules.specs.Board.{with_standing}

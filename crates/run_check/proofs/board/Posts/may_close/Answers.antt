@@ -1,3 +1,5 @@
+-- The standing at the index of the id is that of the node; without an index it is New, in which no
+-- record may close.
 use Rattle.std.proofs.Common.{◌≡◌, ◌<◌, List, length, map, Some, None, IsTrue, ◌↔◌, sym, ◌∙◌, ap, subst}
 use Rattle.std.specs.Prelude.{IfOk}
 use Rattle.std.proofs.lemmas.Bool.{false≢true}

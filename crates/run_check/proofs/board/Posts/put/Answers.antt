@@ -1,3 +1,5 @@
+-- The standing is changed at the index of the id, or a node is added at the end if the id has none
+-- (Posts).
 use Rattle.std.proofs.Common.{◌≡◌, ◌<◌, List, length, map, Some, None, sym, ◌∙◌, ap, subst}
 use Rattle.run_check.specs.declared.board.Post.{Post}
 use Rattle.run_check.specs.Boards.{post_of, place_of}

@@ -1,3 +1,5 @@
+-- The standing at the index of the id is replaced by Astray, or the node has no record (Posts).
+-- What stands there in between makes no difference to what is put back.
 use Rattle.std.proofs.Common.{◌≡◌, ◌<◌, List, length, map, Some, None, sym, ◌∙◌, ap, subst}
 use Rattle.run_check.specs.declared.board.Post.{Post}
 use Rattle.run_check.specs.Held.{standing_of, IsSound}

@@ -1,3 +1,4 @@
+-- No such purge, the last mark, or one mark more: the three cases of Counting.
 use Rattle.std.proofs.Common.{◌≡◌, Some, None, true, false, option_map, sym, ◌∙◌, ap}
 use Rattle.purge_rules.specs.Members.{with_id, are_among}
 use Rattle.purge_rules.specs.Purges.{pending_at}
