@@ -1,7 +1,7 @@
 //! The safety of purges in the words of what a running hierarchy recorded: the entries of its
-//! members and of its master. Once an entry of the master reports a purge done, no later entry of a
-//! member begins to serve a copy that was read from its origin before the purge was issued. And no
-//! entry of a sibling's request begins anything.
+//! members and of its master. Once an entry of the master reports a purge done, each copy of its key
+//! that a later entry of a member begins to serve was read from its origin after the purge was
+//! issued. And no entry of a sibling's request begins anything.
 //!
 //! This holds for each run that is a run of the model (`IsRecordedRun` of `run_rules`), which the
 //! verdict `Yes` of `run_check` shows. The crate has one law, `entries_are_safe` in `src/laws.rt`,

@@ -26,8 +26,8 @@ pub enum Note<'a> {
         entry: &'a NodeEntry,
         /// Whether the next item of its records tells that the node is closed after the entry.
         is_closed: bool,
-        /// The floors with which, by its records, the node opens next; if it opens no more, those
-        /// with which this record closes.
+        /// The floors of the next of its records that opens with an open node; if there is none,
+        /// those with which this record closes.
         kept: &'a Floors,
     },
     /// A record of a member closes.

@@ -214,7 +214,6 @@ IsOfKey (call.Issue key) = IsKey key
 IsOfKey _ = Unit {0}
 
 -- an entry of the master: whether what it received was sent, then whether its answer is right
--- the judgement on a note
 abbrev pub JudgesCall : Tables → Board → MasterEntry → Bool → Judgement → Type 0
 JudgesCall roster b e is_closed j =
     (IsCallSent roster b.network e.call × IsOfKey e.call × (next : MasterState) × CallsSo roster b.master e is_closed next × (j ≡ Fine (after_call roster b e next)))
@@ -223,6 +222,7 @@ JudgesCall roster b e is_closed j =
 
 -- All notes
 
+-- the judgement on a note, by its kind
 abbrev pub Judges : Tables → Board → Note → Judgement → Type 0
 Judges roster b (Opens id state) j = JudgesOpening roster b id state j
 Judges roster b (Steps id e is_closed kept) j = JudgesEntry roster b id e is_closed kept j

@@ -118,7 +118,7 @@ module _ {X : Type 0} (g : Setting) (s : NodeState X) (e : Event X) (mark : X) (
   unfolding go_on
   go_on_answers t on p waits now = go_to_answers t on p waits now _
 
-  -- Asks
+  -- Requests
 
   module _ (asker : Option ℕ) (ask : Ask) (now : ℕ) (asks : Asks e asker ask) (at : now ≡ moment e) where
     new_is : (round : Option RoundText) → IsAskAfter s e (s.next + 1) (new_ask s.next asker ask round)

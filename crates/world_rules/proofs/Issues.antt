@@ -1,4 +1,4 @@
--- As a run goes on, purges are only added behind those that were issued: so each keeps its number
+-- As a run goes on, purges are only added after those that were issued: so each keeps its number
 -- and its key, and their count never falls.
 use Rattle.std.proofs.Common.{◌≡◌, ℕ, ◌+◌, ◌-◌, ◌≤◌, List, ◌++◌, length, take, refl, ap, ◌∙◌, arith, length-append}
 use Rattle.std.proofs.lemmas.List.Elements.{filter_map-append}

@@ -142,7 +142,7 @@ module _ (h : Tables) (proper : IsRoster h) (past : List Step) (w : World) (line
       at_member_right (world.Answer which serial) a.receiver (NodeSteps a.receiver (event.PeerAnswer (unwrap_or serial a.serial) a.sender a.key a.answer a.mark w.clock) 0)
       (λ member. record { comes = all_item (IsSentAnswer past) w.answers which a lineage.answers is; member = member })
 
-  -- Answers from outside
+  -- Responses from outside
 
   origin_by_right : (id serial : ℕ) (answer : AnswerText) (key : List ℕ) (fetch : Fetch ℕ) → is_member h id ≡ true → IsRight h past (world.Origin id serial answer) (origin_by w id serial answer key fetch)
   origin_by_right id serial answer key (AtOrigin stamp asked mark) member = record { comes = tt; member = member }

@@ -151,7 +151,7 @@ abbrev pub strange_comes : Tables → World → Address → Address → Message 
 strange_comes roster w to sender m =
     if is_own roster sender then Refused NoSuchPacket else delivered_to w sender m (member_at roster to (protocol_of m))
 
--- Answers from outside
+-- Responses from outside
 
 -- whether this pending request fetches under this serial
 abbrev pub is_at : ℕ → Pending ℕ → Bool

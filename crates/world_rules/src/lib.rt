@@ -38,7 +38,7 @@
 //! - `copies_have_sources`: which response each served copy comes from, and its age.
 //! - `nodes_answer_what_is_asked`: a step answers the request of its event or one that waits.
 //! - `applied_events_happen`, `each_list_is_played`: the function `apply` agrees with the model,
-//!   and every list of events has a run. So the laws above are not about nothing.
+//!   and every list of events has a run, so the laws above are not vacuous.
 //!
 //! `served` and `lineage` of the first law need a roster that can be read (`IsRoster`). An event
 //! that issues a purge needs the key of a URL (`IsKey`). Which key a text has is `key_texts`'s
