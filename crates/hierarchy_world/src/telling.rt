@@ -1,4 +1,4 @@
-//! What an event visibly did, and the outcome that is told of it.
+//! What an event visibly did, and its outcome.
 ghost use Rattle.std.specs.Prelude.{◌≡◌, ◌-◌, IfOk};
 ghost use Rattle.world_rules.specs.Turn as turns;
 ghost use Rattle.world_rules.specs.Apply as applies;

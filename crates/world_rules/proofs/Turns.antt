@@ -1,6 +1,6 @@
 -- Each event keeps the invariant. What reaches a node or the master was sent rightly, by the
--- invariant; then NodeTurns or MasterTurns applies. The clock and a restart change no part of it
--- but what they lose.
+-- invariant; then NodeTurns or MasterTurns applies. The clock changes nothing that it speaks of,
+-- and a fault or a restart only loses things.
 use Rattle.std.proofs.Common.{◌≡◌, ℕ, ◌+◌, Bool, true, false, cond, ◌||◌, List, [], ◌∷◌, ◌++◌, length, Option, Some, None, Result, refl, sym, ◌∙◌, ap, subst, nat_eq, unwrap_or, arith}
 use Rattle.std.specs.Prelude.{find, is_some, option_map}
 use Rattle.url_key.specs.Key.{IsKey}

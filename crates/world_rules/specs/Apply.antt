@@ -1,5 +1,4 @@
--- What one event does if neither memory nor a floor store fails, as a function, and the outcome
--- that is told of it.
+-- What one event does if neither memory nor a floor store fails, as a function, and its outcome.
 use Rattle.std.specs.Prelude.{◌≡◌, ℕ, zero, suc, ◌+◌, ◌-◌, nat_lt, List, [], ◌∷◌, length, Option, Some, None, Result, Ok, Err, if◌then◌else◌}
 use Rattle.node_rules.specs.declared.event.Event.{Event}
 use Rattle.node_rules.specs.declared.reply.Begin.{Begin}
