@@ -1,9 +1,9 @@
--- The faults of reading and writing messages.
+-- The names of the faults of reading and writing messages.
 use Rattle.std.specs.Prelude.{List, ℕ, codes}
 use Rattle.fetch_messages.specs.declared.fault.FetchFault.{FetchFault}
 use Rattle.fetch_messages.specs.declared.fault.FetchFault.TheVariants.{Io, EndOfInput, BadHead, HeadTooLong, BadTarget, MethodNotServed, Credentials, BadBody, BodyTooLong, TooManyTurns, NoMemory}
 
--- a fault's name, as scripts print it
+-- the name of a fault, as scripts print it
 abbrev pub fetch_fault_name : FetchFault → List ℕ
 fetch_fault_name Io = codes "Io"
 fetch_fault_name EndOfInput = codes "EndOfInput"

@@ -7,21 +7,22 @@ use crate::{Body, Field, Fields};
 use std::alloc::AllocError;
 use std::marker::Model;
 
-/// The most fields that an answer keeps.
+/// The most fields that a response keeps.
 const MOST_FIELDS: usize = 56;
 
-/// The most octets that the lines of an answer's fields have together.
+/// The most octets that the lines of a response's fields have together.
 const MOST_LINES: usize = 16_000;
 
-/// The greatest age of an answer, in seconds (RFC 9111, section 1.2.2).
+/// The greatest age of a response, in seconds (RFC 9111, section 1.2.2).
 const GREATEST_AGE: u32 = 2_147_483_648;
 
-/// The most octets of a body.
+/// The most octets that a body has.
 const LONGEST_BODY: usize = 65_536;
 
-/// An answer that can be written: its type keeps that it has a text which is read as this answer.
+/// A final response that can be written and read back as the same response.
 ///
-/// A contract sees its status, fields, age, stamp and body.
+/// The invariant of the type is `is_writable` of `specs/Answer`; the laws of `peer_fetch` rest on
+/// it. A contract sees the status, fields, age, stamp and body (`AnswerText`).
 #[derive(Drop)]
 pub struct Answer {
     status: u16,
@@ -55,10 +56,17 @@ impl Model for Answer {
 }
 
 impl Answer {
-    /// The answer of these parts, or nothing where they have no text that is read as them: a status that is not
-    /// 200 to 599, a field that is not kept (`connection` and the like, or a value with a space or a tab at an
-    /// end), more than 56 fields or 16,000 octets of their lines (name, value and 4 each), an age over
-    /// 2,147,483,648 seconds, a body over 65,536 octets, or any body with the status 204 or 304. It takes no memory.
+    /// The response of these parts. It does not allocate. `None` in these cases, and in no others:
+    ///
+    /// - the status is not 200 to 599 (RFC 9110, section 15);
+    /// - a field is not one that a response keeps: its name is one that concerns one connection,
+    ///   or one that this type holds apart (`dropped_names` of `specs/Field`), or its value begins
+    ///   or ends with a space or a tab;
+    /// - there are more than 56 fields, or their lines (name, value and 4 octets each) have more
+    ///   than 16,000 octets together;
+    /// - the age is over 2,147,483,648 seconds (RFC 9111, section 1.2.2);
+    /// - the body has more than 65,536 octets, or has any octet with status 204 or 304 (RFC 9112,
+    ///   section 6.3).
     pub fn new(
         status: u16,
         fields: Fields,
@@ -95,21 +103,24 @@ impl Answer {
         self.status
     }
 
-    /// The fields that are kept, in order.
+    /// The kept fields, in order.
     pub fn fields(&self) -> &[Field]
         ensures { map field_text result.now ≡ self.now.fields }
     {
         self.fields.as_slice()
     }
 
-    /// The age that came with it, in seconds (RFC 9111, section 5.1).
+    /// The age that came with the response, in seconds, at most 2,147,483,648 (RFC 9111, section
+    /// 5.1). `None`: none came.
     pub fn age(&self) -> Option<u32>
         ensures { result ≡ self.now.age }
     {
         self.age
     }
 
-    /// The purge stamp that came with it: the greatest purge number that its sender knew when it began to read it.
+    /// The purge stamp that came with the response (`x-purge-stamp`): the greatest purge number
+    /// that the reader of the origin knew when that read began, as the sender says. `None`: none
+    /// came.
     pub fn stamp(&self) -> Option<u32>
         ensures { result ≡ self.now.stamp }
     {
@@ -123,7 +134,8 @@ impl Answer {
         self.body.as_slice()
     }
 
-    /// The octets that it counts in a store: those of the body, and of each field its name, its value and 4.
+    /// The octets that it counts in a store, at most 81,536: the body, and of each field name,
+    /// value and 4.
     pub fn size(&self) -> u64
         ensures value { result ≡ answer_size self.now }
         ensures bound { result ≤ 81536 }
@@ -132,7 +144,8 @@ impl Answer {
         (lines + self.body.len()) as u64
     }
 
-    /// An equal answer, which shares the fields and the body.
+    /// An equal response, which shares the fields and the body. `AllocError`: the owners could not
+    /// be counted.
     pub fn copy(&self) -> Result<Answer, AllocError>
         ensures { IfOk result (λ copy. copy ≡ self.now) }
     {
@@ -148,7 +161,7 @@ impl Answer {
     }
 }
 
-/// Whether the parts have a text that is read as them. The stamp may be any.
+/// Whether these parts make a response, as [`Answer::new`] says. Any stamp will do.
 fn is_writable(status: u16, fields: &[Field], age: Option<u32>, body: &[u8]) -> bool
     ensures { result ≡ has_text (record {
       status = status;
@@ -166,6 +179,7 @@ fn is_writable(status: u16, fields: &[Field], age: Option<u32>, body: &[u8]) -> 
         && is_body_of(status, body)
 }
 
+/// Whether a response may keep each of the fields.
 fn are_kept_fields(fields: &[Field]) -> bool
     ensures { result ≡ list_all may_be_kept (map field_text fields.now) }
 {
@@ -177,13 +191,15 @@ fn are_kept_fields(fields: &[Field]) -> bool
     true
 }
 
+/// Whether a response may keep the field.
 fn is_kept_field(field: &Field) -> bool
     ensures { result ≡ may_be_kept (field_text field.now) }
 {
     !is_dropped_name(field.name.as_str()) && is_trimmed(field.value.as_bytes())
 }
 
-/// Whether a name is of one connection alone (RFC 9110, section 7.6.1), or of what an answer holds apart from its fields.
+/// Whether no kept field has this name: it concerns one connection (RFC 9110, section 7.6.1), or an
+/// [`Answer`] holds what it says apart from the fields.
 fn is_dropped_name(name: &str) -> bool
     ensures { result ≡ is_dropped name.now }
 {
@@ -206,6 +222,7 @@ fn is_dropped_name(name: &str) -> bool
     )
 }
 
+/// Whether no space or tab stands at an end of the value.
 fn is_trimmed(value: &[u8]) -> bool
     ensures { result ≡ has_no_blank_end value.now }
 {
@@ -214,14 +231,14 @@ fn is_trimmed(value: &[u8]) -> bool
     !matches!(first, b' ' | b'\t') && !matches!(last, b' ' | b'\t')
 }
 
-/// Whether the fields, and their lines together, are few enough.
+/// Whether there are at most 56 fields, with at most 16,000 octets in their lines.
 fn are_few_fields(fields: &[Field]) -> bool
     ensures { result ≡ have_room (map field_text fields.now) }
 {
     fields.len() <= MOST_FIELDS && have_short_lines(fields)
 }
 
-/// Whether the lines of the fields are at most so long together.
+/// Whether the lines of the fields have at most 16,000 octets together.
 fn have_short_lines(fields: &[Field]) -> bool
     ensures { result ≡ nat_le (lines_length (map field_text fields.now)) 16000 }
 {
@@ -235,7 +252,7 @@ fn have_short_lines(fields: &[Field]) -> bool
     true
 }
 
-/// The room that is left behind a field's line.
+/// The room that is left after a field's line. `None`: the line is longer than the room.
 fn room_after(room: usize, field: &Field) -> Option<usize>
     ensures { SomeIff result (line_length (field_text field.now) ≤ room)
         (room - line_length (field_text field.now)) }
@@ -245,7 +262,7 @@ fn room_after(room: usize, field: &Field) -> Option<usize>
     room.checked_sub(4)
 }
 
-/// The octets of the fields' lines.
+/// The number of octets of the fields' lines.
 fn length_of_lines(fields: &[Field]) -> usize
     requires { lines_length (map field_text fields.now) ≤ 16000 }
     ensures { result ≡ lines_length (map field_text fields.now) }
@@ -257,7 +274,7 @@ fn length_of_lines(fields: &[Field]) -> usize
     length
 }
 
-/// The octets of a field's line: its name, its value, and 4 for `: ` and the line's end.
+/// The number of octets of a field's line: its name, its value, and 4 for `: ` and CRLF.
 fn length_of_line(field: &Field) -> usize
     requires { line_length (field_text field.now) ≤ 16000 }
     ensures { result ≡ line_length (field_text field.now) }
@@ -265,6 +282,7 @@ fn length_of_line(field: &Field) -> usize
     field.name.as_bytes().len() + field.value.len() + 4
 }
 
+/// Whether a response with this status may have this body.
 fn is_body_of(status: u16, body: &[u8]) -> bool
     ensures { result ≡ fits_status status body.now }
 {

@@ -3,21 +3,23 @@ ghost use Rattle.std.specs.Prelude.{◌≡◌, IfOk};
 use std::alloc::{AllocError, Global};
 use url_key::Key;
 
-/// What is asked of a cache or an origin: a GET of one URL (RFC 9110, section 9.3.1).
+/// A request to a cache or an origin: a GET of one URL (RFC 9110, section 9.3.1).
 #[derive(Debug, Drop, PartialEq, Eq)]
 pub struct Ask {
-    /// The URL.
+    /// The key of the URL.
     pub key: Key,
-    /// Only a stored answer is wanted (RFC 9111, section 5.2.1.7).
+    /// `only-if-cached`: the client wants a stored response only (RFC 9111, section 5.2.1.7).
     pub only_if_cached: bool,
-    /// No stored answer is wanted (RFC 9111, section 5.2.1.4).
+    /// `no-cache`: the client wants no stored response without validation (RFC 9111, section
+    /// 5.2.1.4).
     pub no_cache: bool,
-    /// The member of the hierarchy that asks, 1 to 16, where it says so.
+    /// The number of the member that sends the request (`x-purge-member`), 1 to 16. `None`: it
+    /// gives none. The type does not check the range.
     pub member: Option<u8>,
 }
 
 impl Ask {
-    /// An equal ask.
+    /// An equal request. `AllocError`: there was no memory for the key.
     pub fn copy(&self, alloc: Global) -> Result<Ask, AllocError>
         ensures { IfOk result (λ copy. copy ≡ self.now) }
     {

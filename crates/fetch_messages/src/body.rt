@@ -4,7 +4,7 @@ use bytes::Bytes;
 use std::alloc::{AllocError, Global};
 use std::marker::Model;
 
-/// The octets of a message's content (RFC 9110, section 6.4). Copies share them.
+/// The octets of a response's content (RFC 9110, section 6.4). Copies share them.
 ///
 /// A contract sees it as the list of its octets.
 #[derive(Debug, Drop)]
@@ -21,7 +21,7 @@ impl Model for Body {
 }
 
 impl Body {
-    /// The empty body. It takes no memory.
+    /// The empty body. It does not allocate.
     pub fn empty() -> Body
         ensures { result ≡ [] }
     {
@@ -30,7 +30,7 @@ impl Body {
         }
     }
 
-    /// The body of these octets, which stay where they are. It takes memory for the count of its owners.
+    /// The body of these octets, which stay where they are. It allocates the count of owners.
     pub fn from_vec(octets: Vec<u8>) -> Result<Body, AllocError>
         ensures { IfOk result (λ body. body ≡ octets.items) }
     {
@@ -38,7 +38,7 @@ impl Body {
         Ok(Body { octets })
     }
 
-    /// The body of a copy of these octets.
+    /// The body of these octets, which it copies.
     pub fn from_slice(alloc: Global, octets: &[u8]) -> Result<Body, AllocError>
         ensures { IfOk result (λ body. body ≡ octets.now) }
     {
@@ -53,7 +53,7 @@ impl Body {
         self.octets.as_slice()
     }
 
-    /// How many octets there are.
+    /// The number of octets, less than 2^63.
     pub fn len(&self) -> usize
         ensures value { result ≡ length self.now }
         ensures bound { result < 2 ^ 63 }
@@ -68,7 +68,7 @@ impl Body {
         self.octets.is_empty()
     }
 
-    /// An equal body, which shares the octets. It fails only where the owners can't be counted.
+    /// An equal body, which shares the octets. `AllocError`: the owners could not be counted.
     pub fn copy(&self) -> Result<Body, AllocError>
         ensures { IfOk result (λ copy. copy ≡ self.now) }
     {

@@ -14,39 +14,42 @@ pub enum FetchFault {
     /// The input ended before the message did (RFC 9112, section 8).
     #[error("the input ended before the message did")]
     EndOfInput,
-    /// The head is not that of a message (RFC 9112, sections 2 to 5).
+    /// The octets are not the head of such a message (RFC 9112, sections 2 to 5).
     #[error("the head is not that of a message")]
     BadHead,
-    /// The head, or the trailer of a body in chunks, has more octets or fields than are read, or the fields that an answer keeps are too many or
-    /// their lines too long.
+    /// The head, or the trailer of a chunked body, has more than 16,384 octets or 64 fields; or
+    /// the kept fields of a response are more than 56, or their lines have more than 16,000
+    /// octets.
     #[error("the head is longer than is read")]
     HeadTooLong,
-    /// The target of an ask is no key (RFC 9112, section 3.2). It is never the want of memory.
+    /// The target of a request has no key (RFC 9112, section 3.2). The inner fault is never
+    /// `NoMemory`.
     #[error("the target is no key: {0}")]
     BadTarget(KeyFault),
-    /// The method of an ask is not GET.
+    /// The method of a request is not GET.
     #[error("the method is not GET")]
     MethodNotServed,
-    /// The ask bears credentials (RFC 9110, section 11).
+    /// The request has credentials (RFC 9110, section 11).
     #[error("the ask bears credentials")]
     Credentials,
-    /// An ask has a body; or the length of an answer's body is not told in one valid way (RFC 9112, section 6), or a chunk or the trailer is none
-    /// (section 7.1).
+    /// A request has a body; or a response does not give the length of its body in one valid way
+    /// (RFC 9112, section 6); or a chunk or the trailer is malformed, or a chunk's line has more
+    /// than 256 octets (section 7.1).
     #[error("the body's framing is not valid")]
     BadBody,
     /// The body has more than 65,536 octets.
     #[error("the body is longer than 65,536 octets")]
     BodyTooLong,
-    /// The reader was called 70,000 times, and the message had not ended.
+    /// The reader was called 70,000 times and the message had not ended.
     #[error("the reader was called 70,000 times")]
     TooManyTurns,
-    /// A growth was refused.
+    /// Memory could not be allocated.
     #[error("there was no memory")]
     NoMemory,
 }
 
 impl FetchFault {
-    /// The name that scripts print.
+    /// The name of the fault, as scripts print it; it does not show the inner fault of `BadTarget`.
     pub const fn name(self) -> &'static str
         ensures { result.now ≡ fetch_fault_name self }
     {

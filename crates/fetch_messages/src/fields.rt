@@ -6,17 +6,18 @@ use std::alloc::{AllocError, AllocFailed, Global};
 use std::marker::Model;
 use std::sync::Arc;
 
-/// A field of an answer (RFC 9110, section 5).
+/// A header field of a response (RFC 9110, section 5).
 #[derive(Debug, Drop, PartialEq, Eq)]
 pub struct Field {
     /// Its name, in lower case.
     pub name: HeaderName,
-    /// Its value, without spaces or tabs at its ends where an answer holds it.
+    /// Its value. In an [`crate::Answer`] it has no space or tab at an end.
     pub value: HeaderValue,
 }
 
 impl Field {
-    /// An equal field, which shares the octets of a name that is not of the standard, and of the value.
+    /// An equal field. It shares the octets of the value, and those of a name that is not a
+    /// standard one. `AllocError`: the owners could not be counted.
     pub fn copy(&self) -> Result<Field, AllocError>
         ensures { IfOk result (λ copy. copy ≡ self.now) }
     {
@@ -26,9 +27,9 @@ impl Field {
     }
 }
 
-/// The fields of an answer, in order. Copies share them.
+/// The fields of a response, in order. Copies share them.
 ///
-/// A contract sees the list of their names and values.
+/// A contract sees it as the list of their names and values.
 #[derive(Drop)]
 pub struct Fields {
     shared: Arc<Vec<Field>>,
@@ -45,8 +46,8 @@ impl Model for Fields {
 }
 
 impl Fields {
-    /// The list of these fields. It takes memory for the count of its owners, and gives the fields back where
-    /// there is none.
+    /// The list of these fields. It allocates the count of owners. Where there is no memory, the
+    /// error gives the fields back.
     pub fn new(alloc: Global, fields: Vec<Field>) -> Result<Fields, AllocFailed<Vec<Field>>>
         ensures ok { IfOk result (λ made. made ≡ map field_text fields.items) }
         ensures value_returned { IfErr result (λ failed. failed.value ≡ fields) }
@@ -55,14 +56,14 @@ impl Fields {
         Ok(Fields { shared })
     }
 
-    /// The fields.
+    /// The fields, in order.
     pub fn as_slice(&self) -> &[Field]
         ensures { map field_text result.now ≡ self.now }
     {
         self.shared.as_slice()
     }
 
-    /// Equal fields, which are shared. It fails only where the owners can't be counted.
+    /// Equal fields, which both copies share. `AllocError`: the owners could not be counted.
     pub fn copy(&self) -> Result<Fields, AllocError>
         ensures { IfOk result (λ copy. copy ≡ self.now) }
     {
