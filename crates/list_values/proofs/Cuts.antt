@@ -1,4 +1,5 @@
--- A value is cut into its members one octet after the other.
+-- Why `member_length` cuts as `members` does: up to each place, the octets seen are the front of
+-- the first member, and the rest is cut from the state reached there.
 use Rattle.std.proofs.Common.{◌≡◌, ℕ, ◌+◌, ◌<◌, ◌≤◌, Bool, true, false, List, [], ◌∷◌, ◌++◌, length, take, drop, get_or, cond, ltb, refl, sym, ap, ◌∙◌, append_assoc, arith}
 use Rattle.std.specs.List.{onto_first}
 use Rattle.std.proofs.lemmas.Bool.{lt-ltb, le-ltb}
@@ -12,17 +13,20 @@ abbrev pub onto_front : List ℕ → List (List ℕ) → List (List ℕ)
 onto_front front [] = front ∷ []
 onto_front front (member ∷ others) = (front ++ member) ∷ others
 
+-- one more octet in the front is one more octet before the first member of the rest
 onto_front_more : (front : List ℕ) (octet : ℕ) (parts : List (List ℕ)) → onto_front (front ++ octet ∷ []) parts ≡ onto_front front (onto_first octet parts)
 onto_front_more front octet [] = refl
 onto_front_more front octet (part ∷ parts) = ap (λ (l : List ℕ). l ∷ parts) (append_assoc front (octet ∷ []) part)
 
+-- an empty front changes nothing
 onto_front-nil : (parts : List (List ℕ)) → onto_front [] ([] ∷ parts) ≡ [] ∷ parts
 onto_front-nil parts = refl
 
--- the text is cut so far, and the octet at this place stands so
+-- the loop's invariant: the text is cut up to this place, and the octet there has this state
 pub record IsCutTo (text : List ℕ) (place : ℕ) (quoting : Quoting) : Type 0 where
   pub same : onto_front (take place text) (members_from quoting (drop place text)) ≡ members text
 
+-- the same for members as they are cut
 whole : (quoting : Quoting) (text : List ℕ) → onto_front [] (members_from quoting text) ≡ members_from quoting text
 unfolding members_from
 whole quoting [] = refl
@@ -33,9 +37,12 @@ whole quoting (octet ∷ text) = first (ends_member quoting octet) octet (member
     first false octet behind [] = refl
     first false octet behind (part ∷ parts) = refl
 
+-- so it is before the first octet
 pub IsCutTo-start : (text : List ℕ) → IsCutTo text 0 Outside
 IsCutTo-start text = record { same = whole Outside text }
 
+-- the equations of `members_from`: an octet that ends no member, one that does, and the end of the
+-- text
 pub inside_member : (quoting : Quoting) (octet : ℕ) (text : List ℕ) → ends_member quoting octet ≡ false → members_from quoting (octet ∷ text) ≡ onto_first octet (members_from (quoting_after quoting octet) text)
 unfolding members_from
 inside_member quoting octet text no_end = rw (no_end, members_from) refl
@@ -63,11 +70,11 @@ IsCutTo-more text place quoting inside no_end cut =
           ∙ cut.same;
     }
 
--- the first member of a text and what stands behind it, where it has so many octets
+-- the first member, of `end` octets, and the members of what follows its comma
 abbrev pub cut_at : List ℕ → ℕ → List (List ℕ)
 cut_at text end = take end text ∷ cond (ltb end (length text)) (members (drop (end + 1) text)) []
 
--- the octet that ends the first member
+-- the loop stops at the octet that ends the first member
 pub cut_at_comma : (text : List ℕ) (place : ℕ) (quoting : Quoting) → place < length text → ends_member quoting (get_or text place 0) ≡ true → IsCutTo text place quoting → members text ≡ cut_at text place
 cut_at_comma text place quoting inside here cut =
     let octet = get_or text place 0 in
@@ -79,7 +86,7 @@ cut_at_comma text place quoting inside here cut =
     ∙ ap (onto_front front) (at_end quoting octet rest here)
     ∙ ap (λ (f : List ℕ). f ∷ members rest) (append-nil front))
 
--- a text that no comma ends has one member
+-- the loop stops at the end of the text, which is one member
 pub cut_nowhere : (text : List ℕ) (place : ℕ) (quoting : Quoting) → length text ≤ place → IsCutTo text place quoting → members text ≡ cut_at text (length text)
 cut_nowhere text place quoting past cut =
     let none : drop place text ≡ [] = drop_all place text past in

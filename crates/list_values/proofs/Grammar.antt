@@ -1,4 +1,6 @@
--- Cutting a value gives its members by the grammar, and no others.
+-- Why `members` is exact: a cut adds one octet to the first member or ends it at a comma, as the
+-- grammar does (`made`); and a value of the grammar is cut at its own commas alone, as none of its
+-- members has one (`alone`).
 use Rattle.std.proofs.Common.{◌≡◌, ℕ, Bool, true, false, not, ◌&&◌, List, [], ◌∷◌, ◌++◌, refl, sym, ap, subst, ◌∙◌}
 use Rattle.std.specs.List.{onto_first}
 use Rattle.std.proofs.lemmas.Bool.{eqb-true}
@@ -23,6 +25,7 @@ comma_first Outside octet text parts here others =
 comma_first Inside octet text parts here others = cc
 comma_first Escaped octet text parts here others = cc
 
+-- the cut gives members by the grammar
 pub made : (quoting : Quoting) (text : List ℕ) → HasMembers quoting text (members_from quoting text)
 made quoting [] = rw last_member (one [] refl)
 made quoting (octet ∷ text) = by_cases (ends_member quoting octet) refl (made Outside text) (made (quoting_after quoting octet) text)
@@ -35,16 +38,19 @@ made quoting (octet ∷ text) = by_cases (ends_member quoting octet) refl (made 
 
 -- ---- there are no others
 
+-- what an unbroken text says of its first octet and of the rest
 no_end_from : (ends rest : Bool) → (not ends && rest) ≡ true → (ends ≡ false) × (rest ≡ true)
 no_end_from true rest h = cc
 no_end_from false rest h = (refl, h)
 
+-- an unbroken text is one member
 one_member : (quoting : Quoting) (member : List ℕ) → is_unbroken quoting member ≡ true → members_from quoting member ≡ member ∷ []
 one_member quoting [] whole = last_member quoting
 one_member quoting (octet ∷ member) whole =
     let parts = no_end_from (ends_member quoting octet) _ whole in
     inside_member quoting octet member parts.0 ∙ ap (onto_first octet) (one_member (quoting_after quoting octet) member parts.1)
 
+-- the first member of a list ends at the comma after it
 first_member : (quoting : Quoting) (member value : List ℕ) → is_unbroken quoting member ≡ true → quoting_behind quoting member ≡ Outside
     → members_from quoting (member ++ comma ∷ value) ≡ member ∷ members value
 first_member quoting [] value whole out = subst (λ (q : Quoting). members_from q (comma ∷ value) ≡ [] ∷ members value) (sym out) (at_end Outside comma value refl)
@@ -52,6 +58,7 @@ first_member quoting (octet ∷ member) value whole out =
     let parts = no_end_from (ends_member quoting octet) _ whole in
     inside_member quoting octet (member ++ comma ∷ value) parts.0 ∙ ap (onto_first octet) (first_member (quoting_after quoting octet) member value parts.1 out)
 
+-- members by the grammar are those of the cut
 pub alone : (quoting : Quoting) (value : List ℕ) (parts : List (List ℕ)) → HasMembers quoting value parts → parts ≡ members_from quoting value
 alone quoting value parts (one member whole) = sym (one_member quoting member whole)
 alone quoting value parts (more member {value = rest} {others = others} whole out behind) =

@@ -1,4 +1,4 @@
--- The blanks round a text (RFC 9110, section 5.6.3).
+-- Blanks at the ends of a text (RFC 9110, section 5.6.3).
 use Rattle.std.specs.Prelude.{ℕ, ◌-◌, Bool, not, ◌||◌, ◌==◌, List, length, take, drop}
 use Rattle.std.specs.List.{position_or_len, suffix_len}
 
@@ -6,14 +6,14 @@ use Rattle.std.specs.List.{position_or_len, suffix_len}
 abbrev pub is_blank : ℕ → Bool
 is_blank octet = (octet == 32) || (octet == 9)
 
--- without the blanks at the front
+-- the text without blanks at its start
 abbrev pub trim_front : List ℕ → List ℕ
 trim_front text = drop (position_or_len (λ octet. not (is_blank octet)) text) text
 
--- without the blanks at the end
+-- the text without blanks at its end
 abbrev pub trim_end : List ℕ → List ℕ
 trim_end text = take (length text - suffix_len is_blank text) text
 
--- without the blanks at both ends
+-- the text without blanks at both ends
 abbrev pub trim : List ℕ → List ℕ
 trim text = trim_end (trim_front text)

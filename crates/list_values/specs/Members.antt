@@ -1,31 +1,35 @@
--- The members of a field's value that is a list, cut at the commas outside quoted strings (RFC 9110, sections 5.6.1 and 5.6.4).
+-- The members of a field value, cut at the commas outside quoted strings (RFC 9110, sections 5.6.1
+-- and 5.6.4).
 use Rattle.std.specs.Prelude.{ℕ, Bool, true, false, ◌==◌, List, [], ◌∷◌, if◌then◌else◌}
 use Rattle.std.specs.List.{onto_first}
 use Rattle.list_values.specs.declared.members.Quoting.{Quoting}
 use Rattle.list_values.specs.declared.members.Quoting.TheVariants.{Outside, Inside, Escaped}
 
+-- `,`
 abbrev pub comma : ℕ
 comma = 44
 
+-- `"`, which opens and closes a quoted string
 abbrev pub double_quote : ℕ
 double_quote = 34
 
+-- `\`, which in a quoted string makes the next octet stand for itself
 abbrev pub backslash : ℕ
 backslash = 92
 
--- where the octet behind this one stands: a double quote opens and closes a quoted string, and a backslash in one takes the next octet as it is
+-- the state of the octet after this one (RFC 9110, section 5.6.4)
 abbrev pub quoting_after : Quoting → ℕ → Quoting
 quoting_after Outside octet = if octet == double_quote then Inside else Outside
 quoting_after Inside octet = if octet == double_quote then Outside else (if octet == backslash then Escaped else Inside)
 quoting_after Escaped octet = Inside
 
--- a member ends at a comma outside quoted strings
+-- a member ends at this octet: a comma outside quoted strings
 abbrev pub ends_member : Quoting → ℕ → Bool
 ends_member Outside octet = octet == comma
 ends_member Inside octet = false
 ends_member Escaped octet = false
 
--- the members of a text whose first octet stands so
+-- the members of a text, given the state of its first octet
 unfoldable pub members_from : Quoting → List ℕ → List (List ℕ)
 members_from quoting [] = [] ∷ []
 members_from quoting (octet ∷ text) =

@@ -1,22 +1,22 @@
-//! A field's value that is a list, cut into its members.
+//! Cutting a field value into its members (RFC 9110, section 5.6.1).
 
 ghost use Rattle.std.specs.Prelude.{◌≡◌, ◌+◌, ◌≤◌, [], ◌∷◌, length, take, drop, nat_lt, if◌then◌else◌};
 ghost use Rattle.list_values.specs.Left.{members_left};
 ghost use Rattle.list_values.specs.Members.{members, quoting_after, ends_member as is_end};
 
-/// Where an octet of a field's value stands (RFC 9110, section 5.6.4).
+/// Whether an octet of a field value stands in a quoted string (RFC 9110, section 5.6.4).
 #[derive(Clone, Copy, Debug, PartialEq, Eq)]
 pub(crate) enum Quoting {
     /// Outside quoted strings.
     Outside,
     /// In a quoted string.
     Inside,
-    /// In a quoted string, behind a backslash that takes it as it is.
+    /// In a quoted string, after a backslash, which makes the octet stand for itself.
     Escaped,
 }
 
 impl Quoting {
-    /// Where the octet behind this one stands.
+    /// The state of the octet after this one.
     fn after(self, octet: u8) -> Quoting
         ensures { result ≡ quoting_after self octet }
     {
@@ -37,9 +37,9 @@ fn ends_member(quoting: Quoting, octet: u8) -> bool
     quoting == Quoting::Outside && octet == b','
 }
 
-/// How many octets the first member of a field's value has: those before its first comma outside quoted strings, or
-/// all where there is none (RFC 9110, sections 5.6.1 and 5.6.4). The value's other members are those of what stands
-/// behind that comma.
+/// The number of octets of the first member of a field value: those before the first comma outside
+/// quoted strings, or all where there is no such comma (RFC 9110, sections 5.6.1 and 5.6.4). The
+/// other members are those of the text after that comma.
 pub fn member_length(text: &[u8]) -> usize
     ensures within { result ≤ length text.now }
     ensures cut { members text.now ≡ take result text.now
@@ -55,15 +55,16 @@ pub fn member_length(text: &[u8]) -> usize
     text.len()
 }
 
-/// The members of a field's value, in order, with the blanks round them; an empty value has one, which is empty
-/// (RFC 9110, section 5.6.1). It takes no memory.
+/// The members of a field value, in order, with the blanks around them (RFC 9110, section 5.6.1).
+/// An empty value has one member, which is empty. It does not allocate.
 pub fn members_of(value: &[u8]) -> Members<'_>
     ensures { members_left result ≡ members value.now }
 {
     Members { text: Some(value) }
 }
 
-/// An iterator over the members of a field's value.
+/// An iterator over the members of a field value. Contracts see the members that it has still to
+/// give (`members_left` of `specs/Left`).
 #[derive(Clone, Copy, Debug)]
 pub struct Members<'a> {
     text: Option<&'a [u8]>,
