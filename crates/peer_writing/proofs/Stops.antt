@@ -1,11 +1,12 @@
--- A text of several pieces, of which one was not written whole.
+-- A text written in several pieces, one of which failed: a proper front of that piece is a proper
+-- front of the text.
 use Rattle.std.proofs.Common.{ℕ, List, ◌++◌, Option, Result}
 use Rattle.std.specs.Result.{IsErrAnd}
 use Rattle.std.proofs.lemmas.Result.{err_from_is_err_and}
 use Rattle.text_writer.specs.Writing.{AppendsProperFront, Writes}
 use Rattle.text_writer.proofs.Laws.{writes_stop}
 
--- a piece failed, so nothing behind it was written
+-- the piece failed, so nothing after it was written
 pub stops : {E : Type 0} (P : E → Type 0) (a c : Option (List ℕ)) (piece rest : List ℕ) (r : Result (Unit {0}) E) → IsErrAnd r P → AppendsProperFront a c piece → Writes a c r (piece ++ rest)
 stops P a c piece rest r failed front =
     let fault = err_from_is_err_and r failed in

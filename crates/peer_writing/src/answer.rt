@@ -9,10 +9,13 @@ use fetch_messages::{Answer, FetchFault, Field};
 use itoa::Buffer;
 use std::io::Write;
 
-/// Writes an answer: the status line with an empty reason, its fields in order, `age` and `x-purge-stamp` where it
-/// has them, `content-length` unless its status is 204 or 304, `connection: close`, `via` with the name of the cache
-/// that answers, and the body. `Io` comes where the writer failed, and is the only fault; a front of the text is
-/// written then, and not all of it. It takes no memory.
+/// Writes a response (RFC 9112, section 4): the status line with an empty reason, the kept fields
+/// in order, `age` and `x-purge-stamp` where it has them, `content-length` unless its status is
+/// 204 or 304, `connection: close`, `via: 1.1` with the name `via` of the cache that responds, and
+/// the body.
+///
+/// `via` must pass [`crate::is_name`]. The only fault is `Io`: the writer failed, and a proper
+/// front of the text was written. It does not allocate.
 pub fn write_answer<W: Write>(writer: &mut W, answer: &Answer, via: &[u8]) -> Result<(), FetchFault>
     requires { IsTrue (names_cache via.now) }
     ensures written { Writes (W.contents writer.old) (W.contents writer.new) result
@@ -60,7 +63,7 @@ fn write_status_line<W: Write>(writer: &mut W, status: u16) -> Result<(), FetchF
     )
 }
 
-/// Writes the lines of fields.
+/// Writes the lines of the kept fields, in order.
 fn write_fields<W: Write>(writer: &mut W, fields: &[Field]) -> Result<(), FetchFault>
     ensures written { Writes (W.contents writer.old) (W.contents writer.new) result
         (kept_lines (map field_text fields.now)) }
@@ -75,7 +78,7 @@ fn write_fields<W: Write>(writer: &mut W, fields: &[Field]) -> Result<(), FetchF
     Ok(())
 }
 
-/// Writes the line of a field.
+/// Writes the line of a kept field.
 fn write_kept<W: Write>(writer: &mut W, field: &Field) -> Result<(), FetchFault>
     ensures written { Writes (W.contents writer.old) (W.contents writer.new) result
         (kept_line (field_text field.now)) }
@@ -84,7 +87,7 @@ fn write_kept<W: Write>(writer: &mut W, field: &Field) -> Result<(), FetchFault>
     write_field(writer, field.name.as_bytes(), field.value.as_bytes())
 }
 
-/// Writes the numbers that an answer holds apart from its fields, and the length of its body.
+/// Writes `age`, `x-purge-stamp` and `content-length`, each where there is one.
 fn write_number_lines<W: Write>(
     writer: &mut W,
     age: Option<u32>,
@@ -100,7 +103,7 @@ fn write_number_lines<W: Write>(
     write_number(writer, b"content-length", length)
 }
 
-/// The length of a body, unless the status has none.
+/// The length of the body, as `content-length` gives it. `None`: the status is 204 or 304.
 fn told_body_length(answer: &Answer) -> Option<u32>
     ensures { result ≡ told_length answer.now }
 {

@@ -8,19 +8,21 @@ use fetch_messages::{Ask, FetchFault};
 use std::io::Write;
 use url_key::Key;
 
-/// How the target of an ask is written (RFC 9112, section 3.2).
+/// The form of a request target (RFC 9112, section 3.2).
 #[derive(Clone, Copy, Debug, PartialEq, Eq)]
 pub enum AskForm {
-    /// The whole URL, as a cache is asked (absolute-form).
+    /// The whole URL, for a cache (absolute-form, section 3.2.2).
     Absolute,
-    /// Its path and query, as an origin is asked (origin-form).
+    /// Path and query, for an origin (origin-form, section 3.2.1).
     Origin,
 }
 
-/// Writes an ask: a GET in HTTP/1.1 with the fields `host`, `cache-control` where a directive is set,
-/// `connection: close`, `via` with the name of the cache that asks, and `x-purge-member` where it is a member of
-/// the hierarchy. `Io` comes where the writer failed, and is the only fault; a front of the text is written then,
-/// and not all of it. It takes no memory.
+/// Writes a request (RFC 9112, section 3): a GET in HTTP/1.1 with `host`, `cache-control` where a
+/// directive is set, `connection: close`, `via: 1.1` with the name `via` of the cache that asks,
+/// and `x-purge-member` where the request names a member.
+///
+/// `via` must pass [`crate::is_name`]. The only fault is `Io`: the writer failed, and a proper
+/// front of the text was written. It does not allocate.
 pub fn write_ask<W: Write>(
     writer: &mut W,
     ask: &Ask,
@@ -39,7 +41,7 @@ pub fn write_ask<W: Write>(
     write(writer, b"\r\n")
 }
 
-/// Writes the request line and the host.
+/// Writes the request line and the `host` field.
 fn write_key_lines<W: Write>(writer: &mut W, form: AskForm, key: &Key) -> Result<(), FetchFault>
     ensures written { Writes (W.contents writer.old) (W.contents writer.new) result
         (key_lines form key.now) }
@@ -49,7 +51,7 @@ fn write_key_lines<W: Write>(writer: &mut W, form: AskForm, key: &Key) -> Result
     write_field(writer, b"host", key.authority())
 }
 
-/// The request target.
+/// The request target of a key, in this form.
 fn target(form: AskForm, key: &Key) -> &[u8]
     ensures { result.now ≡ target_text form key.now }
 {
@@ -59,7 +61,7 @@ fn target(form: AskForm, key: &Key) -> &[u8]
     }
 }
 
-/// The line of the directives that are set.
+/// The `cache-control` line of the directives that are set; empty where none is.
 fn cache_control(only_if_cached: bool, no_cache: bool) -> &'static [u8]
     ensures { result.now ≡ cache_control_line only_if_cached no_cache }
 {
@@ -71,7 +73,7 @@ fn cache_control(only_if_cached: bool, no_cache: bool) -> &'static [u8]
     }
 }
 
-/// The number of a member.
+/// The number of a member, as [`write_number`] takes it.
 fn number_of(member: Option<u8>) -> Option<u32>
     ensures { result ≡ member }
 {

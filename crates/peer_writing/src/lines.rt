@@ -1,4 +1,5 @@
-//! Lines of a message's head, each written whole or up to where the writer failed.
+//! Lines of a message's head (RFC 9112, section 5). A call that fails has written a proper front
+//! of its text.
 ghost use Rattle.std.specs.Prelude.{◌≡◌, ◌++◌, IfErr, decimal};
 ghost use Rattle.text_writer.specs.Writing.{Writes};
 ghost use Rattle.peer_writing.specs.Lines.{field_line, number_line, last_lines};
@@ -8,7 +9,7 @@ use itoa::Buffer;
 use std::io::Write;
 use text_writer::write_text;
 
-/// Writes a text.
+/// Writes a text. `Io`: the writer failed.
 pub(crate) fn write<W: Write>(writer: &mut W, text: &[u8]) -> Result<(), FetchFault>
     ensures written { Writes (W.contents writer.old) (W.contents writer.new) result text.now }
     ensures fault { IfErr result (λ fault. fault ≡ FetchFault.Io) }
@@ -35,7 +36,7 @@ pub(crate) fn write_three<W: Write>(
     write(writer, third)
 }
 
-/// Writes the line of a field.
+/// Writes a field line: name, `: `, value and CRLF.
 pub(crate) fn write_field<W: Write>(
     writer: &mut W,
     name: &[u8],
@@ -49,7 +50,7 @@ pub(crate) fn write_field<W: Write>(
     write_three(writer, b": ", value, b"\r\n")
 }
 
-/// Writes the line of a field that holds a number, where there is one.
+/// Writes the line of a field whose value is this number, in decimal; nothing where there is none.
 pub(crate) fn write_number<W: Write>(
     writer: &mut W,
     name: &[u8],
@@ -68,7 +69,7 @@ pub(crate) fn write_number<W: Write>(
     }
 }
 
-/// Writes the lines by which the connection closes and the cache names itself.
+/// Writes `connection: close` (RFC 9112, section 9.6) and `via` (RFC 9110, section 7.6.3).
 pub(crate) fn write_last_lines<W: Write>(writer: &mut W, via: &[u8]) -> Result<(), FetchFault>
     ensures written { Writes (W.contents writer.old) (W.contents writer.new) result
         (last_lines via.now) }

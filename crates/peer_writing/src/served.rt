@@ -1,4 +1,5 @@
-//! Writing what a cache serves, which takes no memory and copies no body.
+//! Writes what a cache serves: a stored response, or a status alone. Nothing here allocates or
+//! copies a body.
 ghost use Rattle.std.specs.Prelude.{◌≡◌, IfErr, IsTrue, [], None, map};
 ghost use Rattle.text_writer.specs.Writing.{Writes};
 ghost use Rattle.fetch_messages.specs.Field.{field_text};
@@ -14,9 +15,12 @@ use fetch_messages::{Answer, FetchFault, Field};
 use itoa::Buffer;
 use std::io::Write;
 
-/// Writes a stored answer as it is served: as `write_answer`, with this age in seconds and this stamp in place of its own. The age is
-/// written as it is: that it is at most 2,147,483,648 is the caller's to see to. `Io` comes where the writer failed, and is the only
-/// fault; a front of the text is written then, and not all of it. It takes no memory.
+/// Writes a stored response as it is served: as [`crate::write_answer`] does, but with this age in
+/// seconds and this stamp in place of its own. `None` as stamp writes no `x-purge-stamp`.
+///
+/// The age is written as it is; the caller keeps it at most 2,147,483,648 (RFC 9111, section
+/// 1.2.2). `via` must pass [`crate::is_name`]. The only fault is `Io`: the writer failed, and a
+/// proper front of the text was written. It does not allocate.
 pub fn write_served<W: Write>(
     writer: &mut W,
     answer: &Answer,
@@ -40,9 +44,12 @@ pub fn write_served<W: Write>(
     )
 }
 
-/// Writes a final status alone, 200 to 599 (RFC 9110, section 15; that it is one is the caller's to see to): no fields but
-/// `content-length: 0`, which 204 and 304 do not have, `connection: close` and `via` with the name of the cache, and an empty body. `Io`
-/// comes where the writer failed, and is the only fault; a front of the text is written then, and not all of it. It takes no memory.
+/// Writes a response of a status alone: the status line, `content-length: 0` unless the status is
+/// 204 or 304, `connection: close`, `via`, and an empty body.
+///
+/// The status is written as it is; the caller gives a final one, 200 to 599 (RFC 9110, section
+/// 15). `via` must pass [`crate::is_name`]. The only fault is `Io`: the writer failed, and a
+/// proper front of the text was written. It does not allocate.
 pub fn write_status<W: Write>(writer: &mut W, status: u16, via: &[u8]) -> Result<(), FetchFault>
     requires { IsTrue (names_cache via.now) }
     ensures written { Writes (W.contents writer.old) (W.contents writer.new) result
@@ -52,7 +59,7 @@ pub fn write_status<W: Write>(writer: &mut W, status: u16, via: &[u8]) -> Result
     write_parts(writer, status, &[], None, None, b"", via)
 }
 
-/// Writes an answer of these parts.
+/// Writes a response of these parts.
 fn write_parts<W: Write>(
     writer: &mut W,
     status: u16,
@@ -78,7 +85,7 @@ fn write_parts<W: Write>(
     write(writer, body)
 }
 
-/// Writes the numbers that an answer holds apart from its fields, and the length of its body.
+/// Writes `age`, `x-purge-stamp` and `content-length`, each where there is one.
 fn write_numbers<W: Write>(
     writer: &mut W,
     age: Option<u64>,
@@ -94,7 +101,8 @@ fn write_numbers<W: Write>(
     write_long(writer, b"content-length", length)
 }
 
-/// Writes the line of a field that holds a long number, where there is one.
+/// Writes the line of a field whose value is this number of up to 64 bits; nothing where there is
+/// none.
 fn write_long<W: Write>(writer: &mut W, name: &[u8], number: Option<u64>) -> Result<(), FetchFault>
     ensures written { Writes (W.contents writer.old) (W.contents writer.new) result
         (number_line name.now number) }
@@ -109,7 +117,7 @@ fn write_long<W: Write>(writer: &mut W, name: &[u8], number: Option<u64>) -> Res
     }
 }
 
-/// The length of a body, unless the status has none.
+/// The length of the body, as `content-length` gives it. `None`: the status is 204 or 304.
 fn length_told(status: u16, body: &[u8]) -> Option<u64>
     ensures { let answer : AnswerText = record {
       status = status;

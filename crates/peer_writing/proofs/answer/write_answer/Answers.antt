@@ -1,3 +1,5 @@
+-- Each fault is that of one piece: the pieces before it were written, and the piece itself only in
+-- part. `writes_then` passes over a piece that was written, `stops` ends at one that failed.
 use Rattle.std.proofs.Common.{◌++◌}
 use Rattle.peer_writing.specs.Lines.{crlf, last_lines}
 use Rattle.peer_writing.specs.Answer.{first_lines, number_lines, told_length}

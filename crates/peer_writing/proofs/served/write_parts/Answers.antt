@@ -1,3 +1,5 @@
+-- Each fault is that of one piece: the pieces before it were written, and the piece itself only in
+-- part. `writes_then` passes over a piece that was written, `stops` ends at one that failed.
 use Rattle.std.proofs.Common.{ℕ, List, ◌++◌, Option}
 use Rattle.std.specs.Prelude.{map}
 use Rattle.fetch_messages.specs.Field.{FieldText, field_text}
@@ -8,6 +10,7 @@ use Rattle.text_writer.proofs.Laws.{writes_then}
 use Rattle.peer_writing.proofs.Stops.{stops}
 use Rattle.peer_writing.proofs.served.write_parts.Goals as goal
 
+-- the response of these parts
 abbrev parts_of : ℕ → List FieldText → Option ℕ → Option ℕ → List ℕ → AnswerText
 parts_of status fields age stamp body = record { status = status; fields = fields; age = age; stamp = stamp; body = body }
 
