@@ -1,4 +1,5 @@
--- Numbers are read one digit after the other.
+-- Numbers read one digit at a time: a number cut to the cap at each digit is the whole number cut
+-- to the cap, and 19 digits never reach the greatest number of 64 bits.
 use Rattle.std.proofs.Common.{◌≡◌, ℕ, ◌+◌, ◌-◌, ◌*◌, ◌^◌, ◌<◌, ◌≤◌, Bool, true, false, ◌&&◌, cond, leb, List, [], ◌∷◌, length, take, get_or, min, Some, None, refl, ap, lit<, arith}
 use Rattle.std.specs.List.{list_all}
 use Rattle.std.proofs.Math.Nat.{pow-le-pow_right}
@@ -14,10 +15,11 @@ use Rattle.peer_fields.specs.Framing.{length_of}
 digit_is : (octet : ℕ) → is_ascii_digit octet ≡ true → digit_value octet ≡ octet - 48
 digit_is octet digit = grind (arith, nat_tests)
 
+-- the value of a decimal digit is below 10
 below_ten : (octet : ℕ) → is_ascii_digit octet ≡ true → digit_value octet < 10
 below_ten octet digit = grind (arith, nat_tests)
 
--- one more digit, which is counted up to the cap; most is the greatest number of 64 bits
+-- one more digit, counted up to the cap; `most` is the greatest number of 64 bits
 pub number_more : (text : List ℕ) (place cap most number : ℕ) → place < length text → cap ≤ most → is_ascii_digit (get_or text place 0) ≡ true → number ≡ min (digits_value 10 (take place text)) cap
     → min cap (min (min (number * 10) most + (get_or text place 0 - 48)) most) ≡ min (digits_value 10 (take (place + 1) text)) cap
 number_more text place cap most number inside fits digit so_far =

@@ -1,4 +1,6 @@
--- The fields of a head of the parser's grammar can be held.
+-- A kept field of a head of the parser's grammar can be held. Its name is a token, and not too
+-- long, as its line is within the limit of all kept lines; its value was trimmed by the parser, so
+-- it has no blank at an end.
 use Rattle.std.proofs.Common.{◌≡◌, ℕ, zero, suc, ◌-◌, ◌<◌, ◌≤◌, Bool, true, false, List, [], ◌∷◌, ◌++◌, length, map, get_or, reverse, refl, ap, sym, subst, ◌∙◌, arith}
 use Rattle.std.specs.Prelude.{All}
 use Rattle.std.specs.Char.{to_ascii_lowercase}
@@ -16,6 +18,7 @@ use Rattle.peer_fields.specs.Kept.{is_kept, kept_text, kept_by, kept, options_of
 
 -- ---- a trimmed value has no blank at an end
 
+-- what is left after blanks were skipped does not begin with one
 skip_ows-first : (text : List ℕ) → is_ows (get_or (skip_ows text) 0 0) ≡ false
 skip_ows-first [] = refl
 skip_ows-first (octet ∷ text) = by_test (skip_ows-first text) (is_ows octet) refl
@@ -24,7 +27,7 @@ skip_ows-first (octet ∷ text) = by_test (skip_ows-first text) (is_ows octet) r
     by_test later true blank = rw blank later
     by_test later false no_blank = rw no_blank no_blank
 
--- what was skipped
+-- the blanks that were skipped
 skip_ows-rest : (text : List ℕ) → (front : List ℕ) × (front ++ skip_ows text ≡ text)
 skip_ows-rest [] = ([], refl)
 skip_ows-rest (octet ∷ text) = by_test (skip_ows-rest text) (is_ows octet) refl
@@ -33,7 +36,7 @@ skip_ows-rest (octet ∷ text) = by_test (skip_ows-rest text) (is_ows octet) ref
     by_test (front, same) true blank = (octet ∷ front, rw blank (ap (λ (t : List ℕ). octet ∷ t) same))
     by_test later false no_blank = ([], rw no_blank refl)
 
--- the first of what is turned round is the last
+-- the last octet of a reversed text is the first of the text
 reverse-first : (text : List ℕ) → get_or (reverse text) (length (reverse text) - 1) 0 ≡ get_or text 0 0
 reverse-first [] = refl
 reverse-first (octet ∷ text) =
@@ -43,16 +46,18 @@ reverse-first (octet ∷ text) =
     let first : length (octet ∷ text) - 1 - length text ≡ 0 = omega arith in
     ap (λ (n : ℕ). get_or (reverse (octet ∷ text)) n 0) place ∙ at ∙ ap (λ (n : ℕ). get_or (octet ∷ text) n 0) first
 
+-- a trimmed text does not end with a blank
 trim_ows-last : (text : List ℕ) → is_ows (get_or (trim_ows text) (length (trim_ows text) - 1) 0) ≡ false
 unfolding trim_ows
 trim_ows-last text =
     ap is_ows (reverse-first (skip_ows (reverse (skip_ows text)))) ∙ skip_ows-first (reverse (skip_ows text))
 
--- the first octet of a front that is not empty
+-- a front that is not empty begins as the whole text does
 front_first : (front rest all : List ℕ) → front ++ rest ≡ all → is_ows (get_or all 0 0) ≡ false → is_ows (get_or front 0 0) ≡ false
 front_first [] rest all same first = refl
 front_first (octet ∷ front) rest all same first = ap (λ (t : List ℕ). is_ows (get_or t 0 0)) same ∙ first
 
+-- a trimmed text does not begin with a blank
 trim_ows-first : (text : List ℕ) → is_ows (get_or (trim_ows text) 0 0) ≡ false
 unfolding trim_ows
 trim_ows-first text =
@@ -62,6 +67,7 @@ trim_ows-first text =
     sym (reverse-append rest.0 (skip_ows (reverse behind))) ∙ ap reverse rest.1 ∙ reverse-reverse behind in
     front_first (reverse (skip_ows (reverse behind))) (reverse rest.0) behind turned (skip_ows-first text)
 
+-- so it has no blank at an end
 pub is_trimmed-trim_ows : (text : List ℕ) → is_trimmed (trim_ows text) ≡ true
 is_trimmed-trim_ows text = and_from _ _ (not_from_false _ (trim_ows-first text)) (not_from_false _ (trim_ows-last text))
 

@@ -1,4 +1,5 @@
--- Fields are kept one after the other, while there is room.
+-- Fields are kept one at a time while there is room: those kept so far and those still to be kept
+-- are, in order, the kept fields of the head, and each can stand in a response.
 use Rattle.std.proofs.Common.{◌≡◌, ℕ, ◌+◌, ◌<◌, Bool, true, false, not, ◌&&◌, leb, List, [], ◌∷◌, ◌++◌, length, map, drop, get_or, refl, ap, subst, ◌∙◌, arith}
 use Rattle.std.specs.List.{list_all}
 use Rattle.std.proofs.lemmas.Bool.{and_from, and_parts, cond-true, cond-false}
@@ -12,7 +13,7 @@ use Rattle.fetch_messages.specs.Field.{FieldText, field_text, lines_length, is_d
 use Rattle.peer_fields.specs.Fields.{fields_of}
 use Rattle.peer_fields.specs.Kept.{is_kept, kept_text, kept_by, options_of, CanBeHeld, CanBeKept}
 
--- the fields that are kept from this place on
+-- the kept fields from this place on
 abbrev pub kept_from : List (List ℕ) → List ℕ → List HeaderSpan → ℕ → List FieldText
 kept_from options window headers place = kept_by options (fields_of window (drop place headers))
 
@@ -39,7 +40,7 @@ held_at window headers place d inside can kept =
     let within : place < length (fields_of window headers) = omega (arith, length-map headers (header_bytes window)) in
     subst CanBeHeld same (can place pair within (ap (is_kept (options_of (fields_of window headers))) same ∙ kept))
 
--- so many fields with lines of so many octets have room
+-- these fields fit into room for `count` fields with lines of `octets` octets
 abbrev pub have_room : ℕ → ℕ → List FieldText → Bool
 have_room count octets fields = leb (length fields) count && leb (lines_length fields) octets
 
@@ -60,7 +61,7 @@ held_pushed fields field held is =
     ∙ list_all-append is_kept_field (map field_text fields) (field_text field ∷ [])
     ∙ and_from _ _ held (and_from _ _ is refl)
 
--- a kept field without a blank at an end may stand in an answer
+-- a kept field without a blank at an end may stand in a response
 pub may_stand : (options : List (List ℕ)) (pair : List ℕ × List ℕ) (text : FieldText) → text ≡ kept_text pair → is_kept options pair ≡ true → is_trimmed pair.1 ≡ true → is_kept_field text ≡ true
 may_stand options pair text is kept trimmed =
     let parts = and_parts (not (is_dropped_name (lowercase pair.0))) _ kept in

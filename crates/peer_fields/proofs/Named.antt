@@ -1,4 +1,5 @@
--- The fields of a name are found one after the other.
+-- The fields with one name, found one field at a time: the first field is one of them and gives
+-- its value, or it is not and the rest decides.
 use Rattle.std.proofs.Common.{◌≡◌, ℕ, suc, Bool, true, false, cond, List, [], ◌∷◌, length, map, filter, refl, ap, ◌∙◌}
 use Rattle.httparse.specs.declared.spans.HeaderSpan.{HeaderSpan}
 use Rattle.httparse.specs.Spans.{header_bytes}

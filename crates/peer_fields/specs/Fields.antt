@@ -1,26 +1,27 @@
--- The fields of a head: names and values, as they stand in its octets (RFC 9110, sections 5.1 and 5.2).
+-- The fields of a head, as names and values (RFC 9110, sections 5.1 and 5.2).
 use Rattle.std.specs.Prelude.{ℕ, Bool, nat_lt, List, map, filter, length, Option, Some, None, [], ◌∷◌}
 use Rattle.std.specs.Str.{str_eq_ignore_ascii_case}
 use Rattle.httparse.specs.Spans.{header_bytes}
 use Rattle.httparse.specs.declared.spans.HeaderSpan.{HeaderSpan}
 
--- the names and values at these places of the octets, in order; a value is without the spaces and tabs round it, where the places are those that the parser found
+-- the names and values at these places of the octets, in order; at places that the parser found, a
+-- value has no spaces or tabs around it
 abbrev pub fields_of : List ℕ → List HeaderSpan → List (List ℕ × List ℕ)
 fields_of window headers = map (header_bytes window) headers
 
--- the field has this name, in any case of letters
+-- the field has this name, in any case
 abbrev pub is_named : List ℕ → List ℕ × List ℕ → Bool
 is_named name field = str_eq_ignore_ascii_case field.0 name
 
--- a field's value
+-- the value of a field
 abbrev pub value_of : List ℕ × List ℕ → List ℕ
 value_of field = field.1
 
--- the values of the fields of a name, in order
+-- the values of the fields with this name, in order
 abbrev pub values_named : List ℕ → List (List ℕ × List ℕ) → List (List ℕ)
 values_named name fields = map value_of (filter (is_named name) fields)
 
--- there is a field of this name
+-- there is a field with this name
 abbrev pub has_field : List ℕ → List (List ℕ × List ℕ) → Bool
 has_field name fields = nat_lt 0 (length (values_named name fields))
 

@@ -1,4 +1,4 @@
--- The fields of a read answer that are kept (RFC 9110, sections 5.1, 5.5 and 7.6.1).
+-- The fields that a response keeps of those that were read (RFC 9110, sections 5.1, 5.5 and 7.6.1).
 use Rattle.std.specs.Prelude.{◌≡◌, ℕ, ◌⊎◌, Bool, not, ◌&&◌, ◌==◌, IsTrue, List, map, filter, All, codes}
 use Rattle.std.specs.List.{list_any, slice_split}
 use Rattle.std.specs.Str.{str_eq_ignore_ascii_case}
@@ -12,26 +12,28 @@ use Rattle.fetch_messages.specs.declared.fault.FetchFault.TheVariants.{BadHead, 
 use Rattle.fetch_messages.specs.Field.{FieldText, is_dropped_name, is_trimmed}
 use Rattle.peer_fields.specs.Fields.{values_named}
 
+-- `,`, which separates connection options
 abbrev pub is_comma : ℕ → Bool
 is_comma octet = octet == comma
 
--- a part of the value between commas is this name, in any case of letters, with blanks round it
+-- a part of the value between commas is this name, in any case, with blanks around it
 abbrev pub is_listed_in : List ℕ → List ℕ → Bool
 is_listed_in name value = list_any (λ part. str_eq_ignore_ascii_case (trim part) name) (slice_split is_comma value)
 
--- a value of a `connection` field names the field (RFC 9110, section 7.6.1)
+-- one of these `connection` values names the field (RFC 9110, section 7.6.1)
 abbrev pub is_of_connection : List (List ℕ) → List ℕ → Bool
 is_of_connection options name = list_any (is_listed_in name) options
 
--- a field is kept where neither its name is one of those that are dropped, nor a `connection` field names it
+-- a response keeps the field: its name is not one of the dropped names, and no `connection` value
+-- names it
 abbrev pub is_kept : List (List ℕ) → List ℕ × List ℕ → Bool
 is_kept options field = not (is_dropped_name (lowercase field.0)) && not (is_of_connection options field.0)
 
--- a field as it is kept: its name is in lower case
+-- a field as it is kept, with its name in lower case
 abbrev pub kept_text : List ℕ × List ℕ → FieldText
 kept_text field = record { name = lowercase field.0; value = field.1 }
 
--- those of the fields that are kept, where the `connection` fields have these values
+-- the kept fields, given the values of the `connection` fields
 abbrev pub kept_by : List (List ℕ) → List (List ℕ × List ℕ) → List FieldText
 kept_by options fields = map kept_text (filter (is_kept options) fields)
 
@@ -39,18 +41,19 @@ kept_by options fields = map kept_text (filter (is_kept options) fields)
 abbrev pub options_of : List (List ℕ × List ℕ) → List (List ℕ)
 options_of fields = values_named (codes "connection") fields
 
--- the fields of an answer that are kept, in order
+-- the fields that a response keeps, in order
 abbrev pub kept : List (List ℕ × List ℕ) → List FieldText
 kept fields = kept_by (options_of fields) fields
 
--- an answer can hold the field: its name is a token of at most 65,535 octets, and its value has no control octet but the tab and no blank at an end
+-- a response can hold the field: its name is a token of at most 65,535 octets, and its value has
+-- no control octet but the tab and no blank at an end (RFC 9110, sections 5.1 and 5.5)
 abbrev pub CanBeHeld : List ℕ × List ℕ → Type 0
 CanBeHeld field = IsFieldName field.0 × IsFieldValue field.1 × IsTrue (is_trimmed field.1)
 
--- an answer can hold each field that is kept
+-- a response can hold each field that it would keep
 abbrev pub CanBeKept : List (List ℕ × List ℕ) → Type 0
 CanBeKept fields = All (λ field. IsTrue (is_kept (options_of fields) field) → CanBeHeld field) fields
 
--- the faults of keeping fields
+-- the faults of `kept_fields`
 abbrev pub IsFaultOfKept : FetchFault → Type 0
 IsFaultOfKept fault = (fault ≡ HeadTooLong) ⊎ (fault ≡ BadHead) ⊎ (fault ≡ NoMemory)

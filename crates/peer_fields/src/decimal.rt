@@ -1,9 +1,10 @@
-//! Numbers in decimal.
+//! Numbers in decimal, as field values write them.
 
 ghost use Rattle.std.specs.Prelude.{◌≡◌};
 ghost use Rattle.peer_fields.specs.Decimal as spec;
 
-/// The number that a text of digits writes, or the cap where it is greater; `None`: the text is not one or more digits.
+/// The number that a text of digits writes, or the cap where the number is greater. `None`: the
+/// text is not one or more digits and nothing else.
 pub(crate) fn number_up_to(cap: u64, text: &[u8]) -> Option<u64>
     ensures { result ≡ spec.number_up_to cap text.now }
 {
@@ -21,7 +22,8 @@ pub(crate) fn number_up_to(cap: u64, text: &[u8]) -> Option<u64>
     Some(number)
 }
 
-/// The number from `least` to `most` that a text of digits without a leading zero writes.
+/// The number that a text of digits without leading zeros writes. `None`: the text is not that, or
+/// the number is not from `least` to `most`.
 pub(crate) fn plain_number(least: u32, most: u32, text: &[u8]) -> Option<u32>
     ensures { result ≡ spec.plain_number least most text.now }
 {
@@ -36,7 +38,7 @@ pub(crate) fn plain_number(least: u32, most: u32, text: &[u8]) -> Option<u32>
     }
 }
 
-/// Whether a zero stands first, and other octets behind it.
+/// Whether a zero stands first and more octets follow.
 fn has_leading_zero(text: &[u8]) -> bool
     ensures { result ≡ spec.has_leading_zero text.now }
 {

@@ -1,4 +1,4 @@
-//! The fields of one name.
+//! The fields of one name, and their values.
 
 ghost use Rattle.std.specs.Prelude.{◌≡◌, length, option_copied};
 ghost use Rattle.httparse.specs.Spans.{span_bytes, header_bytes};
@@ -8,11 +8,11 @@ ghost use Rattle.peer_fields.specs.Left.{values_left};
 
 use httparse::spans::{HeaderSpan, Span};
 
-/// How many fields have this name, in any case of letters (RFC 9110, section 5.1).
+/// The number of fields with this name, in any case (RFC 9110, section 5.1).
 ///
-/// `headers` are the places of a head's fields in the octets `window`, as `httparse::spans` finds them. A place that
-/// lies beyond the octets, or whose end lies before its start, counts as the part of it that is there. It is the same
-/// for all functions of this crate.
+/// `headers` are the places of a head's fields in the octets `window`, as `httparse::spans` finds
+/// them. Of a place that reaches beyond the octets, the part within them counts; a place that ends
+/// before it starts is empty. This holds for all functions of this crate.
 pub fn count_named(window: &[u8], headers: &[HeaderSpan], name: &[u8]) -> usize
     ensures { result ≡ length (values_named name.now (fields_of window.now headers.now)) }
 {
@@ -22,14 +22,15 @@ pub fn count_named(window: &[u8], headers: &[HeaderSpan], name: &[u8]) -> usize
         .count()
 }
 
-/// The value of the first field of this name, in any case of letters; `None`: there is no such field.
+/// The value of the first field with this name, in any case. `None`: there is no such field.
 pub fn first_named<'w>(window: &'w [u8], headers: &[HeaderSpan], name: &[u8]) -> Option<&'w [u8]>
     ensures { option_copied result ≡ first_of (values_named name.now (fields_of window.now headers.now)) }
 {
     all_named(window, headers, name).next()
 }
 
-/// The value of the one field of this name, in any case of letters; `None`: there is no such field, or there are several.
+/// The value of the only field with this name, in any case. `None`: there is no such field, or
+/// there are several.
 pub fn only_named<'w>(window: &'w [u8], headers: &[HeaderSpan], name: &[u8]) -> Option<&'w [u8]>
     ensures { option_copied result ≡ only_of (values_named name.now (fields_of window.now headers.now)) }
 {
@@ -41,7 +42,7 @@ pub fn only_named<'w>(window: &'w [u8], headers: &[HeaderSpan], name: &[u8]) -> 
     }
 }
 
-/// The values of the fields of this name, in any case of letters, in order.
+/// The values of the fields with this name, in any case, in order.
 pub(crate) fn all_named<'w, 'h>(
     window: &'w [u8],
     headers: &'h [HeaderSpan],
@@ -56,7 +57,8 @@ pub(crate) fn all_named<'w, 'h>(
     }
 }
 
-/// An iterator over the values of the fields of one name.
+/// An iterator over the values of the fields with one name. Contracts see the values that it has
+/// still to give (`values_left` of `specs/Left`).
 #[derive(Clone, Copy)]
 pub(crate) struct Values<'w, 'h> {
     window: &'w [u8],
@@ -85,14 +87,14 @@ impl<'w, 'h> Iterator for Values<'w, 'h> {
     }
 }
 
-/// Whether the field has this name, in any case of letters.
+/// Whether the field has this name, in any case.
 fn is_named(window: &[u8], header: &HeaderSpan, name: &[u8]) -> bool
     ensures { result ≡ spec.is_named name.now (header_bytes window.now header.now) }
 {
     octets_at(window, header.name).eq_ignore_ascii_case(name)
 }
 
-/// The octets of a place; of one that lies beyond the octets, the part that is there.
+/// The octets at a place; where it reaches beyond the octets, the part within them.
 pub(crate) fn octets_at(window: &[u8], place: Span) -> &[u8]
     ensures { result.now ≡ span_bytes window.now place }
 {

@@ -1,4 +1,4 @@
-//! How the body behind a head is framed.
+//! The length of the body after a head (RFC 9112, section 6).
 
 ghost use Rattle.std.specs.Prelude.{◌≡◌, ◌&&◌, not, bytes_eq, codes, IsTrue, Some};
 ghost use Rattle.std.specs.List.{list_all, list_any};
@@ -13,37 +13,38 @@ use fetch_messages::FetchFault;
 use httparse::spans::HeaderSpan;
 use thiserror::Error;
 
-/// The most octets of a body that is read.
+/// The most octets that a body may have.
 const LONGEST_BODY: u64 = 65_536;
 
-/// The most digits of a `content-length`, whose number 64 bits hold.
+/// The most digits of a `content-length`; a number of 19 digits fits 64 bits.
 const MOST_DIGITS: usize = 19;
 
-/// How the body of an answer ends (RFC 9112, section 6.3).
+/// Where the body of a response ends (RFC 9112, section 6.3).
 #[derive(Clone, Copy, Debug, PartialEq, Eq)]
 pub enum Framing {
-    /// After so many octets, at most 65,536.
+    /// After this many octets, at most 65,536.
     Length(u64),
-    /// After the last chunk.
+    /// After the last chunk and the trailer (RFC 9112, section 7.1).
     Chunked,
     /// Where the connection is closed.
     ToEnd,
 }
 
-/// The `content-length` fields do not tell one length (RFC 9112, section 6.3).
+/// The `content-length` fields do not give one length (RFC 9112, section 6.3).
 #[derive(Clone, Copy, Debug, PartialEq, Eq, Error)]
 #[error("the content-length fields do not tell one length")]
 pub struct BadLength;
 
-/// The `transfer-encoding` fields are not one that is `chunked` (RFC 9112, section 6.1).
+/// The `transfer-encoding` fields are not a single `chunked` (RFC 9112, section 6.1).
 #[derive(Clone, Copy, Debug, PartialEq, Eq, Error)]
 #[error("the transfer-encoding fields are not one that is chunked")]
 pub struct BadCoding;
 
-/// The length that the `content-length` fields tell (RFC 9110, section 8.6); `None`: there is no such field.
+/// The length in octets that the `content-length` fields give (RFC 9110, section 8.6). `None`:
+/// there is no such field.
 ///
-/// All of them must have the same text of 1 to 19 digits, else it is `BadLength`: `03` and `3` differ, and so do
-/// `3` and `3, 3`.
+/// `BadLength`: the fields do not all have the same text of 1 to 19 digits. `03` and `3` are not
+/// the same text, and neither are `3` and `3, 3`.
 pub fn content_length(window: &[u8], headers: &[HeaderSpan]) -> Result<Option<u64>, BadLength>
     ensures { result ≡ spec.content_length (fields_of window.now headers.now) }
 {
@@ -59,7 +60,7 @@ pub fn content_length(window: &[u8], headers: &[HeaderSpan]) -> Result<Option<u6
     }
 }
 
-/// The number that 1 to 19 digits write.
+/// The number that 1 to 19 digits write. `None`: the value is not that.
 fn length_of(value: &[u8]) -> Option<u64>
     ensures { result ≡ spec.length_of value.now }
 {
@@ -69,16 +70,17 @@ fn length_of(value: &[u8]) -> Option<u64>
     number_up_to(u64::MAX, value)
 }
 
-/// Whether each value that is left is the same.
+/// Whether all values that are left are this one.
 fn are_all(mut values: Values<'_, '_>, same: &[u8]) -> bool
     ensures { result ≡ list_all (λ other. bytes_eq other same.now) (values_left values.entry) }
 {
     values.all(|value| value == same)
 }
 
-/// Whether the body is in chunks (RFC 9112, section 7.1); `false`: there is no `transfer-encoding` field.
+/// Whether the body is chunked (RFC 9112, section 7.1). `false`: there is no `transfer-encoding`
+/// field.
 ///
-/// There must be one such field at most, and it must be `chunked`, in any case of letters, else it is `BadCoding`.
+/// `BadCoding`: there are several such fields, or the only one is not `chunked`, in any case.
 pub fn is_chunked(window: &[u8], headers: &[HeaderSpan]) -> Result<bool, BadCoding>
     ensures { result ≡ spec.is_chunked (fields_of window.now headers.now) }
 {
@@ -90,10 +92,11 @@ pub fn is_chunked(window: &[u8], headers: &[HeaderSpan]) -> Result<bool, BadCodi
     }
 }
 
-/// How the body of an answer ends (RFC 9112, section 6.3).
+/// Where the body of a response ends (RFC 9112, section 6.3).
 ///
-/// `BadBody`: the `transfer-encoding` or the `content-length` fields are bad, or both stand, as in requests that are
-/// smuggled (RFC 9112, section 6.1). `BodyTooLong`: else, a length over 65,536.
+/// `BadBody`: the `transfer-encoding` or the `content-length` fields are bad, or both are there,
+/// as in request smuggling (RFC 9112, sections 6.1 and 11.2). `BodyTooLong`: else, the length is
+/// over 65,536.
 pub fn framing_of(window: &[u8], headers: &[HeaderSpan]) -> Result<Framing, FetchFault>
     ensures { result ≡ spec.framing (fields_of window.now headers.now) }
 {
@@ -108,8 +111,8 @@ pub fn framing_of(window: &[u8], headers: &[HeaderSpan]) -> Result<Framing, Fetc
     }
 }
 
-/// Whether an ask has a body: a `transfer-encoding` field, or a `content-length` field that is not 0, written in one
-/// digit or more (RFC 9112, section 6).
+/// Whether a request has a body: a `transfer-encoding` field, or a `content-length` field that is
+/// not 0, written in one digit or more (RFC 9112, section 6).
 pub fn ask_has_body(window: &[u8], headers: &[HeaderSpan]) -> bool
     ensures { result ≡ spec.ask_has_body (fields_of window.now headers.now) }
 {
@@ -124,7 +127,7 @@ fn has_length(window: &[u8], headers: &[HeaderSpan]) -> bool
     all_named(window, headers, b"content-length").any(|value| !is_zero(value))
 }
 
-/// Whether it is digits that write 0.
+/// Whether the value is one or more digits that write 0.
 fn is_zero(value: &[u8]) -> bool
     ensures { result ≡ spec.is_zero value.now }
 {

@@ -1,4 +1,4 @@
-//! The fields of an answer that are kept.
+//! The fields that a response keeps (RFC 9110, section 7.6.1).
 
 ghost use Rattle.std.specs.Prelude.{◌≡◌, ◌-◌, ◌≤◌, ◌↔◌, ◌⊎◌, ◌&&◌, false, length, map, List, All, IsTrue, IfOk, IfErr, IsErrOf, SomeIff, bytes_eq, take, drop};
 ghost use Rattle.std.specs.List.{list_all, list_any};
@@ -21,19 +21,23 @@ use std::alloc::{AllocError, Global};
 /// The most fields that are kept.
 const MOST_FIELDS: usize = 56;
 
-/// The most octets of the lines of the fields that are kept.
+/// The most octets that the lines of the kept fields have together.
 const MOST_OCTETS: usize = 16_000;
 
-/// The fields of an answer that are kept, in order, with their names in lower case.
+/// The fields that a response keeps, in order, with their names in lower case.
 ///
-/// Dropped are the fields of the connection alone: `connection`, those that a `connection` field names (in any case of
-/// letters, between commas, with blanks round them), `keep-alive`, `proxy-connection`, `proxy-authenticate`,
-/// `proxy-authentication-info`, `te`, `trailer`, `transfer-encoding`, `upgrade` and `close` (RFC 9110, section 7.6.1);
-/// and those that an answer holds apart or not at all: `content-length`, `age`, `via` and `x-purge-stamp`.
+/// It drops the fields that concern one connection: `connection`, those that a `connection` field
+/// names (in any case, between commas, with blanks around them), `keep-alive`, `proxy-connection`,
+/// `proxy-authenticate`, `proxy-authentication-info`, `te`, `trailer`, `transfer-encoding`,
+/// `upgrade` and `close` (RFC 9110, section 7.6.1). It also drops what a response holds apart or
+/// not at all: `content-length`, `age`, `via` and `x-purge-stamp`.
 ///
-/// `HeadTooLong`: exactly where more than 56 fields are kept, or where their lines have more than 16,000 octets (name,
-/// value and 4 each). `BadHead`: else, where a kept field can't be held, which the parser's grammar rules out (`of_head`).
-/// `NoMemory`: else, where a growth is refused.
+/// Errors: `HeadTooLong` comes first, exactly where more than 56 fields are kept, or their lines
+/// (name, value and 4 octets each) have more than 16,000 octets together. Then, field by field:
+///
+/// - `BadHead`: a kept field cannot be held (`CanBeHeld` of `specs/Kept`). In a head of the
+///   parser's grammar every kept field can be held (`of_head`);
+/// - `NoMemory`: there was no memory for a name, a value or the list.
 pub fn kept_fields(
     alloc: Global,
     window: &[u8],
@@ -41,7 +45,7 @@ pub fn kept_fields(
 ) -> Result<Vec<Field>, FetchFault>
     ensures kept { IfOk result (λ made. map field_text made.items
         ≡ spec.kept (fields_of window.now headers.now)) }
-    // An answer may hold them all.
+    // A response may hold all of them.
     ensures writable { IfOk result (λ made. IsTrue (list_all is_kept_field (map field_text made.items)
         && are_few_fields (map field_text made.items))) }
     ensures too_long { IsErrOf result FetchFault.HeadTooLong
@@ -67,7 +71,7 @@ pub fn kept_fields(
     Ok(fields)
 }
 
-/// Whether the fields that are kept, and their lines together, are few enough.
+/// Whether at most 56 fields are kept, with at most 16,000 octets in their lines.
 fn are_few_kept(window: &[u8], headers: &[HeaderSpan]) -> bool
     ensures { result ≡ are_few_fields (spec.kept (fields_of window.now headers.now)) }
 {
@@ -86,7 +90,7 @@ fn are_few_kept(window: &[u8], headers: &[HeaderSpan]) -> bool
     true
 }
 
-/// The room that is left for fields.
+/// The room that is left for kept fields.
 #[derive(Clone, Copy)]
 struct Room {
     /// How many more fields may be kept.
@@ -96,7 +100,7 @@ struct Room {
 }
 
 impl Room {
-    /// The room behind one more field.
+    /// The room after one more field. `None`: the field does not fit.
     fn after(self, window: &[u8], header: &HeaderSpan) -> Option<Room>
         ensures { let line = line_length (spec.kept_text (header_bytes window.now header.now))
             in SomeIff result ((1 ≤ self.fields) × (line ≤ self.octets))
@@ -112,7 +116,7 @@ impl Room {
     }
 }
 
-/// Whether a field of a head is kept.
+/// Whether a response keeps the field of a head.
 fn is_kept(window: &[u8], headers: &[HeaderSpan], header: &HeaderSpan) -> bool
     ensures { result ≡ spec.is_kept (spec.options_of (fields_of window.now headers.now))
         (header_bytes window.now header.now) }
@@ -121,14 +125,14 @@ fn is_kept(window: &[u8], headers: &[HeaderSpan], header: &HeaderSpan) -> bool
     !is_dropped_name(name) && !is_of_connection(window, headers, name)
 }
 
-/// Whether no kept field bears the name, whatever the `connection` fields say.
+/// Whether fields with this name are dropped, whatever the `connection` fields say.
 fn is_dropped_name(name: &[u8]) -> bool
     ensures { result ≡ is_dropped (lowercase name.now) }
 {
     is_of_one_connection(name) || is_held_apart(name)
 }
 
-/// Whether fields of this name are of one connection alone (RFC 9110, section 7.6.1).
+/// Whether fields with this name concern one connection (RFC 9110, section 7.6.1).
 fn is_of_one_connection(name: &[u8]) -> bool
     ensures { result ≡ list_any (bytes_eq (lowercase name.now)) (take 10 dropped_names) }
 {
@@ -144,7 +148,7 @@ fn is_of_one_connection(name: &[u8]) -> bool
         || name.eq_ignore_ascii_case(b"close")
 }
 
-/// Whether an answer holds what fields of this name say apart from its fields, or not at all.
+/// Whether a response holds what fields with this name say apart from its fields, or not at all.
 fn is_held_apart(name: &[u8]) -> bool
     ensures { result ≡ list_any (bytes_eq (lowercase name.now)) (drop 10 dropped_names) }
 {
@@ -162,7 +166,7 @@ fn is_of_connection(window: &[u8], headers: &[HeaderSpan], name: &[u8]) -> bool
     all_named(window, headers, b"connection").any(|value| is_listed_in(value, name))
 }
 
-/// Whether a part of the value between commas is this name.
+/// Whether a part of the value between commas is this name, in any case, with blanks around it.
 fn is_listed_in(value: &[u8], name: &[u8]) -> bool
     ensures { result ≡ spec.is_listed_in name.now value.now }
 {
@@ -171,7 +175,8 @@ fn is_listed_in(value: &[u8], name: &[u8]) -> bool
         .any(|part| trim(part).eq_ignore_ascii_case(name))
 }
 
-/// The field at a place, with its name in lower case. `BadHead`: it can't be held.
+/// The field at a place, with its name in lower case. `BadHead`: a response cannot hold it.
+/// `NoMemory`: there was no memory.
 fn field_at(alloc: Global, window: &[u8], header: &HeaderSpan) -> Result<Field, FetchFault>
     ensures field { IfOk result (λ field. field_text field
         ≡ spec.kept_text (header_bytes window.now header.now)) }
@@ -187,7 +192,8 @@ fn field_at(alloc: Global, window: &[u8], header: &HeaderSpan) -> Result<Field, 
     Ok(Field { name, value })
 }
 
-/// A field's name.
+/// The name of a field, in lower case. `BadHead`: it is not a token, or it is longer than 65,535
+/// octets.
 fn name_of(alloc: Global, octets: &[u8]) -> Result<HeaderName, FetchFault>
     ensures name { IfOk result (λ name. name ≡ lowercase octets.now) }
     ensures bad_head { IsErrOf result FetchFault.BadHead → ¬ (IsFieldName octets.now) }
@@ -201,7 +207,8 @@ fn name_of(alloc: Global, octets: &[u8]) -> Result<HeaderName, FetchFault>
     }
 }
 
-/// A field's value, which has no blank at an end.
+/// The value of a field. `BadHead`: it has a space or a tab at an end, or a control octet other
+/// than the tab.
 fn value_of(alloc: Global, octets: &[u8]) -> Result<HeaderValue, FetchFault>
     ensures value { IfOk result (λ value. value.bytes ≡ octets.now) }
     ensures trimmed { IfOk result (λ value. IsTrue (has_no_blank_end octets.now)) }

@@ -1,4 +1,6 @@
--- A body's octets among those of its message.
+-- A body among the octets of its message. The octets after `start` that came with the head, and
+-- those read later, are together the octets after `start` of the whole message; a fault of the
+-- reader comes while the body is not whole.
 use Rattle.std.proofs.Common.{◌≡◌, ◌≢◌, ℕ, ◌+◌, ◌<◌, ◌≤◌, ◌⊎◌, IsTrue, inl, inr, min, List, ◌++◌, length, take, drop, Option, refl, sym, ap, ◌∙◌, subst, arith, append-nil, length-append, length-drop, length-take, length-take-le, take_all}
 use Rattle.std.proofs.lemmas.List.{take-append-le, drop-append-le, nil_from_length}
 use Rattle.std.proofs.Math.Decide.{dec_le}
@@ -10,6 +12,7 @@ use Rattle.peer_intake.specs.Bodies.{ReadsBodyOf, IsOpenBody, StopsBefore, CutsB
 use Rattle.peer_intake.specs.Reading.{is_read_fault}
 use Rattle.std.proofs.lemmas.Bool.{false≢true}
 
+-- of two numbers, the first is at most the second, or greater
 le_or_lt : (m n : ℕ) → (m ≤ n) ⊎ (n < m)
 le_or_lt m n = elim (dec_le m n) as (λ _. (m ≤ n) ⊎ (n < m)) [ yes h ↦ inl h | no h ↦ inr (omega (arith, h)) ]
 
@@ -26,6 +29,7 @@ front_then behind piece len came is whole (inr h) =
     let whole_len : length (behind ++ piece) ≡ len = ap (λ t. length (t ++ piece)) (sym all) ∙ whole in
     ap (λ t. t ++ piece) all ∙ sym (take_all len (behind ++ piece) (omega arith))
 
+-- a filled buffer is the body
 pub reads_body : (a b : Option (List ℕ)) (old behind front body : List ℕ) (start len came : ℕ) → start ≤ length old → behind ≡ drop start old
     → came ≡ min (length behind) len → front ≡ take came behind → length body ≡ len → Takes a b front body → ReadsBodyOf a b old start len body
 reads_body a b old behind front body start len came within behind_is came_is front_is len_is (piece, is, consumed) =
@@ -62,7 +66,8 @@ cut_why reader octets start len TooManyTurns kind opened ended spent = (opened, 
 cut_why reader octets start len NoMemory kind opened ended spent = opened.0
 cut_why reader octets start len fault kind opened ended spent = absurd (false≢true kind)
 
--- a fault of the reader, but that the input ended, comes while a body up to the end of the input is not too long
+-- a fault of the reader, but that the input ended, comes while a body up to the end of the input
+-- is not too long
 pub end_why : (octets : List ℕ) (start : ℕ) (fault : FetchFault) → IsTrue (is_read_fault fault) → fault ≢ EndOfInput → length octets ≤ start + 65536
     → (fault ≡ TooManyTurns → 70000 ≤ length octets) → StopsBeforeEnd octets start fault
 end_why octets start Io kind other short spent = short
@@ -77,6 +82,7 @@ not_long fault kind is =
     let no_read : IsTrue (is_read_fault BodyTooLong) = subst (λ f. IsTrue (is_read_fault f)) is kind in
     false≢true no_read
 
+-- a buffer that was not filled is a body that was cut
 pub cuts_body : (a b : Option (List ℕ)) (old behind front buffer : List ℕ) (start len came turns : ℕ) (fault : FetchFault) → start ≤ length old → behind ≡ drop start old
     → came ≡ min (length behind) len → front ≡ take came behind → length buffer ≡ len → len ≤ 65536 → turns ≤ length old
     → FillsShort a b turns came front buffer fault → CutsBodyOf a b old start len fault
@@ -100,6 +106,7 @@ cuts_body a b old behind front buffer start len came turns fault within behind_i
 behind_grows : (old piece body : List ℕ) (start : ℕ) → start ≤ length old → body ≡ drop start old ++ piece → body ≡ drop start (old ++ piece)
 behind_grows old piece body start within is = is ∙ sym (drop-append-le start old piece within)
 
+-- the octets up to the end of the input are the body
 pub reads_to_end : (a b : Option (List ℕ)) (old body : List ℕ) (start : ℕ) → start ≤ length old → Takes a b (drop start old) body → IsAtEnd b
     → length body ≤ 65536 → ReadsToEnd a b old start body
 reads_to_end a b old body start within (piece, is, consumed) ended short = record {
@@ -110,6 +117,7 @@ reads_to_end a b old body start within (piece, is, consumed) ended short = recor
   short = short;
 }
 
+-- a fault before the end of the input
 pub stops_before_end : (a b : Option (List ℕ)) (old body : List ℕ) (start : ℕ) (fault : FetchFault) → start ≤ length old → Takes a b (drop start old) body
     → ((octets : List ℕ) → start + length body ≡ length octets → StopsBeforeEnd octets start fault) → CutsToEnd a b old start fault
 stops_before_end a b old body start fault within (piece, is, consumed) why =

@@ -1,10 +1,11 @@
--- What one call after another takes from a reader, and what the window shows of the octets.
+-- What several calls take from a reader one after another, and what the window shows of the octets.
 use Rattle.std.proofs.Common.{◌≡◌, ℕ, ◌<◌, ◌≤◌, List, ◌++◌, length, drop, Option, ap, ◌∙◌, arith, append_assoc, length-take, take_all}
 use Rattle.std.proofs.KnownBytes.{Consumes-trans}
 use Rattle.std.proofs.Math.Decide.{dec_le}
 use Rattle.peer_intake.specs.Reading.{Takes}
 use Rattle.peer_intake.specs.Heads.{head_window}
 
+-- two takings in a row are one
 pub takes_then : (a b c : Option (List ℕ)) (old mid new : List ℕ) → Takes a b old mid → Takes b c mid new → Takes a c old new
 takes_then a b c old mid new (first, is, took) (second, then_is, then_took) =
     (first ++ second, then_is ∙ ap (λ t. t ++ second) is ∙ append_assoc old first second, Consumes-trans a b c first second took then_took)

@@ -1,10 +1,12 @@
--- A trailer that stands in the window stands in the octets.
+-- A trailer that stands in the window stands in the octets at the same place: the window is a
+-- front of them.
 use Rattle.std.proofs.Common.{◌≡◌, ℕ, ◌+◌, ◌≤◌, List, ◌++◌, length, drop, sym, ap, ◌∙◌, arith, append_assoc, take-append-drop, length-take, length-drop}
 use Rattle.std.proofs.lemmas.List.{drop-append-le, drop-drop}
 use Rattle.httparse.specs.Grammar.{print_section}
 use Rattle.peer_intake.specs.Heads.{head_window}
 use Rattle.peer_intake.specs.Trailer.{HoldsTrailer}
 
+-- a trailer of `len` octets in the window stands from `start` to `start + len`
 pub trailer_stands : (octets window : List ℕ) (start len : ℕ) → start ≤ length octets → window ≡ head_window start octets → HoldsTrailer window 0 len
     → HoldsTrailer octets start (start + len)
 trailer_stands octets window start len inside is holds =

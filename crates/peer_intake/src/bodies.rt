@@ -1,4 +1,4 @@
-//! Bodies whose length is told, and bodies up to the end of the input (RFC 9112, section 6.3).
+//! Bodies with a length, and bodies up to the end of the input (RFC 9112, section 6.3).
 ghost use Rattle.std.specs.Prelude.{◌≡◌, ◌≢◌, ◌≤◌, length, take, vec_len, OnOk, IfOk, IfErr};
 ghost use Rattle.fetch_messages.specs.Answer.{longest_body};
 ghost use Rattle.peer_intake.specs.Bodies.{ReadsBodyOf, CutsBodyOf, ReadsToEnd, CutsToEnd};
@@ -15,13 +15,13 @@ use std::io::Read;
 pub(crate) const LONGEST_BODY: usize = 65536;
 
 impl Intake {
-    /// The body of this many octets that begins at `start`, behind a head that told its length. The octets that came
-    /// with the head are copied, and the rest is read to where it stays: no octet behind the body is taken. The message
-    /// ends with its body, so nothing more is read of it.
+    /// Reads the body of `len` octets that begins at `start`, after a head that gave its length.
+    /// It copies the octets that came with the head, and reads the rest into place; it takes no
+    /// octet after the body. The message ends here, so the call uses up the intake.
     ///
-    /// Errors: `BodyTooLong` over 65,536 octets, before any is read; `EndOfInput` where the input ended before the body
-    /// did, `TooManyTurns` where a call more than 70,000 would be needed, `Io` where a call failed, `NoMemory` where a
-    /// growth was refused.
+    /// Errors: `BodyTooLong`: `len` is over 65,536; nothing was read. `EndOfInput`: the input
+    /// ended before the body did. `TooManyTurns`: the body would need a call beyond 70,000. `Io`:
+    /// a call failed. `NoMemory`: there was no memory for the body.
     pub fn read_body_of<R: Read>(
         self,
         alloc: Global,
@@ -52,11 +52,13 @@ impl Intake {
         }
     }
 
-    /// The body that begins at `start` and goes up to the end of the input. The octets that came with the head are
-    /// copied, and the rest is read behind them. The message ends with its body, so nothing more is read of it.
+    /// Reads the body that begins at `start` and goes up to the end of the input. It copies the
+    /// octets that came with the head, and reads the rest behind them. The message ends here, so
+    /// the call uses up the intake.
     ///
-    /// Errors: `BodyTooLong` once it has more than 65,536 octets, `TooManyTurns` where a call more than 70,000 would be
-    /// needed, `Io` where a call failed, `NoMemory` where a growth was refused.
+    /// Errors: `BodyTooLong`: more than 65,536 octets came. `TooManyTurns`: the input had not
+    /// ended after 70,000 calls. `Io`: a call failed. `NoMemory`: there was no memory for the
+    /// body.
     pub fn read_to_end<R: Read>(
         self,
         alloc: Global,
@@ -90,7 +92,7 @@ impl Intake {
     }
 }
 
-/// The fault, unless it is that the input ended.
+/// `Ok` where the fault is that the input ended, else the fault.
 fn unless_ended(fault: FetchFault) -> Result<(), FetchFault>
     requires { IsReadFault fault }
     ensures ended { OnOk result (fault ≡ FetchFault.EndOfInput) }
@@ -102,7 +104,7 @@ fn unless_ended(fault: FetchFault) -> Result<(), FetchFault>
     }
 }
 
-/// Memory of this length that begins with these octets.
+/// Memory of `len` octets that begins with `front`.
 fn begin_body(alloc: Global, front: &[u8], len: usize) -> Result<Vec<u8>, AllocError>
     requires { length front.now ≤ len }
     ensures front { IfOk result (λ body. take (length front.now) body.items ≡ front.now) }

@@ -1,4 +1,4 @@
-//! Bodies in chunks (RFC 9112, section 7.1).
+//! The chunks of a chunked body (RFC 9112, section 7.1).
 ghost use Rattle.std.specs.Prelude.{◌≡◌, ◌≤◌, length, drop, vec_len, OnErr, IfOk, IfErr};
 ghost use Rattle.httparse.specs.Outcome.{IfComplete, OnPartial};
 ghost use Rattle.peer_intake.specs.Reading.{Takes};
@@ -12,22 +12,23 @@ use httparse::{Status, parse_chunk_size};
 use std::alloc::Global;
 use std::io::Read;
 
-/// The most octets of a chunk's line.
+/// The most octets that a chunk's line has, with CRLF.
 const LONGEST_CHUNK_LINE: usize = 256;
 
-/// What a step over the octets found.
+/// What stands at a place among the chunks.
 #[derive(Clone, Copy, Debug, PartialEq, Eq)]
 pub(crate) enum ChunkStep {
-    /// The chunk is not whole yet.
+    /// A chunk that is not whole yet.
     More,
-    /// A chunk, which ends at this place.
+    /// A whole chunk, which ends at this place.
     Chunk(usize),
     /// The line of the last chunk, which ends at this place.
     Last(usize),
 }
 
 impl Intake {
-    /// Reads a body in chunks that begins at `start`, and says where the trailer begins.
+    /// Reads the chunks that begin at `start`. Gives their octets, and the place where the trailer
+    /// begins.
     pub(crate) fn read_chunks<R: Read>(
         &mut self,
         alloc: Global,
@@ -56,7 +57,8 @@ impl Intake {
     }
 }
 
-/// The length of the chunk's line at the front, and how many octets it says that follow.
+/// The length of the chunk's line at the front, and the number of octets that it announces.
+/// `Partial`: the line is not whole yet. `BadBody`: it is malformed, or longer than 256 octets.
 fn chunk_line(rest: &[u8]) -> Result<Status<(usize, u64)>, FetchFault>
     ensures line { IfComplete result (λ line. HasLine rest.now line.0 line.1) }
     ensures short { IfComplete result (λ line. line.0 ≤ longest_line) }
@@ -72,7 +74,11 @@ fn chunk_line(rest: &[u8]) -> Result<Status<(usize, u64)>, FetchFault>
     }
 }
 
-/// Takes the chunk that stands at `at`, if it is whole, and adds its octets to the body.
+/// Takes the chunk that stands at `at`, if it is whole, and appends its octets to the body.
+///
+/// `BadBody`: the line is bad, or no CRLF follows the chunk's octets. `BodyTooLong`: the line
+/// announces more octets than the body may still gain. `NoMemory`: the body could not grow. After
+/// a fault the body is as before.
 fn take_chunk(octets: &[u8], at: usize, body: &mut Vec<u8>) -> Result<ChunkStep, FetchFault>
     requires at { at ≤ length octets.now }
     requires body { vec_len body.old ≤ longest_body }

@@ -1,4 +1,4 @@
-//! Reading into memory that is as long as what is to be read.
+//! Reading into a buffer until it is full.
 ghost use Rattle.std.specs.Prelude.{◌≡◌, ◌≤◌, length, take, OnOk, IfErr};
 ghost use Rattle.peer_intake.specs.Reading.{Takes};
 ghost use Rattle.peer_intake.specs.Bodies.{FillsShort};
@@ -7,7 +7,11 @@ use crate::piece::MOST_TURNS;
 use fetch_messages::FetchFault;
 use std::io::Read;
 
-/// Reads until the buffer is full from this place on, where so many calls were made before.
+/// Reads into `buffer` from place `from` on until it is full; `turns` calls of the reader were
+/// made before.
+///
+/// `EndOfInput`: the input ended first. `TooManyTurns`: 70,000 calls were made. `Io`: a call
+/// failed.
 pub(crate) fn fill<R: Read>(
     buffer: &mut [u8],
     from: usize,

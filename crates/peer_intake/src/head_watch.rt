@@ -1,29 +1,36 @@
-//! When the octets of a head that is not whole are parsed again.
+//! When to parse the octets of an unfinished head again.
 ghost use Rattle.std.specs.Prelude.{◌≡◌, length, IsTrue};
 
 /// The most octets that a head may have.
 pub(crate) const LONGEST_HEAD: usize = 16384;
 
-/// What is known of the octets of a head that is not whole yet, so that a slow head is not parsed at each read.
+/// What is known of the octets of an unfinished head, so that a slow head is not parsed at each
+/// read.
 ///
-/// A head ends with an empty line, so a parse is due where one ends within the octets that are new. It is also due
-/// where they are as many as those that were parsed before, so that a malformed head is refused early, and where the
-/// window is full. So a head of n octets that comes one octet a read costs at most 3n octets parsed: 1, 2, 4 and so on,
-/// at most 2n together, and n at its end. Other pieces add at most n, where empty lines and a start line come in one.
+/// A parse is due where an empty line ends within the new octets, as a head ends with one; where
+/// the new octets are at least as many as those parsed before, so that a malformed head is refused
+/// early; and where the window is full.
+///
+/// Cost: a head of n octets that comes one octet per read costs at most 3n octets parsed: 1, 2, 4
+/// and so on, at most 2n together, and n at its end. Other pieces add at most n, where empty lines
+/// and a start line come in one. Tests show the cost; the contract says only that a parse is due
+/// where the window is full.
 #[derive(Drop)]
 pub struct HeadWatch {
-    /// How many octets were parsed last.
+    /// The number of octets parsed last.
     parsed: usize,
-    /// How many octets were looked at.
+    /// The number of octets looked at.
     seen: usize,
-    /// How many octets at the front are ends of empty lines, which a parser of start lines skips.
+    /// The number of octets at the front that are line ends of empty lines, which a parser of
+    /// start lines skips.
     blank: usize,
     /// Whether empty lines may stand before the head (RFC 9112, section 2.2).
     may_begin_blank: bool,
 }
 
 impl HeadWatch {
-    /// For a head of which this many octets were parsed, and which empty lines may stand before (RFC 9112, section 2.2): so it is with each head, and not with a trailer.
+    /// The state for a head of which `parsed` octets were parsed. `may_begin_blank`: empty lines
+    /// may come before it, as before each head (RFC 9112, section 2.2), but not before a trailer.
     pub fn new(parsed: usize, may_begin_blank: bool) -> HeadWatch {
         HeadWatch {
             parsed,
@@ -33,8 +40,9 @@ impl HeadWatch {
         }
     }
 
-    /// Whether the octets are to be parsed now: they are those of the call before and at least one more. Where it says
-    /// so, they count as parsed.
+    /// Whether the octets must be parsed now. The caller gives the octets of its last call and at
+    /// least one more. Where the answer is yes, they count as parsed. It is always yes for 16,384
+    /// octets.
     pub fn is_due(&mut self, window: &[u8]) -> bool
         ensures { length window.now ≡ 16384 → IsTrue result }
     {
@@ -49,7 +57,7 @@ impl HeadWatch {
         is_due
     }
 
-    /// Whether the octets are nothing but ends of empty lines before a head. Each octet is looked at once.
+    /// Whether the octets are only empty lines before a head. It looks at each octet once.
     fn is_blank(&mut self, window: &[u8]) -> bool {
         if !self.may_begin_blank {
             return false;
@@ -75,7 +83,8 @@ fn ends_empty_line(window: &[u8], seen: usize) -> bool {
     false
 }
 
-/// Whether the octets before a LF end with a line's end, or with that and a CR.
+/// Whether the octets before an LF end with an LF, or with an LF and a CR, or are none: the LF
+/// ends an empty line.
 fn is_empty_line(before: &[u8]) -> bool {
     let line = before.strip_suffix(b"\r").unwrap_or(before);
     matches!(line.last(), None | Some(b'\n'))

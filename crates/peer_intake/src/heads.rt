@@ -1,4 +1,4 @@
-//! What a parser says of the octets in which a head may stand.
+//! The parser's verdict on the octets where a head may stand.
 ghost use Rattle.std.specs.Prelude.{◌≡◌, ◌<◌, ◌≤◌, length, IfErr, IsErrOf};
 ghost use Rattle.httparse.specs.Grammar.{NeverHasRequest, NeverHasResponse};
 ghost use Rattle.httparse.specs.Outcome.{IfComplete, OnPartial};
@@ -10,7 +10,9 @@ use fetch_messages::FetchFault;
 use httparse::spans::{HeaderSpan, RequestSpans, ResponseSpans, parse_request, parse_response};
 use httparse::{Error, Status};
 
-/// Whether a request's head stands in the window. `Partial` leaves room for more octets.
+/// Whether the head of a request stands at the front of the window. `Partial`: not yet, and more
+/// octets may come. `BadHead`: no octets that follow can make it one. `HeadTooLong`: it has more
+/// than 64 fields, or the window is full.
 pub(crate) fn judge_request(
     window: &[u8],
     headers: &mut [HeaderSpan],
@@ -32,7 +34,9 @@ pub(crate) fn judge_request(
     }
 }
 
-/// Whether a response's head stands in the window. `Partial` leaves room for more octets.
+/// Whether the head of a response stands at the front of the window. `Partial`: not yet, and more
+/// octets may come. `BadHead`: no octets that follow can make it one. `HeadTooLong`: it has more
+/// than 64 fields, or the window is full.
 pub(crate) fn judge_response(
     window: &[u8],
     headers: &mut [HeaderSpan],

@@ -1,4 +1,4 @@
-//! The octets of one message that were read so far.
+//! The octets read so far of one message, and the search for heads in them.
 ghost use Rattle.std.specs.Prelude.{◌≡◌, ◌+◌, ◌*◌, ◌<◌, ◌≤◌, List, ℕ, [], length, drop, vec_len, max, OnOk, OnErr, IfOk, IfErr, IsErrOf};
 ghost use Rattle.std.specs.Io.KnownBytes.{IsAtEnd};
 ghost use Rattle.httparse.specs.Grammar.{NeverHasRequest, NeverHasResponse};
@@ -16,9 +16,10 @@ use std::alloc::Global;
 use std::io::Read;
 use std::marker::Model;
 
-/// The octets of one message that were read so far. A contract sees it as the list of these octets.
+/// The octets read so far of one message. A contract sees it as the list of these octets.
 ///
-/// It also counts the calls of the reader that gave them: at most 70,000, each of at least one octet.
+/// It also counts the calls of the reader that gave them: at most 70,000, each of 1 to 4,096
+/// octets.
 #[derive(Drop)]
 pub struct Intake {
     octets: Vec<u8>,
@@ -34,7 +35,7 @@ impl Model for Intake {
 }
 
 impl Intake {
-    /// For a message of which nothing was read. This takes no memory.
+    /// An intake for a message of which nothing was read. It does not allocate.
     pub fn new(alloc: Global) -> Intake
         ensures { result ≡ [] }
     {
@@ -44,7 +45,7 @@ impl Intake {
         }
     }
 
-    /// The octets that were read so far: at most 4,096 a call.
+    /// The octets read so far, at most 4,096 per call of the reader.
     pub fn octets(&self) -> &[u8]
         ensures value { result.now ≡ self.now }
 
@@ -54,7 +55,7 @@ impl Intake {
         self.octets.as_slice()
     }
 
-    /// The octets, and how often the reader was called.
+    /// The octets, and the number of calls of the reader that gave them.
     pub(crate) fn into_parts(self) -> (Vec<u8>, u32)
         ensures octets { result.0.items ≡ self }
         ensures len { vec_len result.0 ≡ length self }
@@ -64,7 +65,7 @@ impl Intake {
         (self.octets, self.turns)
     }
 
-    /// The octets from `start` on in which a head may stand: at most 16,384.
+    /// The octets from `start` on, at most 16,384: where a head may stand.
     pub fn window(&self, start: usize) -> &[u8]
         requires { start ≤ length self.now }
         ensures value { result.now ≡ head_window start self.now }
@@ -80,7 +81,7 @@ impl Intake {
         }
     }
 
-    /// Calls the reader once, and keeps what it gave.
+    /// Calls the reader once, and keeps what it gave: 1 to 4,096 octets, or none after a fault.
     pub(crate) fn read_more<R: Read>(&mut self, reader: &mut R) -> Result<(), FetchFault>
         ensures taken { Takes (R.remaining reader.old) (R.remaining reader.new) self.old self.new }
         ensures kept { OnErr result (self.new ≡ self.old) }
@@ -94,7 +95,7 @@ impl Intake {
         read_piece(&mut self.octets, &mut self.turns, reader)
     }
 
-    /// Reads until a parse of the octets from `start` on is due.
+    /// Reads until the octets from `start` on must be parsed again.
     pub(crate) fn read_until_due<R: Read>(
         &mut self,
         reader: &mut R,
@@ -121,13 +122,19 @@ impl Intake {
         }
     }
 
-    /// Reads until the head of a request stands from `start` on, and says where its parts are. The places count from
-    /// `start`. A head has at most 16,384 octets and 64 fields, and at most 4,096 more are read. The octets that were read stay, whatever the answer.
+    /// Reads until a head of a request stands at `start`, and gives the places of its parts,
+    /// counted from `start`. A head has at most 16,384 octets and 64 fields. At most 20,480 octets
+    /// from `start` on are read. After a fault too, the octets read stay in the intake.
     ///
-    /// Errors: `BadHead` only where no octets can follow that make it a head, `HeadTooLong` where it goes beyond either
-    /// limit, `EndOfInput` where the input ended before the head did, `TooManyTurns` where a call more than 70,000
-    /// would be needed, `Io` where a call failed, `NoMemory` where a growth was refused. `BadHead` and `HeadTooLong` go
-    /// before the others, but a target that is no UTF-8 is found at its end.
+    /// Errors, the first two before the others. One case is late: a target that is not UTF-8 is
+    /// refused only once the target has ended.
+    ///
+    /// - `BadHead`: no octets that follow can make it a head;
+    /// - `HeadTooLong`: it has more than 16,384 octets or 64 fields;
+    /// - `EndOfInput`: the input ended before the head did;
+    /// - `TooManyTurns`: the head would need a call beyond 70,000;
+    /// - `Io`: a call failed;
+    /// - `NoMemory`: there was no memory for more octets.
     pub fn read_request_head<R: Read>(
         &mut self,
         reader: &mut R,
@@ -165,7 +172,8 @@ impl Intake {
         }
     }
 
-    /// What is answered of a request's head where no more can be read.
+    /// The result for the head of a request where reading failed with `fault`: the head if the
+    /// octets hold one, a refusal of the parser, or `fault`.
     fn judge_cut_request(
         &self,
         start: usize,
@@ -192,13 +200,18 @@ impl Intake {
         }
     }
 
-    /// Reads until the head of a response stands from `start` on, and says where its parts are. The places count from
-    /// `start`. A head has at most 16,384 octets and 64 fields, and at most 4,096 more are read. The octets that were read stay, whatever the answer.
+    /// Reads until a head of a response stands at `start`, and gives the places of its parts,
+    /// counted from `start`. A head has at most 16,384 octets and 64 fields. At most 20,480 octets
+    /// from `start` on are read. After a fault too, the octets read stay in the intake.
     ///
-    /// Errors: `BadHead` only where no octets can follow that make it a head, `HeadTooLong` where it goes beyond either
-    /// limit, `EndOfInput` where the input ended before the head did, `TooManyTurns` where a call more than 70,000
-    /// would be needed, `Io` where a call failed, `NoMemory` where a growth was refused. `BadHead` and `HeadTooLong` go
-    /// before the others.
+    /// Errors, the first two before the others.
+    ///
+    /// - `BadHead`: no octets that follow can make it a head;
+    /// - `HeadTooLong`: it has more than 16,384 octets or 64 fields;
+    /// - `EndOfInput`: the input ended before the head did;
+    /// - `TooManyTurns`: the head would need a call beyond 70,000;
+    /// - `Io`: a call failed;
+    /// - `NoMemory`: there was no memory for more octets.
     pub fn read_response_head<R: Read>(
         &mut self,
         reader: &mut R,
@@ -236,7 +249,8 @@ impl Intake {
         }
     }
 
-    /// What is answered of a response's head where no more can be read.
+    /// The result for the head of a response where reading failed with `fault`: the head if the
+    /// octets hold one, a refusal of the parser, or `fault`.
     fn judge_cut_response(
         &self,
         start: usize,

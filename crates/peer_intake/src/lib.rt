@@ -1,12 +1,34 @@
-//! Reading the octets of one HTTP message (RFC 9112) from any reader, piece by piece.
+//! Reads the octets of one HTTP/1.1 message from any reader (RFC 9112).
 //!
-//! An [`Intake`] keeps what was read of a message. Its calls say where a head's parts are, and give the body that
-//! follows as octets of its own. A reader is called at most 70,000 times for one message, and each call but the last
-//! gives at least one octet; so a message never keeps its reader busy for ever.
+//! An [`Intake`] keeps the octets read so far. Its calls find heads and take bodies:
 //!
-//! The trait of reading counts no calls and no failures, so a body that answers `Io` at once would meet each contract, and
-//! so would one more call of a reader into memory. That `Io` comes only where a call failed, and that 70,000 calls are
-//! made and no more, is shown by tests. Over a reader that does not tell its octets a contract says only what was kept.
+//! - `read_request_head` and `read_response_head` read until a head is whole and give the places
+//!   of its parts. Heads may stand one after another: each call takes the place where its head
+//!   begins.
+//! - `read_body_of` reads a body with a length, `read_to_end` one up to the end of the input,
+//!   `read_chunked_body` a chunked one with its trailer.
+//!
+//! Limits: a head has at most 16,384 octets and 64 fields, and a trailer too; a body at most
+//! 65,536 octets; a chunk's line at most 256. The reader is called at most 70,000 times for one
+//! message, and each call but the last gives at least one octet, so reading ends. The crate knows
+//! no clock: a call lasts as long as its reader blocks.
+//!
+//! [`HeadWatch`] says when the octets of a head are parsed again, so that a head which comes
+//! slowly is not parsed at each read.
+//!
+//! Contracts see an `Intake` as the list of the octets read. Each call says what it took from the
+//! reader (`Takes` of `specs/Reading`), what it found, and for each fault what held of the octets.
+//! Of a reader whose octets contracts do not know, they say only what was kept.
+//!
+//! Not promised: the trait of reading counts no calls and no failures. So a body that always
+//! returned `Io` would meet each contract, and so would one more call of a reader into memory.
+//! Tests show that `Io` comes only where a call failed, that 70,000 calls are made and no more,
+//! and what a slow head costs.
+//!
+//! Read first `specs/Reading` and `specs/Heads`, then `src/intake.rt` (`src/heads.rt`: the verdict
+//! of the parser; `src/piece.rt`: one call of the reader). Bodies: `specs/Bodies` and
+//! `src/bodies.rt` (with `src/fill.rt`), `specs/Chunks` and `src/chunks.rt`, `specs/Trailer` and
+//! `src/trailer.rt`. What fields mean is in `peer_fields`; `peer_reading` joins both.
 #![tactic(auto)]
 
 mod bodies;

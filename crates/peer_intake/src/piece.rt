@@ -6,13 +6,17 @@ ghost use Rattle.peer_intake.specs.Reading.{Takes, IsReadFault};
 use fetch_messages::FetchFault;
 use std::io::Read;
 
-/// The most calls of the reader for one message.
+/// The most calls of the reader for one message, those that gave nothing not counted.
 pub(crate) const MOST_TURNS: u32 = 70000;
 
-/// How many octets are asked of the reader in one call.
+/// The most octets that one call asks of the reader.
 const PIECE_LEN: usize = 4096;
 
-/// Calls the reader once, counts the call, and keeps what it gave.
+/// Calls the reader once, counts the call where it gave octets, and appends them.
+///
+/// `TooManyTurns`: 70,000 calls gave octets, so the reader is not called. `NoMemory`: there was no
+/// memory for a piece, so the reader is not called. `EndOfInput`: the input has ended. `Io`: the
+/// call failed.
 pub(crate) fn read_piece<R: Read>(
     octets: &mut Vec<u8>,
     turns: &mut u32,

@@ -1,4 +1,4 @@
-//! The trailer behind the last chunk, and the whole of a body in chunks (RFC 9112, sections 7.1 and 7.1.2).
+//! The trailer after the last chunk, and a whole chunked body (RFC 9112, sections 7.1 and 7.1.2).
 ghost use Rattle.std.specs.Prelude.{◌≡◌, ◌+◌, ◌<◌, ◌≤◌, ◌⊎◌, length, drop, vec_len, IfOk, IfErr};
 ghost use Rattle.httparse.specs.Outcome.{IfComplete, OnPartial};
 ghost use Rattle.peer_intake.specs.Reading.{Takes, IsReadFault};
@@ -18,15 +18,23 @@ use std::io::Read;
 const MOST_FIELDS: usize = 64;
 
 impl Intake {
-    /// The body in chunks that begins at `start`, and the place where its trailer ends, which is the message's end. The
-    /// octets of the chunks are copied out; the trailer is read over.
+    /// Reads the chunked body that begins at `start`. Gives its octets, and the place where its
+    /// trailer ends, which is the end of the message. It copies the octets of the chunks and
+    /// ignores the fields of the trailer.
     ///
-    /// A chunk's line has at most 256 octets, a body at most 65,536, and a trailer at most 16,384 octets and 64 fields.
+    /// A chunk's line has at most 256 octets, a body at most 65,536, and a trailer at most 16,384
+    /// octets and 64 fields.
     ///
-    /// Errors: `BadBody` only where no octets can follow that make it such a body, `BodyTooLong` once a chunk's line says
-    /// more octets than a body may still gain, before any of them is read; `HeadTooLong` where the trailer goes beyond
-    /// a limit, `EndOfInput` where the input ended before the trailer did, `TooManyTurns` where a call more than 70,000
-    /// would be needed, `Io` where a call failed, `NoMemory` where a growth was refused.
+    /// Errors:
+    ///
+    /// - `BadBody`: a chunk's line, its end or the trailer is malformed, whatever octets follow,
+    ///   or a line is longer than 256 octets;
+    /// - `BodyTooLong`: a chunk's line announces more octets than the body may still gain;
+    /// - `HeadTooLong`: the trailer has more than 16,384 octets or 64 fields;
+    /// - `EndOfInput`: the input ended before the trailer did;
+    /// - `TooManyTurns`: the body would need a call beyond 70,000;
+    /// - `Io`: a call failed;
+    /// - `NoMemory`: there was no memory for more octets.
     pub fn read_chunked_body<R: Read>(
         &mut self,
         alloc: Global,
@@ -49,7 +57,7 @@ impl Intake {
         }
     }
 
-    /// Reads until the trailer that begins at `start` is whole, and says where it ends.
+    /// Reads until the trailer that begins at `start` is whole. Gives the place where it ends.
     fn read_trailer<R: Read>(&mut self, reader: &mut R, start: usize) -> Result<usize, FetchFault>
         requires { start ≤ length self.old }
         ensures taken { Takes (R.remaining reader.old) (R.remaining reader.new) self.old self.new }
@@ -70,7 +78,8 @@ impl Intake {
         }
     }
 
-    /// What is answered of a trailer where no more can be read.
+    /// The result for a trailer where reading failed with `fault`: its end if the octets hold one,
+    /// a refusal of the parser, or `fault`.
     fn judge_cut_trailer(&self, start: usize, fault: FetchFault) -> Result<usize, FetchFault>
         requires start { start ≤ length self.now }
         requires fault { IsReadFault fault }
@@ -86,7 +95,9 @@ impl Intake {
     }
 }
 
-/// The length of the trailer at the window's front. `Partial` leaves room for more octets.
+/// The length of the trailer at the front of the window. `Partial`: it is not whole yet, and more
+/// octets may come. `BadBody`: it is malformed. `HeadTooLong`: it has more than 64 fields, or the
+/// window is full.
 fn judge_trailer(window: &[u8]) -> Result<Status<usize>, FetchFault>
     requires { length window.now ≤ longest_head }
     ensures section { IfComplete result (HoldsTrailer window.now 0) }

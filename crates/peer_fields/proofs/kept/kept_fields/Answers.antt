@@ -1,3 +1,6 @@
+-- The loop of `kept_fields` holds that the fields kept so far, and those still to be kept, are the
+-- kept fields of the head (`proofs/Keeping`). A field that cannot be held rules out a head of the
+-- grammar (`proofs/HeadFields`).
 use Rattle.std.proofs.Common.{◌≡◌, ◌+◌, true, IsErrOf, List, ◌∷◌, ◌++◌, [], map, get_or, sym, ap, ◌∙◌, rules}
 use Rattle.httparse.specs.declared.spans.HeaderSpan.{HeaderSpan}
 use Rattle.httparse.specs.Spans.{header_bytes}

@@ -1,3 +1,5 @@
+-- The buffer begins with the octets that came with the head; what `fill` adds makes it the body,
+-- or stops short of it.
 use Rattle.std.proofs.Common.{◌≡◌, ◌≤◌, length, take, drop, min, sym, ap, ◌∙◌, subst, arith, rules}
 use Rattle.peer_intake.specs.Bodies.{ReadsBodyOf}
 use Rattle.peer_intake.proofs.BodyLemmas.{reads_body, filled_whole, front_came, cuts_body}

@@ -1,3 +1,5 @@
+-- The chunks that were read stay where they are while the trailer is read behind them
+-- (`holds_grown`).
 use Rattle.std.proofs.Common.{arith, inr}
 use Rattle.peer_intake.proofs.ReadingLemmas.{takes_then}
 use Rattle.peer_intake.proofs.ChunkLemmas.{holds_grown}

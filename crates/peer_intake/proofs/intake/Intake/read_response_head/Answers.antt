@@ -1,3 +1,5 @@
+-- The loop adds octets behind those parsed; it never reads where the window is full, so at most
+-- 4,096 octets too many.
 use Rattle.std.proofs.Common.{◌≡◌, Err, length, drop, ap, ◌∙◌, subst, arith, length-take, length-drop}
 use Rattle.fetch_messages.specs.declared.fault.FetchFault.TheVariants.{HeadTooLong}
 use Rattle.peer_intake.specs.Heads.{IsLongResponse}

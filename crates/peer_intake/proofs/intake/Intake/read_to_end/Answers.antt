@@ -1,3 +1,4 @@
+-- The loop holds that the body is all octets after `start`; it ends the body where the input ends.
 use Rattle.std.proofs.Common.{◌≡◌, ◌+◌, ◌≤◌, ◌<◌, IsTrue, length, drop, Err, sym, ap, ◌∙◌, arith, subst}
 use Rattle.fetch_messages.specs.declared.fault.FetchFault.{FetchFault}
 use Rattle.fetch_messages.specs.declared.fault.FetchFault.TheVariants.{BodyTooLong, TooManyTurns}

@@ -1,3 +1,4 @@
+-- A window is all octets after `start`, or as many of them as a head may have.
 use Rattle.std.proofs.Common.{sym, ap, ◌∙◌, arith, length, take, drop, length-take, length-take-le, take_all}
 use Rattle.peer_intake.proofs.intake.Intake.window.Goals as goal
 
