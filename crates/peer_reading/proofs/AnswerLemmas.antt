@@ -1,4 +1,6 @@
--- From the places of a response's head to the head, and from its parts to a whole answer.
+-- From the places that the parser gave to the head that stands there, and from heads and body to a
+-- response. Octets that come later change nothing before them, so what a head says still holds
+-- once its body was read.
 use Rattle.std.proofs.Common.{◌≡◌, ℕ, ◌≤◌, ◌<◌, ◌+◌, ◌⊎◌, true, false, List, [], ◌∷◌, ◌++◌, length, take, drop, Option, Result, Ok, Err, refl, sym, ◌∙◌, ap, subst, inl, inr, arith, length-take, length-append, take-append-drop, drop-drop, append_assoc, append-nil}
 use Rattle.std.proofs.KnownBytes.{Consumes-trans}
 use Rattle.std.proofs.lemmas.List.{length-map, take-append-le, drop-append-le, take_at, drop_at}
@@ -18,6 +20,7 @@ use Rattle.peer_reading.specs.AnswerHead.{AnswerHead, ToldText, parts_of, head_a
 use Rattle.peer_reading.specs.Answers.{IsShortHead, IsInterim, PassesInterim, HeadSays, StopsAtHead, ReadsRest, ReadsOn}
 use Rattle.peer_reading.proofs.BodyLemmas.{takes_none}
 
+-- a head of these parts
 made : ℕ → List (List ℕ × List ℕ) → AnswerHead
 made status fields = record { status = status; fields = fields }
 
@@ -26,6 +29,7 @@ head_is : (window : List ℕ) (headers : List HeaderSpan) (r : ResponseSpans) (h
 unfolding made
 head_is window headers r h is = ap (λ s. made s (fields_of window (take r.headers headers))) is.code ∙ ap (made (status_code h)) is.fields
 
+-- a head has no more fields than there was room for
 few_fields : (window : List ℕ) (headers : List HeaderSpan) (r : ResponseSpans) (h : ResponseHead) → AreFieldsAt window headers r.headers h.fields → length headers ≡ most_fields → length h.fields ≤ most_fields
 few_fields window headers r h fields room =
     let written : length (take r.headers headers) ≡ length h.fields =
@@ -37,6 +41,7 @@ record StandsAt (octets : List ℕ) (start : ℕ) (r : ResponseSpans) (h : Respo
   short : IsShortHead h
   reads : ReadsResponse (drop start octets) h (drop (start + r.len) octets)
 
+-- the head that the parser found in the window stands at `start`
 stands : (octets : List ℕ) (start : ℕ) (headers : List HeaderSpan) (r : ResponseSpans) (h : ResponseHead) → length headers ≡ most_fields → IsResponseAt (head_window start octets) headers r h → StandsAt octets start r h
 stands octets start headers r h room is =
     let rest : List ℕ = drop start octets in
@@ -70,6 +75,7 @@ head_says octets start headers r outcome room (h, is) final inside says passes =
 
 -- octets that come behind change nothing before them
 
+-- interim heads stay
 passes_more : (octets more : List ℕ) (start : ℕ) → PassesInterim octets start → PassesInterim (octets ++ more) start
 passes_more octets more start passes = record {
   heads = passes.heads;
@@ -78,6 +84,7 @@ passes_more octets more start passes = record {
   within = omega (arith, passes.within, length-append octets more);
 }
 
+-- what a head says stays
 says_more : (octets more : List ℕ) (start end : ℕ) (outcome : Result ToldText FetchFault) → HeadSays octets start end outcome → HeadSays (octets ++ more) start end outcome
 says_more octets more start end outcome says = record {
   interim = passes_more octets more start says.interim;
@@ -103,6 +110,7 @@ passes_taken before after old new start taken passes =
 
 -- a head that is refused for what it says, and one behind which the rest is read
 
+-- a head that was refused for what it says
 pub refused : (reader : Option (List ℕ)) (octets : List ℕ) (start end : ℕ) (fault : FetchFault) → (fault ≡ NoMemory) ⊎ HeadSays octets start end (Err fault) → ReadsOn reader reader octets (Err fault)
 refused reader octets start end fault why = record {
   octets = octets;
@@ -113,6 +121,7 @@ refused reader octets start end fault why = record {
   ];
 }
 
+-- a head, and the rest that was read after it
 pub rest_read : (before after : Option (List ℕ)) (old : List ℕ) (start end : ℕ) (t : ToldText) (result : Result AnswerText FetchFault) → HeadSays old start end (Ok t) → ReadsRest t before after old end result → ReadsOn before after old result
 rest_read before after old start end t (Ok answer) says rest = record {
   octets = rest.octets;
@@ -141,6 +150,7 @@ rest_read before after old start end t (Err fault) says rest = record {
 
 -- Interim heads
 
+-- before anything was read there is no interim head
 pub no_interim : (octets : List ℕ) → octets ≡ [] → PassesInterim octets 0
 no_interim octets empty = record { heads = []; interim = tt; text = refl; within = omega arith }
 
@@ -183,6 +193,7 @@ some_octets octets headers r (h, is) =
 
 -- The reading of heads
 
+-- a fault while a head was read
 pub head_stops : (reader_old reader : Option (List ℕ)) (old octets : List ℕ) (start : ℕ) (fault : FetchFault) → Takes reader_old reader old octets → PassesInterim octets start → IsHeadFault fault
     → (fault ≡ BadHead → NeverHasResponse (head_window start octets)) → (fault ≡ HeadTooLong → IsLongResponse (head_window start octets))
     → (IsReadFault fault → IsOpenResponse (drop start octets)) → (fault ≡ EndOfInput → IsAtEnd reader) → (fault ≡ TooManyTurns → 70000 ≤ length octets) → ReadsOn reader_old reader old (Err fault)
@@ -206,10 +217,12 @@ head_stops reader_old reader old octets start fault taken passes kind bad long o
     stops TooManyTurns kind bad long opened ended spent = (opened refl, spent refl)
     stops NoMemory kind bad long opened ended spent = tt
 
+-- two takings in a row are one
 pub takes_then : (old middle new : List ℕ) (before between after : Option (List ℕ)) → Takes before between old middle → Takes between after middle new → Takes before after old new
 takes_then old middle new before between after (first, first_is, first_read) (second, second_is, second_read) =
     (first ++ second, second_is ∙ ap (λ t. t ++ second) first_is ∙ append_assoc old first second, Consumes-trans before between after first second first_read second_read)
 
+-- what was taken before is part of what was taken in all
 pub read_on : (before between after : Option (List ℕ)) (old middle : List ℕ) (result : Result AnswerText FetchFault) → Takes before between old middle → ReadsOn between after middle result → ReadsOn before after old result
 read_on before between after old middle result taken reads = record {
   octets = reads.octets;

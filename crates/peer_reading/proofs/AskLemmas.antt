@@ -1,4 +1,6 @@
--- From the places of a head to the head, and why reading a head stopped.
+-- From the places that the parser gave to the head that stands there, and from the faults of a
+-- head to those of a request. A head in the window is a front of the octets, so what holds of its
+-- parts holds of that front.
 use Rattle.std.proofs.Common.{◌≡◌, ℕ, ◌≤◌, ◌⊎◌, List, [], ◌++◌, length, take, drop, max, Option, Result, Ok, Err, IfErr, IsTrue, MatchResult, refl, sym, ◌∙◌, ap, subst, inl, inr, arith, ◌+◌, length-take, take-append-drop, append_assoc, append-nil, length-append}
 use Rattle.std.proofs.lemmas.List.{length-map}
 use Rattle.httparse.specs.Grammar.{RequestHead, print_request, NeverHasRequest}
@@ -15,6 +17,7 @@ use Rattle.peer_intake.specs.Heads.{longest_head, longest_read, most_fields, hea
 use Rattle.peer_reading.specs.AskHead.{AskHead, parts_of, head_at, is_ask_fault, Says}
 use Rattle.peer_reading.specs.Asks.{FrontSays, StopsInAsk, ReadsAsk}
 
+-- a head of these parts
 made : List ℕ → List ℕ → ℕ → List (List ℕ × List ℕ) → AskHead
 made method target minor fields = record { method = method; target = target; minor = minor; fields = fields }
 

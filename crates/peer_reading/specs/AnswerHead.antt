@@ -1,4 +1,5 @@
--- What the head of a response says, or its first fault (RFC 9112, sections 4 and 6; RFC 9110, section 15).
+-- What the head of a response says, or its first fault (RFC 9112, sections 4 and 6; RFC 9110,
+-- section 15).
 use Rattle.std.specs.Prelude.{ℕ, Bool, not, ◌&&◌, ◌==◌, nat_lt, nat_le, true, unwrap_or, List, map, take, Option, Some, None, Result, Ok, Err, if◌then◌else◌}
 use Rattle.std.specs.List.{list_all}
 use Rattle.httparse.specs.Grammar.{ResponseHead, status_code}
@@ -16,11 +17,12 @@ use Rattle.peer_fields.specs.Framing.{framing}
 use Rattle.peer_fields.specs.Answer.{age, stamp}
 use Rattle.peer_fields.specs.Kept.{kept}
 
--- the parts of a response's head: its fields once, as a list of names and values
+-- the parts of a response's head: status, and fields as a list of names and values
 pub record AnswerHead : Type 0 where
   pub status : ℕ
   pub fields : List (List ℕ × List ℕ)
 
+-- the parts of a head of the parser's grammar
 abbrev pub parts_of : ResponseHead → AnswerHead
 parts_of h = record { status = status_code h; fields = map name_and_value h.fields }
 
@@ -28,7 +30,8 @@ parts_of h = record { status = status_code h; fields = map name_and_value h.fiel
 abbrev pub head_at : List ℕ → List HeaderSpan → ResponseSpans → AnswerHead
 head_at window headers r = record { status = r.code; fields = fields_of window (take r.headers headers) }
 
--- an interim response, which another one follows; 101 would change the protocol (RFC 9110, section 15.2)
+-- an interim response, which another response follows; 101 would change the protocol (RFC 9110,
+-- section 15.2)
 abbrev pub is_interim : ℕ → Bool
 is_interim status = nat_le 100 status && nat_lt status 200 && not (status == 101)
 
@@ -36,7 +39,7 @@ is_interim status = nat_le 100 status && nat_lt status 200 && not (status == 101
 abbrev pub is_final : ℕ → Bool
 is_final status = nat_le 200 status && nat_le status 599
 
--- what a final head says: its status and fields, the numbers held apart, and how its body ends, if it may have one
+-- what a final head says: status, kept fields, age, stamp, and where the body ends, if there is one
 pub record ToldText : Type 0 where
   pub status : ℕ
   pub fields : List FieldText
@@ -44,37 +47,42 @@ pub record ToldText : Type 0 where
   pub stamp : Option ℕ
   pub framing : Option Framing
 
+-- what a head says, with this end of its body
 abbrev pub told_with : AnswerHead → Option Framing → ToldText
 told_with h framing = record { status = h.status; fields = kept h.fields; age = age h.fields; stamp = stamp h.fields; framing = framing }
 
+-- the end of a body that is there, or the fault of its fields
 abbrev pub some_framing : Result Framing FetchFault → Result (Option Framing) FetchFault
 some_framing (Err fault) = Err fault
 some_framing (Ok framing) = Ok (Some framing)
 
--- how the body ends, if there is one: 204 and 304 have none, whatever their fields say (RFC 9112, section 6.3)
+-- where the body ends, if there is one: with 204 and 304 there is none, whatever the fields say
+-- (RFC 9112, section 6.3)
 abbrev pub framing_by : ℕ → List (List ℕ × List ℕ) → Result (Option Framing) FetchFault
 framing_by status fields = if has_no_body status then Ok None else some_framing (framing fields)
 
+-- what a head says, or the fault of the fields of its body
 abbrev pub framed : AnswerHead → Result (Option Framing) FetchFault → Result ToldText FetchFault
 framed h (Err fault) = Err fault
 framed h (Ok framing) = Ok (told_with h framing)
 
--- what the head says, or its first fault: its status, the limits of what is kept, how its body ends
+-- what a head says, or its first fault: by its status, by the limits of kept fields, by the length
+-- of its body
 abbrev pub told : AnswerHead → Result ToldText FetchFault
 told h =
     if not (is_final h.status) then Err BadHead
     else (if are_few_fields (kept h.fields) then framed h (framing_by h.status h.fields) else Err HeadTooLong)
 
--- what a clause sees of what was told
+-- what a contract sees of `Told`
 abbrev pub told_text : Told → ToldText
 told_text t = record { status = t.status; fields = map field_text t.fields.items; age = t.age; stamp = t.stamp; framing = t.framing }
 
--- 204 and 304 are told to have no body
+-- with 204 and 304 there is no body
 abbrev pub fits_status : ℕ → Option Framing → Bool
 fits_status status None = true
 fits_status status (Some framing) = not (has_no_body status)
 
--- whatever an answer's body is, what was told before it may stand in an answer
+-- with any body that the status may have, this makes a response that can be written
 abbrev pub is_fit : ToldText → Bool
 is_fit t =
     is_final t.status && list_all is_kept_field t.fields && are_few_fields t.fields

@@ -1,4 +1,5 @@
--- What the head of a request asks, or its first fault (RFC 9112, sections 3 and 6; RFC 9111, section 5.2.1).
+-- The request that a head makes, or its first fault (RFC 9112, sections 3 and 6; RFC 9111, section
+-- 5.2.1).
 use Rattle.std.specs.Prelude.{◌≡◌, ℕ, Bool, true, false, not, ◌&&◌, ◌==◌, bytes_eq, List, [], ◌∷◌, ◌++◌, map, take, codes, Option, Some, None, Result, Ok, Err, ⊤, if◌then◌else◌}
 use Rattle.httparse.specs.Grammar.{RequestHead}
 use Rattle.httparse.specs.declared.spans.HeaderSpan.{HeaderSpan}
@@ -14,13 +15,15 @@ use Rattle.peer_fields.specs.Ask.{HostText, absent, several, one, host, has_cred
 use Rattle.peer_fields.specs.Directives.{only_if_cached, no_cache}
 use Rattle.peer_fields.specs.Framing.{ask_has_body}
 
--- the parts of a request's head: its fields once, as a list of names and values
+-- the parts of a request's head: method, target, minor version, and fields as a list of names and
+-- values
 pub record AskHead : Type 0 where
   pub method : List ℕ
   pub target : List ℕ
   pub minor : ℕ
   pub fields : List (List ℕ × List ℕ)
 
+-- the parts of a head of the parser's grammar
 abbrev pub parts_of : RequestHead → AskHead
 parts_of h = record { method = h.method; target = h.target; minor = h.minor; fields = map name_and_value h.fields }
 
@@ -29,22 +32,25 @@ abbrev pub is_origin_form : List ℕ → Bool
 is_origin_form [] = false
 is_origin_form (octet ∷ text) = octet == 47
 
--- one `host` field, or none where a request of HTTP/1.0 has a target that is no path (RFC 9112, section 3.2)
+-- the `host` fields that a request may have: one, or none in HTTP/1.0 where the target is not a
+-- path (RFC 9112, section 3.2)
 abbrev pub may_have : HostText → ℕ → List ℕ → Bool
 may_have absent minor target = (minor == 0) && not (is_origin_form target)
 may_have (one value) minor target = true
 may_have several minor target = false
 
+-- the value of a single `host` field, else the empty text
 abbrev pub host_value : HostText → List ℕ
 host_value absent = []
 host_value (one value) = value
 host_value several = []
 
--- the URL of a target: a path at the host, and any other target as it stands (RFC 9112, section 3.3)
+-- the URL of a target: a path at the host, and any other target as it stands (RFC 9112, section
+-- 3.3)
 abbrev pub url_by : HostText → List ℕ → List ℕ
 url_by named target = if is_origin_form target then codes "http://" ++ (host_value named ++ target) else target
 
--- the URL that is asked for
+-- the URL that a request asks for
 abbrev pub url_of : AskHead → List ℕ
 url_of h = url_by (host h.fields) h.target
 
@@ -55,28 +61,30 @@ KeyOf text (Err (BadTarget fault)) = HasKey text (Err fault)
 KeyOf text (Err NoMemory) = ⊤
 KeyOf text (Err fault) = ⊥
 
--- the faults that are told before the target is read
+-- the faults that come before the target is read: the `host` fields, then the method
 abbrev pub first_fault : AskHead → Option FetchFault
 first_fault h =
     if not (may_have (host h.fields) h.minor h.target) then Some BadHead
     else (if bytes_eq h.method (codes "GET") then None else Some MethodNotServed)
 
--- what the fields of an ask for a key say
+-- the request for a key that the fields make, or their fault: credentials, then a body
 abbrev pub ask_for : List (List ℕ × List ℕ) → List ℕ → Result Ask FetchFault
 ask_for fields key =
     if has_credentials fields then Err Credentials
     else (if ask_has_body fields then Err BadBody
     else Ok record { key = key; only_if_cached = only_if_cached fields; no_cache = no_cache fields; member = member fields })
 
+-- the same, or the fault of the target
 abbrev pub asked : List (List ℕ × List ℕ) → Result (List ℕ) KeyFault → Result Ask FetchFault
 asked fields (Err fault) = Err (BadTarget fault)
 asked fields (Ok key) = ask_for fields key
 
+-- what the head says, given the fault that comes before the target
 abbrev pub SaysBy : Option FetchFault → AskHead → Result Ask FetchFault → Type 0
 SaysBy (Some fault) h outcome = outcome ≡ Err fault
 SaysBy None h outcome = (read : Result (List ℕ) KeyFault) × HasKey (url_of h) read × (outcome ≡ asked h.fields read)
 
--- the head asks this, or this is its first fault
+-- the head makes this request, or this is its first fault
 abbrev pub Says : AskHead → Result Ask FetchFault → Type 0
 Says h outcome = SaysBy (first_fault h) h outcome
 
@@ -89,7 +97,7 @@ head_at window headers r = record {
   fields = fields_of window (take r.headers headers);
 }
 
--- the faults of what a head asks
+-- the faults of a whole head, and the want of memory
 abbrev pub is_ask_fault : FetchFault → Bool
 is_ask_fault BadHead = true
 is_ask_fault (BadTarget fault) = true

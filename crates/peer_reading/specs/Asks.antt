@@ -1,4 +1,4 @@
--- Which octets spell an ask, and why reading one stops (RFC 9112, sections 2 to 3).
+-- Which octets spell a request, and why reading stops (RFC 9112, sections 2 and 3).
 use Rattle.std.specs.Prelude.{◌≡◌, ℕ, ◌≤◌, ◌⊎◌, ⊤, List, [], ◌++◌, length, Option, Result, Ok, Err, MatchResult}
 use Rattle.std.specs.Io.KnownBytes.{IsAtEnd}
 use Rattle.httparse.specs.Grammar.{RequestHead, ReadsRequest, NeverHasRequest}
@@ -9,7 +9,7 @@ use Rattle.peer_intake.specs.Reading.{Takes, most_turns}
 use Rattle.peer_intake.specs.Heads.{longest_head, longest_read, most_fields, head_window, IsLongRequest, IsOpenRequest}
 use Rattle.peer_reading.specs.AskHead.{parts_of, Says}
 
--- the octets are the head of a request within the limits, and it says this
+-- the octets are a head within its limits, which makes this request or has this fault
 pub record SpellsHead (octets : List ℕ) (outcome : Result Ask FetchFault) : Type 0 where
   pub head : RequestHead
   pub reads : ReadsRequest octets head []
@@ -17,15 +17,15 @@ pub record SpellsHead (octets : List ℕ) (outcome : Result Ask FetchFault) : Ty
   pub few : length head.fields ≤ most_fields
   pub says : Says (parts_of head) outcome
 
--- the octets spell the ask
+-- the octets spell the request
 abbrev pub SpellsAsk : List ℕ → Ask → Type 0
 SpellsAsk octets ask = SpellsHead octets (Ok ask)
 
--- a front of the octets says this
+-- the octets begin with a head that makes this request or has this fault
 abbrev pub FrontSays : List ℕ → Result Ask FetchFault → Type 0
 FrontSays octets outcome = (front : List ℕ) × (rest : List ℕ) × (octets ≡ front ++ rest) × SpellsHead front outcome
 
--- why reading an ask stopped after these octets
+-- why reading stopped in a request after these octets
 abbrev pub StopsInAsk : Option (List ℕ) → List ℕ → FetchFault → Type 0
 StopsInAsk reader octets Io = IsOpenRequest octets
 StopsInAsk reader octets NoMemory = ⊤
@@ -35,7 +35,8 @@ StopsInAsk reader octets BadHead = NeverHasRequest (head_window 0 octets) ⊎ Fr
 StopsInAsk reader octets HeadTooLong = IsLongRequest (head_window 0 octets)
 StopsInAsk reader octets fault = FrontSays octets (Err fault)
 
--- what was taken from the reader, so many octets at most, spells the ask at its front, or tells why there is none
+-- the contract of `read_ask`: the octets taken, at most 20,480, begin with the request, or the
+-- fault says why they do not
 pub record ReadsAsk (reader_old reader_new : Option (List ℕ)) (result : Result Ask FetchFault) : Type 0 where
   pub octets : List ℕ
   pub taken : Takes reader_old reader_new [] octets

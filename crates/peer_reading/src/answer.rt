@@ -1,4 +1,4 @@
-//! Reading answers.
+//! Reading responses.
 ghost use Rattle.std.specs.Prelude.{◌≡◌, ◌≤◌, ◌+◌, false, length, IsTrue, IfOk, IfErr};
 ghost use Rattle.httparse.specs.Spans.{IsResponseWithin, IsResponseOf};
 ghost use Rattle.fetch_messages.specs.Answer.{is_writable};
@@ -16,14 +16,28 @@ use peer_intake::Intake;
 use std::alloc::Global;
 use std::io::Read;
 
-/// Reads an answer (RFC 9112, sections 4 to 7), and reads over interim ones. Octets behind it may have been taken from the
-/// reader too, and are lost.
+/// Reads a final response (RFC 9112, sections 4 to 7), and passes over interim ones (RFC 9110,
+/// section 15.2). Octets after it may be taken from the reader too, and are lost.
 ///
-/// Faults, while a head is read: `BadHead` where no octets can follow that make one, `HeadTooLong` over 16,384 octets or
-/// 64 fields, `EndOfInput`, `Io`, `TooManyTurns` (70,000 calls of the reader were not enough), `NoMemory`. Then, in this
-/// order: `BadHead` (the status is 101, below 100 or above 599), `HeadTooLong` (more than 56 fields are kept, or 16,000 octets
-/// of their lines), `BadBody` and `BodyTooLong` by what its fields say of the body (a status of 204 or 304 has no body, whatever its
-/// fields say), and the faults of reading it.
+/// Faults while a head is read:
+///
+/// - `BadHead`: no octets that follow can make it a head;
+/// - `HeadTooLong`: it has more than 16,384 octets or 64 fields;
+/// - `EndOfInput`: the input ended first;
+/// - `TooManyTurns`: 70,000 calls of the reader were not enough;
+/// - `Io`: the reader failed;
+/// - `NoMemory`: there was no memory.
+///
+/// Faults of a whole head, in this order:
+///
+/// - `BadHead`: the status is 101, below 100 or above 599;
+/// - `HeadTooLong`: more than 56 fields are kept, or their lines have more than 16,000 octets
+///   together;
+/// - `BadBody` or `BodyTooLong`: the fields give no valid length of the body, or one over 65,536
+///   octets. With status 204 or 304 there is no body, whatever the fields say.
+///
+/// Then come the faults of reading the body: `BadBody`, `BodyTooLong`, `HeadTooLong` (of a
+/// trailer), and those of the reader. `NoMemory` may come at any point.
 pub fn read_answer<R: Read>(alloc: Global, reader: &mut R) -> Result<Answer, FetchFault>
     ensures { ReadsAnswer (R.remaining reader.old) (R.remaining reader.new) result }
 {
@@ -39,7 +53,7 @@ pub fn read_answer<R: Read>(alloc: Global, reader: &mut R) -> Result<Answer, Fet
     }
 }
 
-/// Reads what follows a final head that stands at `start`.
+/// Judges the final head that stands at `start`, and reads the rest of the response.
 fn read_final<R: Read>(
     alloc: Global,
     reader: &mut R,
@@ -62,7 +76,7 @@ fn read_final<R: Read>(
     }
 }
 
-/// Reads the body that begins at `start`, behind a head that said so much.
+/// Reads the body that begins at `start`, after a head that said `told`, and makes the response.
 fn read_told<R: Read>(
     alloc: Global,
     reader: &mut R,
@@ -80,7 +94,7 @@ fn read_told<R: Read>(
     }
 }
 
-/// The answer that a head and a body are.
+/// The response of a head and a body. `NoMemory`: there was no memory for the list of fields.
 fn answer_of(alloc: Global, told: Told, body: Body) -> Result<Answer, FetchFault>
     requires { IsTrue (is_writable (answer_text_of (told_text told) body)) }
     ensures ok { IfOk result (λ answer. answer ≡ answer_text_of (told_text told) body) }

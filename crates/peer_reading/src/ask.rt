@@ -1,4 +1,4 @@
-//! Reading asks.
+//! Reading requests.
 ghost use Rattle.std.specs.Prelude.{◌≡◌, ◌⊎◌, ◌++◌, IfOk, IfErr, IsTrue, MatchResult, codes, Ok, Err};
 ghost use Rattle.httparse.specs.Spans.{IsRequestWithin};
 ghost use Rattle.peer_fields.specs.Ask.{host_text};
@@ -16,17 +16,32 @@ use std::alloc::{AllocError, Global};
 use std::io::Read;
 use url_key::{Key, KeyFault};
 
-/// The most fields of a head.
+/// The most fields that a head has.
 pub(crate) const MOST_FIELDS: usize = 64;
 
-/// Reads an ask (RFC 9112, section 3): its head, behind which no body may follow. Octets behind the head may have been
-/// taken from the reader too, and are lost: at most 20,480 octets are taken in all.
+/// Reads a request (RFC 9112, section 3): a head, and no body. Octets after the head may be taken
+/// from the reader too, and are lost; at most 20,480 octets are taken in all.
 ///
-/// Faults, while the head is read: `BadHead` where no octets can follow that make one, `HeadTooLong` over 16,384 octets or
-/// 64 fields, `EndOfInput`, `Io`, `TooManyTurns` (70,000 calls of the reader were not enough), `NoMemory`. Then, in this
-/// order: `BadHead` (several `host` fields, or none in an ask of HTTP/1.1 or for a path), `MethodNotServed` (not `GET`),
-/// `BadTarget` (a path at its host, or any other target as it stands, is no key), `Credentials`, `BadBody` (a `transfer-encoding`,
-/// or a `content-length` that is not 0).
+/// Faults while the head is read:
+///
+/// - `BadHead`: no octets that follow can make it a head;
+/// - `HeadTooLong`: it has more than 16,384 octets or 64 fields;
+/// - `EndOfInput`: the input ended first;
+/// - `TooManyTurns`: 70,000 calls of the reader were not enough;
+/// - `Io`: the reader failed;
+/// - `NoMemory`: there was no memory.
+///
+/// Faults of a whole head, in this order:
+///
+/// - `BadHead`: there are several `host` fields, or none in an HTTP/1.1 request or with a path as
+///   target (RFC 9112, section 3.2);
+/// - `MethodNotServed`: the method is not GET;
+/// - `BadTarget`: the URL has no key; the URL is a path at its host, or any other target as it
+///   stands (section 3.3);
+/// - `Credentials`: there is an `authorization` or a `proxy-authorization` field;
+/// - `BadBody`: there is a `transfer-encoding` field, or a `content-length` field that is not 0.
+///
+/// `NoMemory` may come while the target is read, too.
 pub fn read_ask<R: Read>(alloc: Global, reader: &mut R) -> Result<Ask, FetchFault>
     ensures { ReadsAsk (R.remaining reader.old) (R.remaining reader.new) result }
 {
@@ -38,7 +53,7 @@ pub fn read_ask<R: Read>(alloc: Global, reader: &mut R) -> Result<Ask, FetchFaul
     }
 }
 
-/// What a head asks, or its first fault.
+/// The request that a head makes, or its first fault.
 fn judge(
     alloc: Global,
     window: &[u8],
@@ -75,7 +90,8 @@ fn judge(
     })
 }
 
-/// Whether the `host` fields are those that an ask of this version and target may have (RFC 9112, section 3.2).
+/// Whether a request of this version and target may have these `host` fields: one, or none in
+/// HTTP/1.0 where the target is not a path (RFC 9112, section 3.2).
 fn may_have(host: Host<'_>, minor: u8, target: &[u8]) -> bool
     ensures { result ≡ head_rules.may_have (host_text host.entry) minor target.now }
 {
@@ -93,7 +109,8 @@ fn is_origin_form(target: &[u8]) -> bool
     target.first() == Some(&b'/')
 }
 
-/// The key of the URL that is asked for: a path at the host, or any other target as it stands (RFC 9112, section 3.3).
+/// The key of the requested URL: a path at the host, or any other target as it stands (RFC 9112,
+/// section 3.3). `BadTarget`: the URL has no key. `NoMemory`: there was no memory.
 fn key_of(alloc: Global, host: Host<'_>, target: &[u8]) -> Result<Key, FetchFault>
     ensures { KeyOf (url_by (host_text host.entry) target.now) result }
 {
@@ -119,7 +136,7 @@ fn url_at(alloc: Global, host: &[u8], target: &[u8]) -> Result<Vec<u8>, AllocErr
     Ok(text)
 }
 
-/// The key of a text.
+/// The key of a URL. `BadTarget`: it has none. `NoMemory`: there was no memory.
 fn read_key(alloc: Global, text: &[u8]) -> Result<Key, FetchFault>
     ensures { KeyOf text.now result }
 {

@@ -1,4 +1,4 @@
-//! Reading the body of an answer.
+//! Reading the body of a response.
 ghost use Rattle.std.specs.Prelude.{◌≡◌, ◌≤◌, length, MatchResult, Some, Err};
 ghost use Rattle.peer_reading.specs.Answers.{ReadsBody};
 
@@ -8,7 +8,8 @@ use peer_intake::Intake;
 use std::alloc::Global;
 use std::io::Read;
 
-/// Reads the body that begins at `start` and is framed so; none: there is no body.
+/// Reads the body that begins at `start` and ends as `framing` says. `None`: there is no body, and
+/// nothing is read.
 pub(crate) fn read_body<R: Read>(
     alloc: Global,
     reader: &mut R,
@@ -25,7 +26,7 @@ pub(crate) fn read_body<R: Read>(
     }
 }
 
-/// Reads the body that begins at `start` and is framed so.
+/// Reads the body that begins at `start` and ends as `framing` says.
 fn read_framed<R: Read>(
     alloc: Global,
     reader: &mut R,
@@ -46,7 +47,8 @@ fn read_framed<R: Read>(
     }
 }
 
-/// The octets that were read, as a body.
+/// The octets that were read, as a body. `NoMemory`: there was no memory for the count of its
+/// owners.
 fn held(read: Result<Vec<u8>, FetchFault>) -> Result<Body, FetchFault>
     ensures { MatchResult read
         (λ octets. MatchResult result (λ body. body ≡ octets.items) (λ fault. fault ≡ FetchFault.NoMemory))

@@ -1,10 +1,25 @@
-//! Asks and answers, read from any reader (RFC 9112): octets from `peer_intake`, what fields mean from `peer_fields`.
+//! Reads HTTP/1.1 requests and responses from any reader (RFC 9112). It joins the octets of
+//! `peer_intake` with the meaning of fields of `peer_fields`.
 //!
-//! `specs/AskHead` and `specs/AnswerHead` say what a head says, by rules over the list of its fields, or its first fault;
-//! `specs/Asks` and `specs/Answers` say which octets spell an ask or an answer, and why reading stops.
+//! - [`read_ask`] reads a request: a head, and no body.
+//! - [`read_answer`] reads a response: it passes over interim heads, then reads a final head and
+//!   its body.
 //!
-//! The trait of reading counts no failures, so a body that answers `Io` at once would meet both contracts. That `Io` comes only where the reader
-//! failed is shown by tests.
+//! Both take the reader from the caller, and read one message. Octets after the message may be
+//! taken from the reader and are lost, so a connection carries one exchange. There is no clock: a
+//! call lasts as long as its reader blocks.
+//!
+//! Contracts say that the octets taken begin with a message by the grammar of RFC 9112 and the
+//! rules over its fields (`ReadsAsk` of `specs/Asks`, `ReadsAnswer` of `specs/Answers`), and for
+//! each fault but `Io` and `NoMemory` what held of the octets. A whole head gives its first fault
+//! in a stated order (`specs/AskHead`, `specs/AnswerHead`).
+//!
+//! Not promised: the trait of reading counts no failures, so a body that always returned `Io`
+//! would meet both contracts. Tests show that `Io` comes only where the reader failed. `NoMemory`
+//! may come from any call that allocates.
+//!
+//! Read first `specs/Asks` with `specs/AskHead`, and `src/ask.rt`; then `specs/Answers` with
+//! `specs/AnswerHead`, `src/answer.rt`, `src/told.rt` (what a head says) and `src/body.rt`.
 #![tactic(auto)]
 
 mod answer;

@@ -10,25 +10,28 @@ use httparse::spans::{HeaderSpan, ResponseSpans};
 use peer_fields::{Framing, age, framing_of, kept_fields, stamp};
 use std::alloc::Global;
 
-/// What the head of a final response says.
+/// What the head of a final response says, apart from its body. The age is in seconds.
 #[derive(Drop)]
 pub(crate) struct Told {
     pub(crate) status: u16,
     pub(crate) fields: Vec<Field>,
     pub(crate) age: Option<u32>,
     pub(crate) stamp: Option<u32>,
-    /// How its body ends; none: it has no body.
+    /// Where its body ends. `None`: it has no body.
     pub(crate) framing: Option<Framing>,
 }
 
-/// Whether the status is one of an interim response, which another one follows (RFC 9110, section 15.2).
+/// Whether the status is that of an interim response, which another response follows (RFC 9110,
+/// section 15.2). 101 is not: it would change the protocol.
 pub(crate) fn is_interim(status: u16) -> bool
     ensures { result ≡ head_rules.is_interim status }
 {
     100 <= status && status < 200 && status != 101
 }
 
-/// What a head says, or its first fault: its status, the limits of what is kept, how its body ends.
+/// What a head says, or its first fault: `BadHead` by its status, `HeadTooLong` by the limits of
+/// kept fields, `BadBody` or `BodyTooLong` by the length of its body. `NoMemory` may come with the
+/// fields.
 pub(crate) fn tell(
     alloc: Global,
     window: &[u8],
@@ -57,7 +60,8 @@ pub(crate) fn tell(
     })
 }
 
-/// How the body of a response of this status ends, if it has one: 204 and 304 have none (RFC 9112, section 6.3).
+/// Where the body of a response with this status ends. `None`: it has no body, as with 204 and 304
+/// (RFC 9112, section 6.3).
 fn framing_by(
     status: u16,
     window: &[u8],

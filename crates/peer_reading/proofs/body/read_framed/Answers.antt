@@ -1,3 +1,4 @@
+-- One lemma of `proofs/BodyLemmas` for each kind of body.
 use Rattle.peer_reading.proofs.BodyLemmas.{length_read, end_read, chunks_read, chunks_stop}
 use Rattle.peer_reading.proofs.body.read_framed.Goals as goal
 
