@@ -10,7 +10,8 @@
 //!
 //! Members keep the blanks around them, and empty members are given too. Trimming them and ignoring
 //! empty ones (RFC 9110, section 5.6.1.2) is left to the caller. A quoted string that is not closed
-//! goes up to the end of the value. Comments in parentheses (section 5.6.5) get no special treatment.
+//! goes up to the end of the value. Comments in parentheses (section 5.6.5)
+//! get no special treatment.
 //!
 //! Read first `specs/Members` (`members`: the cut, octet by octet) and `specs/Cut` (`HasMembers`:
 //! the grammar), then `src/members.rt`. `specs/Blanks` defines `trim`; `specs/Left` says what

@@ -1,4 +1,4 @@
--- Choices, and tests of texts.
+-- Small facts on choices and on tests of texts.
 use Rattle.std.proofs.Common.{◌≡◌, ℕ, ◌≤◌, Some, Bool, true, false, cond, not, ◌&&◌, List, refl, sym, ap, subst, unwrap_or, nat_le, arith}
 use Rattle.std.specs.Prelude.{bytes_eq}
 use Rattle.std.proofs.lemmas.Slice.Eq.{bytes_eq-Decides}

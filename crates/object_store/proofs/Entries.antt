@@ -1,4 +1,6 @@
--- What the cache's calls do with the list of the copies in it.
+-- What the calls of the map do with the list of the copies in it. Each entry stands under its
+-- copy's key, so looking up, removing and promoting an entry of a key is the same of the copy of
+-- the key.
 use Rattle.std.proofs.Common.{◌≡◌, ℕ, ◌+◌, ◌-◌, ◌<◌, ◌≤◌, suc, zero, Bool, true, false, cond, not, List, [], ◌∷◌, ◌++◌, length, take, drop, get_or, map, filter, Option, Some, None, option_map, refl, sym, ◌∙◌, ap, subst, arith}
 use Rattle.std.specs.List.{AllByRecursion}
 use Rattle.std.specs.Option.{option_map_or}
@@ -18,6 +20,7 @@ use Rattle.object_store.proofs.Cases.{branches, true_not_false, same_Some, same_
 use Rattle.object_store.proofs.Places.{none_of, none_out, rest_of}
 use Rattle.object_store.proofs.Stores.{all_kept_by, all_kept}
 
+-- an entry of the map: a key and a copy
 abbrev pub Entry : Type 0 → Type 0
 Entry X = List ℕ × WebCopy X
 
@@ -52,6 +55,8 @@ out_of u (e ∷ es) keyed one =
       | false ↦ λ other. ap (λ cs. e.1 ∷ cs) (out_of u es keyed.1 one.1)
     ]) refl
 
+-- entries stay under their keys: where one is removed, found, where some are taken, where one
+-- comes to the front
 keyed_out : {X : Type 0} (test : List ℕ → Bool) (es : List (Entry X)) → AreKeyed es → AreKeyed (remove_entry test es)
 keyed_out test [] keyed = keyed
 keyed_out test (e ∷ es) keyed =
@@ -93,6 +98,7 @@ keyed_front test es keyed = go (lookup_entry test es) refl
     go None h = keyed
     go (Some e) h = (keyed_found test es e keyed h, keyed_out test es keyed)
 
+-- the map stays as it must be, too
 pub cached_front : {X : Type 0} (test : List ℕ → Bool) (cache : LruCache (List ℕ) (WebCopy X)) → IsCached cache → IsCached (lru_cache (promoted test cache.entries) cache.cap)
 cached_front test cache is = record { keyed = keyed_front test cache.entries is.keyed; cap = is.cap }
 

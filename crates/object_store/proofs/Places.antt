@@ -1,4 +1,6 @@
--- Going over the copies of a store to a key's copy.
+-- The copy of a key in the list: there is one at most, so what stands after it has another key.
+-- Taking it out takes its octets from the sum; and dropping the last copy of a list that does not
+-- fit changes nothing of what fits.
 use Rattle.std.proofs.Common.{◌≡◌, ℕ, ◌+◌, ◌-◌, ◌<◌, ◌≤◌, Bool, true, false, cond, not, ◌&&◌, nat_lt, nat_le, ◌⊎◌, inl, inr, List, [], ◌∷◌, ◌++◌, length, Option, Some, None, refl, sym, ◌∙◌, ap, subst, arith}
 use Rattle.std.proofs.lemmas.List.Sums.{sum_by-cons}
 use Rattle.std.proofs.lemmas.Option.{none-some}
@@ -11,6 +13,7 @@ use Rattle.object_store.specs.Counted.{IsCounted}
 use Rattle.object_store.proofs.Cases.{second_true, same_Some, same_text}
 use Rattle.object_store.proofs.Stores.{store, IsStoreOf, store_to_front, store_filtered, all_kept_by}
 
+-- these copies, within these limits, are a store with this count of octets
 abbrev pub IsCountedOf : {X : Type 0} → ℕ → ℕ → List (WebCopy X) → ℕ → Type 0
 IsCountedOf most limit copies count = IsCounted (store most limit copies) count
 
@@ -23,7 +26,7 @@ none_of u (x ∷ xs) all =
       | false ↦ λ e. ap (λ ys. x ∷ ys) (none_of u xs all.1)
     ]) refl
 
--- behind the key's copy there is no other
+-- after the key's copy there is no other
 pub rest_of : {X : Type 0} (u : List ℕ) (x : WebCopy X) (xs : List (WebCopy X)) → OneEach (x ∷ xs) → is_of u x ≡ true → without u (x ∷ xs) ≡ xs
 rest_of u x xs one same =
     ap (λ b. cond (not b) (x ∷ without u xs) (without u xs)) same
@@ -53,6 +56,7 @@ octets_out u (x ∷ xs) c one e =
           omega (arith, ih, sum_by-cons size x xs, sum_by-cons size x (without u xs))
     ]) refl e
 
+-- once the key's copy is out, the key has none
 none_without : {X : Type 0} (u : List ℕ) (xs : List (WebCopy X)) → copy_of u (without u xs) ≡ None
 none_without u [] = refl
 none_without u (x ∷ xs) =
@@ -61,6 +65,7 @@ none_without u (x ∷ xs) =
       | false ↦ λ e. ap (λ b. cond b (Some x) (copy_of u (without u xs))) e ∙ none_without u xs
     ]) refl
 
+-- the count stays where the key's copy comes to the front
 pub counted_front : {X : Type 0} (most limit : ℕ) (u : List ℕ) (xs : List (WebCopy X)) (n : ℕ) (c : WebCopy X) → copy_of u xs ≡ Some c → IsCountedOf most limit xs n → IsCountedOf most limit (c ∷ without u xs) n
 counted_front most limit u xs n c e is =
     let front : to_front u xs ≡ c ∷ without u xs = ap (λ o. in_front o (without u xs)) e in
@@ -71,6 +76,7 @@ counted_front most limit u xs n c e is =
       some = is.some;
     }
 
+-- the same, whether there is such a copy or not
 pub counted_to_front : {X : Type 0} (most limit : ℕ) (u : List ℕ) (xs : List (WebCopy X)) (n : ℕ) → IsCountedOf most limit xs n → IsCountedOf most limit (to_front u xs) n
 counted_to_front most limit u xs n is = go (copy_of u xs) refl
   where
@@ -88,6 +94,7 @@ counted_out most limit u xs n c m e same is =
       some = is.some;
     }
 
+-- nothing is cleared where the key has no copy
 none_cleared : {X : Type 0} (u : List ℕ) (n : ℕ) (xs : List (WebCopy X)) → AllByRecursion (λ d. d.key ≡ u → ⊥) xs → without_below u n xs ≡ xs
 none_cleared u n [] all = refl
 none_cleared u n (x ∷ xs) all =
@@ -116,6 +123,7 @@ cleared u n (x ∷ xs) one =
 
 -- what fits, and what does not
 
+-- a list within both limits fits whole
 pub all_fit : {X : Type 0} (count bytes : ℕ) (xs : List (WebCopy X)) → length xs ≤ count → octets xs ≤ bytes → fitting count bytes xs ≡ xs
 all_fit count bytes [] l o = refl
 all_fit count bytes (x ∷ xs) l o =
@@ -140,6 +148,7 @@ last_over count bytes (x ∷ xs) y over =
       | false ↦ λ e. refl
     ]) refl
 
+-- the octets with one copy more at the end
 pub octets_push : {X : Type 0} (xs : List (WebCopy X)) (y : WebCopy X) → octets (xs ++ y ∷ []) ≡ octets xs + size y
 octets_push [] y = omega (arith, sum_by-cons size y [])
 octets_push (x ∷ xs) y = omega (arith, octets_push xs y, sum_by-cons size x xs, sum_by-cons size x (xs ++ y ∷ []))

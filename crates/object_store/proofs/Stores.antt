@@ -1,4 +1,6 @@
--- What a store's operations keep.
+-- Each operation on the list keeps a store within its limits, with one copy of each key: moving to
+-- the front only changes the order, and filtering and fitting only drop copies. What fits is the
+-- longest front, as a longer one would hold a copy that did not fit.
 use Rattle.std.proofs.Common.{◌≡◌, ℕ, ◌+◌, ◌-◌, ◌≤◌, Bool, true, false, cond, not, ◌&&◌, List, [], ◌∷◌, zero, suc, ◌<◌, take, length, sum_by, filter, find, Option, Some, None, refl, sym, ◌∙◌, ap, subst, nat_lt, nat_le, arith}
 use Rattle.std.specs.List.{AllByRecursion}
 use Rattle.std.proofs.lemmas.Option.{none-some}
@@ -15,6 +17,7 @@ use Rattle.object_store.proofs.Cases.{true_not_false, branches, second_true, sam
 abbrev pub store : {X : Type 0} → ℕ → ℕ → List (WebCopy X) → Held X
 store most limit copies = record { limit_count = most; limit_bytes = limit; copies = copies }
 
+-- these copies, within these limits, are a store
 abbrev pub IsStoreOf : {X : Type 0} → ℕ → ℕ → List (WebCopy X) → Type 0
 IsStoreOf most limit copies = IsStore (store most limit copies)
 
@@ -29,6 +32,7 @@ all_filtered P Q test (x ∷ xs) h all =
 pub all_kept : {A : Type 0} (P : A → Type 0) (test : A → Bool) (xs : List A) → AllByRecursion P xs → AllByRecursion P (filter test xs)
 all_kept P test xs = all_filtered P P test xs (λ x p _. p)
 
+-- a filtered list is no longer than the list, and its sum no greater
 pub length_filter : {A : Type 0} (test : A → Bool) (xs : List A) → length (filter test xs) ≤ length xs
 length_filter test [] = omega arith
 length_filter test (x ∷ xs) =
@@ -68,6 +72,7 @@ others_apart u (c ∷ copies) =
     branches (AllByRecursion (λ (d : WebCopy _). d.key ≡ u → ⊥)) (not (is_of u c)) (c ∷ without u copies) (without u copies)
     (λ h. ((λ same. true_not_false (sym (text_same c.key u same) ∙ not_true (is_of u c) h)), others_apart u copies)) (λ _. others_apart u copies)
 
+-- what fits is within both limits
 pub fits_count : {X : Type 0} (count bytes : ℕ) (copies : List (WebCopy X)) → length (fitting count bytes copies) ≤ count
 fits_count count bytes [] = omega arith
 fits_count count bytes (c ∷ copies) =
@@ -118,6 +123,7 @@ store_filtered most limit test copies is =
 
 -- the operations of a node's step
 
+-- moving a copy to the front keeps a store
 pub store_to_front : {X : Type 0} (most limit : ℕ) (u : List ℕ) (copies : List (WebCopy X)) → IsStoreOf most limit copies → IsStoreOf most limit (to_front u copies)
 store_to_front most limit u copies is = go (copy_of u copies) refl
   where
@@ -131,6 +137,7 @@ store_to_front most limit u copies is = go (copy_of u copies) refl
           one_each = (all_kept_by (λ (d : WebCopy _). d.key ≡ u → ⊥) (λ (d : WebCopy _). d.key ≡ c.key → ⊥) (λ d n same. n (same ∙ here)) (without u copies) (others_apart u copies), one_each_filtered _ copies is.one_each);
         }
 
+-- so does a put
 pub store_put : {X : Type 0} (most limit : ℕ) (c : WebCopy X) (copies : List (WebCopy X)) (answer : Put) → IsStoreOf most limit copies → IsStoreOf most limit (copies_after (store most limit copies) c answer)
 store_put most limit c copies TooLarge is = is
 store_put most limit c copies Kept is = is
@@ -163,6 +170,7 @@ no_longer count bytes (c ∷ copies) (suc n) few within =
     fits : 0 < count → size c ≤ bytes → (nat_lt 0 count && nat_le (size c) bytes) ≡ true
     fits some room = grind arith
 
+-- what fits is the longest front within both limits
 pub longest_front : {X : Type 0} (count bytes : ℕ) (copies : List (WebCopy X)) → IsLongestFront count bytes copies (fitting count bytes copies)
 longest_front count bytes copies = record {
   is_front = front count bytes copies;

@@ -1,4 +1,4 @@
--- How the cache of a store holds its copies.
+-- How the map of a store holds its copies.
 use Rattle.std.specs.Prelude.{◌≡◌, ℕ, ◌-◌, ◌^◌, List, [], ◌∷◌}
 use Rattle.std.specs.List.{AllByRecursion}
 use Rattle.std.specs.Map.{values_of}
@@ -14,12 +14,13 @@ AreKeyed {T} entries = AllByRecursion (λ (e : List ℕ × WebCopy T). e.0 ≡ e
 abbrev pub copies_in : {T : Type 0} → LruCache (List ℕ) (WebCopy T) → List (WebCopy T)
 copies_in cache = values_of cache.entries
 
--- the entries are keyed so, and none goes by itself, since the capacity is the greatest
+-- each entry stands under its copy's key, and the map drops none by itself, as its capacity is the
+-- greatest
 pub record IsCached {T : Type 0} (cache : LruCache (List ℕ) (WebCopy T)) : Type 0 where
   pub keyed : AreKeyed cache.entries
   pub cap : cache.cap ≡ 2 ^ 64 - 1
 
--- the copies of all keys but these
+-- the copies of all other keys than these
 abbrev pub without_each : {T : Type 0} → List (List ℕ) → List (WebCopy T) → List (WebCopy T)
 without_each [] copies = copies
 without_each (key ∷ keys) copies = without_each keys (without key copies)

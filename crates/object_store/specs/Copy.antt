@@ -1,9 +1,9 @@
--- Copies of answers, and what they count in a store.
+-- Copies of responses, and the octets that they count in a store.
 use Rattle.std.specs.Prelude.{ℕ, ◌+◌, Bool, bytes_eq, List, length}
 use Rattle.fetch_messages.specs.Answer.{answer_size}
 use Rattle.object_store.specs.declared.copy.WebCopy.{WebCopy}
 
--- the octets that a copy counts: its key, and its answer's field lines and body
+-- the octets that a copy counts: its key, and the field lines and the body of its response
 abbrev pub size : {T : Type 0} → WebCopy T → ℕ
 size c = length c.key + answer_size c.answer
 

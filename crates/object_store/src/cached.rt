@@ -1,4 +1,4 @@
-//! What the store's calls do with the cache of its copies.
+//! What the store's calls do with the map of its copies.
 ghost use Rattle.std.specs.Prelude.{◌≡◌, ◌∷◌, IfOk, IfErr, OnOk, OnErr, map, filter, nat_lt};
 ghost use Rattle.object_store.specs.Cached.{IsCached, copies_in, without_each};
 ghost use Rattle.object_store.specs.Listed.{without as without_key, fitting, octets as octets_in, OneEach};
@@ -9,7 +9,7 @@ use lru::LruCache;
 use std::alloc::{AllocError, Global};
 use url_key::Key;
 
-/// Copies of all copies, in their order.
+/// Copies of all copies, the most recent first.
 pub(crate) fn copy_all<T: Copy>(
     alloc: Global,
     cache: &LruCache<Key, WebCopy<T>, Hashing>,
@@ -23,7 +23,8 @@ pub(crate) fn copy_all<T: Copy>(
     Ok(made)
 }
 
-/// Puts a copy in front, in the place of its key's old one, and gives the octets of the others.
+/// Puts a copy in front, drops the old copy of its key, and gives the octets of the others. The
+/// error: there was no memory; the map is as before, and the copy comes back.
 pub(crate) fn put_first<T: Drop>(
     cache: &mut LruCache<Key, WebCopy<T>, Hashing>,
     octets: u64,
@@ -38,7 +39,7 @@ pub(crate) fn put_first<T: Drop>(
     ensures err { OnErr result (cache.new ≡ cache.old) }
     ensures returned { IfErr result (λ refused. refused.0 ≡ copy) }
 {
-    // There is room for one more, so that no copy goes by itself.
+    // The map has room for one more, so it drops no copy by itself.
     let count = cache.len();
     prove!(count < usize::MAX);
     let alloc = *cache.allocator();
@@ -56,7 +57,8 @@ pub(crate) fn put_first<T: Drop>(
     }
 }
 
-/// Drops the least recent copies until the rest is within two limits, and gives the octets of the rest.
+/// Drops the least recent copies until the rest is within both limits, and gives the octets of the
+/// rest.
 pub(crate) fn make_room<T: Drop>(
     cache: &mut LruCache<Key, WebCopy<T>, Hashing>,
     octets: u128,
@@ -96,7 +98,8 @@ pub(crate) fn keys_below<T>(
     Ok(keys)
 }
 
-/// Drops the copies of these keys, and gives the octets of the rest.
+/// Drops the copies of these keys, and gives the octets of the rest. `octets` are those of all
+/// copies before.
 pub(crate) fn drop_each<T: Drop>(
     cache: &mut LruCache<Key, WebCopy<T>, Hashing>,
     octets: u64,

@@ -5,25 +5,27 @@ use fetch_messages::Answer;
 use std::alloc::{AllocError, Global};
 use url_key::Key;
 
-/// A copy of the answer to a GET of one URL.
+/// A stored response to a GET of one URL.
 #[derive(Drop)]
 pub struct WebCopy<T> {
-    /// The URL.
+    /// The key of the URL.
     pub key: Key,
-    /// The greatest purge number that its reader knew when the reading from the origin began; 0 where that is not known.
+    /// The stamp: the greatest purge number known to the reader when its read from the origin
+    /// began. 0: not known.
     pub stamp: u32,
-    /// The moment at which the answer was asked for, in seconds.
+    /// The moment of the request, in seconds of the caller's clock.
     pub asked: u64,
-    /// How many seconds the answer stays fresh (RFC 9111, section 4.2).
+    /// The freshness lifetime, in seconds (RFC 9111, section 4.2).
     pub lifetime: u64,
-    /// The answer.
+    /// The response.
     pub answer: Answer,
-    /// A mark that a store carries and never looks at.
+    /// A mark for proofs, which a store carries and never looks at.
     pub tag: T,
 }
 
 impl<T: Copy> WebCopy<T> {
-    /// An equal copy, which shares the answer's fields and body.
+    /// An equal copy, which shares the fields and the body of the response. `AllocError`: there
+    /// was no memory for the key, or the owners could not be counted.
     pub fn copy(&self, alloc: Global) -> Result<WebCopy<T>, AllocError>
         ensures { IfOk result (λ copy. copy ≡ self.now) }
     {
@@ -40,8 +42,8 @@ impl<T: Copy> WebCopy<T> {
     }
 }
 
-/// The octets that a copy counts in a store: those of its key and its body, and for each field those of its name and
-/// value and 4 more. They are at most 82,560 (1,024 of the key, 16,000 of the fields, 65,536 of the body).
+/// The octets that a copy counts in a store: its key, its body, and for each field name, value and
+/// 4. At most 82,560: 1,024 for the key, 16,000 for the fields and 65,536 for the body.
 pub fn size<T>(copy: &WebCopy<T>) -> u64
     ensures value { result ≡ size_of_copy copy.now }
     ensures bound { result ≤ 82560 }

@@ -2,10 +2,10 @@ ghost use Rattle.std.specs.Prelude.{◌≡◌};
 
 use std::hash::{BuildHasher, DefaultHasher, RandomState};
 
-/// How a store hashes the keys of its copies: by SipHash, with fixed keys or with random ones.
+/// How a store hashes: by SipHash, with fixed keys or with random ones.
 #[derive(Clone, Copy)]
 pub enum Hashing {
-    /// With fixed keys. Whoever knows them can pick URLs whose hashes are equal.
+    /// With fixed keys. Who knows them can choose URLs with equal hashes.
     Fixed,
     /// With the keys of a random state, which nobody outside knows.
     Random(RandomState),

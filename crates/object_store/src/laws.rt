@@ -1,9 +1,9 @@
-//! Laws of the definitions. Each function does nothing: its clause is the law.
+//! Laws of the definitions. A function here does nothing; its contract states the law.
 ghost use Rattle.std.specs.Prelude.{ℕ, List};
 ghost use Rattle.object_store.specs.declared.copy.WebCopy.{WebCopy};
 ghost use Rattle.object_store.specs.Listed.{IsLongestFront, fitting};
 
-/// What a store keeps after a put is the longest front of its copies that is within both limits.
+/// A law: what a store keeps after a put is the longest front of its copies within both limits.
 pub fn what_fits_is_the_longest_front<T>()
     ensures { (count bytes : ℕ) (copies : List (WebCopy T)) →
         IsLongestFront count bytes copies (fitting count bytes copies) }

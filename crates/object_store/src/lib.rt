@@ -1,11 +1,27 @@
-//! A bounded store of copies of answers, the most recent first.
+//! A bounded store of copies of responses, the most recent first, in memory.
 //!
-//! A store keeps at most one copy of each key, and its copies stay within two limits: how many they are, and how
-//! many octets they have together. A copy bears the purge number that was known when its reading began (its
-//! stamp), so that a purge can tell which copies are older than it.
+//! - [`Store`] holds at most one [`WebCopy`] of each key, within two limits: the number of copies,
+//!   and their octets together ([`size`]). Where a put goes over a limit, the least recent copies
+//!   go.
+//! - [`WebCopy`] is a stored response with its key, stamp, moment of the request and lifetime. The
+//!   stamp is the purge number known when the read from the origin began, so a purge can tell
+//!   which copies are older. A put never replaces a copy by one with a lesser stamp ([`Put`]).
+//! - [`laws`] has one law of the definitions: a store keeps the longest front of its copies within
+//!   both limits.
 //!
-//! The copies lie in a cache that is a hash map and a linked list at once, so no call but `copies` and
-//! `clear_all_below` goes over them. For keys that strangers pick, make the store by `Store::with_random_keys`.
+//! Contracts see a store as its limits and the list of its copies (`Held` of `specs/Held`). Each
+//! call is a call of that list; `specs/Listed` has its functions. The store judges neither
+//! freshness nor floors: its caller does.
+//!
+//! In memory, the copies lie in a hash map with a linked list (`lru`), hashed by SipHash
+//! (`src/hashing.rt`). Only `copies` and `clear_all_below` go over all copies. For keys that
+//! strangers choose, make the store by `Store::with_random_keys`; the results are the same. Time
+//! is not part of any contract.
+//!
+//! Read first `specs/Held` and `specs/Listed`, then `src/store.rt` (the calls) and `src/cached.rt`
+//! (what they do with the map). `specs/Counted` and `specs/Cached` are the invariant. The comment
+//! of `proofs/Lib` gives the order of the proofs. Tests compare the store with a plain list over
+//! random calls (`store_tests`).
 #![tactic(auto)]
 
 mod cached;

@@ -12,21 +12,23 @@ use std::hash::RandomState;
 use std::marker::Model;
 use url_key::Key;
 
-/// What putting a copy into a store did.
+/// The outcome of a put.
 #[derive(Clone, Copy, Debug, PartialEq, Eq)]
 pub enum Put {
-    /// The copy alone has more octets than the store may hold; nothing changed.
+    /// The copy alone has more octets than the store may hold. Nothing changed.
     TooLarge,
-    /// A copy of the key with a greater stamp is held; nothing changed.
+    /// The store holds a copy of the key with a greater stamp. Nothing changed.
     Kept,
-    /// The copy is held, in the place of the key's old one, and the least recent copies that no longer fit are gone.
+    /// The copy is in the store, as the most recent; the key's old copy, and the least recent
+    /// copies that no longer fit, are gone.
     Stored,
 }
 
-/// Copies within two limits, the most recent first, at most one for each key.
+/// Copies within two limits, the most recent first, at most one of each key.
 ///
-/// A contract sees the limits and the list of the copies. The copies lie in a cache that is a hash map and a linked list at once, each
-/// under a copy of its key: a look-up takes expected constant time and no memory, whatever the number of copies.
+/// A contract sees the limits and the list of the copies. In memory, the copies lie in a hash map
+/// with a linked list, each under a copy of its key. A look-up takes expected constant time and
+/// does not allocate.
 #[derive(Drop)]
 pub struct Store<T> {
     limit_count: usize,
@@ -59,9 +61,11 @@ impl<T> Store<T> {
     ghost use Rattle.object_store.specs.Looked.{EndsInFront};
     ghost use Rattle.object_store.specs.Held.{Held, IsStore, is_outdone_by, put_answer, after_put, with_copies};
 
-    /// A store without copies, for at most so many copies with at most so many octets (both at least 1).
+    /// An empty store for at most `limit_count` copies with at most `limit_bytes` octets together,
+    /// both at least 1.
     ///
-    /// It hashes keys with fixed keys. Where strangers pick the URLs, make it by `with_random_keys`.
+    /// It hashes with fixed keys. Where strangers choose the URLs, use
+    /// [`Store::with_random_keys`].
     pub fn new(alloc: Global, limit_count: usize, limit_bytes: u64) -> Result<Store<T>, AllocError>
         requires count { 1 ≤ limit_count }
         requires bytes { 1 ≤ limit_bytes }
@@ -74,8 +78,8 @@ impl<T> Store<T> {
         Store::with_hashing(alloc, limit_count, limit_bytes, Hashing::Fixed)
     }
 
-    /// The same, for URLs that strangers pick: it hashes with these random keys, which nobody outside knows, so that nobody can pick URLs
-    /// whose look-ups are slow. Any number of stores may share the keys.
+    /// The same, for URLs that strangers choose: it hashes with these random keys, so that nobody
+    /// outside can choose URLs whose look-ups are slow. Several stores may share the keys.
     pub fn with_random_keys(
         alloc: Global,
         limit_count: usize,
@@ -93,6 +97,7 @@ impl<T> Store<T> {
         Store::with_hashing(alloc, limit_count, limit_bytes, Hashing::Random(keys))
     }
 
+    /// An empty store that hashes so.
     fn with_hashing(
         alloc: Global,
         limit_count: usize,
@@ -116,7 +121,7 @@ impl<T> Store<T> {
         })
     }
 
-    /// How many copies it holds.
+    /// The number of copies in the store.
     pub fn len(&self) -> usize
         ensures value { result ≡ length self.now.copies }
         ensures valid { IsStore self.now }
@@ -124,28 +129,28 @@ impl<T> Store<T> {
         self.cache.len()
     }
 
-    /// Whether it holds no copy.
+    /// Whether the store holds no copy.
     pub fn is_empty(&self) -> bool
         ensures { result ≡ nat_eq (length self.now.copies) 0 }
     {
         self.cache.is_empty()
     }
 
-    /// The octets of its copies.
+    /// The octets of the copies together.
     pub fn bytes(&self) -> u64
         ensures { result ≡ octets self.now.copies }
     {
         self.octets
     }
 
-    /// The key's copy. The order stays.
+    /// The copy of the key. The order stays. It does not allocate.
     pub fn peek(&self, key: &Key) -> Option<&WebCopy<T>>
         ensures { option_map (λ c. c.now) result ≡ copy_by_key key.now self.now.copies }
     {
         self.cache.peek(key)
     }
 
-    /// The key's copy, which becomes the most recent.
+    /// The copy of the key, which becomes the most recent.
     pub fn look(&mut self, key: &Key) -> Option<&WebCopy<T>>
         ensures* order { sem 𝓛 (EndsInFront T.row self.entry key.now) }
         ensures found { option_map (λ c. c.now) result ≡ copy_by_key key.now self.old.copies }
@@ -157,14 +162,14 @@ impl<T> Store<T> {
         }
     }
 
-    /// Makes the key's copy, if it holds one, the most recent.
+    /// Makes the copy of the key, if there is one, the most recent.
     pub fn refresh(&mut self, key: &Key)
         ensures { self.new ≡ with_copies self.old (to_front key.now self.old.copies) }
     {
         self.bring(key);
     }
 
-    /// Makes the key's copy the most recent, and says whether there is one.
+    /// Makes the copy of the key the most recent. Returns whether there is one.
     fn bring(&mut self, key: &Key) -> bool
         ensures answer { result ≡ is_some (copy_by_key key.now self.old.copies) }
         ensures moved { self.new ≡ with_copies self.old (to_front key.now self.old.copies) }
@@ -184,7 +189,7 @@ impl<T> Store<T> {
 }
 
 impl<T: Copy> Store<T> {
-    /// All copies, the most recent first. They share fields and bodies with those of the store, which stays as it is.
+    /// All copies, the most recent first. They share fields and bodies with those in the store.
     pub fn copies(&self, alloc: Global) -> Result<Vec<WebCopy<T>>, AllocError>
         ensures { IfOk result (λ copies. copies.items ≡ self.now.copies) }
     {
@@ -195,8 +200,11 @@ impl<T: Copy> Store<T> {
 impl<T: Drop> Store<T> {
     ghost use Rattle.object_store.specs.Held.{Held, is_outdone_by, is_older_than, put_answer, after_put, with_copies};
 
-    /// Puts a copy into the store, unless it alone is too large or a copy of the key with a greater stamp is held.
-    /// Where there is no memory for one more copy the store is as it was, and the copy comes back.
+    /// Puts a copy into the store as the most recent, unless it alone is too large or the store
+    /// holds a copy of the key with a greater stamp. A copy with an equal stamp is replaced.
+    ///
+    /// The error: there was no memory for one more copy. The store is as before, and the copy
+    /// comes back.
     pub fn put(&mut self, copy: WebCopy<T>) -> Result<Put, (WebCopy<T>, AllocError)>
         ensures answer { IfOk result (λ answer. answer ≡ put_answer self.old copy) }
         ensures ok { OnOk result (self.new ≡ after_put self.old copy) }
@@ -217,7 +225,7 @@ impl<T: Drop> Store<T> {
         }
     }
 
-    /// Whether a copy of the same key with a greater stamp is held.
+    /// Whether the store holds a copy of the same key with a greater stamp.
     fn holds_newer(&self, copy: &WebCopy<T>) -> bool
         ensures { result ≡ is_outdone_by copy.now (copy_by_key copy.now.key self.now.copies) }
     {
@@ -227,7 +235,8 @@ impl<T: Drop> Store<T> {
         }
     }
 
-    /// Puts a copy in front that fits alone.
+    /// Puts a copy of `octets` octets in front, which fits alone, and drops the least recent
+    /// copies that no longer fit.
     fn put_fitting(&mut self, copy: WebCopy<T>, octets: u64) -> Result<(), (WebCopy<T>, AllocError)>
         requires size { octets ≡ size_of_copy copy }
         requires fits { octets ≤ self.old.limit_bytes }
@@ -245,7 +254,7 @@ impl<T: Drop> Store<T> {
         Ok(())
     }
 
-    /// Drops the key's copy, and says whether there was one.
+    /// Drops the copy of the key. Returns whether there was one.
     pub fn remove(&mut self, key: &Key) -> bool
         ensures answer { result ≡ is_some (copy_by_key key.now self.old.copies) }
         ensures removed { self.new ≡ with_copies self.old (without_key key.now self.old.copies) }
@@ -259,12 +268,12 @@ impl<T: Drop> Store<T> {
         }
     }
 
-    /// Drops the key's copy if its stamp is less than this one, and says whether it did.
+    /// Drops the copy of the key if its stamp is less than this. Returns whether it dropped one.
     pub fn clear_below(&mut self, key: &Key, stamp: u32) -> bool
         ensures answer { result ≡ is_older_than stamp (copy_by_key key.now self.old.copies) }
         ensures removed { self.new ≡ with_copies self.old (without_below key.now stamp self.old.copies) }
     {
-        // (this reading opens the store's invariant for the proof, and does nothing when it runs)
+        // (This read opens the invariant of the store for the proof. It does nothing at run time.)
         let _ = &self.limit_count;
         if self.holds_older(key, stamp) {
             self.remove(key)
@@ -273,7 +282,7 @@ impl<T: Drop> Store<T> {
         }
     }
 
-    /// Whether a copy of the key with a lesser stamp is held.
+    /// Whether the store holds a copy of the key with a lesser stamp.
     fn holds_older(&self, key: &Key, stamp: u32) -> bool
         ensures { result ≡ is_older_than stamp (copy_by_key key.now self.now.copies) }
     {
@@ -283,7 +292,8 @@ impl<T: Drop> Store<T> {
         }
     }
 
-    /// Drops every copy whose stamp is less than this one, and gives their number. Where there is no memory it drops none.
+    /// Drops every copy with a lesser stamp, and returns their number. `AllocError`: there was no
+    /// memory, and nothing was dropped.
     pub fn clear_all_below(&mut self, stamp: u32) -> Result<u64, AllocError>
         ensures count { IfOk result (λ count.
             count ≡ count_by (λ c. nat_lt c.stamp stamp) self.old.copies) }

@@ -1,4 +1,5 @@
--- Reading an input that begins with the text of an answer gives that answer.
+-- An input that begins with the text of a response is read as it. Its head and body are the only
+-- ones there, so every other fault would need octets that are not those of the input.
 use Rattle.std.proofs.Common.{◌≡◌, ℕ, ◌+◌, ◌≤◌, Bool, true, false, cond, List, [], ◌∷◌, ◌++◌, length, take, drop, Option, Some, None, Result, Ok, Err, MatchResult, refl, sym, ap, ◌∙◌, subst, inl, inr, arith, append_assoc, append-nil, length-append, length-take, take-append-drop}
 use Rattle.std.specs.List.{flat_map, AllByRecursion}
 use Rattle.httparse.specs.Grammar.{ResponseHead, ReadsResponse, HasNoResponse, NeverHasResponse, print_response, status_code}
@@ -27,7 +28,7 @@ framed_itself : (b : Bool) (n : ℕ) → EndsItself (cond b None (Some (Length n
 framed_itself true n = tt
 framed_itself false n = tt
 
--- An input that begins with the text of an answer, of which some octets were taken
+-- An input that begins with the text of a response, of which some octets were taken
 module _ (a : AnswerText) (via rest octets left input : List ℕ) (p : Parts a) (name : is_name via ≡ true) (input_at : input ≡ answer_text a via ++ rest) (taken : input ≡ octets ++ left) where
   behind : List ℕ
   behind = a.body ++ rest
@@ -61,7 +62,7 @@ module _ (a : AnswerText) (via rest octets left input : List ℕ) (p : Parts a) 
       let within = passes.within in
       omega (arith, size, within, length-take start octets)
 
-  -- A head that was read is that of the answer
+  -- A head that was read is that of the response
 
   says_same : (start end : ℕ) (outcome : Result ToldText FetchFault) → HeadSays octets start end outcome → outcome ≡ Ok (told_of a)
   says_same start end outcome s =

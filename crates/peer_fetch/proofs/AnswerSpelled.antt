@@ -1,4 +1,5 @@
--- The head and the body of an answer's text, where they stand.
+-- The text of a response spells it: its head stands first, no interim head before it, and the body
+-- follows as its length says.
 use Rattle.std.proofs.Common.{◌≡◌, ℕ, ◌+◌, ◌≤◌, Bool, true, false, cond, List, [], ◌++◌, length, take, drop, Some, None, Ok, refl, sym, ap, ◌∙◌, arith, append_assoc, length-append}
 use Rattle.std.proofs.lemmas.List.{drop_at, take_at}
 use Rattle.httparse.specs.Grammar.{ReadsResponse, print_response}
@@ -37,7 +38,7 @@ head_says a via rest octets p name is =
       says = head_tells a via p name;
     }
 
--- the body behind the head
+-- the body after the head
 body_by : (b : Bool) (body rest octets : List ℕ) (start end : ℕ) → (b ≡ true → body ≡ []) → drop start octets ≡ body ++ rest → end ≡ start + length body → end ≤ length octets
     → SpellsBody (cond b None (Some (Length (length body)))) octets start end body
 body_by true body rest octets start end empty behind end_is inside =

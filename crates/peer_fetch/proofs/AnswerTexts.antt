@@ -1,4 +1,5 @@
--- The text of an answer spells it.
+-- The head of a response's text says what was written: it is a head of the grammar within its
+-- limits, and its fields give back status, kept fields, age, stamp and length.
 use Rattle.std.proofs.Common.{◌≡◌, ℕ, ◌+◌, ◌≤◌, ◌==◌, ◌||◌, Bool, true, false, not, cond, List, [], ◌∷◌, ◌++◌, length, map, Option, Some, None, Ok, refl, sym, ap, ap₂, ◌∙◌, subst, arith, append_assoc, length-append, codes, decimal, nat_le, unwrap_or}
 use Rattle.std.specs.Prelude.{option_map, option_and_then}
 use Rattle.std.specs.Option.{option_to_list}
@@ -30,7 +31,7 @@ use Rattle.peer_fetch.proofs.AskFields.{number_pairs, name_text}
 use Rattle.peer_fetch.proofs.AskTexts.{length-field_line, number_few, last_short}
 use Rattle.peer_fetch.proofs.AnswerFields.{pair_of, answer_pairs, answer_lines, answer_plain, IsPlainField, plain_fields, SaysOwn, pairs_say, kept_back}
 
--- What an answer that can be written is
+-- What a response that can be written is
 
 pub record Parts (a : AnswerText) : Type 0 where
   pub low : 200 ≤ a.status
@@ -126,6 +127,7 @@ kept_short (f ∷ fields) =
     let line : length (kept_line f) ≡ length f.name + length f.value + 4 = length-field_line f.name f.value in
     whole ∙ ap₂ (λ (x y : ℕ). x + y) line (kept_short fields) ∙ sym (sum_by-cons line_length f fields)
 
+-- the head has at most 16,384 octets: the kept lines and a few short ones
 pub head_short : (a : AnswerText) (via : List ℕ) → Parts a → is_name via ≡ true → length (head_text a via) ≤ 16384
 head_short a via p name =
     let s : List ℕ = status_line a.status in

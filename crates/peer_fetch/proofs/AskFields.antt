@@ -1,4 +1,5 @@
--- The names and values that an ask is written with, and what they say.
+-- The fields that a request is written with, and what they say: host, directives and member
+-- number, no credentials and no body.
 use Rattle.std.proofs.Common.{◌≡◌, ℕ, ◌+◌, ◌-◌, ◌<◌, ◌≤◌, ◌&&◌, Bool, true, false, not, List, [], ◌∷◌, ◌++◌, length, drop, get_or, Option, Some, None, refl, sym, ap, ◌∙◌, arith, append_assoc, append-nil, length-append, codes, decimal, nat_lt, nat_le}
 use Rattle.std.specs.Prelude.{option_map, option_and_then}
 use Rattle.std.specs.List.{list_all, flat_map}

@@ -1,4 +1,5 @@
--- A text says one thing, and no head of an ask is a proper front of another.
+-- An input has one head by the parser's grammar, so the head of a request makes one request or has
+-- one first fault, and no such head is a proper front of another.
 use Rattle.std.proofs.Common.{◌≡◌, ℕ, List, [], ◌++◌, append-nil, Option, Some, None, Result, refl, sym, ap, ◌∙◌, subst}
 use Rattle.httparse.specs.Grammar.{RequestHead, ReadsRequest}
 use Rattle.httparse.proofs.GrammarLemmas.{request_unique, ReadsRequest-append}

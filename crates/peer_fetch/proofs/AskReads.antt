@@ -1,4 +1,5 @@
--- Reading an input that begins with the head of an ask gives that ask.
+-- An input that begins with the text of a request is read as it. Its head is the only one there,
+-- so every other fault would need octets that are not those of the input.
 use Rattle.std.proofs.Common.{◌≡◌, ℕ, ◌≤◌, List, [], ◌++◌, length, take, drop, Option, Some, None, Result, Ok, Err, MatchResult, refl, sym, ap, ◌∙◌, subst, inl, inr, arith, append_assoc, append-nil, take-append-drop}
 use Rattle.std.proofs.lemmas.List.{take_at, take-append-le}
 use Rattle.httparse.specs.Grammar.{ReadsRequest, HasNoRequest, NeverHasRequest}
@@ -19,12 +20,12 @@ front_of_front a r b q same fits =
     sym (take-append-drop (length a) b)
     ∙ ap (λ (t : List ℕ). t ++ drop (length a) b) (sym (take-append-le (length a) b q fits) ∙ ap (take (length a)) (sym same) ∙ take_at a r (length a) refl)
 
--- An input that begins with the head of an ask, of which some octets were taken
+-- An input that begins with the head of a request, of which some octets were taken
 module _ (input text rest octets left : List ℕ) (ask : Ask) (input_is : input ≡ text ++ rest) (taken : input ≡ octets ++ left) (spells : SpellsHead text (Ok ask)) where
   whole : ReadsRequest input spells.head rest
   whole = subst (λ (t : List ℕ). ReadsRequest t spells.head rest) (sym input_is) (ReadsRequest-append text spells.head [] rest spells.reads)
 
-  -- what a front says is the ask
+  -- what a front says is the request
   front_says : (outcome : Result Ask FetchFault) → FrontSays octets outcome → outcome ≡ Ok ask
   front_says outcome (front, behind, cut, there) =
       let at : input ≡ front ++ (behind ++ left) = taken ∙ ap (λ (t : List ℕ). t ++ left) cut ∙ append_assoc front behind left in

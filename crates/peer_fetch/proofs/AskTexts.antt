@@ -1,4 +1,5 @@
--- The text of an ask spells it.
+-- The text of a request spells it: it is a head of the grammar within its limits, and its fields
+-- and target make the request that was written.
 use Rattle.std.proofs.Common.{◌≡◌, ℕ, ◌+◌, ◌≤◌, Bool, true, false, List, [], ◌∷◌, ◌++◌, length, map, drop, Option, Some, None, Ok, sym, ap, ◌∙◌, subst, arith, append_assoc, append-nil, length-append, length-take, length-drop, codes, decimal}
 use Rattle.std.specs.List.{flat_map}
 use Rattle.std.proofs.lemmas.List.{length-map}
@@ -24,7 +25,7 @@ use Rattle.peer_fetch.proofs.Pairs.{ArePlain, pair_line, field_of, fields_read}
 use Rattle.peer_fetch.proofs.Heads.{request_of, request_reads}
 use Rattle.peer_fetch.proofs.AskFields.{control_pairs, number_pairs, ask_pairs, ask_lines, ask_plain, part_visible, IsNameText, name_text, SaysAsk, pairs_say, member_back}
 
--- the ask's key has its own text for a URL
+-- the key of the request has its own text for a URL
 own_key : (ask : Ask) → IsWritableAsk ask → HasKey ask.key (Ok ask.key)
 own_key ask writable = key_reads writable.url ask.key writable.key
 
@@ -51,7 +52,7 @@ pairs_plain ask via writable name =
     let plain : IsPlainText ask.key = key_plain ask.key ask.key (own_key ask writable) in
     ask_plain (key_authority ask.key) ask.only_if_cached ask.no_cache via ask.member (part_visible ask.key plain.visible) (name_text via name) writable.member
 
--- behind the text anything may stand
+-- anything may follow the text
 pub text_reads : (form : AskForm) (ask : Ask) (via rest : List ℕ) → IsWritableAsk ask → is_name via ≡ true → ReadsRequest (ask_text form ask via ++ rest) (request_of (target form ask.key) (pairs_of ask via)) rest
 text_reads form ask via rest writable name =
     let is : IsTargetOf ask.key (target form ask.key) = target_is form ask.key (own_key ask writable) in
@@ -137,7 +138,7 @@ pairs_few ask via =
     let c = length-append (control_pairs ask.only_if_cached ask.no_cache) ((codes "connection", codes "close") ∷ (codes "via", codes "1.1 " ++ via) ∷ number_pairs (codes "x-purge-member") ask.member) in
     omega (arith, size, a, b, c)
 
--- It asks what was written
+-- It makes the request that was written
 
 abbrev head_with : List ℕ → List (List ℕ × List ℕ) → AskHead
 head_with target fields = record { method = codes "GET"; target = target; minor = 1; fields = fields }

@@ -1,4 +1,5 @@
--- A body that is framed by a length or in chunks ends at one place and is one body, whatever follows.
+-- A body with a length or in chunks ends at one place and is one body, whatever follows: each
+-- chunk's line gives the end of its chunk, and lines and trailer are read in one way only.
 use Rattle.std.proofs.Common.{◌≡◌, ℕ, ◌+◌, ◌-◌, ◌≤◌, List, [], ◌∷◌, ◌++◌, length, take, drop, Option, Some, None, refl, sym, ap, ap₂, ◌∙◌, subst, arith, append_assoc, length-append, length-take, length-drop, take-append-drop}
 use Rattle.std.specs.List.{flat_map, AllByRecursion, All}
 use Rattle.std.proofs.lemmas.List.{append_cancel_left, take_at, drop_at, drop-drop, drop-append-le}
@@ -12,7 +13,7 @@ use Rattle.peer_intake.specs.Chunks.{ChunkText, IsChunk, print_chunk}
 use Rattle.peer_intake.specs.Trailer.{HoldsChunkedBody}
 use Rattle.peer_reading.specs.Answers.{SpellsBody}
 
--- The same without places: the octets of the body, and what is behind it
+-- The same without places: the octets of the body, and what follows it
 
 abbrev body_of : List ChunkText → List ℕ
 body_of chunks = flat_map (λ c. c.octets) chunks
@@ -97,7 +98,7 @@ body_text (Some (Length n)) octets start end body ends (end_is, within, body_is)
 body_text (Some Chunked) octets start end body ends spells = chunked_text octets start end body spells
 body_text (Some ToEnd) octets start end body ends spells = absurd ends
 
--- Octets that come behind change nothing
+-- Octets that follow change nothing
 
 chunked_more : (input rest body more : List ℕ) → ChunkedText input rest body → ChunkedText (input ++ more) (rest ++ more) body
 chunked_more input rest body more c = record {

@@ -1,4 +1,4 @@
--- Numbers in decimal are read as they were written.
+-- Numbers below 2^64 are read back as they were written: decimal digits without a leading zero.
 use Rattle.std.proofs.Common.{◌≡◌, ℕ, ◌+◌, ◌/◌, ◌%◌, ◌^◌, ◌<◌, ◌≤◌, true, false, min, List, [], ◌∷◌, ◌++◌, length, get_or, Some, Ok, refl, ap, ◌∙◌, inl, inr, arith, nat_lt, decimal, length-append, rules}
 use Rattle.std.specs.List.{list_all}
 use Rattle.std.specs.Char.{is_ascii_digit}

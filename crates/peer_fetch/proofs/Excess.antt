@@ -1,4 +1,6 @@
--- A head that begins as one that has too many fields has too many fields too.
+-- Where a front of the input and one LF would be a head, the head of the input has at least as
+-- many fields, as both begin with the same start line and field lines. So a head within its limits
+-- is never refused for too many fields.
 use Rattle.std.proofs.Common.{◌≡◌, ℕ, ◌≤◌, List, [], ◌∷◌, ◌++◌, length, Option, refl, sym, ap, ◌∙◌, subst, arith, append_assoc, append-nil, length-append}
 use Rattle.std.specs.Prelude.{⊤}
 use Rattle.std.specs.List.{flat_map, All}

@@ -1,4 +1,5 @@
--- Heads that are made of names and values, and their texts.
+-- Heads made of names and values. Their texts are read by the parser's grammar as these heads,
+-- since targets, names and values have only the octets that the grammar allows there.
 use Rattle.std.proofs.Common.{◌≡◌, ℕ, ◌<◌, true, List, [], ◌∷◌, ◌++◌, length, map, Some, IsUtf8, sym, ap, ◌∙◌, arith, append_assoc, codes, decimal}
 use Rattle.std.specs.List.{list_all, flat_map}
 use Rattle.std.specs.Char.{is_ascii_digit}

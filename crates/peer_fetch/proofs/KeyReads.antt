@@ -1,4 +1,5 @@
--- The key of a text is the key of its own text.
+-- The key of a text is the key of its own text: the canonical text spells a URI with the same
+-- parts, so its key is itself.
 use Rattle.std.proofs.Common.{◌≡◌, ◌≢◌, ℕ, ◌+◌, ◌<◌, ◌≤◌, ◌==◌, ◌||◌, not, is_some, false, cond, IsTrue, IfSome, List, [], ◌∷◌, ◌++◌, length, get_or, take, drop, bytes_eq, Option, Some, None, unwrap_or, Result, Ok, Err, refl, sym, ap, ◌∙◌, subst, arith, inl, inr, one-add, append-nil, append_assoc, take_all, take-append-drop, length-take-le, get_or-take, lt-ltb, le-ltb, ne_eqb, length-append, rules, codes}
 use Rattle.std.specs.List.{list_any}
 use Rattle.std.proofs.lemmas.Bool.{cases_lt, cases_Bool}
@@ -39,7 +40,8 @@ no_fragment text =
     index_of_is 35 (take e text) _ (omega arith)
     (λ k h. rw (get_or-take e text k 0 (omega arith)) (index_of_before 35 text k (omega arith))) λ h. absurd (omega arith)
 
--- the text of a path and a query: how it is shown, with the same path and query, and parses as itself
+-- the text of a path and a query: how it is shown, with the same path and query, and parses as
+-- itself
 record Shown (k : List ℕ) (lead : ℕ) : Type 0 where
   text : List ℕ
   first : get_or text 0 0 ≡ lead

@@ -1,4 +1,4 @@
--- The names of the fields that caches write are tokens.
+-- The names of the fields that caches write and the method GET are tokens.
 use Rattle.std.proofs.Common.{refl, codes}
 use Rattle.httparse.specs.Grammar.{IsToken, is_token_byte}
 use Rattle.peer_fetch.proofs.Pairs.{token_from}

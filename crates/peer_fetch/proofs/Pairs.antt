@@ -1,4 +1,5 @@
--- Names and values as lines of a head, and what is read of them.
+-- Names and values as field lines. A value without blanks at its ends is read back from its line,
+-- as the parser removes only blanks around it.
 use Rattle.std.proofs.Common.{◌≡◌, ℕ, ◌-◌, true, false, not, List, [], ◌∷◌, ◌++◌, length, map, get_or, reverse, refl, ap, ◌∙◌, arith, append_assoc, nat_lt}
 use Rattle.std.specs.List.{list_all, flat_map, AllByRecursion, All}
 use Rattle.std.proofs.lemmas.Bool.{and_parts, and_from, not-true}
@@ -14,7 +15,7 @@ use Rattle.url_key.specs.Text.{is_visible}
 use Rattle.fetch_messages.specs.Field.{is_blank, is_trimmed}
 use Rattle.peer_writing.specs.Lines.{field_line}
 
--- A value without blanks at its ends comes back from behind a space
+-- A value without blanks at its ends is read back after a space
 
 skip_first : (v : List ℕ) → is_ows (get_or v 0 0) ≡ false → skip_ows v ≡ v
 skip_first [] other = refl

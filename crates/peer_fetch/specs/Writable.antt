@@ -1,4 +1,4 @@
--- Which asks and answers have texts that are read as them.
+-- The requests and responses whose texts are read back as them.
 use Rattle.std.specs.Prelude.{ℕ, ◌≤◌, IsTrue, unwrap_or, List, Ok, Option, Some, None, ⊤}
 use Rattle.std.specs.List.{AllByRecursion}
 use Rattle.http_header.specs.FieldName.{IsHeaderName}
@@ -8,22 +8,25 @@ use Rattle.fetch_messages.specs.declared.ask.Ask.{Ask}
 use Rattle.fetch_messages.specs.Field.{FieldText}
 use Rattle.fetch_messages.specs.Answer.{AnswerText, is_writable}
 
--- a member of the hierarchy, 1 to 16, or none
+-- a member number, 1 to 16, or none
 abbrev pub IsMember : Option ℕ → Type 0
 IsMember None = ⊤
 IsMember (Some member) = (1 ≤ member) × (member ≤ 16)
 
--- the ask's key is that of some URL, as `Key::read` makes it (RFC 9110, section 4.2.3), and it names a member of the hierarchy or none
+-- the key of the request is that of some URL, as `Key::read` makes it (RFC 9110, section 4.2.3),
+-- and its member number is 1 to 16 or none
 pub record IsWritableAsk (ask : Ask) : Type 0 where
   pub url : List ℕ
   pub key : HasKey url (Ok ask.key)
   pub member : IsMember ask.member
 
--- the field's name is a token in lower case, and its value has no control octet but the tab, as `HeaderName` and `HeaderValue` keep (RFC 9110, sections 5.1 and 5.5)
+-- the name is a token in lower case, and the value has no control octet but the tab, as
+-- `HeaderName` and `HeaderValue` keep (RFC 9110, sections 5.1 and 5.5)
 abbrev pub IsFieldText : FieldText → Type 0
 IsFieldText field = IsHeaderName field.name × IsFieldValue field.value
 
--- an answer as its type keeps it: `Answer::new` takes it, its names and values are those of fields, and its stamp is a number of 32 bits
+-- a response as its type keeps it: `Answer::new` accepts it, its names and values are those of
+-- fields, and its stamp fits 32 bits
 pub record IsWritableAnswer (answer : AnswerText) : Type 0 where
   pub writable : IsTrue (is_writable answer)
   pub fields : AllByRecursion IsFieldText answer.fields

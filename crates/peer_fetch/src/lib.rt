@@ -1,10 +1,25 @@
-//! HTTP asks and answers of caches (RFC 9112): as values, written and read.
+//! HTTP requests and responses of caches (RFC 9112): the values, how they are written and how they
+//! are read, from one crate.
 //!
-//! `laws` joins the two: what is written spells the ask or the answer that was to be written, no ask is a proper front of
-//! another, and neither is an answer whose body does not go up to the end of the input, and an input that begins with what was
-//! written is read as that, whatever follows.
+//! It exports the types of `fetch_messages`, the calls of `peer_writing` for requests and
+//! responses, and those of `peer_reading`. What a cache serves (`write_served`, `write_status`) is
+//! in `peer_writing` alone.
 //!
-//! It has no bodies of its own, only laws and what it hands out, so it has no must-fail edits.
+//! Its own part is [`laws`], which join writing and reading:
+//!
+//! - the text that is written spells the request or the response that was to be written;
+//! - no request is a proper front of another; neither is a response, unless its body goes up to
+//!   the end of the input;
+//! - an input that begins with a written text is read as that message, in any pieces and whatever
+//!   follows. Reading may instead fail with `Io` or `NoMemory`, and with `TooManyTurns` where the
+//!   text of a response has more than 70,000 octets.
+//!
+//! They speak of readers whose octets contracts know. `specs/Writable` says of which requests and
+//! responses they speak: a request whose key is that of some URL and whose member is 1 to 16 or
+//! none, and every `Answer`. `specs/Reading` says how reading may still fail.
+//!
+//! The crate has laws and exports only, no code of its own, so it has no must-fail edits. Read
+//! first `src/laws.rt`; the comment of `proofs/Lib` gives the order of the proofs.
 #![tactic(auto)]
 
 pub mod laws;

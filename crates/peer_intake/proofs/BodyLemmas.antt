@@ -16,7 +16,7 @@ use Rattle.std.proofs.lemmas.Bool.{false≢true}
 le_or_lt : (m n : ℕ) → (m ≤ n) ⊎ (n < m)
 le_or_lt m n = elim (dec_le m n) as (λ _. (m ≤ n) ⊎ (n < m)) [ yes h ↦ inl h | no h ↦ inr (omega (arith, h)) ]
 
--- the octets that came, and those that were read to the length that was told
+-- the octets that came with the head, and those read up to the length of the body
 front_then : (behind piece : List ℕ) (len came : ℕ) → came ≡ min (length behind) len → length (take came behind ++ piece) ≡ len
     → (len ≤ length behind) ⊎ (length behind < len) → take came behind ++ piece ≡ take len (behind ++ piece)
 front_then behind piece len came is whole (inl h) =
@@ -57,7 +57,7 @@ pub front_came : (items memory behind : List ℕ) (came : ℕ) → came ≤ leng
     → take came memory ≡ take came behind
 front_came items memory behind came few is front = ap (take came) is ∙ ap (λ n. take n items) (sym (length-take-le came behind few)) ∙ front
 
--- a fault of the reader comes while a body whose length is told is not whole
+-- a fault of the reader comes while a body with a length is not whole
 cut_why : (reader : Option (List ℕ)) (octets : List ℕ) (start len : ℕ) (fault : FetchFault) → IsTrue (is_read_fault fault) → IsOpenBody len octets start
     → (fault ≡ EndOfInput → IsAtEnd reader) → (fault ≡ TooManyTurns → 70000 ≤ length octets) → StopsBefore len reader octets start fault
 cut_why reader octets start len Io kind opened ended spent = opened
@@ -102,7 +102,7 @@ cuts_body a b old behind front buffer start len came turns fault within behind_i
       why = cut_why b (old ++ piece) start len fault cut.kind (small, omega arith) cut.ended (λ e. let spent = cut.spent e in omega arith);
     }
 
--- the octets behind start, and then those that were read, are those of the message behind start
+-- the octets after `start`, and then those that were read, are those of the message after `start`
 behind_grows : (old piece body : List ℕ) (start : ℕ) → start ≤ length old → body ≡ drop start old ++ piece → body ≡ drop start (old ++ piece)
 behind_grows old piece body start within is = is ∙ sym (drop-append-le start old piece within)
 

@@ -24,7 +24,7 @@ take_two xs n a b within first second =
     ∙ ap₂ (λ t d. t ++ d ∷ []) (take_more xs n 0 (omega arith) ∙ ap (λ d. take n xs ++ d ∷ []) first) second
     ∙ append_assoc (take n xs) (a ∷ []) (b ∷ [])
 
--- The line, the octets that it counts, and a line's end: a chunk.
+-- a line, the octets that it announces, and CRLF are a chunk
 pub chunk_stands : (octets : List ℕ) (at len size : ℕ) (rest after octets_of behind old new : List ℕ) → at ≤ length octets → rest ≡ drop at octets → after ≡ drop len rest → octets_of ≡ take size after → behind ≡ drop size after
     → (l : ChunkLine) × IsChunkLineAt rest len size l → len ≤ 256 → size ≢ 0 → size + 2 ≤ length after
     → get_or behind 0 0 ≡ 13 → get_or behind 1 0 ≡ 10 → new ≡ old ++ octets_of → AddsChunk octets at (at + len + size + 2) old new
@@ -96,7 +96,7 @@ chunks_more octets start at next old new up adds =
       within = adds.within;
     }
 
--- more octets behind the chunks
+-- more octets after the chunks
 pub chunks_grown : (octets grown piece : List ℕ) (start at : ℕ) (body : List ℕ) → grown ≡ octets ++ piece → ChunksUpTo octets start at body → ChunksUpTo grown start at body
 chunks_grown octets grown piece start at body is up =
     let forward = up.forward in
@@ -112,7 +112,7 @@ chunks_grown octets grown piece start at body is up =
       within = omega (arith, ap length is, length-append octets piece);
     }
 
--- more octets behind the line of the last chunk
+-- more octets after the line of the last chunk
 last_grown : (octets grown piece : List ℕ) (at end : ℕ) → grown ≡ octets ++ piece → IsLastLine octets at end → IsLastLine grown at end
 last_grown octets grown piece at end is last =
     let (l, line) = last.line in
@@ -138,7 +138,7 @@ last_grown octets grown piece at end is last =
       within = omega (arith, ap length is, length-append octets piece);
     }
 
--- more octets behind the chunks and the line of the last one
+-- more octets after the chunks and the line of the last one
 pub holds_grown : (octets grown piece : List ℕ) (start end : ℕ) (body : List ℕ) → grown ≡ octets ++ piece → HoldsChunks octets start end body → HoldsChunks grown start end body
 holds_grown octets grown piece start end body is holds = record {
   at = holds.at;

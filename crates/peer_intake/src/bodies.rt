@@ -53,7 +53,7 @@ impl Intake {
     }
 
     /// Reads the body that begins at `start` and goes up to the end of the input. It copies the
-    /// octets that came with the head, and reads the rest behind them. The message ends here, so
+    /// octets that came with the head, and reads the rest after them. The message ends here, so
     /// the call uses up the intake.
     ///
     /// Errors: `BodyTooLong`: more than 65,536 octets came. `TooManyTurns`: the input had not

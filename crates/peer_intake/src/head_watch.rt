@@ -41,7 +41,7 @@ impl HeadWatch {
     }
 
     /// Whether the octets must be parsed now. The caller gives the octets of its last call and at
-    /// least one more. Where the answer is yes, they count as parsed. It is always yes for 16,384
+    /// least one more. Where it returns yes, they count as parsed. It always returns yes for 16,384
     /// octets.
     pub fn is_due(&mut self, window: &[u8]) -> bool
         ensures { length window.now ≡ 16384 → IsTrue result }

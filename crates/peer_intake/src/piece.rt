@@ -9,7 +9,7 @@ use std::io::Read;
 /// The most calls of the reader for one message, those that gave nothing not counted.
 pub(crate) const MOST_TURNS: u32 = 70000;
 
-/// The most octets that one call asks of the reader.
+/// The most octets that one call requests from the reader.
 const PIECE_LEN: usize = 4096;
 
 /// Calls the reader once, counts the call where it gave octets, and appends them.

@@ -58,7 +58,7 @@ stands octets start headers r h room is =
       reads = (is.reads.0, cut ∙ ap (λ t. print_response h ++ t) after);
     }
 
--- what is told of the places is what the head says
+-- what the parts at the places say is what the head says
 pub head_says : (octets : List ℕ) (start : ℕ) (headers : List HeaderSpan) (r : ResponseSpans) (outcome : Result ToldText FetchFault) → length headers ≡ most_fields → IsResponseOf (head_window start octets) headers r → is_interim r.code ≡ false → start + r.len ≤ length octets
     → told (head_at (head_window start octets) headers r) ≡ outcome → PassesInterim octets start → HeadSays octets start (start + r.len) outcome
 head_says octets start headers r outcome room (h, is) final inside says passes =
@@ -73,7 +73,7 @@ head_says octets start headers r outcome room (h, is) final inside says passes =
       says = subst (λ parts. told parts ≡ outcome) (head_is (head_window start octets) headers r h is) says;
     }
 
--- octets that come behind change nothing before them
+-- octets that come later change nothing before them
 
 -- interim heads stay
 passes_more : (octets more : List ℕ) (start : ℕ) → PassesInterim octets start → PassesInterim (octets ++ more) start
@@ -108,7 +108,7 @@ pub passes_taken : (before after : Option (List ℕ)) (old new : List ℕ) (star
 passes_taken before after old new start taken passes =
     subst (λ octets. PassesInterim octets start) (sym taken.1) (passes_more old taken.0 start passes)
 
--- a head that is refused for what it says, and one behind which the rest is read
+-- a head that is refused for what it says, and one after which the rest is read
 
 -- a head that was refused for what it says
 pub refused : (reader : Option (List ℕ)) (octets : List ℕ) (start end : ℕ) (fault : FetchFault) → (fault ≡ NoMemory) ⊎ HeadSays octets start end (Err fault) → ReadsOn reader reader octets (Err fault)
@@ -162,7 +162,7 @@ texts_joined : (heads : List ResponseHead) (h : ResponseHead) → flat_map print
 texts_joined [] h = append-nil (print_response h)
 texts_joined (g ∷ heads) h = ap (λ t. print_response g ++ t) (texts_joined heads h) ∙ sym (append_assoc (print_response g) (flat_map print_response heads) (print_response h))
 
--- an interim head is read over
+-- an interim head is passed over
 pub one_more : (octets : List ℕ) (start : ℕ) (headers : List HeaderSpan) (r : ResponseSpans) → length headers ≡ most_fields → IsResponseOf (head_window start octets) headers r → start + r.len ≤ length octets
     → is_interim r.code ≡ true → PassesInterim octets start → PassesInterim octets (start + r.len)
 one_more octets start headers r room (h, is) inside interim passes =

@@ -37,7 +37,7 @@ few_fields window headers r h fields room =
     sym (length-map (take r.headers headers) (header_bytes window)) ∙ ap length fields ∙ length-map h.fields name_and_value in
     omega (arith, written, length-take r.headers headers, room)
 
--- a head in the window is a front of the octets, and says what is told of its parts
+-- a head in the window is a front of the octets, and says what its parts say
 pub front_says : (octets : List ℕ) (headers : List HeaderSpan) (r : RequestSpans) (outcome : Result Ask FetchFault) → length headers ≡ most_fields → IsRequestOf (head_window 0 octets) headers r
     → Says (head_at (head_window 0 octets) headers r) outcome → FrontSays octets outcome
 front_says octets headers r outcome room (h, is) says =
@@ -90,11 +90,11 @@ says_stops reader octets HeadTooLong kind front = absurd cc
 says_stops reader octets BodyTooLong kind front = absurd cc
 says_stops reader octets TooManyTurns kind front = absurd cc
 
--- of a message of which nothing was read so many octets are read at most
+-- at most 20,480 octets are read of a message of which nothing was read before
 pub few_read : (old new : List ℕ) → old ≡ [] → length new ≤ max (length old) (0 + longest_read) → length new ≤ longest_read
 few_read old new none few = let empty : length old ≡ 0 = ap length none in omega (arith, empty, few)
 
--- what a whole head says is what reading it answers
+-- what a whole head says is what reading returns
 pub head_read : (reader_old reader_new : Option (List ℕ)) (octets : List ℕ) (headers : List HeaderSpan) (r : RequestSpans) (result : Result Ask FetchFault) → Takes reader_old reader_new [] octets
     → length octets ≤ longest_read → length headers ≡ most_fields → IsRequestOf (head_window 0 octets) headers r
     → MatchResult result (λ ask. Says (head_at (head_window 0 octets) headers r) (Ok ask)) (λ fault. (fault ≡ NoMemory) ⊎ Says (head_at (head_window 0 octets) headers r) (Err fault))

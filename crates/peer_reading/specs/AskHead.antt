@@ -50,7 +50,7 @@ host_value several = []
 abbrev pub url_by : HostText → List ℕ → List ℕ
 url_by named target = if is_origin_form target then codes "http://" ++ (host_value named ++ target) else target
 
--- the URL that a request asks for
+-- the URL that a request is for
 abbrev pub url_of : AskHead → List ℕ
 url_of h = url_by (host h.fields) h.target
 

@@ -18,8 +18,8 @@ pub enum AskForm {
 }
 
 /// Writes a request (RFC 9112, section 3): a GET in HTTP/1.1 with `host`, `cache-control` where a
-/// directive is set, `connection: close`, `via: 1.1` with the name `via` of the cache that asks,
-/// and `x-purge-member` where the request names a member.
+/// directive is set, `connection: close`, `via: 1.1` with the name `via` of the cache that sends
+/// it, and `x-purge-member` where the request names a member.
 ///
 /// `via` must pass [`crate::is_name`]. The only fault is `Io`: the writer failed, and a proper
 /// front of the text was written. It does not allocate.

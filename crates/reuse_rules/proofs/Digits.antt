@@ -1,4 +1,5 @@
--- Seconds are read one digit after the other.
+-- Seconds read one digit at a time: a number cut to 2^31 at each digit is the whole number cut to
+-- 2^31.
 use Rattle.std.proofs.Common.{◌≡◌, ℕ, ◌+◌, ◌-◌, ◌*◌, ◌<◌, true, List, length, take, get_or, min, arith}
 use Rattle.std.specs.Char.{is_ascii_digit, digit_value}
 use Rattle.std.specs.Str.Parse.{digits_value}

@@ -1,4 +1,4 @@
-//! The directives of `cache-control` fields (RFC 9111, section 5.2).
+//! The directives of a response's `cache-control` fields (RFC 9111, section 5.2).
 
 ghost use Rattle.std.specs.Prelude.{◌≡◌, [], position, bytes_eq, codes, Some, None, MatchOption, option_copied, if◌then◌else◌};
 ghost use Rattle.reuse_rules.specs.Directives as spec;
@@ -8,20 +8,22 @@ ghost use Rattle.reuse_rules.specs.Left.{directives_left};
 use fetch_messages::{Answer, Field};
 use list_values::{member_length, trim};
 
-/// The most seconds that a directive can name, 2 ^ 31 (RFC 9111, section 1.2.2).
+/// The most seconds that a directive gives: 2^31 (RFC 9111, section 1.2.2).
 const MOST_SECONDS: u64 = 2_147_483_648;
 
 /// A directive of a `cache-control` field.
 #[derive(Clone, Copy, Debug)]
 pub(crate) struct Directive<'a> {
-    /// Its name, in the case of letters in which it came.
+    /// Its name, in the case in which it came.
     pub name: &'a [u8],
-    /// What stands behind its `=`, with double quotes where they came; empty where there is no `=`.
+    /// What follows its `=`, with double quotes where they came. Empty: there is no `=`, or
+    /// nothing follows it.
     pub value: &'a [u8],
 }
 
 impl<'a> Directive<'a> {
-    /// The directive that a member of a field's value is.
+    /// The directive of a member of a field value: a name, and after the first `=` a value, with
+    /// blanks around both removed.
     fn read(member: &'a [u8]) -> Directive<'a>
         ensures { directive_text result ≡ spec.directive_of member.now }
     {
@@ -37,14 +39,15 @@ impl<'a> Directive<'a> {
         }
     }
 
-    /// Whether it has this name, in any case of letters.
+    /// Whether it has this name, in any case.
     pub(crate) fn is_called(self, name: &[u8]) -> bool
         ensures { result ≡ spec.is_called name.now (directive_text self.entry) }
     {
         self.name.eq_ignore_ascii_case(name)
     }
 
-    /// The seconds that its value names, at most 2 ^ 31; 0 where the value is empty or not all digits.
+    /// The seconds that its value gives, at most 2^31. A value that is empty or not all digits
+    /// gives 0.
     pub(crate) fn seconds(self) -> u64
         ensures { result ≡ spec.seconds (directive_text self.entry) }
     {
@@ -52,13 +55,14 @@ impl<'a> Directive<'a> {
     }
 }
 
+/// The index of the first `=`.
 fn first_equals_sign(member: &[u8]) -> Option<usize>
     ensures { result ≡ position spec.is_equals_sign member.now }
 {
     member.iter().position(|octet| *octet == b'=')
 }
 
-/// A value without the double quotes round it.
+/// The value without the double quotes around it, if it has both.
 fn unquoted(value: &[u8]) -> &[u8]
     ensures { result.now ≡ spec.unquoted value.now }
 {
@@ -68,7 +72,8 @@ fn unquoted(value: &[u8]) -> &[u8]
     }
 }
 
-/// The seconds that a text of digits names.
+/// The seconds that a text of digits gives, at most 2^31. A text that is empty or not all digits
+/// gives 0.
 fn seconds_of(text: &[u8]) -> u64
     ensures { result ≡ spec.seconds_of text.now }
 {
@@ -82,7 +87,7 @@ fn seconds_of(text: &[u8]) -> u64
     seconds
 }
 
-/// The directives of an answer's `cache-control` fields, in order.
+/// The directives of all `cache-control` fields of a response, in order.
 pub(crate) fn directives_of(answer: &Answer) -> Directives<'_>
     ensures { directives_left result ≡ spec.directives answer.now }
 {
@@ -92,7 +97,8 @@ pub(crate) fn directives_of(answer: &Answer) -> Directives<'_>
     }
 }
 
-/// An iterator over directives: those of the rest of a field, and then those of further fields.
+/// An iterator over directives: those of the rest of one field, then those of the fields after it.
+/// Contracts see the directives that it has still to give (`directives_left` of `specs/Left`).
 #[derive(Clone, Copy)]
 pub(crate) struct Directives<'a> {
     fields: &'a [Field],
@@ -100,7 +106,8 @@ pub(crate) struct Directives<'a> {
 }
 
 impl<'a> Directives<'a> {
-    /// The text that is left of the field that is read, which is the next one if nothing is left.
+    /// The text that is left of the current field; where none is left, moves on to the next
+    /// `cache-control` field. `None`: there is no further field.
     fn text_left(&mut self) -> Option<&'a [u8]>
         ensures same { directives_left self.new ≡ directives_left self.old }
         ensures text { option_copied result ≡ option_copied self.new.text }
@@ -115,7 +122,7 @@ impl<'a> Directives<'a> {
     }
 }
 
-/// The value of a `cache-control` field.
+/// The value of the field if it is a `cache-control` field.
 fn text_of(field: &Field) -> Option<&[u8]>
     ensures { option_copied result
         ≡ (if bytes_eq field.now.name (codes "cache-control") then Some field.now.value.bytes else None) }

@@ -1,3 +1,6 @@
+-- The loop holds that the keys still to come leave of the rest what all keys leave of all copies,
+-- and that the octets of the rest are counted. A copy that is popped is in the sum, so the
+-- subtraction does not overflow.
 use Rattle.std.proofs.Common.{◌≡◌, Some, ap, sym, subst, ◌∙◌, arith}
 use Rattle.object_store.specs.Listed.{copy_of, without, octets, OneEach}
 use Rattle.object_store.specs.Cached.{copies_in}

@@ -1,3 +1,5 @@
+-- The loop holds that what is left fits as far as all of it (`last_over`): the last copy of a list
+-- that does not fit is not among those that fit.
 use Rattle.std.proofs.Common.{◌≡◌, ◌<◌, ◌++◌, ◌∷◌, [], ◌⊎◌, inl, inr, length, sym, ap, ◌∙◌, arith}
 use Rattle.std.proofs.lemmas.Map.Entries.{length-values_of}
 use Rattle.object_store.specs.Listed.{fitting, octets}

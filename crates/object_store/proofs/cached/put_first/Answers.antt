@@ -1,3 +1,5 @@
+-- The map gives back the old copy of the key, if there was one; what it had counted goes out of
+-- the sum (`octets_out`).
 use Rattle.std.proofs.Common.{◌≡◌, ◌≤◌, ◌-◌, Some, None, length, ap, sym, ◌∙◌, arith}
 use Rattle.std.specs.Prelude.{bytes_eq}
 use Rattle.std.specs.Map.{values_of}

@@ -1,3 +1,4 @@
+-- Promoting an entry is moving its copy to the front, which keeps the store and its count.
 use Rattle.std.proofs.Common.{◌≡◌, ap, ◌∙◌, is_some}
 use Rattle.object_store.specs.Listed.{copy_of, to_front}
 use Rattle.object_store.specs.Cached.{copies_in}

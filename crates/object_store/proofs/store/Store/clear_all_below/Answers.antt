@@ -1,3 +1,5 @@
+-- The keys collected are those of the copies with a lesser stamp, so dropping each leaves the
+-- others (`without_passing`).
 use Rattle.std.proofs.Common.{◌≡◌, arith, ap, ◌∙◌, not, nat_lt, filter, length, count_by}
 use Rattle.std.proofs.lemmas.List.{length-map}
 use Rattle.std.proofs.lemmas.List.Sums.{length-filter}

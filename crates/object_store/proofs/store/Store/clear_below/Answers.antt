@@ -1,3 +1,4 @@
+-- The copy of the key goes exactly if its stamp is less (`cleared`).
 use Rattle.std.proofs.Common.{◌≡◌, true, false, cond, ap, sym, ◌∙◌, rules}
 use Rattle.object_store.specs.Listed.{without, copy_of, OneEach}
 use Rattle.object_store.specs.Held.{is_older_than, with_copies}

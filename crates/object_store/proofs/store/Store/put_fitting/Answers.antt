@@ -1,3 +1,4 @@
+-- What `put_first` and `make_room` leave is what fits of the new list, which is a store again.
 use Rattle.std.proofs.Common.{◌≡◌, ◌∷◌, ap, subst, sym, ◌∙◌}
 use Rattle.object_store.specs.declared.store.Put.TheVariants.{Stored}
 use Rattle.object_store.specs.Listed.{without, fitting}

@@ -1,3 +1,5 @@
+-- The copy that the map gives back is the copy of the key; its octets go out of the count
+-- (`counted_out`).
 use Rattle.std.proofs.Common.{◌≡◌, Some, None, is_some, ap, sym, ◌∙◌, arith}
 use Rattle.object_store.specs.Listed.{copy_of, without}
 use Rattle.object_store.specs.Cached.{copies_in}

@@ -1,4 +1,4 @@
--- The chunks that were read stay where they are while the trailer is read behind them
+-- The chunks that were read stay where they are while the trailer is read after them
 -- (`holds_grown`).
 use Rattle.std.proofs.Common.{arith, inr}
 use Rattle.peer_intake.proofs.ReadingLemmas.{takes_then}

@@ -1,5 +1,5 @@
 -- The loop holds that the octets up to `at` are chunks and `body` is their octets; a read only
--- adds octets behind them.
+-- adds octets after them.
 use Rattle.std.proofs.Common.{length, drop, Err, sym, arith, ap, subst}
 use Rattle.peer_intake.specs.Chunks.{AddsChunk, IsOpenChunk, ChunksUpTo, RefusesStep}
 use Rattle.peer_intake.proofs.ReadingLemmas.{takes_then}

@@ -1,4 +1,4 @@
--- The loop adds octets behind those parsed; it never reads where the window is full, so at most
+-- The loop adds octets after those parsed; it never reads where the window is full, so at most
 -- 4,096 octets too many.
 use Rattle.std.proofs.Common.{◌≡◌, Err, length, drop, ap, ◌∙◌, subst, arith, length-take, length-drop}
 use Rattle.fetch_messages.specs.declared.fault.FetchFault.TheVariants.{HeadTooLong}
