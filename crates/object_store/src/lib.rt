@@ -10,8 +10,8 @@
 //!   both limits.
 //!
 //! Contracts see a store as its limits and the list of its copies (`Held` of `specs/Held`). Each
-//! call is a call of that list; `specs/Listed` has its functions. The store judges neither
-//! freshness nor floors: its caller does.
+//! call does to that list what the functions of `specs/Listed` say. The store judges neither
+//! freshness nor floors; its caller does.
 //!
 //! In memory, the copies lie in a hash map with a linked list (`lru`), hashed by SipHash
 //! (`src/hashing.rt`). Only `copies` and `clear_all_below` go over all copies. For keys that

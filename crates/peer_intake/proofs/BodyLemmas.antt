@@ -66,8 +66,8 @@ cut_why reader octets start len TooManyTurns kind opened ended spent = (opened, 
 cut_why reader octets start len NoMemory kind opened ended spent = opened.0
 cut_why reader octets start len fault kind opened ended spent = absurd (false≢true kind)
 
--- a fault of the reader, but that the input ended, comes while a body up to the end of the input
--- is not too long
+-- a fault of the reader, other than the end of the input, comes while a body up to the end of the
+-- input is not too long
 pub end_why : (octets : List ℕ) (start : ℕ) (fault : FetchFault) → IsTrue (is_read_fault fault) → fault ≢ EndOfInput → length octets ≤ start + 65536
     → (fault ≡ TooManyTurns → 70000 ≤ length octets) → StopsBeforeEnd octets start fault
 end_why octets start Io kind other short spent = short
