@@ -6,8 +6,8 @@ use Rattle.list_values.specs.Members.{members}
 use Rattle.list_values.specs.Blanks.{trim}
 use Rattle.peer_fields.specs.Fields.{values_named}
 
--- the member is this name and nothing else, in any case, with blanks around it; a directive with a
--- value is not it
+-- the member is this name and nothing else, ignoring case, with blanks around it; a directive with
+-- a value is not it
 abbrev pub is_bare : List ℕ → List ℕ → Bool
 is_bare name member = str_eq_ignore_ascii_case (trim member) name
 

@@ -9,7 +9,7 @@ use Rattle.httparse.specs.declared.spans.HeaderSpan.{HeaderSpan}
 abbrev pub fields_of : List ℕ → List HeaderSpan → List (List ℕ × List ℕ)
 fields_of window headers = map (header_bytes window) headers
 
--- the field has this name, in any case
+-- the field has this name, ignoring case
 abbrev pub is_named : List ℕ → List ℕ × List ℕ → Bool
 is_named name field = str_eq_ignore_ascii_case field.0 name
 

@@ -31,7 +31,7 @@ length_told (value ∷ others) = if is_length value && list_all (λ other. bytes
 abbrev pub content_length : List (List ℕ × List ℕ) → Result (Option ℕ) BadLength
 content_length fields = length_told (values_named (codes "content-length") fields)
 
--- chunked or not, by these `transfer-encoding` values: none, or a single `chunked` in any case
+-- chunked or not, by these `transfer-encoding` values: none, or a single `chunked`, ignoring case
 -- (RFC 9112, section 6.1)
 abbrev pub coding_told : List (List ℕ) → Result Bool BadCoding
 coding_told [] = Ok false

@@ -16,7 +16,7 @@ use Rattle.peer_fields.specs.Fields.{values_named}
 abbrev pub is_comma : ℕ → Bool
 is_comma octet = octet == comma
 
--- a part of the value between commas is this name, in any case, with blanks around it
+-- a part of the value between commas is this name, ignoring case, with blanks around it
 abbrev pub is_listed_in : List ℕ → List ℕ → Bool
 is_listed_in name value = list_any (λ part. str_eq_ignore_ascii_case (trim part) name) (slice_split is_comma value)
 

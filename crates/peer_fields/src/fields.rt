@@ -8,7 +8,7 @@ ghost use Rattle.peer_fields.specs.Left.{values_left};
 
 use httparse::spans::{HeaderSpan, Span};
 
-/// The number of fields with this name, in any case (RFC 9110, section 5.1).
+/// The number of fields with this name, ignoring case (RFC 9110, section 5.1).
 ///
 /// `headers` are the places of a head's fields in the octets `window`, as `httparse::spans` finds
 /// them. Of a place that reaches beyond the octets, the part within them counts; a place that ends
@@ -22,14 +22,14 @@ pub fn count_named(window: &[u8], headers: &[HeaderSpan], name: &[u8]) -> usize
         .count()
 }
 
-/// The value of the first field with this name, in any case. `None`: there is no such field.
+/// The value of the first field with this name, ignoring case. `None`: there is no such field.
 pub fn first_named<'w>(window: &'w [u8], headers: &[HeaderSpan], name: &[u8]) -> Option<&'w [u8]>
     ensures { option_copied result ≡ first_of (values_named name.now (fields_of window.now headers.now)) }
 {
     all_named(window, headers, name).next()
 }
 
-/// The value of the only field with this name, in any case. `None`: there is no such field, or
+/// The value of the only field with this name, ignoring case. `None`: there is no such field, or
 /// there are several.
 pub fn only_named<'w>(window: &'w [u8], headers: &[HeaderSpan], name: &[u8]) -> Option<&'w [u8]>
     ensures { option_copied result ≡ only_of (values_named name.now (fields_of window.now headers.now)) }
@@ -42,7 +42,7 @@ pub fn only_named<'w>(window: &'w [u8], headers: &[HeaderSpan], name: &[u8]) -> 
     }
 }
 
-/// The values of the fields with this name, in any case, in order.
+/// The values of the fields with this name, ignoring case, in order.
 pub(crate) fn all_named<'w, 'h>(
     window: &'w [u8],
     headers: &'h [HeaderSpan],
@@ -87,7 +87,7 @@ impl<'w, 'h> Iterator for Values<'w, 'h> {
     }
 }
 
-/// Whether the field has this name, in any case.
+/// Whether the field has this name, ignoring case.
 fn is_named(window: &[u8], header: &HeaderSpan, name: &[u8]) -> bool
     ensures { result ≡ spec.is_named name.now (header_bytes window.now header.now) }
 {

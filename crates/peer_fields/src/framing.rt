@@ -80,7 +80,7 @@ fn are_all(mut values: Values<'_, '_>, same: &[u8]) -> bool
 /// Whether the body is chunked (RFC 9112, section 7.1). `false`: there is no `transfer-encoding`
 /// field.
 ///
-/// `BadCoding`: there are several such fields, or the only one is not `chunked`, in any case.
+/// `BadCoding`: there are several such fields, or the only one is not `chunked` (ignoring case).
 pub fn is_chunked(window: &[u8], headers: &[HeaderSpan]) -> Result<bool, BadCoding>
     ensures { result ≡ spec.is_chunked (fields_of window.now headers.now) }
 {

@@ -27,10 +27,10 @@ const MOST_OCTETS: usize = 16_000;
 /// The fields that a response keeps, in order, with their names in lower case.
 ///
 /// It drops the fields that concern one connection: `connection`, those that a `connection` field
-/// names (in any case, between commas, with blanks around them), `keep-alive`, `proxy-connection`,
-/// `proxy-authenticate`, `proxy-authentication-info`, `te`, `trailer`, `transfer-encoding`,
-/// `upgrade` and `close` (RFC 9110, section 7.6.1). It also drops what a response holds apart or
-/// not at all: `content-length`, `age`, `via` and `x-purge-stamp`.
+/// names (ignoring case, between commas, with blanks around them), `keep-alive`,
+/// `proxy-connection`, `proxy-authenticate`, `proxy-authentication-info`, `te`, `trailer`,
+/// `transfer-encoding`, `upgrade` and `close` (RFC 9110, section 7.6.1). It also drops what a
+/// response holds apart or not at all: `content-length`, `age`, `via` and `x-purge-stamp`.
 ///
 /// Errors: `HeadTooLong` comes first, exactly where more than 56 fields are kept, or their lines
 /// (name, value and 4 octets each) have more than 16,000 octets together. Then, field by field:
@@ -166,7 +166,7 @@ fn is_of_connection(window: &[u8], headers: &[HeaderSpan], name: &[u8]) -> bool
     all_named(window, headers, b"connection").any(|value| is_listed_in(value, name))
 }
 
-/// Whether a part of the value between commas is this name, in any case, with blanks around it.
+/// Whether a part of the value between commas is this name, ignoring case, with blanks around it.
 fn is_listed_in(value: &[u8], name: &[u8]) -> bool
     ensures { result ≡ spec.is_listed_in name.now value.now }
 {

@@ -2,7 +2,7 @@
 //! 9111, sections 5.1 and 5.2.1; RFC 9112, sections 3.2 and 6).
 //!
 //! This crate reads nothing. Each function takes `window`, the octets of a head, and `headers`,
-//! the places of its fields there, as `httparse::spans` finds them. It matches names in any case
+//! the places of its fields there, as `httparse::spans` finds them. It matches names ignoring case
 //! (RFC 9110, section 5.1). Only [`kept_fields`] allocates.
 //!
 //! - Fields of one name: [`count_named`], [`first_named`], [`only_named`] (`src/fields.rt`).

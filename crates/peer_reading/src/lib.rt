@@ -9,10 +9,10 @@
 //! taken from the reader and are lost, so a connection carries one exchange. There is no clock: a
 //! call lasts as long as its reader blocks.
 //!
-//! Contracts say that the octets taken begin with a message by the grammar of RFC 9112 and the
-//! rules over its fields (`ReadsAsk` of `specs/Asks`, `ReadsAnswer` of `specs/Answers`), and for
-//! each fault but `Io` and `NoMemory` what held of the octets. A whole head gives its first fault
-//! in a stated order (`specs/AskHead`, `specs/AnswerHead`).
+//! Contracts say that the octets taken begin with a message, by the grammar of RFC 9112 and the
+//! rules over its fields (`ReadsAsk` of `specs/Asks`, `ReadsAnswer` of `specs/Answers`). For each
+//! fault but `Io` and `NoMemory` they say what held of the octets. A whole head gives its first
+//! fault in a stated order (`specs/AskHead`, `specs/AnswerHead`).
 //!
 //! Not promised: the trait of reading counts no failures, so a body that always returned `Io`
 //! would meet both contracts. Tests show that `Io` comes only where the reader failed. `NoMemory`

@@ -35,7 +35,7 @@ directives_of_field f = if bytes_eq f.name (codes "cache-control") then map dire
 abbrev pub directives : AnswerText → List DirectiveText
 directives a = flat_map directives_of_field a.fields
 
--- the directive has this name, in any case
+-- the directive has this name, ignoring case
 abbrev pub is_called : List ℕ → DirectiveText → Bool
 is_called name d = bytes_eq (map to_ascii_lowercase d.name) (map to_ascii_lowercase name)
 

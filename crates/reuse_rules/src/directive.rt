@@ -39,7 +39,7 @@ impl<'a> Directive<'a> {
         }
     }
 
-    /// Whether it has this name, in any case.
+    /// Whether it has this name, ignoring case.
     pub(crate) fn is_called(self, name: &[u8]) -> bool
         ensures { result ≡ spec.is_called name.now (directive_text self.entry) }
     {
