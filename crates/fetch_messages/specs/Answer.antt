@@ -20,13 +20,13 @@ has_no_body status = (status == 204) || (status == 304)
 abbrev pub longest_body : ℕ
 longest_body = 65536
 
--- a response with this status may have this body: not too long, and empty for 204 and 304
+-- a response with this status may have this body: not too long, and empty for 204 and 304 [Response 1]
 abbrev pub is_body_of : ℕ → List ℕ → Bool
 is_body_of status body = nat_le (length body) longest_body && (not (has_no_body status) || (length body == 0))
 
 -- the response can be written and read back: a final status (RFC 9110, section 15), kept fields
 -- within their limits, an age of at most 2^31 seconds (RFC 9111, section 1.2.2), and a body that
--- the status may have
+-- the status may have [Response 1]
 abbrev pub is_writable : AnswerText → Bool
 is_writable a =
     nat_le 200 a.status && nat_le a.status 599 && list_all is_kept_field a.fields && are_few_fields a.fields

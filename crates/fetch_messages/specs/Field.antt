@@ -13,7 +13,7 @@ abbrev pub field_text : Field → FieldText
 field_text f = record { name = f.name; value = f.value.bytes }
 
 -- the names that no kept field has: those that concern one connection (RFC 9110, section 7.6.1),
--- and those of what a response holds apart from its fields or states anew when it is written
+-- and those of what a response holds apart from its fields or states anew when it is written [Response 2]
 abbrev pub dropped_names : List (List ℕ)
 dropped_names =
     codes "connection" ∷ codes "keep-alive" ∷ codes "proxy-connection" ∷ codes "proxy-authenticate" ∷ codes "proxy-authentication-info"
@@ -44,6 +44,6 @@ line_length f = length f.name + length f.value + 4
 abbrev pub lines_length : List FieldText → ℕ
 lines_length fields = sum_by line_length fields
 
--- at most 56 fields, whose lines have at most 16,000 octets
+-- at most 56 fields, whose lines have at most 16,000 octets [Response 3]
 abbrev pub are_few_fields : List FieldText → Bool
 are_few_fields fields = nat_le (length fields) 56 && nat_le (lines_length fields) 16000

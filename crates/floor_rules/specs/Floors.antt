@@ -8,7 +8,7 @@ use Rattle.std.specs.FinMap.{FinMap, get, insert, len, values}
 abbrev pub FloorMap : Type 0
 FloorMap = FinMap (slice_cmp nat_cmp) ℕ
 
--- the key's floor: its number in the map, or 0
+-- the key's floor: its number in the map, or 0 [Floor 1]
 abbrev pub floor : FloorMap → List ℕ → ℕ
 floor floors key = unwrap_or (get floors key) 0
 
@@ -17,11 +17,11 @@ abbrev pub greatest : List ℕ → ℕ
 greatest [] = 0
 greatest (n ∷ ns) = max n (greatest ns)
 
--- the greatest floor of all keys, or 0
+-- the greatest floor of all keys, or 0 [Floor 1]
 abbrev pub seen : FloorMap → ℕ
 seen floors = greatest (values floors)
 
--- a raise: the key's floor is the greater of its floor and this number
+-- a raise: the key's floor is the greater of its floor and this number [Floor 2]
 abbrev pub raised : FloorMap → List ℕ → ℕ → FloorMap
 raised floors key number = insert floors key (max (floor floors key) number)
 
@@ -33,6 +33,6 @@ most_rows = 65536
 abbrev pub HasRoom : FloorMap → List ℕ → Type 0
 HasRoom floors key = IsSome (get floors key) ⊎ (len floors < most_rows)
 
--- 65,536 keys have floors, and this one has none
+-- 65,536 keys have floors, and this one has none [Floor 3]
 abbrev pub IsFull : FloorMap → List ℕ → Type 0
 IsFull floors key = (most_rows ≤ len floors) × (get floors key ≡ None)

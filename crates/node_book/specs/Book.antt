@@ -33,13 +33,13 @@ pub record IsBook (roster : Tables) (id : ℕ) (state opening : NodeState (Unit 
   pub replay : Replays (setting roster id) opening entries state
 
 -- What the caller is told of an outcome: the same reply, unless it could not be copied, or the same
--- fault.
+-- fault. [Book 4]
 abbrev pub IsToldOf : Result (Reply (Unit {0})) StepFault → Result (Reply (Unit {0})) BookFault → Type 0
 IsToldOf (Ok reply) told = (told ≡ Ok reply) ⊎ (told ≡ Err faults.ReplyLost)
 IsToldOf (Err fault) told = told ≡ Err (faults.Step fault)
 
 -- One entry stands behind the others, with the outcome that is told. The node has taken that step,
--- and its store is as the step leaves it.
+-- and its store is as the step leaves it. [Book 1]
 pub record IsApplied {S : Type 0} (honest : Type 0) (may_find : FloorMap → Type 0) (have_risen : Type 0) (before after : BookView S) (seat place : ℕ) (e : Event (Unit {0})) (told : Result (Reply (Unit {0})) BookFault) : Type 0 where
   pub outcome : Result (Reply (Unit {0})) StepFault
   pub entries : after.entries ≡ before.entries ++ record { seat = seat; place = place; event = e; outcome = outcome } ∷ []

@@ -5,7 +5,7 @@ use Rattle.node_book.specs.Book.{BookView, Replays}
 use Rattle.node_rules.specs.State.{setting}
 
 -- The node's id, its state when the book was opened, the entries, and its state now. The entries
--- lead from one state to the other.
+-- lead from one state to the other. [Record 1]
 pub record IsRecorded {S : Type 0} (book : BookView S) (r : Record) : Type 0 where
   pub node : r.node ≡ book.node.id
   pub opening : r.opening ≡ book.opening

@@ -45,14 +45,14 @@ abbrev pub serve_new : {X : Type 0} → Setting → NodeState X → Pending X �
 serve_new g s p c life now =
     replies (with_copies (ending s p.block) (stored g.roster.limits c life s.copies)) (serving (Some p.block) p.asker (Copy c (served_age c now)))
 
--- A response that is used becomes a copy.
+-- A response that is used becomes a copy. [Answer 4]
 unfoldable pub use_answer : {X : Type 0} → Setting → NodeState X → Pending X → ℕ → ℕ → AnswerText → X → ℕ → Stepped X
 use_answer g s p stamp asked answer tag now =
     let life = lifetime answer g.roster.limits.default_lifetime in
     serve_new g s p (new_copy p.ask.key stamp asked life answer tag) life now
 
 -- The peer counts as tried, since its fetch failed or its response is not used, and the request
--- goes on.
+-- goes on. [Answer 3]
 unfoldable pub try_on : {X : Type 0} → Setting → NodeState X → Pending X → ℕ → ℕ → X → Stepped X
 try_on g s p peer now mark = go_on g s (not_fetching p (p.tried ++ peer ∷ [])) now mark
 
@@ -61,14 +61,14 @@ abbrev pub is_gateway_fault : ℕ → Bool
 is_gateway_fault status = list_any (λ s. s == status) (502 ∷ 503 ∷ 504 ∷ [])
 
 -- A peer's response is used unless its status is a gateway's, or its stamp is below the key's floor
--- as it is now.
+-- as it is now. [Answer 2]
 unfoldable pub peer_gave : {X : Type 0} → Setting → NodeState X → Pending X → ℕ → ℕ → ℕ → AnswerText → X → ℕ → X → Stepped X
 peer_gave g s p peer asked stamp answer tag now mark =
     if nat_le (floor s.floors p.ask.key) stamp && not (is_gateway_fault answer.status)
     then use_answer g s p stamp asked answer tag now
     else try_on g s p peer now mark
 
--- An origin's response is used unless the key's floor has risen above the stamp of the read.
+-- An origin's response is used unless the key's floor has risen above the stamp of the read. [Answer 2]
 unfoldable pub origin_gave : {X : Type 0} → Setting → NodeState X → Pending X → ℕ → ℕ → X → AnswerText → ℕ → X → Stepped X
 origin_gave g s p stamp asked read_mark answer now mark =
     if nat_le (floor s.floors p.ask.key) stamp
@@ -76,11 +76,11 @@ origin_gave g s p stamp asked read_mark answer now mark =
     else go_on g s (not_fetching p p.tried) now mark
 
 -- The request is for this key, and this is the serial of its last fetch (that of its round before
--- the first one).
+-- the first one). [Refusal 1]
 abbrev pub is_fetch : {X : Type 0} → ℕ → List ℕ → Pending X → Bool
 is_fetch serial key p = (fetch_serial p == serial) && bytes_eq p.ask.key key
 
--- The response is used if the request is being fetched from this peer.
+-- The response is used if the request is being fetched from this peer. [Refusal 1]
 unfoldable pub from_peer : {X : Type 0} → Setting → NodeState X → Pending X → ℕ → ℕ → AnswerText → X → ℕ → X → Fetch X → Stepped X
 from_peer g s p peer stamp answer tag now mark (AtPeer at asked) =
     if at == peer then peer_gave g s p peer asked stamp answer tag now mark else unknown s
@@ -92,14 +92,14 @@ unfoldable pub peer_answer_to : {X : Type 0} → Setting → NodeState X → ℕ
 peer_answer_to g s peer stamp answer tag now mark None = unknown s
 peer_answer_to g s peer stamp answer tag now mark (Some p) = from_peer g s p peer stamp answer tag now mark p.fetch
 
--- A member responds. The stamp that it bears counts, 0 if it bears none.
+-- A member responds. The stamp that it bears counts, 0 if it bears none. [Answer 1]
 unfoldable pub peer_answer : {X : Type 0} → Setting → NodeState X → ℕ → ℕ → List ℕ → AnswerText → X → ℕ → X → Stepped X
 peer_answer g s serial peer key answer tag now mark =
     if is_foreign_id peer
     then unknown s
     else peer_answer_to g s peer (unwrap_or answer.stamp 0) answer tag now mark (find (is_fetch serial key) s.pending)
 
--- A foreign cache responds. Its stamp counts as 0.
+-- A foreign cache responds. Its stamp counts as 0. [Answer 1]
 unfoldable pub foreign_answer : {X : Type 0} → Setting → NodeState X → ℕ → ℕ → List ℕ → AnswerText → X → ℕ → X → Stepped X
 foreign_answer g s serial peer key answer tag now mark =
     if is_foreign_id peer
@@ -121,7 +121,7 @@ origin_answer_to g s answer now mark (Some p) = from_origin g s p answer now mar
 unfoldable pub origin_answer : {X : Type 0} → Setting → NodeState X → ℕ → List ℕ → AnswerText → ℕ → X → Stepped X
 origin_answer g s serial key answer now mark = origin_answer_to g s answer now mark (find (is_fetch serial key) s.pending)
 
--- The present fetch fails: a peer counts as tried, and a failed origin read is 502.
+-- The present fetch fails: a peer counts as tried, and a failed origin read is 502. [Answer 3]
 unfoldable pub fails : {X : Type 0} → Setting → NodeState X → Pending X → ℕ → X → Fetch X → Stepped X
 fails g s p now mark (AtPeer peer asked) = try_on g s p peer now mark
 fails g s p now mark (AtOrigin stamp asked read_mark) = give_up s p (Some p.block) 502
@@ -133,7 +133,7 @@ failure_of g s now mark None = unknown s
 failure_of g s now mark (Some p) = fails g s p now mark p.fetch
 
 -- A fetch fails. A failed peer counts as tried; a failed origin read ends in 502 (RFC 9110, section
--- 15.6.3).
+-- 15.6.3). [Refusal 2]
 unfoldable pub fetch_failed : {X : Type 0} → Setting → NodeState X → ℕ → ℕ → X → Stepped X
 fetch_failed g s serial now mark = failure_of g s now mark (find (λ p. fetch_serial p == serial) s.pending)
 
@@ -155,6 +155,6 @@ unfoldable pub expiry_of : {X : Type 0} → Setting → NodeState X → ℕ → 
 expiry_of g s now mark None = unknown s
 expiry_of g s now mark (Some p) = expires g s p now mark p.round
 
--- A round expires: no more answers are waited for. Later ones still count.
+-- A round expires: no more answers are waited for. Later ones still count. [Refusal 2]
 unfoldable pub round_expired : {X : Type 0} → Setting → NodeState X → ℕ → ℕ → X → Stepped X
 round_expired g s serial now mark = expiry_of g s now mark (find (λ p. round_serial p == serial) s.pending)

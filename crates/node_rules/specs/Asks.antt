@@ -27,11 +27,11 @@ is_siblings_ask g None = false
 is_siblings_ask g (Some asker) = names_sibling g.roster asker g.id
 
 -- A request that is answered from the store alone: it bears `only-if-cached` (RFC 9111, section
--- 5.2.1.7), or a sibling sent it (RFC 2187, section 2).
+-- 5.2.1.7), or a sibling sent it (RFC 2187, section 2). [Ask 2]
 abbrev pub is_cached_only : Setting → Option ℕ → Ask → Bool
 is_cached_only g asker ask = ask.only_if_cached || is_siblings_ask g asker
 
--- 1,024 requests are pending, or no block of serials is left.
+-- 1,024 requests are pending, or no block of serials is left. [Ask 3]
 abbrev pub is_busy : {X : Type 0} → NodeState X → Bool
 is_busy s = nat_le 1024 (length s.pending) || nat_lt 134217727 s.next
 
@@ -47,14 +47,14 @@ new_ask block asker ask round = record { block = block; asker = asker; ask = ask
 abbrev pub question_to : Tables → ℕ → List ℕ → Peer → Option Outgoing
 question_to roster serial key p = option_map (λ c. to (address_by p.by c) (query p.by serial key)) (cache_of roster p.id)
 
--- A round begins: the peers are queried in the roster's order.
+-- A round begins: the peers are queried in the roster's order. [Ask 5]
 unfoldable pub begin_round : {X : Type 0} → Setting → NodeState X → Option ℕ → Ask → ℕ → RoundText → Stepped X
 begin_round g s asker ask block round =
     let p = new_ask block asker ask (Some round) in
     replies (adding s p)
     record { serve = None; send = filter_map (question_to g.roster (round_serial p) ask.key) round.asked; begin = Some (begin.Round (round_serial p)) }
 
--- A round begins. If nobody is to be queried, the origin is read instead.
+-- A round begins. If nobody is to be queried, the origin is read instead. [Ask 4]
 unfoldable pub ask_around : {X : Type 0} → Setting → NodeState X → Option ℕ → Ask → ℕ → ℕ → X → RoundText → List Peer → Stepped X
 ask_around g s asker ask block now mark round [] =
     let p = new_ask block asker ask None in read_origin g (adding s p) p None now mark
@@ -64,26 +64,26 @@ ask_around g s asker ask block now mark round (peer ∷ peers) = begin_round g s
 abbrev pub peers_to_ask : Setting → Ask → List Peer
 peers_to_ask g ask = if ask.no_cache then [] else peers_of g.roster g.id
 
--- A new request takes the next block, and a round or an origin read begins.
+-- A new request takes the next block, and a round or an origin read begins. [Ask 4]
 unfoldable pub begin_ask : {X : Type 0} → Setting → NodeState X → Option ℕ → Ask → ℕ → X → Stepped X
 begin_ask g s asker ask now mark =
     let round = started (peers_to_ask g ask) (floor s.floors ask.key) in
     ask_around g (takes_block s) asker ask s.next now mark round round.asked
 
--- No copy may be served: 504 for a request to the store alone, else `Busy`, else a fetch begins.
+-- No copy may be served: 504 for a request to the store alone, else `Busy`, else a fetch begins. [Ask 2]
 unfoldable pub not_held : {X : Type 0} → Setting → NodeState X → Option ℕ → Ask → ℕ → X → Stepped X
 not_held g s asker ask now mark =
     if is_cached_only g asker ask
     then replies s (serving None asker (Status 504))
     else (if is_busy s then refuses s Busy else begin_ask g s asker ask now mark)
 
--- The copy is served, if there is one, and becomes the most recent.
+-- The copy is served, if there is one, and becomes the most recent. [Ask 1]
 unfoldable pub by_copy : {X : Type 0} → Setting → NodeState X → Option ℕ → Ask → ℕ → X → Option (WebCopy X) → Stepped X
 by_copy g s asker ask now mark (Some c) =
     replies (with_copies s (to_front ask.key s.copies)) (serving None asker (Copy c (served_age c now)))
 by_copy g s asker ask now mark None = not_held g s asker ask now mark
 
--- The copy that serves a request; none if it bears `no-cache` (RFC 9111, section 5.2.1.4).
+-- The copy that serves a request; none if it bears `no-cache` (RFC 9111, section 5.2.1.4). [Ask 1]
 abbrev pub copy_for : {X : Type 0} → NodeState X → Ask → ℕ → Option (WebCopy X)
 copy_for s ask now = if ask.no_cache then None else good_copy s ask.key now
 

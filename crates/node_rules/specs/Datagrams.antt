@@ -36,7 +36,7 @@ use Rattle.node_rules.specs.Arrivals.{with_round, round_moves}
 abbrev pub sends_back : {X : Type 0} → NodeState X → Address → Message → Stepped X
 sends_back s from m = replies s (sending (to from m ∷ []))
 
--- The same, only if a response is desired (RFC 2756, "RD").
+-- The same, only if a response is desired (RFC 2756, "RD"). [Query 5]
 abbrev pub if_desired : {X : Type 0} → NodeState X → Bool → Address → Message → Stepped X
 if_desired s true from m = sends_back s from m
 if_desired s false from m = replies s quiet
@@ -49,13 +49,13 @@ hit_or_miss None = op.Miss
 hit_or_miss (Some c) = op.Hit
 
 -- DENIED to an unknown sender, ERR if the URL has no key, else HIT or MISS by whether a copy may be
--- served.
+-- served. [Query 1]
 abbrev pub icp_answer : {X : Type 0} → Bool → NodeState X → ℕ → Option (List ℕ) → IcpOp
 icp_answer false s now key = op.Denied
 icp_answer true s now None = op.Error
 icp_answer true s now (Some key) = hit_or_miss (good_copy s key now)
 
--- A QUERY arrives. The response repeats number and URL, and the store keeps its order.
+-- A QUERY arrives. The response repeats number and URL, and the store keeps its order. [Query 1]
 unfoldable pub icp_query : {X : Type 0} → Setting → NodeState X → Address → Icp → ℕ → Stepped X
 icp_query g s from m now =
     sends_back s from (icp (icp_answer (is_known g.roster g.id udp.Icp from) s now (g.key_of m.url)) m.number m.url)
@@ -64,7 +64,7 @@ icp_query g s from m now =
 abbrev pub tst_hit : ℕ → Content
 tst_hit stamp = content.TstHit record { response_headers = []; entity_headers = []; cache_headers = stamp_line stamp }
 
--- The TST response for this copy, or for none.
+-- The TST response for this copy, or for none. [Query 3]
 abbrev pub tst_answer : {X : Type 0} → Option (WebCopy X) → Content
 tst_answer None = content.TstMiss []
 tst_answer (Some c) = tst_hit c.stamp
@@ -74,11 +74,11 @@ abbrev pub copy_at : {X : Type 0} → NodeState X → ℕ → Option (List ℕ) 
 copy_at s now None = None
 copy_at s now (Some key) = good_copy s key now
 
--- The copy that a SPECIFIER means, if it may be served. Only GET means one.
+-- The copy that a SPECIFIER means, if it may be served. Only GET means one. [Query 3]
 abbrev pub copy_meant : {X : Type 0} → Setting → NodeState X → Specifier → ℕ → Option (WebCopy X)
 copy_meant g s spec now = if bytes_eq spec.method (codes "GET") then copy_at s now (g.key_of spec.uri) else None
 
--- A TST arrives. An unknown sender gets the overall code 5, any other whether a copy may be served.
+-- A TST arrives. An unknown sender gets the overall code 5, any other whether a copy may be served. [Query 2]
 unfoldable pub htcp_tst : {X : Type 0} → Setting → NodeState X → Address → ℕ → Bool → Specifier → ℕ → Stepped X
 htcp_tst g s from trans desired spec now =
     if_desired s desired from
@@ -104,7 +104,7 @@ unfoldable pub told_by : {X : Type 0} → Setting → NodeState X → Pending X 
 told_by g s p said now mark None = replies s quiet
 told_by g s p said now mark (Some peer) = hears g s p peer (said peer) now mark p.round
 
--- An answer arrives for this request. It counts if a peer of the request's round sent it.
+-- An answer arrives for this request. It counts if a peer of the request's round sent it. [Reply 6]
 unfoldable pub told_to : {X : Type 0} → Setting → NodeState X → Udp → Address → (Peer → Said) → ℕ → X → Option (Pending X) → Stepped X
 told_to g s by from said now mark None = replies s quiet
 told_to g s by from said now mark (Some p) = told_by g s p said now mark (peer_at g by from p.round)
@@ -115,7 +115,7 @@ is_key None key = false
 is_key (Some read) key = bytes_eq read key
 
 -- What an ICP answer says. The object of a HIT_OBJ is not used. A QUERY is no answer and never
--- comes here.
+-- comes here. [Reply 2]
 abbrev pub icp_said : IcpOp → Said
 icp_said op.Hit = said.Hit None
 icp_said op.HitObj = said.Hit None
@@ -126,7 +126,7 @@ icp_said op.MissNoFetch = said.NoFetch
 icp_said op.Denied = said.NoFetch
 
 -- An ICP answer arrives. It counts for the round of its request number, if the request there has
--- its key.
+-- its key. [Reply 1]
 unfoldable pub icp_told : {X : Type 0} → Setting → NodeState X → Address → Icp → ℕ → X → Stepped X
 icp_told g s from m now mark =
     told_to g s udp.Icp from (λ p. icp_said m.op) now mark
@@ -137,11 +137,11 @@ abbrev pub stamp_in : Result (Option ℕ) HtcpFault → Option ℕ
 stamp_in (Ok stamp) = stamp
 stamp_in (Err fault) = None
 
--- What a TST hit says. Only a member's stamp line is trusted.
+-- What a TST hit says. Only a member's stamp line is trusted. [Reply 4]
 abbrev pub tst_hit_said : List ℕ → Peer → Said
 tst_hit_said headers p = said.Hit (if is_foreign_id p.id then None else stamp_in (number_in_text headers PurgeStamp))
 
--- A TST response arrives. It counts for the round whose serial is its TRANS-ID; it names no URL.
+-- A TST response arrives. It counts for the round whose serial is its TRANS-ID; it names no URL. [Reply 3]
 unfoldable pub htcp_told : {X : Type 0} → Setting → NodeState X → Address → ℕ → (Peer → Said) → ℕ → X → Stepped X
 htcp_told g s from trans said now mark =
     told_to g s udp.Htcp from said now mark (find (λ p. round_serial p == trans) s.pending)
@@ -161,16 +161,16 @@ clr_refused s from trans desired = if_desired s desired from (overall trans 4 5)
 abbrev pub clr_done : {X : Type 0} → NodeState X → Address → ℕ → Bool → Bool → Stepped X
 clr_done s from trans desired dropped = if_desired s desired from (htcp trans (content.ClrAnswer (clr_code dropped)))
 
--- 65,536 keys have floors, and this key has none.
+-- 65,536 keys have floors, and this key has none. [Purge 3]
 abbrev pub is_full : FloorMap → List ℕ → Bool
 is_full floors key = nat_le most_rows (len floors) && not (is_some (get floors key))
 
--- The state after a purge: the key's floor is raised, and no copy of it below the number is held.
+-- The state after a purge: the key's floor is raised, and no copy of it below the number is held. [Purge 2]
 abbrev pub purged : {X : Type 0} → NodeState X → List ℕ → ℕ → NodeState X
 purged s key n = record { floors = raised s.floors key n; copies = without_below key n s.copies; pending = s.pending; next = s.next; closed = s.closed }
 
 -- A purge. The floor is raised, an older copy goes, and the response says whether one went. That
--- the raise is committed first is said where the store is: KeepsStore of node_core.
+-- the raise is committed first is said where the store is: KeepsStore of node_core. [Purge 2]
 unfoldable pub purge : {X : Type 0} → NodeState X → Address → ℕ → Bool → List ℕ → ℕ → Stepped X
 purge s from trans desired key n =
     if is_full s.floors key
@@ -178,7 +178,7 @@ purge s from trans desired key n =
     else clr_done (purged s key n) from trans desired (is_older_than n (copy_of key s.copies))
 
 -- The key and the number of a good numbered CLR. It comes from the master, its URI has a key, and
--- its number is its TRANS-ID and at least 1.
+-- its number is its TRANS-ID and at least 1. [Purge 1]
 abbrev pub purge_of : Setting → Address → ℕ → Option (List ℕ) → ℕ → Option (List ℕ × ℕ)
 purge_of g from trans None n = None
 purge_of g from trans (Some key) n =
@@ -200,20 +200,20 @@ dropped s None = s
 dropped s (Some key) = with_copies s (without key s.copies)
 
 -- A CLR without a number line, from a known sender or the master: the copy goes whatever its stamp,
--- and floors stay.
+-- and floors stay. [Purge 5]
 unfoldable pub plain_clr : {X : Type 0} → Setting → NodeState X → Address → ℕ → Bool → Option (List ℕ) → Stepped X
 plain_clr g s from trans desired key =
     if is_known g.roster g.id udp.Htcp from || is_master g.roster from
     then clr_done (dropped s key) from trans desired (held s key)
     else clr_refused s from trans desired
 
--- A CLR by its number line: without one, with a number, or with a bad line, which is refused.
+-- A CLR by its number line: without one, with a number, or with a bad line, which is refused. [Purge 4]
 unfoldable pub clr_by_line : {X : Type 0} → Setting → NodeState X → Address → ℕ → Bool → Option (List ℕ) → Result (Option ℕ) HtcpFault → Stepped X
 clr_by_line g s from trans desired key (Ok None) = plain_clr g s from trans desired key
 clr_by_line g s from trans desired key (Ok (Some n)) = numbered_clr s from trans desired (purge_of g from trans key n)
 clr_by_line g s from trans desired key (Err fault) = clr_refused s from trans desired
 
--- A CLR arrives.
+-- A CLR arrives. [Purge 6]
 unfoldable pub htcp_clr : {X : Type 0} → Setting → NodeState X → Address → ℕ → Bool → Specifier → Stepped X
 htcp_clr g s from trans desired spec =
     clr_by_line g s from trans desired (g.key_of spec.uri) (number_in_text spec.request_headers PurgeNumber)
@@ -225,12 +225,12 @@ unfoldable pub icp_comes : {X : Type 0} → Setting → NodeState X → Address 
 icp_comes g s from m now mark op.Query = icp_query g s from m now
 icp_comes g s from m now mark _ = icp_told g s from m now mark
 
--- A response of another kind arrives. If its opcode is TST, the peer serves nothing.
+-- A response of another kind arrives. If its opcode is TST, the peer serves nothing. [Reply 5]
 unfoldable pub tst_refused : {X : Type 0} → Setting → NodeState X → Address → ℕ → ℕ → ℕ → X → Stepped X
 tst_refused g s from trans opcode now mark =
     if opcode == 1 then htcp_told g s from trans (λ p. said.NoFetch) now mark else replies s quiet
 
--- An HTCP message arrives.
+-- An HTCP message arrives. [Query 4, Reply 5]
 unfoldable pub htcp_comes : {X : Type 0} → Setting → NodeState X → Address → ℕ → ℕ → X → Content → Stepped X
 htcp_comes g s from trans now mark (content.NopAsk desired) = if_desired s desired from (htcp trans content.NopAnswer)
 htcp_comes g s from trans now mark content.NopAnswer = replies s quiet

@@ -25,12 +25,12 @@ fetching p reads fetch = record { block = p.block; asker = p.asker; ask = p.ask;
 abbrev pub own_id : ℕ → ℕ → Option ℕ
 own_id id peer = if is_foreign_id peer then None else Some id
 
--- The request that a peer is sent.
+-- The request that a peer is sent. [Fetch 4]
 abbrev pub peer_ask : List ℕ → Bool → Option ℕ → Ask
 peer_ask key cached member = record { key = key; only_if_cached = cached; no_cache = false; member = member }
 
 -- The request that an origin is sent. It bears `no-cache` if the pending request does (RFC 9111,
--- section 5.2.1.4).
+-- section 5.2.1.4). [Fetch 3]
 abbrev pub origin_ask : Ask → Ask
 origin_ask ask = record { key = ask.key; only_if_cached = false; no_cache = ask.no_cache; member = None }
 
@@ -40,7 +40,7 @@ ask_peer g s p peer cached now =
     let q = fetching p p.reads (AtPeer peer now) in
     replies (changing s q) (beginning (begin.Peer (fetch_serial q) peer (peer_ask p.ask.key cached (own_id g.id peer))))
 
--- An origin read begins. It bears the greatest purge number seen so far, and the mark of the step.
+-- An origin read begins. It bears the greatest purge number seen so far, and the mark of the step. [Fetch 1]
 unfoldable pub begin_read : {X : Type 0} → NodeState X → Pending X → ℕ → X → Stepped X
 begin_read s p now mark =
     let q = fetching p (p.reads + 1) (AtOrigin (seen s.floors) now mark) in
@@ -51,7 +51,7 @@ abbrev pub give_up : {X : Type 0} → NodeState X → Pending X → Option ℕ �
 give_up s p waiter status = replies (ending s p.block) (serving waiter p.asker (Status status))
 
 -- At most three reads: 503 in place of a fourth. 502 if the roster has no such origin (RFC 9110,
--- sections 15.6.3 and 15.6.4).
+-- sections 15.6.3 and 15.6.4). [Fetch 2]
 unfoldable pub read_origin : {X : Type 0} → Setting → NodeState X → Pending X → Option ℕ → ℕ → X → Stepped X
 read_origin g s p waiter now mark =
     if nat_le 3 p.reads
@@ -69,6 +69,6 @@ abbrev pub choice_of : Option RoundText → ℕ → List ℕ → Source
 choice_of None floor tried = source.Origin
 choice_of (Some r) floor tried = choice r floor tried
 
--- A request that no fetch runs for goes on as its round says, by the floor as it is now.
+-- A request that no fetch runs for goes on as its round says, by the floor as it is now. [Answer 6]
 unfoldable pub go_on : {X : Type 0} → Setting → NodeState X → Pending X → ℕ → X → Stepped X
 go_on g s p now mark = go_to g s p now mark (choice_of p.round (floor s.floors p.ask.key) p.tried)

@@ -44,7 +44,7 @@ abbrev pub is_foreign_peer : Tables → ℕ → Udp → Address → Bool
 is_foreign_peer t id by from = list_any (λ c. names t id c.id && same_address from (address_by by c)) t.foreign
 
 -- A node knows an address where another member answers this protocol, or a foreign cache that its
--- entry names.
+-- entry names. [Node 6]
 abbrev pub is_known : Tables → ℕ → Udp → Address → Bool
 is_known t id by from = is_other_member t id by from || is_foreign_peer t id by from
 

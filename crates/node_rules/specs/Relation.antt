@@ -47,7 +47,7 @@ purge_in g (event.Datagram from message now) = purge_in_message g from message
 purge_in g _ = None
 
 -- A node that a purge has closed: no request is pending, and the raise stands in the floors, if
--- they had room for it, or does not.
+-- they had room for it, or does not. [Refusal 4]
 pub record IsClosed {X : Type 0} (s : NodeState X) (key : List ℕ) (n : ℕ) (next : NodeState X) : Type 0 where
   pub closed : next.closed ≡ true
   pub pending : next.pending ≡ []
@@ -58,11 +58,11 @@ abbrev pub ClosesOn : {X : Type 0} → NodeState X → Option (List ℕ × ℕ) 
 ClosesOn s None next = ⊥
 ClosesOn s (Some x) next = IsClosed s x.0 x.1 next
 
--- A fault at a numbered CLR of the master closes an open node.
+-- A fault at a numbered CLR of the master closes an open node. [Refusal 4]
 abbrev pub Closes : {X : Type 0} → Setting → NodeState X → Event X → NodeState X → Type 0
 Closes g s e next = (s.closed ≡ false) × ClosesOn s (purge_in g e) next
 
--- A failed allocation changes nothing, or closes the node at a numbered CLR of the master.
+-- A failed allocation changes nothing, or closes the node at a numbered CLR of the master. [Refusal 3]
 abbrev pub WantsMemory : {X : Type 0} → Setting → NodeState X → Event X → NodeState X → Type 0
 WantsMemory g s e next = (s.closed ≡ false) × (next ≡ s) ⊎ Closes g s e next
 

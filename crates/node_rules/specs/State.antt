@@ -63,7 +63,7 @@ serving waiter asker served = record { serve = Some record { waiter = waiter; as
 
 -- Words of a state
 
--- A node as it opens: it has these floors, and neither copies nor requests.
+-- A node as it opens: it has these floors, and neither copies nor requests. [Node 3]
 abbrev pub opened : {X : Type 0} → FloorMap → NodeState X
 opened floors = record { floors = floors; copies = []; pending = []; next = 1; closed = false }
 
@@ -106,7 +106,7 @@ abbrev pub age_of : {X : Type 0} → WebCopy X → ℕ
 age_of c = unwrap_or c.answer.age 0
 
 -- A copy may be served at this floor and time: it is fresh (RFC 9111, section 4.2), and its stamp
--- is at least the floor.
+-- is at least the floor. [Node 5]
 abbrev pub is_good : {X : Type 0} → ℕ → ℕ → WebCopy X → Bool
 is_good floor now c = nat_le floor c.stamp && is_fresh (age_of c) c.asked now c.lifetime
 
@@ -119,18 +119,18 @@ if_good floor now (Some c) = if is_good floor now c then Some c else None
 abbrev pub good_copy : {X : Type 0} → NodeState X → List ℕ → ℕ → Option (WebCopy X)
 good_copy s key now = if_good (floor s.floors key) now (copy_of key s.copies)
 
--- The age that a copy is served with, at most 2147483648 (RFC 9111, sections 1.2.2 and 5.1).
+-- The age that a copy is served with, at most 2147483648 (RFC 9111, sections 1.2.2 and 5.1). [Answer 5]
 abbrev pub served_age : {X : Type 0} → WebCopy X → ℕ → ℕ
 served_age c now = min (age_now (age_of c) c.asked now) 2147483648
 
 -- Serials
 
 -- The serial of the request's round. Block b has the serial 32b for its round, and 32b + 1, 32b + 2
--- and so on for its fetches.
+-- and so on for its fetches. [Node 2]
 abbrev pub round_serial : {X : Type 0} → Pending X → ℕ
 round_serial p = 32 * p.block
 
--- The serial of the last fetch begun; before the first one, that of the round.
+-- The serial of the last fetch begun; before the first one, that of the round. [Node 2]
 abbrev pub fetch_serial : {X : Type 0} → Pending X → ℕ
 fetch_serial p = 32 * p.block + p.fetches
 

@@ -20,7 +20,7 @@ open_step g s mark (event.ForeignAnswer serial peer key answer tag now) = foreig
 open_step g s mark (event.FetchFailed serial now) = fetch_failed g s serial now mark
 open_step g s mark (event.Expired serial now) = round_expired g s serial now mark
 
--- The step of a node that is closed, or that is not.
+-- The step of a node that is closed, or that is not. [Refusal 5]
 unfoldable pub step_if : {X : Type 0} → Setting → NodeState X → Event X → X → Bool → Stepped X
 step_if g s e mark true = refuses s Closed
 step_if g s e mark false = open_step g s mark e

@@ -40,7 +40,7 @@ pub record Lists (old : SeatView) (event : Event (Unit {0})) (told : Told) (new 
   pub parts : new.parts ≡ old.parts
   pub amount : new.amount ≡ old.amount + 1
 
--- what a seat lists of an answer: the outcome, or that it is unknown; nothing where no step was taken
+-- what a seat lists of an answer: the outcome, or that it is unknown; nothing where no step was taken [Book 3]
 abbrev pub told_of : Result (Reply (Unit {0})) BookFault → Option Told
 told_of (Ok reply) = Some (Known (Ok reply))
 told_of (Err (Step fault)) = Some (Known (Err fault))
@@ -107,7 +107,7 @@ pub record DeskView (S : Type 0) : Type 0 where
 abbrev pub count_of : {S : Type 0} → DeskView S → ℕ
 count_of desk = desk.before + length desk.book.entries
 
--- the book has 4,096 entries, or the count is at its greatest
+-- the book has 4,096 entries, or the count is at its greatest [Book 3]
 abbrev pub IsSpent : {S : Type 0} → DeskView S → Type 0
 IsSpent desk = (4096 ≤ length desk.book.entries) ⊎ (2 ^ 64 - 1 ≤ count_of desk)
 

@@ -65,7 +65,7 @@ pub record Opens {S : Type 0} (shift : ShiftView S) (last : Record) (seats : ℕ
   pub first : IsFirstOf shift.count row
 
 -- why a shift is not closed: at SeatMissing these are not all seats; at Mismatch they are, and the list of one differs
--- from the entries; at NoMemory they are, and no list differs
+-- from the entries; at NoMemory they are, and no list differs [Book 5]
 abbrev pub IsCause : ℕ → List NodeEntry → List SeatView → CloseFault → Type 0
 IsCause count entries seats SeatMissing = ¬ (AreAll count seats)
 IsCause count entries seats Mismatch = AreAll count seats × (¬ (All (Agrees entries) seats))

@@ -12,7 +12,7 @@ pub record Held (T : Type 0) : Type 0 where
   pub limit_bytes : ℕ
   pub copies : List (WebCopy T)
 
--- the copies are within the limits, at most one of each key
+-- the copies are within the limits, at most one of each key [Copy 3]
 pub record IsStore {T : Type 0} (held : Held T) : Type 0 where
   pub within : IsWithin held.limit_count held.limit_bytes held.copies
   pub one_each : OneEach held.copies
@@ -27,14 +27,14 @@ abbrev pub is_older_than : {T : Type 0} → ℕ → Option (WebCopy T) → Bool
 is_older_than n None = false
 is_older_than n (Some old) = nat_lt old.stamp n
 
--- the outcome of a put
+-- the outcome of a put [Copy 5]
 abbrev pub put_answer : {T : Type 0} → Held T → WebCopy T → Put
 put_answer held c =
     if nat_lt held.limit_bytes (size c) then TooLarge
     else (if is_outdone_by c (copy_of c.key held.copies) then Kept else Stored)
 
 -- the copies after a put with this outcome: a stored copy comes to the front, the key's old copy
--- goes, and so do the least recent copies that no longer fit
+-- goes, and so do the least recent copies that no longer fit [Copy 5]
 abbrev pub copies_after : {T : Type 0} → Held T → WebCopy T → Put → List (WebCopy T)
 copies_after held c TooLarge = held.copies
 copies_after held c Kept = held.copies

@@ -17,7 +17,7 @@ abbrev pub in_front : {T : Type 0} → Option (WebCopy T) → List (WebCopy T) �
 in_front None copies = copies
 in_front (Some c) copies = c ∷ copies
 
--- the copy of the key, if there is one, comes to the front
+-- the copy of the key, if there is one, comes to the front [Copy 4]
 abbrev pub to_front : {T : Type 0} → List ℕ → List (WebCopy T) → List (WebCopy T)
 to_front key copies = in_front (copy_of key copies) (without key copies)
 
@@ -53,10 +53,10 @@ pub record IsLongestFront {T : Type 0} (count bytes : ℕ) (copies front : List 
 abbrev pub is_below : {T : Type 0} → List ℕ → ℕ → WebCopy T → Bool
 is_below key n c = is_of key c && nat_lt c.stamp n
 
--- the copies but that of the key, which goes if its stamp is less than `n`
+-- the copies but that of the key, which goes if its stamp is less than `n` [Copy 6]
 abbrev pub without_below : {T : Type 0} → List ℕ → ℕ → List (WebCopy T) → List (WebCopy T)
 without_below key n copies = filter (λ c. not (is_below key n c)) copies
 
--- the copies with a stamp of at least `n`
+-- the copies with a stamp of at least `n` [Copy 6]
 abbrev pub without_all_below : {T : Type 0} → ℕ → List (WebCopy T) → List (WebCopy T)
 without_all_below n copies = filter (λ c. not (nat_lt c.stamp n)) copies

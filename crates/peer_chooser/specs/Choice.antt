@@ -28,11 +28,11 @@ is_miss (said.Hit stamp) = false
 is_miss said.Miss = true
 is_miss said.NoFetch = false
 
--- The peer may be asked at this floor, and was not tried.
+-- The peer may be asked at this floor, and was not tried. [Round 5]
 abbrev pub is_open : ℕ → List ℕ → Peer → Bool
 is_open floor tried p = may_ask floor p && not (list_any (λ id. id == p.id) tried)
 
--- A hit that may be followed.
+-- A hit that may be followed. [Round 3]
 abbrev pub is_good_hit : ℕ → List ℕ → Told → Bool
 is_good_hit floor tried t = is_open floor tried t.peer && is_hit floor t.said
 
@@ -40,12 +40,12 @@ is_good_hit floor tried t = is_open floor tried t.peer && is_hit floor t.said
 abbrev pub is_parent_miss : ℕ → List ℕ → Told → Bool
 is_parent_miss floor tried t = is_open floor tried t.peer && (is_parent t.peer.role && is_miss t.said)
 
--- No answer is waited for: the time is over, or all have answered.
+-- No answer is waited for: the time is over, or all have answered. [Round 4]
 abbrev pub is_over : RoundText → Bool
 is_over r = r.expired || list_all (λ p. has_told r.told p.id) r.asked
 
 -- A request to this peer. A sibling is asked only for what it holds (RFC 2187, section 2; RFC 9111,
--- section 5.2.1.7).
+-- section 5.2.1.7). [Round 6]
 abbrev pub from : Peer → Source
 from p = source.Peer p.id (is_sibling p.role)
 
@@ -62,6 +62,6 @@ from_hit r floor tried None =
     if is_over r then from_parent (find (is_parent_miss floor tried) r.told) else source.Wait
 
 -- The first good hit to arrive; else wait while answers may come; else the first parent's miss to
--- arrive; else the origin.
+-- arrive; else the origin. [Round 4]
 unfoldable pub choice : RoundText → ℕ → List ℕ → Source
 choice r floor tried = from_hit r floor tried (find (is_good_hit floor tried) r.told)

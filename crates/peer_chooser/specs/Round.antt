@@ -15,7 +15,7 @@ pub record RoundText : Type 0 where
   pub expired : Bool
 
 -- A peer may be asked at this floor. A foreign cache takes part in no purge, so it is asked only
--- about what was never purged.
+-- about what was never purged. [Round 1]
 abbrev pub may_ask : ℕ → Peer → Bool
 may_ask floor p = (floor == 0) || not (is_foreign_id p.id)
 
@@ -36,7 +36,7 @@ abbrev pub with_answer : RoundText → Said → Option Peer → RoundText
 with_answer r said None = r
 with_answer r said (Some p) = record { asked = r.asked; told = r.told ++ record { peer = p; said = said } ∷ []; expired = r.expired }
 
--- A peer's first answer counts, even if it comes late. No other answer changes anything.
+-- A peer's first answer counts, even if it comes late. No other answer changes anything. [Round 2]
 abbrev pub answered : RoundText → ℕ → Said → RoundText
 answered r id said = with_answer r said (awaited r id)
 

@@ -25,11 +25,11 @@ abbrev pub is_of_connection : List (List ℕ) → List ℕ → Bool
 is_of_connection options name = list_any (is_listed_in name) options
 
 -- a response keeps the field: its name is not one of the dropped names, and no `connection` value
--- names it
+-- names it [Response 2]
 abbrev pub is_kept : List (List ℕ) → List ℕ × List ℕ → Bool
 is_kept options field = not (is_dropped_name (lowercase field.0)) && not (is_of_connection options field.0)
 
--- a field as it is kept, with its name in lower case
+-- a field as it is kept, with its name in lower case [Response 4]
 abbrev pub kept_text : List ℕ × List ℕ → FieldText
 kept_text field = record { name = lowercase field.0; value = field.1 }
 
@@ -46,7 +46,7 @@ abbrev pub kept : List (List ℕ × List ℕ) → List FieldText
 kept fields = kept_by (options_of fields) fields
 
 -- a response can hold the field: its name is a token of at most 65,535 octets, and its value has
--- no control octet but the tab and no blank at an end (RFC 9110, sections 5.1 and 5.5)
+-- no control octet but the tab and no blank at an end (RFC 9110, sections 5.1 and 5.5) [Response 4]
 abbrev pub CanBeHeld : List ℕ × List ℕ → Type 0
 CanBeHeld field = IsFieldName field.0 × IsFieldValue field.1 × IsTrue (is_trimmed field.1)
 

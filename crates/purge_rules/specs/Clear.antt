@@ -8,7 +8,7 @@ use Rattle.purge_rules.specs.Purges.{PurgeList, pending_at}
 abbrev pub number_line : ℕ → List ℕ
 number_line number = codes "X-Purge-Number: " ++ decimal number ++ 13 ∷ 10 ∷ []
 
--- the CLR: its TRANS-ID is the number, it desires a response, and its REASON is 0
+-- the CLR: its TRANS-ID is the number, it desires a response, and its REASON is 0 [Master 4]
 abbrev pub clear : ℕ → List ℕ → Htcp
 clear number key = record { minor = 0; trans = number; content = content.ClrAsk true 0 record { method = codes "GET"; uri = key; version = codes "HTTP/1.1"; request_headers = number_line number } }
 

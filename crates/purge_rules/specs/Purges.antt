@@ -6,7 +6,7 @@ use Rattle.purge_rules.specs.declared.purges.Purge.{Purge}
 use Rattle.purge_rules.specs.Members.{with_id}
 
 -- the last number that was given, 0 if none was, and the pending purges in the order of their
--- numbers
+-- numbers [Master 2]
 pub record PurgeList : Type 0 where
   pub last : ℕ
   pub pending : List Purge
@@ -15,7 +15,7 @@ pub record PurgeList : Type 0 where
 abbrev pub no_purges : PurgeList
 no_purges = record { last = 0; pending = [] }
 
--- the numbers of pending purges ascend, from 1 to the last number at most, which fits in 32 bits
+-- the numbers of pending purges ascend, from 1 to the last number at most, which fits in 32 bits [Master 1]
 pub record AreNumbered (p : PurgeList) : Type 0 where
   pub ascend : AllPairs (λ a b. a.number < b.number) p.pending
   pub positive : All (λ a. 1 ≤ a.number) p.pending

@@ -21,7 +21,7 @@ abbrev pub forbids_storing : DirectiveText → Bool
 forbids_storing d = is_called (codes "no-store") d || is_called (codes "private") d || is_called (codes "no-cache") d
 
 -- the response is not stored, whatever its lifetime; `vary` forbids it, as copies are found by
--- their key alone (section 4.1)
+-- their key alone (section 4.1) [Lifetime 1]
 abbrev pub is_kept_out : AnswerText → Bool
 is_kept_out a = not (is_stored_status a.status) || has_field (codes "vary") a || list_any forbids_storing (directives a)
 
@@ -30,7 +30,7 @@ abbrev pub first_seconds : List ℕ → AnswerText → Option ℕ
 first_seconds name a = option_map seconds (find (is_called name) (directives a))
 
 -- `s-maxage`, else `max-age` (RFC 9111, section 4.2.1); else the default (section 4.2.2), unless
--- there is an `expires` field (section 5.3)
+-- there is an `expires` field (section 5.3) [Lifetime 2]
 abbrev pub told_seconds : Option ℕ → Option ℕ → Bool → ℕ → Option ℕ
 told_seconds (Some shared) own has_expires default = Some shared
 told_seconds None (Some own) has_expires default = Some own
@@ -41,7 +41,7 @@ abbrev pub above_zero : Option ℕ → Option ℕ
 above_zero None = None
 above_zero (Some seconds) = if seconds == 0 then None else Some seconds
 
--- the lifetime in seconds, above 0; `None`: the response is not stored
+-- the lifetime in seconds, above 0; `None`: the response is not stored [Lifetime 2]
 unfoldable pub lifetime : AnswerText → ℕ → Option ℕ
 lifetime a default =
     if is_kept_out a then None

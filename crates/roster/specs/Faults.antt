@@ -25,7 +25,7 @@ IsFirst t fault.ParentLoop =
     (has_too_many t ≡ false) × (has_double_address t ≡ false) × (has_unknown_peer t ≡ false) × HasParentLoop t
 IsFirst t fault.NoMemory = Unit {0}
 
--- what a fault says of a text: it holds, and none of those before it does
+-- what a fault says of a text: it holds, and none of those before it does [Roster 2]
 abbrev pub IsFirstOf : List ℕ → RosterFault → Type 0
 IsFirstOf text fault.BadToml = tables_in text ≡ None
 IsFirstOf text fault.BadField = tables_in text ≡ Some None

@@ -79,7 +79,7 @@ pub record FitTogether (t : Tables) : Type 0 where
   pub known : has_unknown_peer t ≡ false
   pub no_loop : ¬ (HasParentLoop t)
 
--- what holds of every roster: ranges, no fault, and members that are found by their addresses
+-- what holds of every roster: ranges, no fault, and members that are found by their addresses [Roster 1]
 pub record IsRoster (t : Tables) : Type 0 where
   pub ranges : are_tables t ≡ true
   pub fit : FitTogether t

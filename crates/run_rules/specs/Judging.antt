@@ -44,7 +44,7 @@ pub data Judgement : Type 0 where
 -- A record opens
 
 -- A record may open in the node's present state, or in that of a restart with its floors. The state
--- of a closed node counts only as closed, with nothing pending.
+-- of a closed node counts only as closed, with nothing pending. [Record 11]
 abbrev pub OpensAs : Standing → NodeState (Unit {0}) → Type 0
 OpensAs New state = state ≡ opened empty
 OpensAs (Open s) state = (state ≡ s) ⊎ (state ≡ opened s.floors)
@@ -62,11 +62,11 @@ abbrev pub opened_board : Board → ℕ → NodeState (Unit {0}) → Board
 opened_board b id state =
     with_network (with_node b id (standing_in (standing_at b.posts id) state)) (if state.next == 1 then without_waiting b.network id else b.network)
 
--- the node is a member's, and its record may open in this state
+-- the node is a member's, and its record may open in this state [Record 11]
 abbrev pub CanOpen : Tables → Board → ℕ → NodeState (Unit {0}) → Type 0
 CanOpen roster b id state = (is_member roster id ≡ true) × OpensAs (standing_at b.posts id) state
 
--- A record that may not open so makes its node astray; it is judged when the record closes.
+-- A record that may not open so makes its node astray; it is judged when the record closes. [Record 15]
 abbrev pub JudgesOpening : Tables → Board → ℕ → NodeState (Unit {0}) → Judgement → Type 0
 JudgesOpening roster b id state j =
     (CanOpen roster b id state × (j ≡ Fine (opened_board b id state)))
@@ -74,7 +74,7 @@ JudgesOpening roster b id state j =
 
 -- A record closes
 
--- a record may close in the node's present state
+-- a record may close in the node's present state [Record 10]
 abbrev pub ClosesAs : Standing → NodeState (Unit {0}) → Type 0
 ClosesAs New state = ⊥
 ClosesAs (Open s) state = state ≡ s
@@ -96,7 +96,7 @@ abbrev pub stored_by : FloorMap → List ℕ → ℕ → FloorMap → FloorMap
 stored_by floors key number kept = if nat_le number (floor kept key) && not (is_full floors key) then raised floors key number else floors
 
 -- The standing after a step that lacked memory: it changes nothing, but at a purge it may have
--- closed the node.
+-- closed the node. [Record 7]
 abbrev pub wanting : NodeState (Unit {0}) → Option (List ℕ × ℕ) → Bool → FloorMap → Standing
 wanting s (Some x) true kept = Shut (stored_by s.floors x.0 x.1 kept)
 wanting s _ _ kept = Open s
@@ -121,7 +121,7 @@ is_foreign_fetch peer _ = false
 abbrev pub IsPending : NodeState (Unit {0}) → ℕ → List ℕ → (Fetch (Unit {0}) → Bool) → Type 0
 IsPending s serial key is_such = MatchOption (find (λ p. fetch_serial p == serial) s.pending) ⊥ (λ p. (p.ask.key ≡ key) × (is_such p.fetch ≡ true))
 
--- a response of an origin or a foreign cache reaches a read or a fetch that is pending
+-- a response of an origin or a foreign cache reaches a read or a fetch that is pending [Record 9]
 abbrev pub Reaches : NodeState (Unit {0}) → Event (Unit {0}) → Type 0
 Reaches s (event.OriginAnswer serial key answer now) = IsPending s serial key is_read
 Reaches s (event.ForeignAnswer serial peer key answer tag now) = IsPending s serial key (is_foreign_fetch peer)
@@ -131,13 +131,13 @@ Reaches s _ = Unit {0}
 abbrev pub IsStep : Setting → NodeState (Unit {0}) → NodeEntry → NodeState (Unit {0}) → Type 0
 IsStep g s e next = step g s e.event tt ≡ record { state = next; outcome = e.outcome }
 
--- the entry is the step that is defined, or has the flaw OtherReply
+-- the entry is the step that is defined, or has the flaw OtherReply [Record 6]
 abbrev pub StepsBy : Setting → NodeState (Unit {0}) → NodeEntry → Result Standing Cause → Type 0
 StepsBy g s e r =
     ((next : NodeState (Unit {0})) × IsStep g s e next × (r ≡ Ok (Open next)))
     ⊎ (((step g s e.event tt).outcome ≢ e.outcome) × (r ≡ Err OtherReply))
 
--- an open node's entry with this outcome, and the node's standing after it or the flaw
+-- an open node's entry with this outcome, and the node's standing after it or the flaw [Record 7]
 abbrev pub OpenStepsBy : Setting → NodeState (Unit {0}) → NodeEntry → Bool → FloorMap → Result (Reply (Unit {0})) StepFault → Result Standing Cause → Type 0
 OpenStepsBy g s e is_closed kept (Err fault.NoMemory) r = r ≡ Ok (wanting s (purge_in g e.event) is_closed kept)
 OpenStepsBy g s e is_closed kept (Err fault.StoreFault) r = r ≡ failing s (purge_in g e.event) kept
@@ -175,7 +175,7 @@ abbrev pub is_astray : Standing → Bool
 is_astray Astray = true
 is_astray _ = false
 
--- what the entry received was sent before; this is not asked of a node that is astray
+-- what the entry received was sent before; this is not asked of a node that is astray [Record 5]
 abbrev pub IsHeard : Tables → Board → ℕ → Event (Unit {0}) → Type 0
 IsHeard roster b id e = is_astray (standing_at b.posts id) ≡ false → IsSent roster b.network id e
 
@@ -188,12 +188,12 @@ JudgesEntry roster b id e is_closed kept j =
 -- An entry of the master
 
 -- The master's state after a call that lacked memory: it changes nothing, but a call that writes
--- may have closed the master.
+-- may have closed the master. [Record 8]
 abbrev pub left_wanting : MasterState → Bool → Bool → MasterState
 left_wanting m true true = closing m
 left_wanting m _ _ = m
 
--- the master's call may have this answer and lead to this state
+-- the master's call may have this answer and lead to this state [Record 6, Record 8]
 abbrev pub CallsBy : List ℕ → MasterState → MasterEntry → Bool → Result MasterAnswer MasterFault → MasterState → Type 0
 CallsBy members m e is_closed (Err master_fault.NoMemory) next =
     (m.closed ≡ false) × ((is_written members m.purges e.call || is_due e.call) ≡ true) × (next ≡ left_wanting m (is_written members m.purges e.call) is_closed)

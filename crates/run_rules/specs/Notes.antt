@@ -45,7 +45,7 @@ abbrev pub steps_of : ℕ → Bool → FloorMap → List NodeEntry → List Note
 steps_of id closing kept [] = []
 steps_of id closing kept (e ∷ es) = Steps id e (is_closed_before es closing) kept ∷ steps_of id closing kept es
 
--- the place of the last entry; the first argument if there is none
+-- the place of the last entry; the first argument if there is none [Record 12]
 abbrev pub last_place : ℕ → List NodeEntry → ℕ
 last_place place [] = place
 last_place place (e ∷ es) = last_place e.place es
@@ -185,7 +185,7 @@ abbrev pub take_by : List (List Note) → Option ℕ → Option Taken
 take_by tracks None = None
 take_by tracks (Some turn) = take_at turn tracks
 
--- the note that comes next, if there is one
+-- the note that comes next, if there is one [Record 13]
 abbrev pub next_note : List (List Note) → Option Taken
 next_note tracks = take_by tracks (least (turns_of tracks))
 

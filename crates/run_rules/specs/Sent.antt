@@ -135,7 +135,7 @@ abbrev pub IsDatagramSent : Tables → Network → ℕ → Address → Message �
 IsDatagramSent roster n id from m = (d : Datagram) × Contains n.datagrams d × (d.sender ≡ from) × (d.message ≡ m) × ComesTo roster id d
 
 -- What an entry received from a member or from the master was sent to it before. Anybody else may
--- have sent anything.
+-- have sent anything. [Record 4]
 abbrev pub IsSent : Tables → Network → ℕ → Event (Unit {0}) → Type 0
 IsSent roster n id (event.Datagram from m now) = is_own roster from ≡ true → IsDatagramSent roster n id from m
 IsSent roster n id (event.PeerAsk asker ask now) = Contains n.asks (record { sender = asker; receiver = id; ask = ask })
@@ -148,7 +148,7 @@ pub record IsAnswerOf (roster : Tables) (id trans code : ℕ) (d : Datagram) : T
   pub sender : member_at roster d.sender udp.Htcp ≡ Some id
   pub says : clear_answer d.message ≡ Some (trans, code)
 
--- the acknowledgement that the master counts was sent before; other calls receive nothing
+-- the acknowledgement that the master counts was sent before; other calls receive nothing [Record 4]
 abbrev pub IsCallSent : Tables → Network → MasterCall → Type 0
 IsCallSent roster n (call.Acknowledge id trans code) = (d : Datagram) × Contains n.datagrams d × IsAnswerOf roster id trans code d
 IsCallSent roster n _ = Unit {0}

@@ -25,7 +25,7 @@ double_by fall is_shared None = None
 double_by None is_shared (Some place) = if is_shared then Some place else None
 double_by (Some fall) is_shared (Some place) = if nat_le fall place then Some fall else (if is_shared then Some place else None)
 
--- the same, by the turns of all tracks
+-- the same, by the turns of all tracks [Record 3]
 abbrev pub double_of : Option ℕ → List ℕ → Option ℕ → Option ℕ
 double_of fall turns place = double_by fall (nat_le 2 (count_of (turn_by place) turns)) place
 
@@ -47,11 +47,11 @@ order_by (suc count) fall tracks = order_on fall tracks (λ rest. order_by count
 abbrev pub count_in : List (List Note) → ℕ
 count_in tracks = length (flat_map (λ track. track) tracks)
 
--- all notes in their order
+-- all notes in their order [Record 16]
 abbrev pub order_of : List (List Note) → List Listed
 order_of tracks = order_by (count_in tracks) (least_fall tracks) tracks
 
--- the place that names a flaw of a note
+-- the place that names a flaw of a note [Record 16]
 abbrev pub place_of : Note → ℕ
 place_of (Opens node state) = 0
 place_of (Steps node entry is_closed kept) = entry.place
@@ -67,7 +67,7 @@ is_astray p = is_unknown p.standing
 abbrev pub ending : Board → Verdict
 ending b = if list_any is_astray b.posts then No 0 OtherState else Yes
 
--- The flaw of a note is the verdict; if it has none, the rest decides in the state after it.
+-- The flaw of a note is the verdict; if it has none, the rest decides in the state after it. [Record 14]
 abbrev pub HasVerdictBy : Tables → Board → Note → Option ℕ → (Board → Type 0) → Verdict → Type 0
 HasVerdictBy roster b note (Some place) Later v = v ≡ No place DoublePlace
 HasVerdictBy roster b note None Later v =
@@ -79,6 +79,6 @@ abbrev pub HasVerdict : Tables → Board → List Listed → Verdict → Type 0
 HasVerdict roster b [] v = v ≡ ending b
 HasVerdict roster b (l ∷ ls) v = HasVerdictBy roster b l.note l.double (λ next. HasVerdict roster next ls v) v
 
--- the verdict on records and entries
+-- the verdict on records and entries [Record 2]
 abbrev pub IsVerdictOn : Tables → List Record → List MasterEntry → Verdict → Type 0
 IsVerdictOn roster records entries v = HasVerdict roster new_board (order_of (tracks_of records entries)) v

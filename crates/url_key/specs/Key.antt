@@ -35,7 +35,7 @@ key_of_authority authority path query =
 abbrev pub is_http : Option (List ℕ) → Bool
 is_http scheme = bytes_eq (unwrap_or scheme []) (codes "http")
 
--- the key of a URI that http_uri has cut into its parts
+-- the key of a URI that http_uri has cut into its parts [Key 6]
 abbrev pub key_of_uri : Uri → Result (List ℕ) KeyFault
 key_of_uri u =
     if is_http (uri_scheme u) then key_of_authority (unwrap_or (uri_authority u) []) (uri_path u) (uri_query u)
@@ -48,7 +48,7 @@ HasUriKey text outcome =
     (SpellsNone text × (outcome ≡ Err NotUri)) ⊎ ((u : Uri) × Spells text u × (outcome ≡ key_of_uri u))
 
 -- the fault that is found before the text is cut: too long, an octet that is not visible, or a
--- fragment
+-- fragment [Key 6]
 abbrev pub early_fault : List ℕ → Option KeyFault
 early_fault text =
     if nat_lt longest_key (length text) then Some TooLong
@@ -60,18 +60,18 @@ abbrev pub HasKeyBy : Option KeyFault → List ℕ → Result (List ℕ) KeyFaul
 HasKeyBy (Some fault) text outcome = outcome ≡ Err fault
 HasKeyBy None text outcome = HasUriKey text outcome
 
--- the text has this key, or has this fault first
+-- the text has this key, or has this fault first [Key 1]
 abbrev pub HasKey : List ℕ → Result (List ℕ) KeyFault → Type 0
 HasKey text outcome = HasKeyBy (early_fault text) text outcome
 
 -- a key's text: it is at least as long as `http://`, at most 1,024 octets long, and what is read of
--- it is itself
+-- it is itself [Key 4]
 pub record IsKey (key : List ℕ) : Type 0 where
   pub prefix : length http_prefix ≤ length key
   pub short : length key ≤ longest_key
   pub own : (outcome : Result (List ℕ) KeyFault) → HasKey key outcome → outcome ≡ Ok key
 
--- the key has the URI's host in lower case, its port, and its path and query
+-- the key has the URI's host in lower case, its port, and its path and query [Key 3]
 pub record KeepsPartsOf (u : Uri) (key : List ℕ) : Type 0 where
   pub host : key_host key ≡ lowercase (host_of (unwrap_or (uri_authority u) []))
   pub port : Some (key_port key) ≡ port_of (after_host (unwrap_or (uri_authority u) []))

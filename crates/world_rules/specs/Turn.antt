@@ -110,7 +110,7 @@ abbrev pub acknowledged_by : Tables → World → ℕ → ℕ → Option ℕ →
 acknowledged_by roster w number code None = Ends Nothing w
 acknowledged_by roster w number code (Some id) = told roster (with_master w (acknowledged (members_of roster) w.master id number code).purges) number
 
--- the sender of a response to a CLR is known by its HTCP address
+-- the sender of a response to a CLR is known by its HTCP address [Master 5]
 abbrev pub master_hears_htcp : Tables → World → Address → ℕ → Content → Turn
 master_hears_htcp roster w sender trans (content.ClrAnswer code) = acknowledged_by roster w trans code (member_at roster sender udp.Htcp)
 master_hears_htcp roster w sender trans _ = Ends Nothing w
