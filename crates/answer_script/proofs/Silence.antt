@@ -17,9 +17,9 @@ use Rattle.htcp_wire.specs.Grammar as htcp_grammar
 use Rattle.htcp_wire.specs.Faults as htcp_faults
 use Rattle.htcp_wire.specs.Laws as htcp_laws
 use Rattle.htcp_wire.proofs.Decided as htcp
-use Rattle.roster_tables.specs.declared.plain.Address.{Address}
-use Rattle.roster_tables.specs.declared.plain.Udp.{Udp}
-use Rattle.roster_tables.specs.declared.plain.Udp.TheVariants as udp
+use Rattle.values_tables.specs.declared.plain.Address.{Address}
+use Rattle.values_tables.specs.declared.plain.Udp.{Udp}
+use Rattle.values_tables.specs.declared.plain.Udp.TheVariants as udp
 use Rattle.node_rules.specs.declared.message.Message.{Message}
 use Rattle.node_rules.specs.declared.message.Outgoing.{Outgoing}
 use Rattle.node_rules.specs.declared.event.Event.{Event}

@@ -15,10 +15,10 @@ use Rattle.htcp_wire.specs.declared.fault.HtcpFault.TheVariants as htcp_fault
 use Rattle.htcp_wire.specs.Names.{htcp_fault_name}
 use Rattle.htcp_wire.specs.Faults as htcp_faults
 use Rattle.floor_rules.specs.Floors.{FloorMap}
-use Rattle.roster_tables.specs.Reading.{tables_in}
-use Rattle.roster_tables.specs.declared.plain.Address.{Address}
-use Rattle.roster_tables.specs.declared.plain.Udp.{Udp}
-use Rattle.roster_tables.specs.declared.plain.Udp.TheVariants as udp
+use Rattle.values_tables.specs.Reading.{tables_in}
+use Rattle.values_tables.specs.declared.plain.Address.{Address}
+use Rattle.values_tables.specs.declared.plain.Udp.{Udp}
+use Rattle.values_tables.specs.declared.plain.Udp.TheVariants as udp
 use Rattle.node_rules.specs.declared.message.Message.{Message}
 use Rattle.node_rules.specs.declared.message.Outgoing.{Outgoing}
 use Rattle.node_rules.specs.declared.state.NodeState.{NodeState}
@@ -33,14 +33,14 @@ use Rattle.node_rules.specs.Relation.{Steps}
 use Rattle.node_core.specs.declared.placing.Placed.{Placed}
 use Rattle.node_core.specs.declared.placing.Placed.TheVariants as placed
 use Rattle.node_core.specs.Placed.{placed_as, with_placed}
-use Rattle.key_texts.specs.KeyOf.{GivesKeys}
+use Rattle.values_keys.specs.KeyOf.{GivesKeys}
 use Rattle.node_core.specs.View.{NodeText, IsSameMember, setting_of}
 use Rattle.node_bytes.specs.Bytes.{text_of, SpellsBy}
 use Rattle.node_bytes.specs.declared.turns.Packet.{Packet}
 use Rattle.answer_script.specs.declared.first.TheConstants.{ROSTER}
 use Rattle.answer_script.specs.declared.answer.Line.{Line}
 use Rattle.answer_script.specs.declared.answer.Line.TheVariants as lines
-use Rattle.script_lines.specs.Words.{split_word, is_word, decimal_below}
+use Rattle.values_lines.specs.Words.{split_word, is_word, decimal_below}
 
 -- the node that answers: its copies have no tags, and its floors are in memory
 abbrev pub Answering : Type 0

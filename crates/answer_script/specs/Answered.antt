@@ -1,8 +1,8 @@
 -- A run of `cache answer` over an input.
 use Rattle.std.specs.Prelude.{◌≡◌, ℕ, ◌⊎◌, List, Option, Result, Err}
-use Rattle.script_lines.specs.declared.fault.RunFault.{RunFault}
-use Rattle.script_lines.specs.declared.fault.RunFault.TheVariants.{NoMemory, NoFirstNode}
-use Rattle.script_lines.specs.Script.{HasPlayed}
+use Rattle.values_lines.specs.declared.fault.RunFault.{RunFault}
+use Rattle.values_lines.specs.declared.fault.RunFault.TheVariants.{NoMemory, NoFirstNode}
+use Rattle.values_lines.specs.Script.{HasPlayed}
 use Rattle.answer_script.specs.declared.answer.Answerer.{Answerer}
 use Rattle.answer_script.specs.Answer.{IsFirst, LineAnswers}
 

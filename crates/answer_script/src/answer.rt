@@ -1,7 +1,7 @@
 //! The lines of `cache answer`, and their answers.
 ghost use Rattle.std.specs.Prelude.{◌≡◌, ℕ, List, ◌++◌, flat_map, OnOk, Ok};
 ghost use Rattle.hex.specs.Hex.{decode_of};
-ghost use Rattle.script_lines.specs.Words.{split_word as split_words};
+ghost use Rattle.values_lines.specs.Words.{split_word as split_words};
 ghost use Rattle.answer_script.specs.Answer.{StoreLine, command_of, command_text, datagram_of as datagram_words, store_of, placed_text, packet_hex, IsIcpFault, IsHtcpFault, IsSilence, DatagramAnswers, CommandAnswers};
 ghost use Rattle.answer_script.specs.Answered.{AnswererAnswers, HasAnswered};
 
@@ -13,10 +13,10 @@ use node_bytes::{Packet, on_datagram, read_htcp, read_icp};
 use node_core::{PlaceFault, Placed};
 use node_rules::StepFault;
 use roster::{Address, Udp};
-use script_lines::{RunFault, Script, decimal_u32, is_word, play, split_word};
 use std::alloc::{AllocError, Global};
 use std::io::{Read, Write};
 use url_key::{Key, KeyFault};
+use values_lines::{RunFault, Script, decimal_u32, is_word, play, split_word};
 
 /// The address that node 2 sends ICP from.
 const SIBLING_BY_ICP: Address = Address {

@@ -5,8 +5,8 @@ ghost use Rattle.answer_script.specs.Answer.{IsFirst};
 use floor_rules::{FloorFault, MemoryFloors};
 use node_core::{Node, OpenFault};
 use roster::{Roster, RosterFault};
-use script_lines::RunFault;
 use std::alloc::Global;
+use values_lines::RunFault;
 
 /// The roster of the program: two members that are siblings, and the origin of `http://o/`.
 pub const ROSTER: &str = "default_lifetime = 60

@@ -1,16 +1,16 @@
 //! The tasks of the command line, over the process's streams and files.
 use crate::failure::Failure;
 use answer_script::run_answer;
-use command_line::Scripted;
+use cli_words::Scripted;
+use cli_world::run_world;
+use cluster_process::{Stores, open_stores};
 use roster::Roster;
-use running_cluster::{Stores, open_stores};
-use script_lines::RunFault;
 use std::alloc::Global;
 use std::io::{BufRead, ErrorKind, Write};
 use std::rt::{Env, Files};
 use std::{env, fs, io};
+use values_lines::RunFault;
 use wire_script::run_wire;
-use world_script::run_world;
 
 /// The words of the command line; the first is the program's name.
 pub(crate) fn words_of<R: Env + AllocGlobal>(rt: &R) -> io::Result<Vec<String>> {

@@ -1,10 +1,10 @@
 //! Why a task ended early, and what is said of it.
-use origin_server::OriginFault;
+use cluster_origin::OriginFault;
+use cluster_process::ClusterFault;
 use roster::RosterError;
-use running_cluster::ClusterFault;
-use script_lines::RunFault;
 use std::io;
 use std::process::ExitCode;
+use values_lines::RunFault;
 
 /// Why a task ended early.
 #[derive(Drop)]

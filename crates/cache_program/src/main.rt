@@ -1,10 +1,10 @@
 //! The command `cache`: it does what its command line asks for, over the process's streams and
 //! files.
 //!
-//! `command_line` makes a task of the words. `src/commands.rt` runs a script (`answer_script`,
-//! `wire_script`, `world_script`) between standard input and output, or opens the roster and the
-//! stores of a cluster; `main` runs the cluster (`running_cluster`) or the origin for trials
-//! (`origin_server`). `src/failure.rt` says on standard error why a task ended early, and gives the
+//! `cli_words` makes a task of the words. `src/commands.rt` runs a script (`answer_script`,
+//! `wire_script`, `cli_world`) between standard input and output, or opens the roster and the
+//! stores of a cluster; `main` runs the cluster (`cluster_process`) or the origin for trials
+//! (`cluster_origin`). `src/failure.rt` says on standard error why a task ended early, and gives the
 //! status.
 //!
 //! The program reads standard input, writes standard output and standard error, and reads the
@@ -18,21 +18,21 @@ mod commands;
 mod failure;
 
 use clap::Error;
-use command_line::Task;
+use cli_words::Task;
+use cluster_origin::run_origin;
+use cluster_process::run_cluster;
 use commands::Grounds;
 use failure::Failure;
-use origin_server::run_origin;
-use running_cluster::run_cluster;
-use script_lines::RunFault;
 use std::io;
 use std::process::ExitCode;
+use values_lines::RunFault;
 
 /// Does what the command line asks for.
 fn main(rt: HostRuntime) -> ExitCode {
     let Ok(words) = commands::words_of(&rt) else {
         return failure::status_of(&rt, Err(Failure::Run(RunFault::NoMemory)));
     };
-    let task = match command_line::task_of(rt.alloc(), words.as_slice()) {
+    let task = match cli_words::task_of(rt.alloc(), words.as_slice()) {
         Ok(task) => task,
         Err(error) => return refused(&rt, &error),
     };
@@ -73,5 +73,5 @@ fn main(rt: HostRuntime) -> ExitCode {
 /// Prints what the command line is answered: its fault, or help.
 fn refused<R: Print + Eprint>(rt: &R, error: &Error) -> ExitCode {
     let _ = error.print(rt);
-    ExitCode::from(command_line::status_of(error))
+    ExitCode::from(cli_words::status_of(error))
 }

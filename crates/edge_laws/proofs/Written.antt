@@ -3,7 +3,7 @@ use Rattle.std.proofs.Common.{◌≡◌, ℕ, List, Some, refl}
 use Rattle.node_rules.specs.declared.reply.Served.{Served}
 use Rattle.node_rules.specs.declared.reply.Served.TheVariants.{Copy, Status}
 use Rattle.node_rules.specs.Tags.{retag_served}
-use Rattle.peer_writing.specs.Answer.{answer_text}
+use Rattle.http_writing.specs.Answer.{answer_text}
 use Rattle.node_http.specs.Serving.{serve_text}
 use Rattle.world_rules.specs.World.{answer_of}
 

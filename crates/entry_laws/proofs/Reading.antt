@@ -2,7 +2,7 @@
 -- which the safety of world_rules speaks. The copy's mark is not 0, so it is an origin's.
 use Rattle.std.proofs.Common.{◌≡◌, ℕ, ◌+◌, ◌<◌, List, ◌∙◌, ap, subst, inl, inr, arith}
 use Rattle.object_store.specs.declared.copy.WebCopy.{WebCopy}
-use Rattle.roster_tables.specs.declared.plain.Tables.{Tables}
+use Rattle.values_tables.specs.declared.plain.Tables.{Tables}
 use Rattle.roster.specs.Judged.{IsRoster}
 use Rattle.node_book.specs.declared.record.Record.{Record}
 use Rattle.purge_master.specs.declared.book.MasterEntry.{MasterEntry}

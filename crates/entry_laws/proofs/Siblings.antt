@@ -1,7 +1,7 @@
 -- A sibling's request makes a member begin nothing, and send to nobody else: the entry stands for a
 -- step, of which the laws of world_rules and node_rules say this, and marks change none of it.
 use Rattle.std.proofs.Common.{◌≡◌, ℕ, ◌+◌, true, List, [], ◌∷◌, None, Result, Ok, Err, refl, sym, ◌∙◌, ap, subst, inl, inr}
-use Rattle.roster_tables.specs.declared.plain.Tables.{Tables}
+use Rattle.values_tables.specs.declared.plain.Tables.{Tables}
 use Rattle.node_book.specs.declared.record.Record.{Record}
 use Rattle.purge_master.specs.declared.book.MasterEntry.{MasterEntry}
 use Rattle.node_rules.specs.declared.event.Event.{Event}

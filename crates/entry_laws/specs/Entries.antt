@@ -9,7 +9,7 @@ use Rattle.node_rules.specs.Tags.{retag_copy}
 use Rattle.purge_rules.specs.declared.calls.Status.TheVariants.{Done}
 use Rattle.purge_rules.specs.declared.calls.MasterCall.TheVariants as call
 use Rattle.purge_rules.specs.declared.calls.MasterAnswer.TheVariants as answer
-use Rattle.roster_tables.specs.declared.plain.Tables.{Tables}
+use Rattle.values_tables.specs.declared.plain.Tables.{Tables}
 use Rattle.node_rules.specs.State.{setting}
 use Rattle.world_rules.specs.Run.{Step, IsItem, IsIssuedAt, IsReportedAt, IsServedAt}
 use Rattle.world_rules.specs.Provenance.{IsFromOrigin}

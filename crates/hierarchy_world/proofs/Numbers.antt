@@ -6,8 +6,8 @@ use Rattle.std.proofs.lemmas.Grind.{flat_map-append}
 use Rattle.std.proofs.lemmas.List.{append-nil}
 use Rattle.std.proofs.Math.Seq.{take-suc}
 use Rattle.node_rules.proofs.Cases.{true_not_false}
-use Rattle.roster_tables.specs.declared.plain.Member.{Member}
-use Rattle.roster_tables.specs.declared.plain.Tables.{Tables}
+use Rattle.values_tables.specs.declared.plain.Member.{Member}
+use Rattle.values_tables.specs.declared.plain.Tables.{Tables}
 use Rattle.roster.specs.Lookups.{member_of, is_member}
 use Rattle.htcp_wire.specs.declared.message.Htcp.{Htcp}
 use Rattle.purge_rules.specs.Members.{possible_ids, members_of}

@@ -14,8 +14,8 @@ use Rattle.node_rules.proofs.Stepping.{the_function_closes_no_node}
 use Rattle.floor_rules.specs.Store.{HaveRisen}
 use Rattle.node_core.specs.Closing.{KeepsStore, FailsWithCause}
 use Rattle.node_core.specs.View.{IsSameMember, IsTied, setting_of}
-use Rattle.key_texts.specs.KeyOf.{GivesKeys, key_of}
-use Rattle.key_texts.proofs.Outcomes.{gives_keys}
+use Rattle.values_keys.specs.KeyOf.{GivesKeys, key_of}
+use Rattle.values_keys.proofs.Outcomes.{gives_keys}
 use Rattle.hierarchy_world.specs.declared.seats.Stepped.{Stepped as SteppedHere}
 use Rattle.hierarchy_world.specs.Parts.{MemberNode, IsStored, IsStep}
 

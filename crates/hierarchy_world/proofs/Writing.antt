@@ -2,8 +2,8 @@
 -- in their ranges do not change that. A bare status has no fields and no body.
 use Rattle.std.proofs.Common.{◌≡◌, ℕ, ◌≤◌, Bool, true, false, ◌&&◌, ◌||◌, nat_le, nat_eq, cond, List, Some, None, unwrap_or, refl, sym, ap, ◌∙◌, subst, rules}
 use Rattle.std.specs.List.{list_all}
-use Rattle.fetch_messages.specs.Field.{FieldText, is_kept_field, are_few_fields}
-use Rattle.fetch_messages.specs.Answer.{AnswerText, is_writable, is_body_of}
+use Rattle.http_messages.specs.Field.{FieldText, is_kept_field, are_few_fields}
+use Rattle.http_messages.specs.Answer.{AnswerText, is_writable, is_body_of}
 use Rattle.node_rules.specs.Arrivals.{is_gateway_fault}
 use Rattle.node_rules.proofs.Cases.{true_not_false, same_Some}
 use Rattle.world_rules.specs.World.{answer_of_status}

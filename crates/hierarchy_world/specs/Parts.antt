@@ -3,7 +3,7 @@
 use Rattle.std.specs.Prelude.{◌≡◌, ◌≢◌, ℕ, suc, Bool, ◌==◌, false, List, [], ◌∷◌, ◌++◌, map, option_map, Option, Some, None, Result, Ok, Err, if◌then◌else◌}
 use Rattle.std.specs.List.{AllByRecursion}
 use Rattle.floor_rules.specs.Floors.{FloorMap}
-use Rattle.roster_tables.specs.declared.plain.Tables.{Tables}
+use Rattle.values_tables.specs.declared.plain.Tables.{Tables}
 use Rattle.purge_rules.specs.Members.{members_of}
 use Rattle.purge_rules.specs.Purges.{PurgeList}
 use Rattle.purge_master.specs.View.{MasterView}

@@ -1,7 +1,7 @@
 -- A run: events that were applied one after the other, their outcomes, and the safety of purges in
 -- it. HasRun and HasStopped are the contract of World::run.
 use Rattle.std.specs.Prelude.{◌≡◌, ℕ, ◌+◌, ◌-◌, ◌^◌, ◌≤◌, false, All, List, [], ◌∷◌, ◌++◌, length, map}
-use Rattle.roster_tables.specs.declared.plain.Tables.{Tables}
+use Rattle.values_tables.specs.declared.plain.Tables.{Tables}
 use Rattle.world_rules.specs.declared.event.WorldEvent.{WorldEvent}
 use Rattle.world_rules.specs.declared.outcome.Outcome.{Outcome}
 use Rattle.world_rules.specs.declared.outcome.WorldFault.{WorldFault}

@@ -12,7 +12,7 @@ use crate::network::Asked;
 use crate::parts::{Parts, item};
 use crate::posting::copy_of_message;
 use crate::telling::Seen;
-use fetch_messages::{Answer, Ask};
+use http_messages::{Answer, Ask};
 use node_rules::{Event, Fetch, Received};
 use roster::{Address, is_foreign};
 use world_rules::WorldFault;

@@ -1,7 +1,7 @@
 //! The items of the network, and the requests that wait.
 ghost use Rattle.std.specs.Prelude.{◌≡◌};
 
-use fetch_messages::{Answer, Ask};
+use http_messages::{Answer, Ask};
 use node_rules::Sent;
 use roster::Address;
 use std::marker::Model;

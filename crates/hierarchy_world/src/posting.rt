@@ -1,7 +1,7 @@
 //! A step of a node, with all that its reply sends.
 ghost use Rattle.std.specs.Prelude.{◌≡◌, ◌≤◌, ◌<◌, length, ◌==◌, ◌&&◌, true, [], map, find, Option, Some, None, IfOk, OnOk};
 ghost use Rattle.std.specs.List.{cons_option};
-ghost use Rattle.fetch_messages.specs.Field.{field_text};
+ghost use Rattle.http_messages.specs.Field.{field_text};
 ghost use Rattle.roster.specs.Lookups.{member_of as member_by_id};
 ghost use Rattle.node_rules.specs.Arrivals.{is_gateway_fault};
 ghost use Rattle.world_rules.specs.World as world;
@@ -13,7 +13,7 @@ use crate::network::{Asked, Datagram, PeerAnswer, PeerAsk, Waiting};
 use crate::parts::Parts;
 use crate::seats::Stepped;
 use crate::telling::Seen;
-use fetch_messages::{Answer, Body, Field, Fields};
+use http_messages::{Answer, Body, Field, Fields};
 use node_rules::{Begin, Event, Message, Outgoing, Reply, Sent, Serve, Served, StepFault};
 use object_store::WebCopy;
 use roster::{Cache, address_by, is_foreign};

@@ -1,10 +1,10 @@
 -- A book with one entry more. The node's step is one of the rules for every function that gives the
--- keys of texts, so for the one that key_texts computes; appended to a replay, it gives a longer
+-- keys of texts, so for the one that values_keys computes; appended to a replay, it gives a longer
 -- replay.
 use Rattle.std.proofs.Common.{◌≡◌, ℕ, ◌<◌, ◌≤◌, Option, List, [], ◌∷◌, ◌++◌, length, refl, sym, subst, length-append, arith, Result, ap, ◌∙◌}
-use Rattle.key_texts.specs.KeyOf.{key_of, GivesKeys}
-use Rattle.key_texts.proofs.Outcomes.{gives_keys}
-use Rattle.roster_tables.specs.declared.plain.Tables.{Tables}
+use Rattle.values_keys.specs.KeyOf.{key_of, GivesKeys}
+use Rattle.values_keys.proofs.Outcomes.{gives_keys}
+use Rattle.values_tables.specs.declared.plain.Tables.{Tables}
 use Rattle.node_rules.specs.declared.event.Event.{Event}
 use Rattle.node_rules.specs.declared.reply.Reply.{Reply}
 use Rattle.node_rules.specs.declared.state.NodeState.{NodeState}

@@ -1,6 +1,6 @@
 -- How a node takes a step.
 use Rattle.std.specs.Prelude.{ℕ, List, Option, Result}
-use Rattle.key_texts.specs.KeyOf.{GivesKeys}
+use Rattle.values_keys.specs.KeyOf.{GivesKeys}
 use Rattle.floor_rules.specs.Floors.{FloorMap}
 use Rattle.node_rules.specs.declared.event.Event.{Event}
 use Rattle.node_rules.specs.declared.reply.Reply.{Reply}

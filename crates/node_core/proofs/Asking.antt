@@ -4,13 +4,13 @@
 use Rattle.std.proofs.Common.{◌≡◌, ℕ, suc, ◌+◌, ◌*◌, ◌<◌, ◌==◌, true, false, cond, not, List, [], ◌∷◌, ◌++◌, map, filter, All, length, Option, Some, None, refl, sym, ap, ◌∙◌, arith}
 use Rattle.std.proofs.lemmas.Bool.{false≢true}
 use Rattle.std.proofs.lemmas.Bool.Decides.{nat_tests}
-use Rattle.fetch_messages.specs.declared.ask.Ask.{Ask}
+use Rattle.http_messages.specs.declared.ask.Ask.{Ask}
 use Rattle.object_store.specs.declared.copy.WebCopy.{WebCopy}
 use Rattle.object_store.specs.Listed.{to_front}
 use Rattle.floor_rules.specs.Floors.{floor, seen}
 use Rattle.std.specs.List.{filter_map}
-use Rattle.roster_tables.specs.declared.plain.Tables.{Tables}
-use Rattle.roster_tables.specs.declared.plain.Peer.{Peer}
+use Rattle.values_tables.specs.declared.plain.Tables.{Tables}
+use Rattle.values_tables.specs.declared.plain.Peer.{Peer}
 use Rattle.roster.specs.Lookups.{peers_of}
 use Rattle.peer_chooser.specs.Round.{RoundText, started}
 use Rattle.node_rules.specs.declared.message.Outgoing.{Outgoing}

@@ -5,7 +5,7 @@ use Rattle.std.proofs.Common.{◌≡◌, ℕ, ◌<◌, ◌≤◌, true, false, B
 use Rattle.std.proofs.lemmas.Bool.Decides.{nat_tests}
 use Rattle.std.proofs.lemmas.Option.{slice_get_within, get_or_from_slice_get}
 use Rattle.object_store.specs.Held.{Held}
-use Rattle.roster_tables.specs.declared.plain.Tables.{Tables}
+use Rattle.values_tables.specs.declared.plain.Tables.{Tables}
 use Rattle.node_rules.specs.declared.state.Pending.{Pending}
 use Rattle.node_rules.specs.declared.state.NodeState.{NodeState}
 use Rattle.node_rules.specs.declared.reply.Reply.{Reply}

@@ -6,9 +6,9 @@ use Rattle.icp_wire.specs.declared.message.IcpOp.{IcpOp}
 use Rattle.icp_wire.specs.declared.message.IcpOp.TheVariants as op
 use Rattle.htcp_wire.specs.declared.message.Specifier.{Specifier}
 use Rattle.object_store.specs.declared.copy.WebCopy.{WebCopy}
-use Rattle.roster_tables.specs.declared.plain.Address.{Address}
-use Rattle.roster_tables.specs.declared.plain.Udp.TheVariants as udp
-use Rattle.roster_tables.specs.declared.plain.Tables.{Tables}
+use Rattle.values_tables.specs.declared.plain.Address.{Address}
+use Rattle.values_tables.specs.declared.plain.Udp.TheVariants as udp
+use Rattle.values_tables.specs.declared.plain.Tables.{Tables}
 use Rattle.node_rules.specs.declared.message.Message.{Message}
 use Rattle.node_messages.specs.Answers.{tst_content}
 use Rattle.node_rules.specs.declared.message.Outgoing.{Outgoing}
@@ -18,7 +18,7 @@ use Rattle.node_rules.specs.Known.{is_known}
 use Rattle.node_rules.specs.Messages.{icp, htcp, overall, to}
 use Rattle.node_rules.specs.State.{Setting, Stepped, replies, quiet, sending, good_copy}
 use Rattle.node_rules.specs.Datagrams.{sends_back, if_desired, hit_or_miss, icp_answer, icp_query, tst_answer, copy_meant, htcp_tst}
-use Rattle.key_texts.specs.KeyOf.{GivesKeys}
+use Rattle.values_keys.specs.KeyOf.{GivesKeys}
 use Rattle.node_core.specs.View.{HasKeyOf}
 
 key_given : (key_of : List ℕ → Option (List ℕ)) (text read : List ℕ) (key : Option (List ℕ)) → GivesKeys key_of → HasKeyOf read key → read ≡ text → key ≡ key_of text

@@ -4,13 +4,13 @@ use Rattle.std.proofs.Common.{◌≡◌, ℕ, Bool, List, Option, Some, None, Re
 use Rattle.htcp_wire.specs.declared.message.Specifier.{Specifier}
 use Rattle.htcp_wire.specs.declared.numbers.HeaderKind.TheVariants.{PurgeNumber}
 use Rattle.htcp_wire.specs.Numbers.{number_in_text}
-use Rattle.roster_tables.specs.declared.plain.Address.{Address}
+use Rattle.values_tables.specs.declared.plain.Address.{Address}
 use Rattle.node_rules.specs.declared.state.NodeState.{NodeState}
 use Rattle.node_rules.specs.declared.reply.Reply.{Reply}
 use Rattle.node_rules.specs.declared.reply.StepFault.{StepFault}
 use Rattle.node_rules.specs.State.{Setting}
 use Rattle.node_rules.specs.Datagrams.{htcp_clr, clr_by_line, plain_clr, numbered_clr, purge_of}
-use Rattle.key_texts.specs.KeyOf.{GivesKeys}
+use Rattle.values_keys.specs.KeyOf.{GivesKeys}
 use Rattle.node_core.specs.View.{HasKeyOf}
 use Rattle.node_rules.specs.Relation.{purge_meant}
 use Rattle.node_core.specs.Leads.{Leads, MayClose}

@@ -18,8 +18,8 @@ use Rattle.node_rules.specs.declared.reply.StepFault.TheVariants as fault
 use Rattle.node_rules.specs.State.{Setting, Stepped}
 use Rattle.node_rules.specs.Step.{step, step_if, open_step}
 use Rattle.node_rules.specs.Relation.{Steps, IsClosed, purge_in}
-use Rattle.key_texts.specs.KeyOf.{key_of, GivesKeys}
-use Rattle.key_texts.proofs.Outcomes.{gives_keys}
+use Rattle.values_keys.specs.KeyOf.{key_of, GivesKeys}
+use Rattle.values_keys.proofs.Outcomes.{gives_keys}
 use Rattle.node_core.specs.Closing.{step_fault_of, KeepsStore, FailsWithCause}
 use Rattle.node_core.specs.View.{NodeText}
 use Rattle.node_core.specs.Leads.{Leads, MayClose}

@@ -1,7 +1,7 @@
 -- What an answer to a round says, where a member's word and a foreign cache's may differ.
 use Rattle.std.specs.Prelude.{Bool, true, false, if◌then◌else◌}
-use Rattle.roster_tables.specs.Ranges.{is_foreign_id}
-use Rattle.roster_tables.specs.declared.plain.Peer.{Peer}
+use Rattle.values_tables.specs.Ranges.{is_foreign_id}
+use Rattle.values_tables.specs.declared.plain.Peer.{Peer}
 use Rattle.peer_chooser.specs.declared.said.Said.{Said}
 use Rattle.node_core.specs.declared.questions.Heard.{Heard}
 

@@ -1,12 +1,12 @@
 -- Placing a copy by hand.
 use Rattle.std.specs.Prelude.{ℕ, nat_lt, List, [], Option, None, unwrap_or, if◌then◌else◌}
-use Rattle.fetch_messages.specs.Answer.{AnswerText}
+use Rattle.http_messages.specs.Answer.{AnswerText}
 use Rattle.object_store.specs.declared.copy.WebCopy.{WebCopy}
 use Rattle.object_store.specs.declared.store.Put.{Put}
 use Rattle.object_store.specs.declared.store.Put.TheVariants as put
 use Rattle.object_store.specs.Held.{put_answer, after_put}
 use Rattle.floor_rules.specs.Floors.{floor, seen}
-use Rattle.roster_tables.specs.declared.plain.Limits.{Limits}
+use Rattle.values_tables.specs.declared.plain.Limits.{Limits}
 use Rattle.node_rules.specs.declared.state.NodeState.{NodeState}
 use Rattle.node_rules.specs.State.{with_copies}
 use Rattle.node_rules.specs.Arrivals.{store_of}

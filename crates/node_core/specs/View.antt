@@ -2,11 +2,11 @@
 use Rattle.std.specs.Prelude.{◌≡◌, ℕ, ◌<◌, ◌≤◌, All, IsTrue, Bool, true, false, List, [], Option, Some, None, Result, Ok, Err}
 use Rattle.url_key.specs.declared.fault.KeyFault.{KeyFault}
 use Rattle.url_key.specs.Key.{HasKey}
-use Rattle.key_texts.specs.KeyOf.{key_in}
+use Rattle.values_keys.specs.KeyOf.{key_in}
 use Rattle.object_store.specs.Held.{Held}
 use Rattle.floor_rules.specs.Floors.{FloorMap}
-use Rattle.roster_tables.specs.declared.plain.Limits.{Limits}
-use Rattle.roster_tables.specs.declared.plain.Tables.{Tables}
+use Rattle.values_tables.specs.declared.plain.Limits.{Limits}
+use Rattle.values_tables.specs.declared.plain.Tables.{Tables}
 use Rattle.roster.specs.Lookups.{is_member}
 use Rattle.node_rules.specs.declared.state.Pending.{Pending}
 use Rattle.node_rules.specs.declared.state.NodeState.{NodeState}

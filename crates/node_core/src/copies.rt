@@ -6,8 +6,8 @@ ghost use Rattle.node_rules.specs.Arrivals.{stored};
 ghost use Rattle.node_core.specs.View.{IsSameNode};
 
 use crate::Node;
-use fetch_messages::{Answer, Ask};
 use floor_rules::FloorStore;
+use http_messages::{Answer, Ask};
 use node_rules::StepFault;
 use object_store::WebCopy;
 use reuse_rules::is_fresh;

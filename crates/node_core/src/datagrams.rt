@@ -5,7 +5,7 @@ ghost use Rattle.node_rules.specs.Texts.{HasOpcode, IsSendable};
 ghost use Rattle.node_rules.specs.Messages as messages;
 ghost use Rattle.node_rules.specs.Datagrams as datagrams;
 ghost use Rattle.node_rules.specs.Relation.{purge_in_content, purge_in_message};
-ghost use Rattle.key_texts.specs.KeyOf.{GivesKeys};
+ghost use Rattle.values_keys.specs.KeyOf.{GivesKeys};
 ghost use Rattle.node_core.specs.View.{IsSameNode, IsSameMember, setting_of};
 ghost use Rattle.floor_rules.specs.Store.{HaveRisen};
 ghost use Rattle.node_core.specs.Closing.{KeepsStore, FailsWithCause};

@@ -11,8 +11,8 @@ ghost use Rattle.node_core.specs.Leads.{Leads};
 
 use crate::Node;
 use crate::replies::{begins, quiet, serves};
-use fetch_messages::Ask;
 use floor_rules::FloorStore;
+use http_messages::Ask;
 use node_messages::has_origin;
 use node_rules::{Begin, Fetch, Reply, Served, StepFault};
 use node_waiting::Progress;

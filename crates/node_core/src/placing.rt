@@ -5,8 +5,8 @@ ghost use Rattle.node_core.specs.Placed as spec;
 ghost use Rattle.node_core.specs.View.{IsSameNode};
 
 use crate::Node;
-use fetch_messages::{Answer, Body, Fields};
 use floor_rules::FloorStore;
+use http_messages::{Answer, Body, Fields};
 use object_store::{Put, WebCopy};
 use std::alloc::{AllocError, Global};
 use thiserror::Error;

@@ -6,7 +6,7 @@ ghost use Rattle.node_rules.specs.Relation.{purge_meant};
 ghost use Rattle.object_store.specs.Listed.{copy_of};
 ghost use Rattle.object_store.specs.Held.{is_older_than};
 ghost use Rattle.node_rules.specs.declared.state.NodeState.{NodeState};
-ghost use Rattle.key_texts.specs.KeyOf.{GivesKeys};
+ghost use Rattle.values_keys.specs.KeyOf.{GivesKeys};
 ghost use Rattle.node_core.specs.View.{IsSameNode, IsSameMember, setting_of};
 ghost use Rattle.floor_rules.specs.Store.{HaveRisen};
 ghost use Rattle.node_core.specs.Closing.{step_fault_of as answer_to_fault, KeepsStore, FailsWithCause};

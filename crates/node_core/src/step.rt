@@ -1,7 +1,7 @@
 //! A step of a node, and a copy of its state.
 ghost use Rattle.std.specs.Prelude.{◌≡◌, ℕ, List, Option, IfOk, Err, false};
 ghost use Rattle.node_rules.specs.Relation.{Steps};
-ghost use Rattle.key_texts.specs.KeyOf.{GivesKeys};
+ghost use Rattle.values_keys.specs.KeyOf.{GivesKeys};
 ghost use Rattle.node_core.specs.View.{IsSameMember, setting_of};
 ghost use Rattle.floor_rules.specs.Store.{HaveRisen};
 ghost use Rattle.node_core.specs.Closing.{KeepsStore, FailsWithCause};

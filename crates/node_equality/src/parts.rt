@@ -1,8 +1,8 @@
 //! Compares the parts of events and replies.
 ghost use Rattle.std.specs.Prelude.{◌≡◌, ◌↔◌, IsTrue, map};
-ghost use Rattle.fetch_messages.specs.Field.{field_text};
+ghost use Rattle.http_messages.specs.Field.{field_text};
 
-use fetch_messages::{Answer, Ask, Field};
+use http_messages::{Answer, Ask, Field};
 use object_store::WebCopy;
 use url_key::Key;
 use wire_octets::Octets;

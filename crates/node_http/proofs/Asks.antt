@@ -2,7 +2,7 @@
 -- serves the sender or nobody, so whoever is served is the sender.
 use Rattle.std.proofs.Common.{◌≡◌, ℕ, inl, inr, List, Option, Some, None, Result, sym, ap, ◌∙◌, subst}
 use Rattle.std.proofs.lemmas.Option.{none-some, same_Some}
-use Rattle.fetch_messages.specs.declared.ask.Ask.{Ask}
+use Rattle.http_messages.specs.declared.ask.Ask.{Ask}
 use Rattle.node_rules.specs.declared.reply.Serve.{Serve}
 use Rattle.node_rules.specs.declared.reply.Reply.{Reply}
 use Rattle.node_bytes.specs.Stepping.{AnswersAsker, AnswersAsk}

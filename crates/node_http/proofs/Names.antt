@@ -4,10 +4,10 @@ use Rattle.std.proofs.Common.{◌≡◌, ℕ, ◌==◌, ◌&&◌, Bool, true, Li
 use Rattle.std.specs.List.{list_all}
 use Rattle.std.proofs.lemmas.Bool.{cases_Bool, and_parts}
 use Rattle.std.proofs.lemmas.Option.{none-some, same_Some}
-use Rattle.roster_tables.specs.declared.plain.Member.{Member}
-use Rattle.roster_tables.specs.declared.plain.Tables.{Tables}
-use Rattle.roster_tables.specs.Ranges.{are_tables, is_member, is_name}
-use Rattle.peer_writing.specs.Name.{is_name as names_cache}
+use Rattle.values_tables.specs.declared.plain.Member.{Member}
+use Rattle.values_tables.specs.declared.plain.Tables.{Tables}
+use Rattle.values_tables.specs.Ranges.{are_tables, is_member, is_name}
+use Rattle.http_writing.specs.Name.{is_name as names_cache}
 
 -- a member that is found passes the test that all pass
 found_passes : (ms : List Member) (id : ℕ) (m : Member) → list_all is_member ms ≡ true → find (λ m. m.cache.id == id) ms ≡ Some m → is_member m ≡ true

@@ -1,8 +1,8 @@
 -- The octets that are written in response to a request.
 use Rattle.std.specs.Prelude.{ℕ, List, [], Option, Some, None}
-use Rattle.fetch_messages.specs.Answer.{AnswerText}
-use Rattle.peer_writing.specs.Answer.{answer_text}
-use Rattle.peer_writing.specs.Served.{served_as, bare}
+use Rattle.http_messages.specs.Answer.{AnswerText}
+use Rattle.http_writing.specs.Answer.{answer_text}
+use Rattle.http_writing.specs.Served.{served_as, bare}
 use Rattle.node_rules.specs.declared.reply.Served.{Served}
 use Rattle.node_rules.specs.declared.reply.Served.TheVariants.{Copy, Status}
 use Rattle.node_rules.specs.declared.reply.Serve.{Serve}

@@ -1,14 +1,14 @@
 //! A request over HTTP, from reading to writing.
 ghost use Rattle.std.specs.Prelude.{◌≡◌, ℕ, Option, true, IsTrue};
 ghost use Rattle.roster.specs.Lookups.{is_member as is_member_of};
-ghost use Rattle.peer_writing.specs.Name.{is_name as names_cache};
+ghost use Rattle.http_writing.specs.Name.{is_name as names_cache};
 ghost use Rattle.node_bytes.specs.Stepping.{AnswersAsker};
 ghost use Rattle.node_http.specs.Asking.{AfterReply, HandsOn, StepsFor, ServesAsk, event_by as event_from, block_of as block_begun};
 
 use crate::refusing::{UNAVAILABLE, refusal_of, refuse};
 use crate::roster_names::{asker_of, name_of};
 use crate::{ServeFault, finish};
-use fetch_messages::Ask;
+use http_messages::Ask;
 use node_bytes::{Stepper, Turn};
 use node_rules::{Begin, Event, Reply, StepFault};
 use peer_reading::read_ask;

@@ -1,7 +1,7 @@
 ghost use Rattle.std.specs.Prelude.{◌≡◌};
 ghost use Rattle.node_http.specs.Statuses.{serve_fault_name};
 
-use fetch_messages::FetchFault;
+use http_messages::FetchFault;
 use node_rules::StepFault;
 use thiserror::Error;
 

@@ -1,12 +1,12 @@
 //! Refusals of requests.
 ghost use Rattle.std.specs.Prelude.{◌≡◌, IsTrue};
 ghost use Rattle.text_writer.specs.Writing.{AppendsFront};
-ghost use Rattle.peer_writing.specs.Name.{is_name as names_cache};
+ghost use Rattle.http_writing.specs.Name.{is_name as names_cache};
 ghost use Rattle.node_http.specs.Statuses.{refusal_of as status_refusing};
 ghost use Rattle.node_http.specs.Serving.{refusal_text};
 
-use fetch_messages::FetchFault;
-use peer_writing::write_status;
+use http_messages::FetchFault;
+use http_writing::write_status;
 use std::io::Write;
 
 /// The status if a step was refused (RFC 9110, section 15.6.4).

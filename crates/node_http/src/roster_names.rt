@@ -1,7 +1,7 @@
 //! Members of a roster, by their ids.
 ghost use Rattle.std.specs.Prelude.{◌≡◌, true, IsTrue};
 ghost use Rattle.roster.specs.Lookups.{is_member as is_member_of};
-ghost use Rattle.peer_writing.specs.Name.{is_name as names_cache};
+ghost use Rattle.http_writing.specs.Name.{is_name as names_cache};
 ghost use Rattle.node_http.specs.Asking.{name_of as name_in, asker_of as asker_in};
 
 use roster::Roster;

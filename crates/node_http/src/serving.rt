@@ -1,12 +1,12 @@
 //! Writes what is served.
 ghost use Rattle.std.specs.Prelude.{◌≡◌, IfErr, IsTrue};
 ghost use Rattle.text_writer.specs.Writing.{Writes};
-ghost use Rattle.peer_writing.specs.Name.{is_name as names_cache};
+ghost use Rattle.http_writing.specs.Name.{is_name as names_cache};
 ghost use Rattle.node_http.specs.Serving.{serve_text, stamp_for as stamp_told};
 
-use fetch_messages::FetchFault;
+use http_messages::FetchFault;
+use http_writing::{write_served, write_status};
 use node_rules::{Serve, Served};
-use peer_writing::{write_served, write_status};
 use std::io::Write;
 
 /// Writes what is served, by the cache whose name stands in `via`. A copy is written with its age,

@@ -1,7 +1,7 @@
 //! The queries of a round.
 ghost use Rattle.std.specs.Prelude.{◌≡◌, ◌++◌, IfOk, OnOk, option_to_list};
 ghost use Rattle.std.specs.List.{filter_map};
-ghost use Rattle.roster_tables.specs.declared.plain.Udp.TheVariants as udp;
+ghost use Rattle.values_tables.specs.declared.plain.Udp.TheVariants as udp;
 ghost use Rattle.node_rules.specs.Messages as messages;
 ghost use Rattle.node_rules.specs.Asks.{question_to};
 

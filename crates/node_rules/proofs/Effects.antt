@@ -4,11 +4,11 @@ use Rattle.std.proofs.Common.{◌≡◌, ℕ, ◌*◌, ◌≤◌, Bool, true, fa
 use Rattle.std.specs.List.{AllByRecursion, Contains, cons_option, filter_map}
 use Rattle.std.specs.Prelude.{bytes_eq}
 use Rattle.node_rules.specs.declared.message.Outgoing.{Outgoing}
-use Rattle.roster_tables.specs.declared.plain.Cache.{Cache}
+use Rattle.values_tables.specs.declared.plain.Cache.{Cache}
 use Rattle.node_rules.specs.declared.reply.Reply.{Reply}
 use Rattle.node_rules.specs.declared.reply.StepFault.{StepFault}
-use Rattle.roster_tables.specs.declared.plain.Address.{Address}
-use Rattle.roster_tables.specs.declared.plain.Udp.{Udp}
+use Rattle.values_tables.specs.declared.plain.Address.{Address}
+use Rattle.values_tables.specs.declared.plain.Udp.{Udp}
 use Rattle.icp_wire.specs.declared.message.IcpOp.{IcpOp}
 use Rattle.icp_wire.specs.declared.message.IcpOp.TheVariants as op
 use Rattle.icp_wire.specs.declared.message.Icp.{Icp}
@@ -18,9 +18,9 @@ use Rattle.node_rules.specs.declared.message.Message.{Message}
 use Rattle.node_rules.specs.declared.message.Message.TheVariants as message
 use Rattle.floor_rules.specs.Floors.{FloorMap}
 use Rattle.object_store.specs.declared.copy.WebCopy.{WebCopy}
-use Rattle.fetch_messages.specs.declared.ask.Ask.{Ask}
-use Rattle.fetch_messages.specs.Answer.{AnswerText}
-use Rattle.roster_tables.specs.declared.plain.Peer.{Peer}
+use Rattle.http_messages.specs.declared.ask.Ask.{Ask}
+use Rattle.http_messages.specs.Answer.{AnswerText}
+use Rattle.values_tables.specs.declared.plain.Peer.{Peer}
 use Rattle.peer_chooser.specs.declared.said.Said.{Said}
 use Rattle.peer_chooser.specs.Round.{RoundText}
 use Rattle.peer_chooser.specs.declared.said.Source.{Source}
@@ -34,14 +34,14 @@ use Rattle.node_rules.specs.declared.event.Event.TheVariants as event
 use Rattle.floor_rules.specs.Floors.{floor, raised}
 use Rattle.node_rules.specs.Messages.{htcp, to, query, overall}
 use Rattle.node_rules.specs.Relation.{purge_in, purge_in_content, purge_in_message, purge_by_line}
-use Rattle.roster_tables.specs.Ranges.{is_foreign_id}
+use Rattle.values_tables.specs.Ranges.{is_foreign_id}
 use Rattle.roster.specs.Lookups.{is_master, address_by}
 use Rattle.node_rules.specs.Known.{has_origin, is_known, cache_of}
 use Rattle.peer_chooser.specs.Round.{has_told, answered, ended}
 use Rattle.object_store.specs.Listed.{copy_of}
 use Rattle.reuse_rules.specs.Lifetime.{lifetime}
 use Rattle.htcp_wire.specs.declared.fault.HtcpFault.{HtcpFault}
-use Rattle.roster_tables.specs.declared.plain.Udp.TheVariants as udp
+use Rattle.values_tables.specs.declared.plain.Udp.TheVariants as udp
 use Rattle.node_rules.specs.Effect.{copy_served, sent, IsOwnFault, ServesBareStatus, ComesFrom, HasRaised, IsObedient, IsUnderWay, IsReadOf, IsAt, IsFromOrigin, IsFromPeer, IsAnswerTo, IsAnswerOf, Effect, Stays, Serves, Brings, Purges, Drops, IsHeldAbove, state_of}
 use Rattle.node_rules.specs.State.{Setting, Stepped, replies, refuses, quiet, fetch_serial, is_idle, is_of_block, age_of, is_good, if_good, good_copy}
 use Rattle.reuse_rules.specs.Freshness.{is_fresh}

@@ -1,7 +1,7 @@
 -- A sibling's request begins nothing: the rules that it reaches give a reply without a begin and
 -- leave the pending requests. It is no purge, so no fault closes the node at it.
 use Rattle.std.proofs.Common.{◌≡◌, ℕ, Bool, true, false, Option, Some, None, Result, refl, sym, ◌∙◌, subst}
-use Rattle.roster_tables.specs.declared.plain.Address.{Address}
+use Rattle.values_tables.specs.declared.plain.Address.{Address}
 use Rattle.icp_wire.specs.declared.message.IcpOp.{IcpOp}
 use Rattle.icp_wire.specs.declared.message.IcpOp.TheVariants as op
 use Rattle.icp_wire.specs.declared.message.Icp.{Icp}
@@ -10,7 +10,7 @@ use Rattle.htcp_wire.specs.declared.message.Content.TheVariants as content
 use Rattle.node_rules.specs.declared.message.Message.{Message}
 use Rattle.node_rules.specs.declared.message.Message.TheVariants as message
 use Rattle.object_store.specs.declared.copy.WebCopy.{WebCopy}
-use Rattle.fetch_messages.specs.declared.ask.Ask.{Ask}
+use Rattle.http_messages.specs.declared.ask.Ask.{Ask}
 use Rattle.node_rules.specs.declared.state.NodeState.{NodeState}
 use Rattle.node_rules.specs.declared.event.Event.{Event}
 use Rattle.node_rules.specs.declared.event.Event.TheVariants as event

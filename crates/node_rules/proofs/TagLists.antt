@@ -3,8 +3,8 @@
 use Rattle.std.proofs.Common.{◌≡◌, ℕ, ◌-◌, Bool, true, false, cond, not, ◌&&◌, List, [], ◌∷◌, ◌++◌, map, filter, find, Option, Some, None, refl, ◌∙◌, ap, nat_lt, nat_le}
 use Rattle.std.specs.Prelude.{option_map}
 use Rattle.object_store.specs.declared.copy.WebCopy.{WebCopy}
-use Rattle.fetch_messages.specs.declared.ask.Ask.{Ask}
-use Rattle.roster_tables.specs.declared.plain.Limits.{Limits}
+use Rattle.http_messages.specs.declared.ask.Ask.{Ask}
+use Rattle.values_tables.specs.declared.plain.Limits.{Limits}
 use Rattle.node_rules.specs.declared.state.Pending.{Pending}
 use Rattle.node_rules.specs.declared.state.NodeState.{NodeState}
 use Rattle.floor_rules.specs.Floors.{floor}

@@ -3,8 +3,8 @@
 -- tags.
 use Rattle.std.proofs.Common.{◌≡◌, ℕ, ◌+◌, Bool, true, false, not, ◌&&◌, ◌||◌, cond, List, [], ◌∷◌, ◌++◌, Option, Some, None, refl, nat_le, nat_eq, ap, unwrap_or}
 use Rattle.std.specs.Prelude.{bytes_eq}
-use Rattle.roster_tables.specs.declared.plain.Address.{Address}
-use Rattle.roster_tables.specs.declared.plain.Udp.{Udp}
+use Rattle.values_tables.specs.declared.plain.Address.{Address}
+use Rattle.values_tables.specs.declared.plain.Udp.{Udp}
 use Rattle.icp_wire.specs.declared.message.IcpOp.{IcpOp}
 use Rattle.icp_wire.specs.declared.message.IcpOp.TheVariants as op
 use Rattle.icp_wire.specs.declared.message.Icp.{Icp}
@@ -14,9 +14,9 @@ use Rattle.htcp_wire.specs.declared.message.Content.TheVariants as content
 use Rattle.node_rules.specs.declared.message.Message.{Message}
 use Rattle.node_rules.specs.declared.message.Message.TheVariants as message
 use Rattle.object_store.specs.declared.copy.WebCopy.{WebCopy}
-use Rattle.fetch_messages.specs.declared.ask.Ask.{Ask}
-use Rattle.fetch_messages.specs.Answer.{AnswerText}
-use Rattle.roster_tables.specs.declared.plain.Peer.{Peer}
+use Rattle.http_messages.specs.declared.ask.Ask.{Ask}
+use Rattle.http_messages.specs.Answer.{AnswerText}
+use Rattle.values_tables.specs.declared.plain.Peer.{Peer}
 use Rattle.peer_chooser.specs.declared.said.Said.{Said}
 use Rattle.peer_chooser.specs.Round.{RoundText}
 use Rattle.peer_chooser.specs.declared.said.Source.{Source}
@@ -28,7 +28,7 @@ use Rattle.node_rules.specs.declared.state.NodeState.{NodeState}
 use Rattle.node_rules.specs.declared.event.Event.{Event}
 use Rattle.node_rules.specs.declared.event.Event.TheVariants as event
 use Rattle.floor_rules.specs.Floors.{floor, seen, raised}
-use Rattle.roster_tables.specs.Ranges.{is_foreign_id}
+use Rattle.values_tables.specs.Ranges.{is_foreign_id}
 use Rattle.roster.specs.Lookups.{is_master}
 use Rattle.node_rules.specs.Known.{has_origin, is_known}
 use Rattle.peer_chooser.specs.Round.{has_told, answered, ended, started}
@@ -38,7 +38,7 @@ use Rattle.reuse_rules.specs.Lifetime.{lifetime}
 use Rattle.htcp_wire.specs.declared.fault.HtcpFault.{HtcpFault}
 use Rattle.htcp_wire.specs.declared.numbers.HeaderKind.TheVariants.{PurgeNumber}
 use Rattle.htcp_wire.specs.Numbers.{number_in_text}
-use Rattle.roster_tables.specs.declared.plain.Udp.TheVariants as udp
+use Rattle.values_tables.specs.declared.plain.Udp.TheVariants as udp
 use Rattle.node_rules.specs.State.{Setting, Stepped, is_idle, good_copy, served_age, round_serial, fetch_serial}
 use Rattle.node_rules.specs.Fetching.{ask_peer, begin_read, read_origin, go_to, go_on, choice_of}
 use Rattle.node_rules.specs.Asks.{is_cached_only, is_busy, begin_round, ask_around, begin_ask, not_held, by_copy, copy_for, ask_comes, peers_to_ask}

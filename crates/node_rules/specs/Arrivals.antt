@@ -2,13 +2,13 @@
 -- peer_answer, foreign_answer, origin_answer, fetch_failed, round_expired.
 use Rattle.std.specs.Prelude.{ℕ, Bool, not, ◌&&◌, ◌==◌, nat_le, bytes_eq, List, [], ◌∷◌, ◌++◌, find, unwrap_or, Option, Some, None, if◌then◌else◌}
 use Rattle.std.specs.List.{list_any}
-use Rattle.fetch_messages.specs.Answer.{AnswerText}
+use Rattle.http_messages.specs.Answer.{AnswerText}
 use Rattle.object_store.specs.declared.copy.WebCopy.{WebCopy}
 use Rattle.object_store.specs.Held.{Held, after_put}
 use Rattle.floor_rules.specs.Floors.{floor}
 use Rattle.reuse_rules.specs.Lifetime.{lifetime}
-use Rattle.roster_tables.specs.Ranges.{is_foreign_id}
-use Rattle.roster_tables.specs.declared.plain.Limits.{Limits}
+use Rattle.values_tables.specs.Ranges.{is_foreign_id}
+use Rattle.values_tables.specs.declared.plain.Limits.{Limits}
 use Rattle.peer_chooser.specs.Round.{RoundText, ended}
 use Rattle.node_rules.specs.declared.state.Fetch.{Fetch}
 use Rattle.node_rules.specs.declared.state.Fetch.TheVariants.{Nowhere, AtPeer, AtOrigin}

@@ -1,12 +1,12 @@
 -- A client's or a member's request arrives. The rule is `ask_comes`, at the end.
 use Rattle.std.specs.Prelude.{ℕ, ◌+◌, Bool, false, ◌||◌, nat_le, nat_lt, List, [], ◌∷◌, length, Option, Some, None, option_map, if◌then◌else◌}
 use Rattle.std.specs.List.{filter_map}
-use Rattle.fetch_messages.specs.declared.ask.Ask.{Ask}
+use Rattle.http_messages.specs.declared.ask.Ask.{Ask}
 use Rattle.object_store.specs.declared.copy.WebCopy.{WebCopy}
 use Rattle.object_store.specs.Listed.{to_front}
 use Rattle.floor_rules.specs.Floors.{floor}
-use Rattle.roster_tables.specs.declared.plain.Peer.{Peer}
-use Rattle.roster_tables.specs.declared.plain.Tables.{Tables}
+use Rattle.values_tables.specs.declared.plain.Peer.{Peer}
+use Rattle.values_tables.specs.declared.plain.Tables.{Tables}
 use Rattle.roster.specs.Lookups.{peers_of, names_sibling, address_by}
 use Rattle.peer_chooser.specs.Round.{RoundText, started}
 use Rattle.node_rules.specs.declared.message.Outgoing.{Outgoing}

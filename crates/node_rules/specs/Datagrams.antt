@@ -14,11 +14,11 @@ use Rattle.object_store.specs.declared.copy.WebCopy.{WebCopy}
 use Rattle.object_store.specs.Listed.{copy_of, without, without_below}
 use Rattle.object_store.specs.Held.{is_older_than}
 use Rattle.floor_rules.specs.Floors.{FloorMap, most_rows, raised}
-use Rattle.roster_tables.specs.Ranges.{is_foreign_id}
-use Rattle.roster_tables.specs.declared.plain.Address.{Address}
-use Rattle.roster_tables.specs.declared.plain.Udp.{Udp}
-use Rattle.roster_tables.specs.declared.plain.Udp.TheVariants as udp
-use Rattle.roster_tables.specs.declared.plain.Peer.{Peer}
+use Rattle.values_tables.specs.Ranges.{is_foreign_id}
+use Rattle.values_tables.specs.declared.plain.Address.{Address}
+use Rattle.values_tables.specs.declared.plain.Udp.{Udp}
+use Rattle.values_tables.specs.declared.plain.Udp.TheVariants as udp
+use Rattle.values_tables.specs.declared.plain.Peer.{Peer}
 use Rattle.roster.specs.Lookups.{is_master}
 use Rattle.peer_chooser.specs.declared.said.Said.{Said}
 use Rattle.peer_chooser.specs.declared.said.Said.TheVariants as said

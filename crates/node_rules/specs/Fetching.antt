@@ -1,9 +1,9 @@
 -- How a pending request goes on: to a peer, to the origin, or to its end. The request p is pending
 -- in the state s. The rule is `go_on`, at the end.
 use Rattle.std.specs.Prelude.{ℕ, ◌+◌, Bool, false, nat_le, List, Option, Some, None, if◌then◌else◌}
-use Rattle.fetch_messages.specs.declared.ask.Ask.{Ask}
+use Rattle.http_messages.specs.declared.ask.Ask.{Ask}
 use Rattle.floor_rules.specs.Floors.{floor, seen}
-use Rattle.roster_tables.specs.Ranges.{is_foreign_id}
+use Rattle.values_tables.specs.Ranges.{is_foreign_id}
 use Rattle.peer_chooser.specs.declared.said.Source.{Source}
 use Rattle.peer_chooser.specs.declared.said.Source.TheVariants as source
 use Rattle.peer_chooser.specs.Round.{RoundText}

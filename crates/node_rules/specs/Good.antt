@@ -4,7 +4,7 @@ use Rattle.std.specs.List.{AllByRecursion}
 use Rattle.floor_rules.specs.Floors.{FloorMap, floor}
 use Rattle.object_store.specs.declared.copy.WebCopy.{WebCopy}
 use Rattle.object_store.specs.Held.{IsStore}
-use Rattle.roster_tables.specs.declared.plain.Limits.{Limits}
+use Rattle.values_tables.specs.declared.plain.Limits.{Limits}
 use Rattle.node_rules.specs.declared.state.NodeState.{NodeState}
 use Rattle.node_rules.specs.Arrivals.{store_of}
 

@@ -1,11 +1,11 @@
 -- A node's setting, what a step leads to, and the words for both. Later files use them throughout.
 use Rattle.std.specs.Prelude.{ℕ, ◌+◌, ◌*◌, min, Bool, true, false, not, ◌&&◌, ◌==◌, nat_le, List, [], ◌∷◌, ◌++◌, map, filter, unwrap_or, Option, Some, None, Result, Ok, Err, if◌then◌else◌}
-use Rattle.key_texts.specs.KeyOf.{key_of}
+use Rattle.values_keys.specs.KeyOf.{key_of}
 use Rattle.object_store.specs.declared.copy.WebCopy.{WebCopy}
 use Rattle.object_store.specs.Listed.{copy_of}
 use Rattle.floor_rules.specs.Floors.{FloorMap, floor}
 use Rattle.reuse_rules.specs.Freshness.{age_now, is_fresh}
-use Rattle.roster_tables.specs.declared.plain.Tables.{Tables}
+use Rattle.values_tables.specs.declared.plain.Tables.{Tables}
 use Rattle.node_rules.specs.declared.message.Outgoing.{Outgoing}
 use Rattle.node_rules.specs.declared.state.Fetch.{Fetch}
 use Rattle.node_rules.specs.declared.state.Fetch.TheVariants.{Nowhere, AtPeer, AtOrigin}
@@ -24,7 +24,7 @@ pub record Setting : Type 0 where
   pub id : ℕ
   pub key_of : List ℕ → Option (List ℕ)
 
--- A member's own setting: the roster that all share, and the keys that key_texts computes.
+-- A member's own setting: the roster that all share, and the keys that values_keys computes.
 abbrev pub setting : Tables → ℕ → Setting
 setting roster id = record { roster = roster; id = id; key_of = key_of }
 

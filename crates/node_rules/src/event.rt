@@ -1,5 +1,5 @@
 use crate::Received;
-use fetch_messages::{Answer, Ask};
+use http_messages::{Answer, Ask};
 use roster::Address;
 use url_key::Key;
 

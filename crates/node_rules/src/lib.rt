@@ -37,7 +37,7 @@
 //!
 //! **Setting.** A `Setting` stays the same through all steps of a node: the roster, the node's id,
 //! and `key_of`, which gives the key of a text. The grammar of URLs is a relation, so `key_of` is a
-//! parameter: with it the step is a function that can be evaluated. `key_texts` has the one that
+//! parameter: with it the step is a function that can be evaluated. `values_keys` has the one that
 //! computes keys (`setting` of `State` uses it).
 //!
 //! **Tags and marks.** Each copy carries a *tag*, and each origin read the *mark* of the step that

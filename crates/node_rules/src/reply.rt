@@ -2,7 +2,7 @@ ghost use Rattle.std.specs.Prelude.{◌≡◌};
 ghost use Rattle.node_rules.specs.Names.{step_fault_name};
 
 use crate::Outgoing;
-use fetch_messages::Ask;
+use http_messages::Ask;
 use object_store::WebCopy;
 use roster::Listed;
 use std::alloc::AllocError;

@@ -1,5 +1,5 @@
-use fetch_messages::Ask;
 use floor_rules::Floors;
+use http_messages::Ask;
 use object_store::WebCopy;
 use peer_chooser::Round;
 use roster::Listed;

@@ -1,8 +1,8 @@
 -- What a caller is told is an outcome of the rules: the book applies each event by a step of its node, the answer tells
 -- the outcome of that step, and the caller is given that answer or told that the reply was lost.
 use Rattle.std.proofs.Common.{◌≡◌, ◌⊎◌, ℕ, Option, Some, None, Result, Ok, Err, refl, sym, ap, subst, inl, inr}
-use Rattle.key_texts.specs.KeyOf.{key_of}
-use Rattle.key_texts.proofs.Outcomes.{gives_keys}
+use Rattle.values_keys.specs.KeyOf.{key_of}
+use Rattle.values_keys.proofs.Outcomes.{gives_keys}
 use Rattle.floor_rules.specs.Floors.{FloorMap}
 use Rattle.node_rules.specs.declared.event.Event.{Event}
 use Rattle.node_rules.specs.declared.reply.Reply.{Reply}

@@ -1,6 +1,6 @@
 -- How many octets an event brings along: those of the texts of a datagram, or of an answer.
 use Rattle.std.specs.Prelude.{ℕ, ◌+◌, min, List, length}
-use Rattle.fetch_messages.specs.Answer.{answer_size}
+use Rattle.http_messages.specs.Answer.{answer_size}
 use Rattle.htcp_wire.specs.declared.message.Content.{Content}
 use Rattle.htcp_wire.specs.declared.message.Content.TheVariants as content
 use Rattle.htcp_wire.specs.declared.message.Detail.{Detail}

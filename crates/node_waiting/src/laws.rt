@@ -1,7 +1,7 @@
 //! Laws of pending requests. Each function does nothing: its contract states the law.
 ghost use Rattle.std.specs.Prelude.{◌≡◌, ◌≤◌, ◌<◌, ◌+◌, ◌++◌, [], ◌∷◌, ℕ, All, Bool, true, List, length, Option, Some, None};
-ghost use Rattle.fetch_messages.specs.declared.ask.Ask.{Ask};
-ghost use Rattle.roster_tables.specs.declared.plain.Peer.{Peer};
+ghost use Rattle.http_messages.specs.declared.ask.Ask.{Ask};
+ghost use Rattle.values_tables.specs.declared.plain.Peer.{Peer};
 ghost use Rattle.peer_chooser.specs.declared.said.Said.{Said};
 ghost use Rattle.peer_chooser.specs.declared.said.Source.TheVariants as source;
 ghost use Rattle.peer_chooser.specs.Round.{RoundText, started, answered, ended};

@@ -1,7 +1,7 @@
 -- The names of faults.
 use Rattle.std.specs.Prelude.{ℕ, List, codes}
 use Rattle.node_core.specs.Names.{open_fault_name}
-use Rattle.udp_loop.specs.Names.{loop_fault_name}
+use Rattle.cluster_sockets.specs.Names.{loop_fault_name}
 use Rattle.node_seats.specs.declared.shift.CloseFault.{CloseFault}
 use Rattle.node_seats.specs.declared.shift.CloseFault.TheVariants as close
 use Rattle.node_workers.specs.declared.fault.StartFault.{StartFault}

@@ -2,11 +2,11 @@
 ghost use Rattle.std.specs.Prelude.{◌≡◌};
 ghost use Rattle.node_workers.specs.Names.{start_fault_name, stop_fault_name};
 
+use cluster_sockets::LoopFault;
 use node_core::OpenFault;
 use node_seats::CloseFault;
 use std::alloc::AllocError;
 use thiserror::Error;
-use udp_loop::LoopFault;
 
 /// Why a node does not start. No thread of it runs then.
 #[derive(Clone, Copy, Debug, PartialEq, Eq, Error)]

@@ -1,9 +1,9 @@
 //! A node that runs: its sockets, its threads and its shifts.
 //!
 //! [`Workers::start`] opens a node's sockets and starts the node's thread. That thread starts 2 to
-//! 8 workers and as many fetchers. It then turns the [`NodeLoop`](udp_loop::NodeLoop) until the
+//! 8 workers and as many fetchers. It then turns the [`NodeLoop`](cluster_sockets::NodeLoop) until the
 //! node is stopped, and queues a timer for each round of queries that has waited for the roster's
-//! `query_wait`. `node_service` says what a worker does with a job, a fetcher with an errand, and
+//! `query_wait`. `cluster_service` says what a worker does with a job, a fetcher with an errand, and
 //! the event loop with a question. Workers leave fetches to fetchers. So they wait for no peer and
 //! no origin, and what the node has is served also while every fetcher waits. A sibling's request
 //! begins nothing, so a worker answers it, and two siblings that fetch from each other do not wait
@@ -39,7 +39,7 @@ mod signals;
 mod threads;
 mod workers;
 
+pub use cluster_service::{Gate, NoGate};
+pub use cluster_sockets::LoopFault;
 pub use fault::{StartFault, StopFault};
-pub use node_service::{Gate, NoGate};
-pub use udp_loop::LoopFault;
 pub use workers::{Ground, Workers};

@@ -4,11 +4,12 @@ ghost use Rattle.std.specs.Prelude.{◌≡◌, ◌≤◌, ◌<◌, ◌+◌, [], 
 use crate::fault::{StartFault, StopFault};
 use crate::signals::Signals;
 use crate::threads::{FetchKit, Kit, Kits, Shared, run_threads};
+use cluster_jobs::{Jobs, NewJobs, Pass, QueueName};
+use cluster_service::{Gate, Station, Tools, refuse_all};
+use cluster_sockets::NodeLoop;
 use floor_rules::FloorStore;
-use job_queue::{Jobs, NewJobs, Pass, QueueName};
 use node_book::{NodeBook, Record};
 use node_seats::{Calls, Places};
-use node_service::{Gate, Station, Tools, refuse_all};
 use node_shifts::{History, Shifts};
 use std::alloc::{AllocError, Global};
 use std::marker::Brand;
@@ -18,7 +19,6 @@ use std::sync::ledger::Blank;
 use std::sync::{Mutex, Wait};
 use std::thread::Threads;
 use std::time::Clock;
-use udp_loop::NodeLoop;
 
 /// What the threads of a node work with, beside the node.
 #[derive(Drop)]

@@ -4,17 +4,17 @@ ghost use Rattle.std.specs.Thread.{IsSend};
 use crate::fault::{StopFault, Unready};
 use crate::halt::{Halt, Taken};
 use crate::signals::Signals;
+use cluster_jobs::{Job, Jobs, Pass, QueueName};
+use cluster_service::{Fetcher, Gate, Questions, Seated, Station, Tools, Worker, milliseconds};
+use cluster_sockets::NodeLoop;
 use floor_rules::FloorStore;
-use job_queue::{Job, Jobs, Pass, QueueName};
 use node_bytes::Stepper;
 use node_seats::Calls;
-use node_service::{Fetcher, Gate, Questions, Seated, Station, Tools, Worker, milliseconds};
 use node_shifts::{AtSeat, Shifts};
 use std::net::{Net, TcpListener, TcpStream};
 use std::sync::{Mutex, Wait};
 use std::thread::{self, Scope, Threads};
 use std::time::Clock;
-use udp_loop::NodeLoop;
 
 /// How many timers are queued before one turn of the loop at most.
 const MOST_TIMERS: u32 = 256;

@@ -9,11 +9,12 @@ use crate::fault::{StartFault, StopFault, Unready};
 use crate::halt::Halt;
 use crate::node::{Edge, Prepared, Start, run_node};
 use crate::signals::Signals;
+use cluster_service::{Gate, Station, Tools};
+use cluster_sockets::{LoopFault, NodeLoop, Senders};
 use floor_rules::FloorStore;
 use node_book::{NodeBook, Record};
 use node_core::{Node, OpenFault};
 use node_seats::Places;
-use node_service::{Gate, Station, Tools};
 use node_shifts::History;
 use roster::Roster;
 use std::alloc::Global;
@@ -23,7 +24,6 @@ use std::sync::atomic::{AtomicBool, Ordering};
 use std::sync::{Arc, Wait};
 use std::thread::{self, JoinHandle, Threads};
 use std::time::{Clock, Duration};
-use udp_loop::{LoopFault, NodeLoop, Senders};
 
 /// How many milliseconds the event loop waits at most before it looks for rounds whose deadline has
 /// come.

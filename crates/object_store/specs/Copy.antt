@@ -1,6 +1,6 @@
 -- Copies of responses, and the octets that they count in a store.
 use Rattle.std.specs.Prelude.{ℕ, ◌+◌, Bool, bytes_eq, List, length}
-use Rattle.fetch_messages.specs.Answer.{answer_size}
+use Rattle.http_messages.specs.Answer.{answer_size}
 use Rattle.object_store.specs.declared.copy.WebCopy.{WebCopy}
 
 -- the octets that a copy counts: its key, and the field lines and the body of its response [Copy 2]

@@ -1,7 +1,7 @@
 ghost use Rattle.std.specs.Prelude.{◌≡◌, ◌≤◌, IfOk};
 ghost use Rattle.object_store.specs.Copy.{size as size_of_copy};
 
-use fetch_messages::Answer;
+use http_messages::Answer;
 use std::alloc::{AllocError, Global};
 use url_key::Key;
 

@@ -21,7 +21,7 @@
 //! Read first `specs/Held` and `specs/Listed`, then `src/store.rt` (the calls) and `src/cached.rt`
 //! (what they do with the map). `specs/Counted` and `specs/Cached` are the invariant. The comment
 //! of `proofs/Lib` gives the order of the proofs. Tests compare the store with a plain list over
-//! random calls (`store_tests`).
+//! random calls (`tests_store`).
 #![tactic(auto)]
 
 mod cached;

@@ -4,7 +4,7 @@ use Rattle.std.proofs.Common.{◌≡◌, ◌≢◌, inl, inr, ℕ, suc, ◌&&◌
 use Rattle.std.specs.Prelude.{Contains}
 use Rattle.std.specs.List.{find}
 use Rattle.std.proofs.lemmas.Bool.{and_parts}
-use Rattle.roster_tables.specs.Roles.{is_parent}
+use Rattle.values_tables.specs.Roles.{is_parent}
 use Rattle.peer_chooser.specs.declared.said.Told.{Told}
 use Rattle.peer_chooser.specs.declared.said.Source.TheVariants as source
 use Rattle.peer_chooser.specs.Round.{RoundText, ended}

@@ -2,8 +2,8 @@
 -- end.
 use Rattle.std.specs.Prelude.{ℕ, Bool, true, false, not, ◌&&◌, ◌||◌, ◌==◌, nat_le, List, find, Option, Some, None, if◌then◌else◌}
 use Rattle.std.specs.List.{list_any, list_all}
-use Rattle.roster_tables.specs.declared.plain.Peer.{Peer}
-use Rattle.roster_tables.specs.Roles.{is_sibling, is_parent}
+use Rattle.values_tables.specs.declared.plain.Peer.{Peer}
+use Rattle.values_tables.specs.Roles.{is_sibling, is_parent}
 use Rattle.peer_chooser.specs.declared.said.Said.{Said}
 use Rattle.peer_chooser.specs.declared.said.Said.TheVariants as said
 use Rattle.peer_chooser.specs.declared.said.Told.{Told}

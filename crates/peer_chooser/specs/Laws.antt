@@ -1,6 +1,6 @@
 -- What holds of every choice.
 use Rattle.std.specs.Prelude.{◌≡◌, ◌≢◌, ◌⊎◌, ℕ, Bool, true, List, Contains}
-use Rattle.roster_tables.specs.Roles.{is_sibling, is_parent}
+use Rattle.values_tables.specs.Roles.{is_sibling, is_parent}
 use Rattle.peer_chooser.specs.declared.said.Told.{Told}
 use Rattle.peer_chooser.specs.declared.said.Source.TheVariants as source
 use Rattle.peer_chooser.specs.Round.{RoundText, ended}

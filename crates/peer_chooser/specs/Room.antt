@@ -1,6 +1,6 @@
 -- Why a round's array of answers is long enough.
 use Rattle.std.specs.Prelude.{◌≡◌, ℕ, ◌+◌, ◌≤◌, not, List, length, count_by, take}
-use Rattle.roster_tables.specs.declared.plain.Peer.{Peer}
+use Rattle.values_tables.specs.declared.plain.Peer.{Peer}
 use Rattle.peer_chooser.specs.declared.said.Told.{Told}
 use Rattle.peer_chooser.specs.Round.{has_told}
 

@@ -13,9 +13,9 @@ use Rattle.std.proofs.lemmas.List.{map-append}
 use Rattle.std.proofs.lemmas.Slice.Eq.{bytes_eq-Decides}
 use Rattle.http_header.specs.Token.{lowercase, is_token_byte as is_header_token_byte}
 use Rattle.httparse.specs.Grammar.{IsToken, is_token_byte}
-use Rattle.fetch_messages.specs.Field.{FieldText, is_dropped_name, dropped_names, is_trimmed, is_kept_field}
-use Rattle.peer_writing.specs.Lines.{number_line, last_lines}
-use Rattle.peer_writing.specs.Answer.{kept_line, kept_lines, number_lines}
+use Rattle.http_messages.specs.Field.{FieldText, is_dropped_name, dropped_names, is_trimmed, is_kept_field}
+use Rattle.http_writing.specs.Lines.{number_line, last_lines}
+use Rattle.http_writing.specs.Answer.{kept_line, kept_lines, number_lines}
 use Rattle.peer_fields.specs.Fields.{is_named, value_of, values_named}
 use Rattle.peer_fields.specs.Kept.{is_kept, kept_text, kept_by, kept}
 use Rattle.peer_fetch.specs.Writable.{IsFieldText}

@@ -4,15 +4,15 @@ use Rattle.std.proofs.Common.{◌≡◌, ℕ, ◌+◌, ◌≤◌, Bool, true, fa
 use Rattle.std.specs.List.{flat_map, AllByRecursion}
 use Rattle.httparse.specs.Grammar.{ResponseHead, ReadsResponse, HasNoResponse, NeverHasResponse, print_response, status_code}
 use Rattle.httparse.proofs.GrammarLemmas.{response_unique}
-use Rattle.fetch_messages.specs.Answer.{AnswerText, has_no_body}
-use Rattle.fetch_messages.specs.declared.fault.FetchFault.{FetchFault}
-use Rattle.fetch_messages.specs.declared.fault.FetchFault.TheVariants.{Io, EndOfInput, BadHead, HeadTooLong, BadTarget, MethodNotServed, Credentials, BadBody, BodyTooLong, TooManyTurns, NoMemory}
-use Rattle.peer_writing.specs.Name.{is_name}
-use Rattle.peer_writing.specs.Answer.{answer_text}
+use Rattle.http_messages.specs.Answer.{AnswerText, has_no_body}
+use Rattle.http_messages.specs.declared.fault.FetchFault.{FetchFault}
+use Rattle.http_messages.specs.declared.fault.FetchFault.TheVariants.{Io, EndOfInput, BadHead, HeadTooLong, BadTarget, MethodNotServed, Credentials, BadBody, BodyTooLong, TooManyTurns, NoMemory}
+use Rattle.http_writing.specs.Name.{is_name}
+use Rattle.http_writing.specs.Answer.{answer_text}
 use Rattle.peer_fields.specs.declared.framing.Framing.TheVariants.{Length}
-use Rattle.peer_intake.specs.Reading.{Takes, most_turns}
-use Rattle.peer_intake.specs.Heads.{longest_head, head_window, IsLongResponse}
-use Rattle.peer_intake.specs.Bodies.{StopsBefore}
+use Rattle.http_intake.specs.Reading.{Takes, most_turns}
+use Rattle.http_intake.specs.Heads.{longest_head, head_window, IsLongResponse}
+use Rattle.http_intake.specs.Bodies.{StopsBefore}
 use Rattle.peer_reading.specs.AnswerHead.{ToldText, parts_of, is_interim, told}
 use Rattle.peer_reading.specs.Answers.{IsInterim, PassesInterim, HeadSays, SpellsAnswer, EndsWithInput, StopsAtHead, StopsInBody, StopsInAnswer, ReadsAnswer}
 use Rattle.peer_fetch.specs.Writable.{IsWritableAnswer}

@@ -3,9 +3,9 @@
 use Rattle.std.proofs.Common.{◌≡◌, ℕ, ◌+◌, ◌≤◌, Bool, true, false, cond, List, [], ◌++◌, length, take, drop, Some, None, Ok, refl, sym, ap, ◌∙◌, arith, append_assoc, length-append}
 use Rattle.std.proofs.lemmas.List.{drop_at, take_at}
 use Rattle.httparse.specs.Grammar.{ReadsResponse, print_response}
-use Rattle.fetch_messages.specs.Answer.{AnswerText, has_no_body}
-use Rattle.peer_writing.specs.Name.{is_name}
-use Rattle.peer_writing.specs.Answer.{answer_text}
+use Rattle.http_messages.specs.Answer.{AnswerText, has_no_body}
+use Rattle.http_writing.specs.Name.{is_name}
+use Rattle.http_writing.specs.Answer.{answer_text}
 use Rattle.peer_fields.specs.declared.framing.Framing.TheVariants.{Length}
 use Rattle.peer_reading.specs.Answers.{PassesInterim, HeadSays, SpellsBody, SpellsAnswer}
 use Rattle.peer_fetch.specs.Writable.{IsWritableAnswer}

@@ -10,11 +10,11 @@ use Rattle.std.proofs.lemmas.List.{length-map, nil_from_length}
 use Rattle.std.proofs.lemmas.List.Sums.{sum_by-cons}
 use Rattle.std.proofs.lemmas.Fmt.{length-decimal-le}
 use Rattle.httparse.specs.Grammar.{ResponseHead, ReadsResponse}
-use Rattle.fetch_messages.specs.Field.{FieldText, is_kept_field, are_few_fields, line_length, lines_length}
-use Rattle.fetch_messages.specs.Answer.{AnswerText, has_no_body, is_body_of}
-use Rattle.peer_writing.specs.Name.{is_name}
-use Rattle.peer_writing.specs.Lines.{crlf, number_line, last_lines}
-use Rattle.peer_writing.specs.Answer.{answer_text, status_line, kept_line, kept_lines, number_lines, told_length}
+use Rattle.http_messages.specs.Field.{FieldText, is_kept_field, are_few_fields, line_length, lines_length}
+use Rattle.http_messages.specs.Answer.{AnswerText, has_no_body, is_body_of}
+use Rattle.http_writing.specs.Name.{is_name}
+use Rattle.http_writing.specs.Lines.{crlf, number_line, last_lines}
+use Rattle.http_writing.specs.Answer.{answer_text, status_line, kept_line, kept_lines, number_lines, told_length}
 use Rattle.peer_fields.specs.declared.framing.Framing.{Framing}
 use Rattle.peer_fields.specs.declared.framing.Framing.TheVariants.{Length}
 use Rattle.peer_fields.specs.Fields.{first_of, only_of}

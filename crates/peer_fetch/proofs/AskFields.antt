@@ -8,14 +8,14 @@ use Rattle.std.proofs.lemmas.Bool.Decides.{nat_tests}
 use Rattle.std.proofs.lemmas.List.{get_or-append_right}
 use Rattle.std.proofs.lemmas.List.Elements.{All-take, All-drop, All-cons, All-weaker}
 use Rattle.std.proofs.lemmas.List.Sums.{AllPass-from_list_all, list_all-from_AllPass}
-use Rattle.list_values.specs.Members.{members_from}
+use Rattle.http_lists.specs.Members.{members_from}
 use Rattle.httparse.specs.Grammar.{is_value_byte}
 use Rattle.url_key.specs.Text.{is_visible, http_prefix, key_authority}
 use Rattle.http_uri.specs.Grammar.{authority_len}
-use Rattle.fetch_messages.specs.Field.{is_blank, is_trimmed}
-use Rattle.peer_writing.specs.Name.{is_name, is_name_octet}
-use Rattle.peer_writing.specs.Lines.{field_line, number_line, last_lines}
-use Rattle.peer_writing.specs.Ask.{cache_control_line}
+use Rattle.http_messages.specs.Field.{is_blank, is_trimmed}
+use Rattle.http_writing.specs.Name.{is_name, is_name_octet}
+use Rattle.http_writing.specs.Lines.{field_line, number_line, last_lines}
+use Rattle.http_writing.specs.Ask.{cache_control_line}
 use Rattle.peer_fields.specs.Ask.{one, host, has_credentials, member}
 use Rattle.peer_fields.specs.Decimal.{plain_number}
 use Rattle.peer_fields.specs.Directives.{only_if_cached, no_cache}

@@ -3,8 +3,8 @@
 use Rattle.std.proofs.Common.{◌≡◌, ℕ, List, [], ◌++◌, append-nil, Option, Some, None, Result, refl, sym, ap, ◌∙◌, subst}
 use Rattle.httparse.specs.Grammar.{RequestHead, ReadsRequest}
 use Rattle.httparse.proofs.GrammarLemmas.{request_unique, ReadsRequest-append}
-use Rattle.fetch_messages.specs.declared.ask.Ask.{Ask}
-use Rattle.fetch_messages.specs.declared.fault.FetchFault.{FetchFault}
+use Rattle.http_messages.specs.declared.ask.Ask.{Ask}
+use Rattle.http_messages.specs.declared.fault.FetchFault.{FetchFault}
 use Rattle.peer_reading.specs.AskHead.{AskHead, parts_of, first_fault, url_of, asked, Says, SaysBy}
 use Rattle.peer_reading.specs.Asks.{SpellsHead}
 use Rattle.peer_fetch.proofs.Keys.{key_once}

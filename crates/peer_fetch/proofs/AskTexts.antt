@@ -8,11 +8,11 @@ use Rattle.httparse.specs.Grammar.{ReadsRequest}
 use Rattle.http_uri.specs.Grammar.{authority_len}
 use Rattle.url_key.specs.Text.{http_prefix, key_authority}
 use Rattle.url_key.specs.Key.{HasKey}
-use Rattle.fetch_messages.specs.declared.ask.Ask.{Ask}
-use Rattle.peer_writing.specs.declared.ask.AskForm.{AskForm}
-use Rattle.peer_writing.specs.Name.{is_name}
-use Rattle.peer_writing.specs.Lines.{crlf, field_line, number_line, last_lines}
-use Rattle.peer_writing.specs.Ask.{ask_text, target, request_line, cache_control_line}
+use Rattle.http_messages.specs.declared.ask.Ask.{Ask}
+use Rattle.http_writing.specs.declared.ask.AskForm.{AskForm}
+use Rattle.http_writing.specs.Name.{is_name}
+use Rattle.http_writing.specs.Lines.{crlf, field_line, number_line, last_lines}
+use Rattle.http_writing.specs.Ask.{ask_text, target, request_line, cache_control_line}
 use Rattle.peer_fields.specs.Ask.{host, member}
 use Rattle.peer_fields.specs.Directives.{only_if_cached, no_cache}
 use Rattle.peer_reading.specs.AskHead.{AskHead, parts_of, url_by, Says, asked}

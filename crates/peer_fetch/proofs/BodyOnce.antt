@@ -9,8 +9,8 @@ use Rattle.httparse.proofs.GrammarLemmas.{section_unique}
 use Rattle.httparse.proofs.ChunkLemmas.{chunk_line_unique}
 use Rattle.peer_fields.specs.declared.framing.Framing.{Framing}
 use Rattle.peer_fields.specs.declared.framing.Framing.TheVariants.{Length, Chunked, ToEnd}
-use Rattle.peer_intake.specs.Chunks.{ChunkText, IsChunk, print_chunk}
-use Rattle.peer_intake.specs.Trailer.{HoldsChunkedBody}
+use Rattle.http_intake.specs.Chunks.{ChunkText, IsChunk, print_chunk}
+use Rattle.http_intake.specs.Trailer.{HoldsChunkedBody}
 use Rattle.peer_reading.specs.Answers.{SpellsBody}
 
 -- The same without places: the octets of the body, and what follows it

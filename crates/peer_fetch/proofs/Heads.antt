@@ -12,9 +12,9 @@ use Rattle.httparse.specs.Grammar.{RequestHead, IsRequestHead, ReadsRequest, Res
 use Rattle.httparse.specs.Grammar as grammar
 use Rattle.httparse.proofs.GrammarLemmas.{print_request-append, print_response-append}
 use Rattle.url_key.specs.Text.{is_visible}
-use Rattle.peer_writing.specs.Lines.{crlf}
-use Rattle.peer_writing.specs.Ask.{request_line}
-use Rattle.peer_writing.specs.Answer.{status_line}
+use Rattle.http_writing.specs.Lines.{crlf}
+use Rattle.http_writing.specs.Ask.{request_line}
+use Rattle.http_writing.specs.Answer.{status_line}
 use Rattle.peer_fetch.proofs.Pairs.{pair_line, field_of, ArePlain, fields_valid, fields_print}
 use Rattle.peer_fetch.proofs.Names.{get_token}
 

@@ -12,8 +12,8 @@ use Rattle.httparse.specs.Grammar as grammar
 use Rattle.httparse.specs.Spans.{name_and_value}
 use Rattle.httparse.proofs.TrimLemmas.{trim_ows_space}
 use Rattle.url_key.specs.Text.{is_visible}
-use Rattle.fetch_messages.specs.Field.{is_blank, is_trimmed}
-use Rattle.peer_writing.specs.Lines.{field_line}
+use Rattle.http_messages.specs.Field.{is_blank, is_trimmed}
+use Rattle.http_writing.specs.Lines.{field_line}
 
 -- A value without blanks at its ends is read back after a space
 

@@ -17,9 +17,9 @@ use Rattle.url_key.specs.Text.{http_prefix, is_visible, key_authority, key_path}
 use Rattle.url_key.specs.Key.{HasKey, HasKeyBy, KeepsParts, early_fault, key_of_uri, is_http}
 use Rattle.url_key.proofs.KeyLemmas.{made}
 use Rattle.url_key.proofs.PathLemmas.{shows_path, path_first}
-use Rattle.peer_writing.specs.declared.ask.AskForm.{AskForm}
-use Rattle.peer_writing.specs.declared.ask.AskForm.TheVariants.{Absolute, Origin}
-use Rattle.peer_writing.specs.Ask.{target}
+use Rattle.http_writing.specs.declared.ask.AskForm.{AskForm}
+use Rattle.http_writing.specs.declared.ask.AskForm.TheVariants.{Absolute, Origin}
+use Rattle.http_writing.specs.Ask.{target}
 use Rattle.peer_fields.specs.Ask.{one}
 use Rattle.peer_reading.specs.AskHead.{is_origin_form, url_by}
 use Rattle.peer_fetch.proofs.Keys.{IsPlainText, key_plain, IsHttpText, key_begins, http_scheme}

@@ -1,8 +1,8 @@
 -- How reading of a text that was written may fail.
 use Rattle.std.specs.Prelude.{◌≡◌, ℕ, ◌<◌, ◌⊎◌, List, length}
-use Rattle.fetch_messages.specs.declared.fault.FetchFault.{FetchFault}
-use Rattle.fetch_messages.specs.declared.fault.FetchFault.TheVariants.{Io, TooManyTurns, NoMemory}
-use Rattle.peer_intake.specs.Reading.{most_turns}
+use Rattle.http_messages.specs.declared.fault.FetchFault.{FetchFault}
+use Rattle.http_messages.specs.declared.fault.FetchFault.TheVariants.{Io, TooManyTurns, NoMemory}
+use Rattle.http_intake.specs.Reading.{most_turns}
 
 -- in a request: the reader failed, or there was no memory
 abbrev pub StopsInAskText : FetchFault → Type 0

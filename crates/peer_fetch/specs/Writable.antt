@@ -4,9 +4,9 @@ use Rattle.std.specs.List.{AllByRecursion}
 use Rattle.http_header.specs.FieldName.{IsHeaderName}
 use Rattle.http_header.specs.FieldValue.{IsFieldValue}
 use Rattle.url_key.specs.Key.{HasKey}
-use Rattle.fetch_messages.specs.declared.ask.Ask.{Ask}
-use Rattle.fetch_messages.specs.Field.{FieldText}
-use Rattle.fetch_messages.specs.Answer.{AnswerText, is_writable}
+use Rattle.http_messages.specs.declared.ask.Ask.{Ask}
+use Rattle.http_messages.specs.Field.{FieldText}
+use Rattle.http_messages.specs.Answer.{AnswerText, is_writable}
 
 -- a member number, 1 to 16, or none
 abbrev pub IsMember : Option ℕ → Type 0

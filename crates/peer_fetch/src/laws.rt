@@ -1,12 +1,12 @@
 //! Laws that join writing and reading. Each function does nothing; its contract states the law.
 ghost use Rattle.std.specs.Prelude.{◌≡◌, ◌≢◌, ℕ, List, [], ◌++◌, length, Option, Some, Result, IsTrue, MatchResult};
-ghost use Rattle.fetch_messages.specs.Answer.{AnswerText};
-ghost use Rattle.fetch_messages.specs.declared.ask.Ask.{Ask};
-ghost use Rattle.fetch_messages.specs.declared.fault.FetchFault.{FetchFault};
-ghost use Rattle.peer_writing.specs.declared.ask.AskForm.{AskForm};
-ghost use Rattle.peer_writing.specs.Ask.{ask_text};
-ghost use Rattle.peer_writing.specs.Answer.{answer_text};
-ghost use Rattle.peer_writing.specs.Name.{is_name as names_cache};
+ghost use Rattle.http_messages.specs.Answer.{AnswerText};
+ghost use Rattle.http_messages.specs.declared.ask.Ask.{Ask};
+ghost use Rattle.http_messages.specs.declared.fault.FetchFault.{FetchFault};
+ghost use Rattle.http_writing.specs.declared.ask.AskForm.{AskForm};
+ghost use Rattle.http_writing.specs.Ask.{ask_text};
+ghost use Rattle.http_writing.specs.Answer.{answer_text};
+ghost use Rattle.http_writing.specs.Name.{is_name as names_cache};
 ghost use Rattle.peer_reading.specs.Asks.{SpellsHead, SpellsAsk, ReadsAsk};
 ghost use Rattle.peer_reading.specs.Answers.{SpellsAnswer, ReadsAnswer};
 ghost use Rattle.peer_fields.specs.declared.framing.Framing.TheVariants.{ToEnd};

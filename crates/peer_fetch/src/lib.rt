@@ -1,9 +1,9 @@
 //! HTTP requests and responses of caches (RFC 9112): the values, how they are written and how they
 //! are read, from one crate.
 //!
-//! It exports the types of `fetch_messages`, the calls of `peer_writing` for requests and
+//! It exports the types of `http_messages`, the calls of `http_writing` for requests and
 //! responses, and those of `peer_reading`. What a cache serves (`write_served`, `write_status`) is
-//! in `peer_writing` alone.
+//! in `http_writing` alone.
 //!
 //! Its own part is [`laws`], which join writing and reading:
 //!
@@ -24,6 +24,6 @@
 
 pub mod laws;
 
-pub use fetch_messages::{Answer, Ask, Body, FetchFault, Field, Fields};
+pub use http_messages::{Answer, Ask, Body, FetchFault, Field, Fields};
+pub use http_writing::{AskForm, is_name, write_answer, write_ask};
 pub use peer_reading::{read_answer, read_ask};
-pub use peer_writing::{AskForm, is_name, write_answer, write_ask};

@@ -13,7 +13,7 @@ use Rattle.httparse.specs.Spans.{name_and_value}
 use Rattle.httparse.proofs.TrimLemmas.{AllPass-trim_ows}
 use Rattle.http_header.specs.Token as token
 use Rattle.http_header.specs.FieldName.{IsFieldName}
-use Rattle.fetch_messages.specs.Field.{is_trimmed, line_length, lines_length, are_few_fields}
+use Rattle.http_messages.specs.Field.{is_trimmed, line_length, lines_length, are_few_fields}
 use Rattle.peer_fields.specs.Kept.{is_kept, kept_text, kept_by, kept, options_of, CanBeHeld, CanBeKept}
 
 -- ---- a trimmed value has no blank at an end

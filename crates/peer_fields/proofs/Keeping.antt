@@ -8,8 +8,8 @@ use Rattle.std.proofs.lemmas.List.Folds.{list_all-append}
 use Rattle.httparse.specs.declared.spans.HeaderSpan.{HeaderSpan}
 use Rattle.httparse.specs.Spans.{header_bytes}
 use Rattle.http_header.specs.Token.{lowercase}
-use Rattle.fetch_messages.specs.declared.fields.Field.{Field}
-use Rattle.fetch_messages.specs.Field.{FieldText, field_text, lines_length, is_dropped_name, is_trimmed, is_kept_field}
+use Rattle.http_messages.specs.declared.fields.Field.{Field}
+use Rattle.http_messages.specs.Field.{FieldText, field_text, lines_length, is_dropped_name, is_trimmed, is_kept_field}
 use Rattle.peer_fields.specs.Fields.{fields_of}
 use Rattle.peer_fields.specs.Kept.{is_kept, kept_text, kept_by, options_of, CanBeHeld, CanBeKept}
 

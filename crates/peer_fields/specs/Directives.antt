@@ -2,8 +2,8 @@
 use Rattle.std.specs.Prelude.{ℕ, Bool, List, codes}
 use Rattle.std.specs.List.{list_any}
 use Rattle.std.specs.Str.{str_eq_ignore_ascii_case}
-use Rattle.list_values.specs.Members.{members}
-use Rattle.list_values.specs.Blanks.{trim}
+use Rattle.http_lists.specs.Members.{members}
+use Rattle.http_lists.specs.Blanks.{trim}
 use Rattle.peer_fields.specs.Fields.{values_named}
 
 -- the member is this name and nothing else, ignoring case, with blanks around it; a directive with

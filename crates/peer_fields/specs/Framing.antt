@@ -3,9 +3,9 @@ use Rattle.std.specs.Prelude.{ℕ, Bool, true, false, not, ◌&&◌, ◌||◌, �
 use Rattle.std.specs.List.{list_all, list_any}
 use Rattle.std.specs.Str.{str_eq_ignore_ascii_case}
 use Rattle.std.specs.Str.Parse.{digits_value}
-use Rattle.fetch_messages.specs.declared.fault.FetchFault.{FetchFault}
-use Rattle.fetch_messages.specs.declared.fault.FetchFault.TheVariants.{BadBody, BodyTooLong}
-use Rattle.fetch_messages.specs.Answer.{longest_body}
+use Rattle.http_messages.specs.declared.fault.FetchFault.{FetchFault}
+use Rattle.http_messages.specs.declared.fault.FetchFault.TheVariants.{BadBody, BodyTooLong}
+use Rattle.http_messages.specs.Answer.{longest_body}
 use Rattle.peer_fields.specs.declared.framing.BadLength.{BadLength}
 use Rattle.peer_fields.specs.declared.framing.BadCoding.{BadCoding}
 use Rattle.peer_fields.specs.declared.framing.Framing.{Framing}

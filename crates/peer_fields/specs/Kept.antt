@@ -2,14 +2,14 @@
 use Rattle.std.specs.Prelude.{◌≡◌, ℕ, ◌⊎◌, Bool, not, ◌&&◌, ◌==◌, IsTrue, List, map, filter, All, codes}
 use Rattle.std.specs.List.{list_any, slice_split}
 use Rattle.std.specs.Str.{str_eq_ignore_ascii_case}
-use Rattle.list_values.specs.Members.{comma}
-use Rattle.list_values.specs.Blanks.{trim}
+use Rattle.http_lists.specs.Members.{comma}
+use Rattle.http_lists.specs.Blanks.{trim}
 use Rattle.http_header.specs.Token.{lowercase}
 use Rattle.http_header.specs.FieldName.{IsFieldName}
 use Rattle.http_header.specs.FieldValue.{IsFieldValue}
-use Rattle.fetch_messages.specs.declared.fault.FetchFault.{FetchFault}
-use Rattle.fetch_messages.specs.declared.fault.FetchFault.TheVariants.{BadHead, HeadTooLong, NoMemory}
-use Rattle.fetch_messages.specs.Field.{FieldText, is_dropped_name, is_trimmed}
+use Rattle.http_messages.specs.declared.fault.FetchFault.{FetchFault}
+use Rattle.http_messages.specs.declared.fault.FetchFault.TheVariants.{BadHead, HeadTooLong, NoMemory}
+use Rattle.http_messages.specs.Field.{FieldText, is_dropped_name, is_trimmed}
 use Rattle.peer_fields.specs.Fields.{values_named}
 
 -- `,`, which separates connection options

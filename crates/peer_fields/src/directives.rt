@@ -5,8 +5,8 @@ ghost use Rattle.peer_fields.specs.Directives as spec;
 ghost use Rattle.peer_fields.specs.Fields.{fields_of};
 
 use crate::fields::all_named;
+use http_lists::{members_of, trim};
 use httparse::spans::HeaderSpan;
-use list_values::{members_of, trim};
 
 /// Whether a request has the directive `only-if-cached`: the client wants a stored response only
 /// (RFC 9111, section 5.2.1.7).

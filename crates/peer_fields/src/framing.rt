@@ -9,7 +9,7 @@ ghost use Rattle.peer_fields.specs.Framing as spec;
 
 use crate::decimal::number_up_to;
 use crate::fields::{Values, all_named, count_named};
-use fetch_messages::FetchFault;
+use http_messages::FetchFault;
 use httparse::spans::HeaderSpan;
 use thiserror::Error;
 

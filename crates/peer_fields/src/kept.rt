@@ -7,15 +7,15 @@ ghost use Rattle.httparse.specs.Spans.{header_bytes, name_and_value};
 ghost use Rattle.http_header.specs.FieldName.{IsFieldName};
 ghost use Rattle.http_header.specs.FieldValue.{IsFieldValue};
 ghost use Rattle.http_header.specs.Token.{lowercase};
-ghost use Rattle.fetch_messages.specs.Field.{field_text, dropped_names, is_dropped_name as is_dropped, is_kept_field, are_few_fields, line_length, is_trimmed as has_no_blank_end};
+ghost use Rattle.http_messages.specs.Field.{field_text, dropped_names, is_dropped_name as is_dropped, is_kept_field, are_few_fields, line_length, is_trimmed as has_no_blank_end};
 ghost use Rattle.peer_fields.specs.Fields.{fields_of};
 ghost use Rattle.peer_fields.specs.Kept as spec;
 
 use crate::fields::{all_named, octets_at};
-use fetch_messages::{FetchFault, Field};
 use http_header::{HeaderName, HeaderNameError, HeaderValue, HeaderValueError};
+use http_lists::trim;
+use http_messages::{FetchFault, Field};
 use httparse::spans::HeaderSpan;
-use list_values::trim;
 use std::alloc::{AllocError, Global};
 
 /// The most fields that are kept.

@@ -9,13 +9,13 @@ use Rattle.httparse.specs.Grammar.{ResponseHead, print_response, print_blank, pr
 use Rattle.httparse.specs.declared.spans.HeaderSpan.{HeaderSpan}
 use Rattle.httparse.specs.declared.spans.ResponseSpans.{ResponseSpans}
 use Rattle.httparse.specs.Spans.{header_bytes, name_and_value, AreFieldsAt, IsResponseAt, IsResponseOf}
-use Rattle.fetch_messages.specs.Answer.{AnswerText}
-use Rattle.fetch_messages.specs.declared.fault.FetchFault.{FetchFault}
-use Rattle.fetch_messages.specs.declared.fault.FetchFault.TheVariants.{Io, EndOfInput, BadHead, HeadTooLong, BadTarget, MethodNotServed, Credentials, BadBody, BodyTooLong, TooManyTurns, NoMemory}
+use Rattle.http_messages.specs.Answer.{AnswerText}
+use Rattle.http_messages.specs.declared.fault.FetchFault.{FetchFault}
+use Rattle.http_messages.specs.declared.fault.FetchFault.TheVariants.{Io, EndOfInput, BadHead, HeadTooLong, BadTarget, MethodNotServed, Credentials, BadBody, BodyTooLong, TooManyTurns, NoMemory}
 use Rattle.peer_fields.specs.Fields.{fields_of}
 use Rattle.std.specs.Io.KnownBytes.{IsAtEnd}
-use Rattle.peer_intake.specs.Reading.{Takes, IsReadFault}
-use Rattle.peer_intake.specs.Heads.{longest_head, most_fields, head_window, IsLongResponse, IsOpenResponse, IsHeadFault}
+use Rattle.http_intake.specs.Reading.{Takes, IsReadFault}
+use Rattle.http_intake.specs.Heads.{longest_head, most_fields, head_window, IsLongResponse, IsOpenResponse, IsHeadFault}
 use Rattle.peer_reading.specs.AnswerHead.{AnswerHead, ToldText, parts_of, head_at, is_interim, told}
 use Rattle.peer_reading.specs.Answers.{IsShortHead, IsInterim, PassesInterim, HeadSays, StopsAtHead, ReadsRest, ReadsOn}
 use Rattle.peer_reading.proofs.BodyLemmas.{takes_none}

@@ -7,13 +7,13 @@ use Rattle.httparse.specs.Grammar.{RequestHead, print_request, NeverHasRequest}
 use Rattle.httparse.specs.declared.spans.HeaderSpan.{HeaderSpan}
 use Rattle.httparse.specs.declared.spans.RequestSpans.{RequestSpans}
 use Rattle.httparse.specs.Spans.{span_bytes, header_bytes, name_and_value, AreFieldsAt, IsRequestAt, IsRequestOf}
-use Rattle.fetch_messages.specs.declared.ask.Ask.{Ask}
-use Rattle.fetch_messages.specs.declared.fault.FetchFault.{FetchFault}
-use Rattle.fetch_messages.specs.declared.fault.FetchFault.TheVariants.{Io, EndOfInput, BadHead, HeadTooLong, BadTarget, MethodNotServed, Credentials, BadBody, BodyTooLong, TooManyTurns, NoMemory}
+use Rattle.http_messages.specs.declared.ask.Ask.{Ask}
+use Rattle.http_messages.specs.declared.fault.FetchFault.{FetchFault}
+use Rattle.http_messages.specs.declared.fault.FetchFault.TheVariants.{Io, EndOfInput, BadHead, HeadTooLong, BadTarget, MethodNotServed, Credentials, BadBody, BodyTooLong, TooManyTurns, NoMemory}
 use Rattle.peer_fields.specs.Fields.{fields_of}
 use Rattle.std.specs.Io.KnownBytes.{IsAtEnd}
-use Rattle.peer_intake.specs.Reading.{Takes, IsReadFault}
-use Rattle.peer_intake.specs.Heads.{longest_head, longest_read, most_fields, head_window, IsLongRequest, IsOpenRequest, IsHeadFault}
+use Rattle.http_intake.specs.Reading.{Takes, IsReadFault}
+use Rattle.http_intake.specs.Heads.{longest_head, longest_read, most_fields, head_window, IsLongRequest, IsOpenRequest, IsHeadFault}
 use Rattle.peer_reading.specs.AskHead.{AskHead, parts_of, head_at, is_ask_fault, Says}
 use Rattle.peer_reading.specs.Asks.{FrontSays, StopsInAsk, ReadsAsk}
 

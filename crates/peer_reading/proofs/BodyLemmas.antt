@@ -1,15 +1,15 @@
--- What `peer_intake` says of each kind of body is what `specs/Answers` says of the body of a
+-- What `http_intake` says of each kind of body is what `specs/Answers` says of the body of a
 -- response, once the octets are held as a `Body` or there was no memory for that.
 use Rattle.std.proofs.Common.{◌≡◌, ℕ, ◌≤◌, ◌+◌, List, [], length, Option, Some, None, Result, Ok, Err, IfOk, IfErr, MatchResult, refl, sym, ◌∙◌, subst, inl, inr, append-nil, vec_len, arith}
 use Rattle.std.specs.Prelude.{Vec}
 use Rattle.std.specs.declared.alloc.Global.{Global}
 use Rattle.std.specs.Io.KnownBytes.{Consumes}
-use Rattle.fetch_messages.specs.declared.fault.FetchFault.{FetchFault}
-use Rattle.fetch_messages.specs.declared.fault.FetchFault.TheVariants.{NoMemory}
+use Rattle.http_messages.specs.declared.fault.FetchFault.{FetchFault}
+use Rattle.http_messages.specs.declared.fault.FetchFault.TheVariants.{NoMemory}
 use Rattle.peer_fields.specs.declared.framing.Framing.TheVariants.{Length, Chunked, ToEnd}
-use Rattle.peer_intake.specs.Reading.{Takes}
-use Rattle.peer_intake.specs.Bodies.{ReadsBodyOf, CutsBodyOf, ReadsToEnd, CutsToEnd}
-use Rattle.peer_intake.specs.Trailer.{HoldsChunkedBody, StopsInChunkedBody}
+use Rattle.http_intake.specs.Reading.{Takes}
+use Rattle.http_intake.specs.Bodies.{ReadsBodyOf, CutsBodyOf, ReadsToEnd, CutsToEnd}
+use Rattle.http_intake.specs.Trailer.{HoldsChunkedBody, StopsInChunkedBody}
 use Rattle.peer_reading.specs.Answers.{ReadsBody}
 
 -- the octets of a body, as they were read

@@ -6,10 +6,10 @@ use Rattle.httparse.specs.Grammar.{ResponseHead, status_code}
 use Rattle.httparse.specs.declared.spans.HeaderSpan.{HeaderSpan}
 use Rattle.httparse.specs.declared.spans.ResponseSpans.{ResponseSpans}
 use Rattle.httparse.specs.Spans.{name_and_value}
-use Rattle.fetch_messages.specs.Field.{FieldText, field_text, is_kept_field, are_few_fields}
-use Rattle.fetch_messages.specs.Answer.{has_no_body}
-use Rattle.fetch_messages.specs.declared.fault.FetchFault.{FetchFault}
-use Rattle.fetch_messages.specs.declared.fault.FetchFault.TheVariants.{BadHead, HeadTooLong}
+use Rattle.http_messages.specs.Field.{FieldText, field_text, is_kept_field, are_few_fields}
+use Rattle.http_messages.specs.Answer.{has_no_body}
+use Rattle.http_messages.specs.declared.fault.FetchFault.{FetchFault}
+use Rattle.http_messages.specs.declared.fault.FetchFault.TheVariants.{BadHead, HeadTooLong}
 use Rattle.peer_fields.specs.declared.framing.Framing.{Framing}
 use Rattle.peer_reading.specs.declared.told.Told.{Told}
 use Rattle.peer_fields.specs.Fields.{fields_of}

@@ -3,15 +3,15 @@ use Rattle.std.specs.Prelude.{◌≡◌, ℕ, ◌≤◌, ◌+◌, ◌⊎◌, ⊤
 use Rattle.std.specs.List.{AllByRecursion}
 use Rattle.std.specs.Io.KnownBytes.{IsAtEnd}
 use Rattle.httparse.specs.Grammar.{ResponseHead, IsResponseHead, print_response, status_code, ReadsResponse, NeverHasResponse}
-use Rattle.fetch_messages.specs.Answer.{AnswerText, longest_body}
-use Rattle.fetch_messages.specs.declared.fault.FetchFault.{FetchFault}
-use Rattle.fetch_messages.specs.declared.fault.FetchFault.TheVariants.{Io, EndOfInput, BadHead, HeadTooLong, TooManyTurns, NoMemory}
+use Rattle.http_messages.specs.Answer.{AnswerText, longest_body}
+use Rattle.http_messages.specs.declared.fault.FetchFault.{FetchFault}
+use Rattle.http_messages.specs.declared.fault.FetchFault.TheVariants.{Io, EndOfInput, BadHead, HeadTooLong, TooManyTurns, NoMemory}
 use Rattle.peer_fields.specs.declared.framing.Framing.{Framing}
 use Rattle.peer_fields.specs.declared.framing.Framing.TheVariants.{Length, Chunked, ToEnd}
-use Rattle.peer_intake.specs.Reading.{Takes, most_turns}
-use Rattle.peer_intake.specs.Heads.{longest_head, most_fields, head_window, IsLongResponse, IsOpenResponse}
-use Rattle.peer_intake.specs.Trailer.{HoldsChunkedBody, StopsInChunkedBody}
-use Rattle.peer_intake.specs.Bodies.{StopsBefore, StopsBeforeEnd}
+use Rattle.http_intake.specs.Reading.{Takes, most_turns}
+use Rattle.http_intake.specs.Heads.{longest_head, most_fields, head_window, IsLongResponse, IsOpenResponse}
+use Rattle.http_intake.specs.Trailer.{HoldsChunkedBody, StopsInChunkedBody}
+use Rattle.http_intake.specs.Bodies.{StopsBefore, StopsBeforeEnd}
 use Rattle.peer_reading.specs.AnswerHead.{parts_of, is_interim, ToldText, told}
 
 -- a head within its limits

@@ -8,9 +8,9 @@ use Rattle.httparse.specs.Spans.{name_and_value, span_bytes}
 use Rattle.peer_fields.specs.Fields.{fields_of}
 use Rattle.url_key.specs.declared.fault.KeyFault.{KeyFault}
 use Rattle.url_key.specs.Key.{HasKey}
-use Rattle.fetch_messages.specs.declared.ask.Ask.{Ask}
-use Rattle.fetch_messages.specs.declared.fault.FetchFault.{FetchFault}
-use Rattle.fetch_messages.specs.declared.fault.FetchFault.TheVariants.{BadHead, BadTarget, MethodNotServed, Credentials, BadBody, NoMemory}
+use Rattle.http_messages.specs.declared.ask.Ask.{Ask}
+use Rattle.http_messages.specs.declared.fault.FetchFault.{FetchFault}
+use Rattle.http_messages.specs.declared.fault.FetchFault.TheVariants.{BadHead, BadTarget, MethodNotServed, Credentials, BadBody, NoMemory}
 use Rattle.peer_fields.specs.Ask.{HostText, absent, several, one, host, has_credentials, member}
 use Rattle.peer_fields.specs.Directives.{only_if_cached, no_cache}
 use Rattle.peer_fields.specs.Framing.{ask_has_body}

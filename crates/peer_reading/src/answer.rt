@@ -1,8 +1,8 @@
 //! Reading responses.
 ghost use Rattle.std.specs.Prelude.{◌≡◌, ◌≤◌, ◌+◌, false, length, IsTrue, IfOk, IfErr};
 ghost use Rattle.httparse.specs.Spans.{IsResponseWithin, IsResponseOf};
-ghost use Rattle.fetch_messages.specs.Answer.{is_writable};
-ghost use Rattle.peer_intake.specs.Heads.{head_window, most_fields};
+ghost use Rattle.http_messages.specs.Answer.{is_writable};
+ghost use Rattle.http_intake.specs.Heads.{head_window, most_fields};
 ghost use Rattle.peer_reading.specs.AnswerHead as head_rules;
 ghost use Rattle.peer_reading.specs.AnswerHead.{told_text, is_fit};
 ghost use Rattle.peer_reading.specs.Answers.{PassesInterim, ReadsAnswer, ReadsOn, ReadsRest, answer_of as answer_text_of};
@@ -10,9 +10,9 @@ ghost use Rattle.peer_reading.specs.Answers.{PassesInterim, ReadsAnswer, ReadsOn
 use crate::ask::MOST_FIELDS;
 use crate::body::read_body;
 use crate::told::{Told, is_interim, tell};
-use fetch_messages::{Answer, Body, FetchFault, Fields};
+use http_intake::Intake;
+use http_messages::{Answer, Body, FetchFault, Fields};
 use httparse::spans::{EMPTY_HEADER_SPAN, HeaderSpan, ResponseSpans};
-use peer_intake::Intake;
 use std::alloc::Global;
 use std::io::Read;
 

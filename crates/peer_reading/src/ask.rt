@@ -6,12 +6,12 @@ ghost use Rattle.peer_reading.specs.AskHead as head_rules;
 ghost use Rattle.peer_reading.specs.AskHead.{KeyOf, head_at, url_by};
 ghost use Rattle.peer_reading.specs.Asks.{ReadsAsk};
 
-use fetch_messages::{Ask, FetchFault};
+use http_intake::Intake;
+use http_messages::{Ask, FetchFault};
 use httparse::spans::{EMPTY_HEADER_SPAN, HeaderSpan, RequestSpans};
 use peer_fields::{
     Host, ask_has_body, has_credentials, host_of, is_no_cache, is_only_if_cached, member,
 };
-use peer_intake::Intake;
 use std::alloc::{AllocError, Global};
 use std::io::Read;
 use url_key::{Key, KeyFault};

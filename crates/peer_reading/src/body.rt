@@ -2,9 +2,9 @@
 ghost use Rattle.std.specs.Prelude.{◌≡◌, ◌≤◌, length, MatchResult, Some, Err};
 ghost use Rattle.peer_reading.specs.Answers.{ReadsBody};
 
-use fetch_messages::{Body, FetchFault};
+use http_intake::Intake;
+use http_messages::{Body, FetchFault};
 use peer_fields::Framing;
-use peer_intake::Intake;
 use std::alloc::Global;
 use std::io::Read;
 

@@ -1,5 +1,5 @@
 //! Reads HTTP/1.1 requests and responses from any reader (RFC 9112). It joins the octets of
-//! `peer_intake` with the meaning of fields of `peer_fields`.
+//! `http_intake` with the meaning of fields of `peer_fields`.
 //!
 //! - [`read_ask`] reads a request: a head, and no body.
 //! - [`read_answer`] reads a response: it passes over interim heads, then reads a final head and

@@ -5,7 +5,7 @@ ghost use Rattle.peer_fields.specs.Fields.{fields_of};
 ghost use Rattle.peer_reading.specs.AnswerHead as head_rules;
 ghost use Rattle.peer_reading.specs.AnswerHead.{head_at, told_text};
 
-use fetch_messages::{FetchFault, Field};
+use http_messages::{FetchFault, Field};
 use httparse::spans::{HeaderSpan, ResponseSpans};
 use peer_fields::{Framing, age, framing_of, kept_fields, stamp};
 use std::alloc::Global;

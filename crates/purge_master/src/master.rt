@@ -12,10 +12,10 @@ use htcp_wire::Htcp;
 use purge_rules::{
     MasterFault, MemberSet, PurgeFault, PurgeStore, Purges, Status, clear, is_acknowledging,
 };
-use roster_tables::Listed;
 use std::alloc::{AllocError, Global};
 use std::marker::Model;
 use url_key::Key;
+use values_tables::Listed;
 
 /// The last number that a purge can get.
 const LAST_NUMBER: u32 = 4294967295;

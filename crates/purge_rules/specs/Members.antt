@@ -1,7 +1,7 @@
 -- Sets of members, as their ids in ascending order.
 use Rattle.std.specs.Prelude.{ℕ, suc, Bool, true, false, ◌==◌, nat_lt, List, [], ◌∷◌, map, filter, if◌then◌else◌}
 use Rattle.std.specs.List.{list_any, list_all}
-use Rattle.roster_tables.specs.declared.plain.Tables.{Tables}
+use Rattle.values_tables.specs.declared.plain.Tables.{Tables}
 use Rattle.roster.specs.Lookups.{is_member}
 
 -- the id is one of these

@@ -1,9 +1,9 @@
 ghost use Rattle.std.specs.Prelude.{◌≡◌, IfOk};
 ghost use Rattle.htcp_wire.specs.Clearing.{is_acknowledging as acknowledges};
 
-use roster_tables::Listed;
 use std::alloc::{AllocError, Global};
 use url_key::Key;
+use values_tables::Listed;
 
 /// How far the purge of a number is.
 #[derive(Clone, Copy, Debug, PartialEq, Eq)]

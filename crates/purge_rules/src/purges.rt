@@ -5,10 +5,10 @@ ghost use Rattle.purge_rules.specs.Places.{IsPlaceOf, IsAbsent, CameBy, given_to
 ghost use Rattle.purge_rules.specs.Calls.{due, status_of};
 
 use crate::{MemberSet, Status};
-use roster_tables::Listed;
 use std::alloc::{AllocError, Global};
 use std::marker::Model;
 use url_key::Key;
+use values_tables::Listed;
 
 /// The most purges that may be pending at a time.
 pub const MOST_PENDING: usize = 1024;

@@ -2,9 +2,9 @@
 -- before.
 use Rattle.std.proofs.Common.{◌≡◌, ℕ, Bool, true, false, cond, bytes_eq, List, [], ◌∷◌, ◌++◌, map, Option, Some, None, codes, refl, ap, ◌||◌}
 use Rattle.std.specs.List.{list_any, flat_map}
-use Rattle.fetch_messages.specs.declared.fields.Field.{Field}
-use Rattle.fetch_messages.specs.Field.{FieldText, field_text}
-use Rattle.list_values.specs.Members.{members}
+use Rattle.http_messages.specs.declared.fields.Field.{Field}
+use Rattle.http_messages.specs.Field.{FieldText, field_text}
+use Rattle.http_lists.specs.Members.{members}
 use Rattle.reuse_rules.specs.Directives.{DirectiveText, directive_of, directives_of_field}
 use Rattle.reuse_rules.specs.Left.{directives_in}
 

@@ -3,11 +3,11 @@ use Rattle.std.specs.Prelude.{ℕ, ◌-◌, Bool, ◌&&◌, ◌==◌, nat_le, mi
 use Rattle.std.specs.List.{list_all, before_first, after_first, flat_map}
 use Rattle.std.specs.Char.{is_ascii_digit, to_ascii_lowercase}
 use Rattle.std.specs.Str.Parse.{digits_value}
-use Rattle.fetch_messages.specs.Field.{FieldText}
-use Rattle.fetch_messages.specs.Answer.{AnswerText}
+use Rattle.http_messages.specs.Field.{FieldText}
+use Rattle.http_messages.specs.Answer.{AnswerText}
 use Rattle.reuse_rules.specs.declared.directive.Directive.{Directive}
-use Rattle.list_values.specs.Members.{members, double_quote}
-use Rattle.list_values.specs.Blanks.{trim}
+use Rattle.http_lists.specs.Members.{members, double_quote}
+use Rattle.http_lists.specs.Blanks.{trim}
 
 -- the name and the value of a directive; the value is as it came, and empty where there is none
 pub record DirectiveText : Type 0 where

@@ -1,9 +1,9 @@
 -- What an iterator over directives has still to give.
 use Rattle.std.specs.Prelude.{ℕ, List, [], ◌++◌, map, Option, Some, None, option_copied}
 use Rattle.std.specs.List.{flat_map}
-use Rattle.fetch_messages.specs.Field.{field_text}
+use Rattle.http_messages.specs.Field.{field_text}
 use Rattle.reuse_rules.specs.declared.directive.Directives.{Directives}
-use Rattle.list_values.specs.Members.{members}
+use Rattle.http_lists.specs.Members.{members}
 use Rattle.reuse_rules.specs.Directives.{DirectiveText, directive_of, directives_of_field}
 
 -- the directives of what is left of a field value

@@ -2,7 +2,7 @@
 -- and 5.3).
 use Rattle.std.specs.Prelude.{ℕ, Bool, not, ◌||◌, ◌==◌, bytes_eq, List, [], ◌∷◌, codes, find, Option, Some, None, option_map, if◌then◌else◌}
 use Rattle.std.specs.List.{list_any}
-use Rattle.fetch_messages.specs.Answer.{AnswerText}
+use Rattle.http_messages.specs.Answer.{AnswerText}
 use Rattle.reuse_rules.specs.Directives.{DirectiveText, directives, is_called, seconds}
 
 -- responses with this status are stored: six of those that are heuristically cacheable (RFC 9110,

@@ -5,8 +5,8 @@ ghost use Rattle.reuse_rules.specs.Directives as spec;
 ghost use Rattle.reuse_rules.specs.Directives.{directive_text};
 ghost use Rattle.reuse_rules.specs.Left.{directives_left};
 
-use fetch_messages::{Answer, Field};
-use list_values::{member_length, trim};
+use http_lists::{member_length, trim};
+use http_messages::{Answer, Field};
 
 /// The most seconds that a directive gives: 2^31 (RFC 9111, section 1.2.2).
 const MOST_SECONDS: u64 = 2_147_483_648;

@@ -3,7 +3,7 @@
 //!
 //! - [`lifetime`] gives the freshness lifetime of a response, or says that it is not stored.
 //! - [`is_fresh`] compares the age of a copy with its lifetime.
-//! - [`members_are_exact`] is `list_values`' law that field values are cut as the grammar of lists
+//! - [`members_are_exact`] is `http_lists`' law that field values are cut as the grammar of lists
 //!   has it.
 //!
 //! The rules are this product's profile of RFC 9111, stricter than the RFC in these points: six
@@ -23,5 +23,5 @@ mod freshness;
 mod lifetimes;
 
 pub use freshness::is_fresh;
+pub use http_lists::members_are_exact;
 pub use lifetimes::lifetime;
-pub use list_values::members_are_exact;

@@ -4,7 +4,7 @@ ghost use Rattle.reuse_rules.specs.Directives.{directives, directive_text, is_ca
 ghost use Rattle.reuse_rules.specs.Lifetime as spec;
 
 use crate::directive::{Directive, directives_of};
-use fetch_messages::{Answer, Field};
+use http_messages::{Answer, Field};
 
 /// The freshness lifetime of a response in seconds, above 0 (RFC 9111, section 4.2.1). `None`: it
 /// is not stored.

@@ -5,13 +5,13 @@ use Rattle.std.proofs.lemmas.Bool.{cases_Bool, false≢true, and_parts}
 use Rattle.std.proofs.lemmas.List.{take_more}
 use Rattle.std.proofs.lemmas.Option.{same_Some}
 use Rattle.std.specs.List.{list_any}
-use Rattle.roster_tables.specs.declared.plain.Address.{Address}
-use Rattle.roster_tables.specs.declared.plain.Udp.{Udp}
-use Rattle.roster_tables.specs.declared.plain.Udp.TheVariants as udp
-use Rattle.roster_tables.specs.declared.plain.Cache.{Cache}
-use Rattle.roster_tables.specs.declared.plain.Member.{Member}
-use Rattle.roster_tables.specs.declared.plain.Tables.{Tables}
-use Rattle.roster_tables.specs.Ranges.{are_tables}
+use Rattle.values_tables.specs.declared.plain.Address.{Address}
+use Rattle.values_tables.specs.declared.plain.Udp.{Udp}
+use Rattle.values_tables.specs.declared.plain.Udp.TheVariants as udp
+use Rattle.values_tables.specs.declared.plain.Cache.{Cache}
+use Rattle.values_tables.specs.declared.plain.Member.{Member}
+use Rattle.values_tables.specs.declared.plain.Tables.{Tables}
+use Rattle.values_tables.specs.Ranges.{are_tables}
 use Rattle.roster.specs.Lookups.{same_address, address_by, HasOwnAddresses}
 use Rattle.roster.specs.Judged.{clashes, caches_of, udp_of, udp_addresses, has_doubles, has_double_address, FitTogether, IsRoster}
 

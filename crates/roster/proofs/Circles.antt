@@ -4,10 +4,10 @@
 use Rattle.std.proofs.Common.{◌≡◌, ℕ, suc, ◌≤◌, ◌<◌, ◌≢◌, Bool, true, false, ◌&&◌, ◌||◌, ◌==◌, ◌⊎◌, inl, inr, List, [], ◌∷◌, length, map, filter, find, Option, MatchOption, slice_get, refl, sym, ◌∙◌, subst, arith, eqb-true, eq-eqb}
 use Rattle.std.proofs.lemmas.Bool.{cases_Bool, false≢true, and_parts}
 use Rattle.std.specs.List.{list_any}
-use Rattle.roster_tables.specs.declared.plain.Peer.{Peer}
-use Rattle.roster_tables.specs.declared.plain.Member.{Member}
-use Rattle.roster_tables.specs.declared.plain.Tables.{Tables}
-use Rattle.roster_tables.specs.Roles.{is_parent}
+use Rattle.values_tables.specs.declared.plain.Peer.{Peer}
+use Rattle.values_tables.specs.declared.plain.Member.{Member}
+use Rattle.values_tables.specs.declared.plain.Tables.{Tables}
+use Rattle.values_tables.specs.Roles.{is_parent}
 use Rattle.roster.specs.Lookups.{names_parent, peers_of, peers_in}
 use Rattle.roster.specs.Judged.{Ascends, parent, further, HasParentLoop}
 use Rattle.roster.specs.Among.{is_among, climbs}

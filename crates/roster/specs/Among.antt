@@ -1,8 +1,8 @@
 -- The ids that are left as `parent_loop` removes the members that have no parent among those left.
 use Rattle.std.specs.Prelude.{ℕ, Bool, ◌&&◌, ◌==◌, List}
 use Rattle.std.specs.List.{list_any}
-use Rattle.roster_tables.specs.declared.plain.Tables.{Tables}
-use Rattle.roster_tables.specs.Roles.{is_parent}
+use Rattle.values_tables.specs.declared.plain.Tables.{Tables}
+use Rattle.values_tables.specs.Roles.{is_parent}
 use Rattle.roster.specs.Lookups.{peers_of}
 
 -- the id is one of these

@@ -1,9 +1,9 @@
 -- What each fault of a roster says of the text, in the order of the tests, and its name.
 use Rattle.std.specs.Prelude.{◌≡◌, ℕ, true, false, List, Some, None, codes}
-use Rattle.roster_tables.specs.Reading.{tables_in}
-use Rattle.roster_tables.specs.declared.plain.Tables.{Tables}
-use Rattle.roster_tables.specs.declared.fault.TablesFault.{TablesFault}
-use Rattle.roster_tables.specs.declared.fault.TablesFault.TheVariants as tables
+use Rattle.values_tables.specs.Reading.{tables_in}
+use Rattle.values_tables.specs.declared.plain.Tables.{Tables}
+use Rattle.values_tables.specs.declared.fault.TablesFault.{TablesFault}
+use Rattle.values_tables.specs.declared.fault.TablesFault.TheVariants as tables
 use Rattle.roster.specs.declared.fault.RosterFault.{RosterFault}
 use Rattle.roster.specs.declared.fault.RosterFault.TheVariants as fault
 use Rattle.roster.specs.Judged.{has_too_many, has_double_address, has_unknown_peer, HasParentLoop}

@@ -2,8 +2,8 @@
 ghost use Rattle.std.specs.Prelude.{◌≡◌, IfOk};
 
 use crate::{Cache, Member, Origin};
-use roster_tables::{Listed, Tables};
 use std::alloc::{AllocError, Global};
+use values_tables::{Listed, Tables};
 
 /// A second copy of a cache.
 fn copy_of_cache(alloc: Global, cache: &Cache) -> Result<Cache, AllocError>

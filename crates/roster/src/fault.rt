@@ -2,10 +2,10 @@ ghost use Rattle.std.specs.Prelude.{◌≡◌};
 ghost use Rattle.roster.specs.Faults.{fault_name};
 
 use crate::{Place, TableKind};
-use roster_tables::TablesFault;
 use std::alloc::AllocError;
 use std::error::Error;
 use std::fmt;
+use values_tables::TablesFault;
 
 /// Why a text has no roster. The first fault that holds is given, in this order; `NoMemory` may
 /// replace any.

@@ -9,8 +9,8 @@ use crate::doubles::first_double;
 use crate::fault::{RosterError, RosterFault, place};
 use crate::loops::parent_loop;
 use crate::{Address, Cache, Member, Peer, Place, TableKind};
-use roster_tables::Tables;
 use std::alloc::{AllocError, Global};
+use values_tables::Tables;
 
 /// All caches: first the members, then the foreign ones.
 fn caches(alloc: Global, tables: &Tables) -> Result<Vec<&Cache>, AllocError>

@@ -1,13 +1,13 @@
 //! Rosters: the configuration of a hierarchy of caches. A roster says who takes part, who asks
 //! whom, and at which addresses they are.
 //!
-//! - [`Roster`]: `Roster::read` reads the tables of a text with `roster_tables` and judges whether
+//! - [`Roster`]: `Roster::read` reads the tables of a text with `values_tables` and judges whether
 //!   they fit together. Crates above look up members, peers, origins and the master in it, and
 //!   never see the text. Look-ups allocate nothing.
 //! - [`RosterFault`], in the order of the tests, and [`RosterError`]: a fault and its [`Place`],
 //!   which prints as a sentence.
 //! - [`is_foreign`], [`address_by`]: of an id, and of a cache. The types of the tables are those of
-//!   `roster_tables`.
+//!   `values_tables`.
 //!
 //! A contract sees a `Roster` as its `Tables`. The invariant `IsRoster` holds of each:
 //!
@@ -43,6 +43,6 @@ mod roster;
 
 pub use crate::fault::{RosterError, RosterFault};
 pub use crate::roster::{Roster, address_by, is_foreign};
-pub use roster_tables::{
+pub use values_tables::{
     Address, Cache, Limits, Listed, Member, Origin, Peer, Place, Role, TableKind, Udp,
 };

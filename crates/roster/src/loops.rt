@@ -3,13 +3,13 @@ ghost use Rattle.std.specs.Prelude.{◌≡◌, ◌==◌, ◌&&◌, map, filter, 
 ghost use Rattle.std.specs.List.{list_any};
 ghost use Rattle.roster.specs.Judged.{HasParentLoop};
 ghost use Rattle.roster.specs.Lookups.{peers_of};
-ghost use Rattle.roster_tables.specs.Roles.{is_parent as is_parent_role};
+ghost use Rattle.values_tables.specs.Roles.{is_parent as is_parent_role};
 ghost use Rattle.roster.specs.Among.{is_among as is_in, climbs as has_parent_in};
 
 use crate::roster::peers_in;
 use crate::{Member, Peer};
-use roster_tables::Tables;
 use std::alloc::{AllocError, Global};
+use values_tables::Tables;
 
 /// The ids of the members.
 fn ids(alloc: Global, members: &[Member]) -> Result<Vec<u8>, AllocError>

@@ -1,19 +1,19 @@
 ghost use Rattle.std.specs.Prelude.{◌≡◌, ◌==◌, ◌&&◌, true, IfOk, IfErr, Some, option_map};
-ghost use Rattle.roster_tables.specs.Ranges.{is_foreign_id};
-ghost use Rattle.roster_tables.specs.Reading.{tables_in};
+ghost use Rattle.values_tables.specs.Ranges.{is_foreign_id};
+ghost use Rattle.values_tables.specs.Reading.{tables_in};
 ghost use Rattle.roster.specs.Faults.{IsFirstOf};
 ghost use Rattle.roster.specs.Judged.{IsRoster};
 ghost use Rattle.roster.specs.Lookups.{is_member as is_member_of, member_of as member_by_id, is_master as is_master_at, is_own as is_own_address, peers_of, peers_in as peers_of_entry, origin_at, member_at as member_by_address, names_sibling as calls_sibling};
 ghost use Rattle.roster.specs.Lookups.{address_by as address_for, is_origin_of as is_origin_for};
-ghost use Rattle.roster_tables.specs.Roles.{is_sibling as is_sibling_role};
+ghost use Rattle.values_tables.specs.Roles.{is_sibling as is_sibling_role};
 ghost use Rattle.std.specs.List.{find, list_any};
 
 use crate::copying::copy_of_tables;
 use crate::judge::judge;
 use crate::{Address, Cache, Limits, Member, Origin, Peer, RosterError, Udp};
-use roster_tables::Tables;
 use std::alloc::{AllocError, Global};
 use std::marker::Model;
+use values_tables::Tables;
 
 /// The configuration of a hierarchy: who takes part, whom each asks, and where all of them are.
 ///
@@ -26,7 +26,7 @@ pub struct Roster {
 }
 
 impl Model for Roster {
-    ghost use Rattle.roster_tables.specs.declared.plain.Tables.{Tables};
+    ghost use Rattle.values_tables.specs.declared.plain.Tables.{Tables};
     ghost use Rattle.roster.specs.Judged.{IsRoster};
 
     ghost Value = { Tables };

@@ -2,7 +2,7 @@
 -- all else stays, so the invariant holds and the board is the one that run_rules has.
 use Rattle.std.proofs.Common.{◌≡◌, ℕ, Bool, List, Ok, Err, None, sym, ◌∙◌, ap, subst}
 use Rattle.floor_rules.specs.Floors.{FloorMap}
-use Rattle.roster_tables.specs.declared.plain.Tables.{Tables}
+use Rattle.values_tables.specs.declared.plain.Tables.{Tables}
 use Rattle.node_rules.specs.declared.state.NodeState.{NodeState}
 use Rattle.node_book.specs.declared.book.NodeEntry.{NodeEntry}
 use Rattle.node_rules.specs.State.{setting}

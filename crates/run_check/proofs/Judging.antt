@@ -2,7 +2,7 @@
 -- case by case.
 use Rattle.std.proofs.Common.{◌≡◌, ℕ, Bool, true, false, cond, not, ◌&&◌, List, ◌∷◌, None, Result, nat_eq, refl, sym, ◌∙◌, ap, subst, inl, inr}
 use Rattle.floor_rules.specs.Floors.{FloorMap}
-use Rattle.roster_tables.specs.declared.plain.Tables.{Tables}
+use Rattle.values_tables.specs.declared.plain.Tables.{Tables}
 use Rattle.node_rules.specs.declared.state.NodeState.{NodeState}
 use Rattle.node_book.specs.declared.book.NodeEntry.{NodeEntry}
 use Rattle.purge_master.specs.declared.book.MasterEntry.{MasterEntry}

@@ -5,7 +5,7 @@ use Rattle.std.specs.Prelude.{All, slice_get, option_map}
 use Rattle.std.proofs.lemmas.List.{map-set, map-append}
 use Rattle.std.proofs.lemmas.List.Elements.{All-set, All-push}
 use Rattle.std.proofs.lemmas.Option.{none-some, slice_get-map, slice_get_read}
-use Rattle.roster_tables.specs.declared.plain.Tables.{Tables}
+use Rattle.values_tables.specs.declared.plain.Tables.{Tables}
 use Rattle.run_rules.specs.Board.{Standing, New, Post, standing_at, with_standing}
 use Rattle.run_rules.proofs.Lists.{either, same_some}
 use Rattle.run_notes.specs.Held.{place_in_rest}

@@ -3,9 +3,9 @@
 use Rattle.std.proofs.Common.{◌≡◌, ◌≢◌, ℕ, List, Option, true, false, refl, sym, ◌∙◌, ap, Result, Ok, Err, inl, inr, arith}
 use Rattle.floor_rules.specs.Floors.{FloorMap}
 use Rattle.floor_rules.specs.Store.{HaveRisen}
-use Rattle.roster_tables.specs.declared.plain.Tables.{Tables}
-use Rattle.key_texts.specs.KeyOf.{GivesKeys, key_of}
-use Rattle.key_texts.proofs.Outcomes.{gives_keys}
+use Rattle.values_tables.specs.declared.plain.Tables.{Tables}
+use Rattle.values_keys.specs.KeyOf.{GivesKeys, key_of}
+use Rattle.values_keys.proofs.Outcomes.{gives_keys}
 use Rattle.node_rules.specs.declared.state.NodeState.{NodeState}
 use Rattle.node_rules.specs.declared.event.Event.{Event}
 use Rattle.node_rules.specs.declared.reply.Reply.{Reply}

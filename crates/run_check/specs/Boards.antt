@@ -1,6 +1,6 @@
 -- How the checker holds the state of a run, and what a note makes of it.
 use Rattle.std.specs.Prelude.{◌≡◌, ℕ, All, not, ◌&&◌, ◌==◌, List, [], ◌∷◌, map, Option, Some, None, if◌then◌else◌}
-use Rattle.roster_tables.specs.declared.plain.Tables.{Tables}
+use Rattle.values_tables.specs.declared.plain.Tables.{Tables}
 use Rattle.purge_rules.specs.Members.{members_of}
 use Rattle.run_rules.specs.declared.verdict.Cause.{Cause}
 use Rattle.run_rules.specs.Notes.{Note}

@@ -1,7 +1,7 @@
 //! The state of a run after some of its notes, and the judgement on the next one.
 ghost use Rattle.std.specs.Prelude.{◌≡◌, ◌↔◌, ◌<◌, ℕ, [], None, map, length, IsTrue, IfSome, IfOk, OnOk};
 ghost use Rattle.std.specs.List.{list_any};
-ghost use Rattle.roster_tables.specs.declared.plain.Tables.{Tables};
+ghost use Rattle.values_tables.specs.declared.plain.Tables.{Tables};
 ghost use Rattle.run_rules.specs.Sent.{Network as ANetwork, silence};
 ghost use Rattle.run_rules.specs.Notes as notes;
 ghost use Rattle.run_rules.specs.Board.{Standing as AStanding, standing_at, with_standing, new_board};

@@ -3,7 +3,7 @@ ghost use Rattle.std.specs.Prelude.{◌≡◌, ◌≤◌, ℕ, IfOk, IfSome};
 ghost use Rattle.node_rules.specs.Relation.{purge_in as purge_of_event, purge_in_message, purge_meant};
 ghost use Rattle.node_core.specs.View.{HasKeyOf};
 ghost use Rattle.node_rules.specs.State.{setting};
-ghost use Rattle.key_texts.specs.KeyOf.{key_of as key_of_octets};
+ghost use Rattle.values_keys.specs.KeyOf.{key_of as key_of_octets};
 ghost use Rattle.run_rules.specs.Judging.{stored_by};
 
 use floor_rules::{FloorFault, FloorStore, Floors, MemoryFloors};
@@ -24,7 +24,7 @@ fn read_key(alloc: Global, text: &[u8]) -> Result<Option<Key>, AllocError>
     }
 }
 
-/// The key of a text, if it has one, in the words of `key_texts`.
+/// The key of a text, if it has one, in the words of `values_keys`.
 fn key_of(alloc: Global, text: &[u8]) -> Result<Option<Key>, AllocError>
     ensures { IfOk result (λ key. key ≡ key_of_octets text.now) }
 {

@@ -6,9 +6,9 @@ use Rattle.std.proofs.lemmas.Grind.{flat_map-append}
 use Rattle.node_rules.proofs.Cases.{true_not_false}
 use Rattle.htcp_wire.specs.declared.message.Htcp.{Htcp}
 use Rattle.node_rules.specs.declared.message.Outgoing.{Outgoing}
-use Rattle.roster_tables.specs.declared.plain.Cache.{Cache}
-use Rattle.roster_tables.specs.declared.plain.Member.{Member}
-use Rattle.roster_tables.specs.declared.plain.Tables.{Tables}
+use Rattle.values_tables.specs.declared.plain.Cache.{Cache}
+use Rattle.values_tables.specs.declared.plain.Member.{Member}
+use Rattle.values_tables.specs.declared.plain.Tables.{Tables}
 use Rattle.roster.specs.Lookups.{member_of, is_member}
 use Rattle.purge_rules.specs.Members.{possible_ids, members_of}
 use Rattle.purge_rules.specs.Clear.{clear}

@@ -1,7 +1,7 @@
 -- Adding all that a reply sends, part by part: each part changes its own list and no other.
 use Rattle.std.proofs.Common.{◌≡◌, ℕ, List, ◌++◌, Option, subst}
 use Rattle.std.specs.Prelude.{OnOk, Result, Ok, Err}
-use Rattle.roster_tables.specs.declared.plain.Tables.{Tables}
+use Rattle.values_tables.specs.declared.plain.Tables.{Tables}
 use Rattle.roster.specs.Lookups.{member_of}
 use Rattle.node_rules.specs.declared.event.Event.{Event}
 use Rattle.node_rules.specs.declared.reply.Reply.{Reply}

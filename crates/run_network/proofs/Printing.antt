@@ -8,8 +8,8 @@ use Rattle.std.specs.declared.hash.DefaultHasher.{DefaultHasher}
 use Rattle.std.proofs.lemmas.List.{take_more, take_all, map-append, length-map}
 use Rattle.std.proofs.lemmas.List.Sums.{fold-append}
 use Rattle.std.proofs.lemmas.Grind.{flat_map-append}
-use Rattle.fetch_messages.specs.declared.fields.Field.{Field}
-use Rattle.fetch_messages.specs.Field.{field_text}
+use Rattle.http_messages.specs.declared.fields.Field.{Field}
+use Rattle.http_messages.specs.Field.{field_text}
 use Rattle.run_network.specs.Prints.{written_to, field_writes, fields_writes}
 
 -- the writes us and then the writes vs

@@ -3,7 +3,7 @@
 use Rattle.std.specs.Prelude.{◌≡◌, ◌↔◌, ℕ, nat_eq, List, ◌++◌, Contains, find, option_map, Option, None, Some}
 use Rattle.std.specs.HashMap.{get}
 use Rattle.std.specs.Option.{option_and_then}
-use Rattle.roster_tables.specs.declared.plain.Tables.{Tables}
+use Rattle.values_tables.specs.declared.plain.Tables.{Tables}
 use Rattle.world_rules.specs.World.{Datagram}
 use Rattle.run_rules.specs.Sent.{Network, SentAsk, SentAnswer, Waits, text_of, is_waiting, ComesTo, IsAnswerOf}
 use Rattle.run_network.specs.declared.letters.Letter.{Letter}

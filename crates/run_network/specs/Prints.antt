@@ -9,9 +9,9 @@ use Rattle.std.specs.declared.hash.DefaultHasher.{DefaultHasher}
 use Rattle.std.specs.declared.hash.RandomState.{RandomState}
 use Rattle.htcp_wire.specs.declared.message.Content.{Content}
 use Rattle.htcp_wire.specs.declared.message.Content.TheVariants as content
-use Rattle.roster_tables.specs.declared.plain.Address.{Address}
-use Rattle.fetch_messages.specs.Field.{FieldText}
-use Rattle.fetch_messages.specs.Answer.{AnswerText}
+use Rattle.values_tables.specs.declared.plain.Address.{Address}
+use Rattle.http_messages.specs.Field.{FieldText}
+use Rattle.http_messages.specs.Answer.{AnswerText}
 use Rattle.node_rules.specs.declared.message.Message.{Message}
 use Rattle.node_rules.specs.declared.message.Message.TheVariants as message
 

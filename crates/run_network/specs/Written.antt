@@ -1,7 +1,7 @@
 -- What is written of a response to a member.
 use Rattle.std.specs.Prelude.{map}
-use Rattle.fetch_messages.specs.Field.{field_text}
-use Rattle.fetch_messages.specs.Answer.{AnswerText}
+use Rattle.http_messages.specs.Field.{field_text}
+use Rattle.http_messages.specs.Answer.{AnswerText}
 use Rattle.run_network.specs.declared.written.Written.{Written}
 
 -- what is written, as a response

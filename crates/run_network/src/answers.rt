@@ -8,7 +8,7 @@ ghost use Rattle.run_network.specs.Held.{answer_in, HasAnswer, HoldsAnswers};
 use crate::bags::Bags;
 use crate::prints::answer_print;
 use crate::written::Written;
-use fetch_messages::Answer;
+use http_messages::Answer;
 use node_equality::same_key;
 use node_rules::{Serve, Served};
 use std::alloc::{AllocError, Global};

@@ -6,7 +6,7 @@ ghost use Rattle.run_network.specs.Held.{ask_in, HasAsk, HoldsAsks};
 
 use crate::bags::Bags;
 use crate::prints::ask_print;
-use fetch_messages::Ask;
+use http_messages::Ask;
 use node_equality::same_ask;
 use node_rules::Begin;
 use roster::is_foreign;

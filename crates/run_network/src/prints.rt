@@ -1,13 +1,13 @@
 //! Prints: hashes of items, by SipHash with keys that nobody outside knows. Equal items have equal
 //! prints.
 ghost use Rattle.std.specs.Prelude.{◌≡◌, map};
-ghost use Rattle.fetch_messages.specs.Field.{field_text};
+ghost use Rattle.http_messages.specs.Field.{field_text};
 ghost use Rattle.run_network.specs.Written.{written_text};
 ghost use Rattle.run_network.specs.Prints as prints;
 
 use crate::written::Written;
-use fetch_messages::Field;
 use htcp_wire::Content;
+use http_messages::Field;
 use node_rules::Message;
 use roster::Address;
 use std::hash::{BuildHasher, DefaultHasher, Hash, Hasher, RandomState};

@@ -3,7 +3,7 @@ ghost use Rattle.std.specs.Prelude.{◌≡◌, ◌↔◌, IsTrue};
 ghost use Rattle.run_rules.specs.Sent.{text_of};
 ghost use Rattle.run_network.specs.Written.{written_text};
 
-use fetch_messages::{Answer, Field};
+use http_messages::{Answer, Field};
 use node_equality::same_fields;
 use node_rules::Served;
 

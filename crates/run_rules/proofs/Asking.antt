@@ -1,8 +1,8 @@
 -- What a request begins has a serial of the node's next block, which is then taken. By cases on the
 -- rules: each that begins something makes its serial of that block.
 use Rattle.std.proofs.Common.{◌≡◌, ℕ, ◌+◌, ◌*◌, ◌/◌, Bool, true, false, List, [], ◌∷◌, Option, Some, None, Result, Ok, Err, refl, sym, ◌∙◌, ap, arith}
-use Rattle.roster_tables.specs.declared.plain.Peer.{Peer}
-use Rattle.fetch_messages.specs.declared.ask.Ask.{Ask}
+use Rattle.values_tables.specs.declared.plain.Peer.{Peer}
+use Rattle.http_messages.specs.declared.ask.Ask.{Ask}
 use Rattle.object_store.specs.declared.copy.WebCopy.{WebCopy}
 use Rattle.peer_chooser.specs.Round.{RoundText}
 use Rattle.node_rules.specs.declared.state.NodeState.{NodeState}

@@ -5,7 +5,7 @@ use Rattle.std.proofs.Common.{◌≡◌, ℕ, ◌+◌, Bool, true, false, cond, 
 use Rattle.std.proofs.lemmas.List.Elements.{Contains-append_left}
 use Rattle.floor_rules.specs.Floors.{FloorMap, HasRoom, floor, raised}
 use Rattle.floor_rules.specs.Store.{IsBeforeOrAfter}
-use Rattle.roster_tables.specs.declared.plain.Tables.{Tables}
+use Rattle.values_tables.specs.declared.plain.Tables.{Tables}
 use Rattle.roster.specs.Lookups.{is_member}
 use Rattle.roster.specs.Judged.{IsRoster}
 use Rattle.node_rules.specs.declared.state.NodeState.{NodeState}

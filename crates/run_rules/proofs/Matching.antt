@@ -4,8 +4,8 @@ use Rattle.std.proofs.Common.{◌≡◌, ℕ, ◌+◌, ◌/◌, Bool, true, fals
 use Rattle.std.specs.Prelude.{find, Contains, option_map, ◌≢◌}
 use Rattle.std.specs.List.{AllByRecursion}
 use Rattle.std.proofs.lemmas.List.Elements.{Contains-append_left, Contains-append_right, Contains-append_cases}
-use Rattle.fetch_messages.specs.declared.ask.Ask.{Ask}
-use Rattle.roster_tables.specs.Ranges.{is_foreign_id}
+use Rattle.http_messages.specs.declared.ask.Ask.{Ask}
+use Rattle.values_tables.specs.Ranges.{is_foreign_id}
 use Rattle.node_rules.specs.declared.state.NodeState.{NodeState}
 use Rattle.node_rules.specs.declared.event.Event.{Event}
 use Rattle.node_rules.specs.declared.event.Event.TheVariants as event

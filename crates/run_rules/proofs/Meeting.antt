@@ -2,11 +2,11 @@
 -- is in the world's lists, so its number delivers it. What others send is an event of its own.
 use Rattle.std.proofs.Common.{◌≡◌, ℕ, Bool, true, false, cond, List, Option, Some, None, refl, sym, ◌∙◌, ap, inl, inr, nat_eq, subst}
 use Rattle.std.specs.Prelude.{Contains, option_map, MatchOption}
-use Rattle.fetch_messages.specs.declared.ask.Ask.{Ask}
-use Rattle.fetch_messages.specs.Answer.{AnswerText}
-use Rattle.roster_tables.specs.Ranges.{is_foreign_id}
-use Rattle.roster_tables.specs.declared.plain.Address.{Address}
-use Rattle.roster_tables.specs.declared.plain.Tables.{Tables}
+use Rattle.http_messages.specs.declared.ask.Ask.{Ask}
+use Rattle.http_messages.specs.Answer.{AnswerText}
+use Rattle.values_tables.specs.Ranges.{is_foreign_id}
+use Rattle.values_tables.specs.declared.plain.Address.{Address}
+use Rattle.values_tables.specs.declared.plain.Tables.{Tables}
 use Rattle.roster.specs.Lookups.{is_member, member_at, is_master, is_own}
 use Rattle.roster.specs.Judged.{IsRoster}
 use Rattle.node_rules.specs.declared.message.Message.{Message}

@@ -1,7 +1,7 @@
 -- What notes stand for is a run of the world: each note's events lead from one world to the next,
 -- and runs join.
 use Rattle.std.proofs.Common.{◌≡◌, ℕ, ◌+◌, List, [], ◌∷◌, ◌++◌, length, refl, sym, subst, inl, inr, arith, length-append}
-use Rattle.roster_tables.specs.declared.plain.Tables.{Tables}
+use Rattle.values_tables.specs.declared.plain.Tables.{Tables}
 use Rattle.world_rules.specs.World.{World}
 use Rattle.world_rules.specs.Run.{Step, Run}
 use Rattle.run_rules.specs.Notes.{Note, Opens, Steps, Closes, Calls}

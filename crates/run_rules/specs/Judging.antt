@@ -4,8 +4,8 @@ use Rattle.std.specs.Prelude.{◌≡◌, ◌≢◌, ◌⊎◌, ℕ, Bool, true, 
 use Rattle.std.specs.FinMap.{empty}
 use Rattle.url_key.specs.Key.{IsKey}
 use Rattle.floor_rules.specs.Floors.{FloorMap, floor, raised}
-use Rattle.roster_tables.specs.Ranges.{is_foreign_id}
-use Rattle.roster_tables.specs.declared.plain.Tables.{Tables}
+use Rattle.values_tables.specs.Ranges.{is_foreign_id}
+use Rattle.values_tables.specs.declared.plain.Tables.{Tables}
 use Rattle.roster.specs.Lookups.{is_member}
 use Rattle.node_rules.specs.declared.state.Fetch.{Fetch}
 use Rattle.node_rules.specs.declared.state.Fetch.TheVariants.{AtPeer, AtOrigin}

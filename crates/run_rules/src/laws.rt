@@ -1,6 +1,6 @@
 //! The laws. Each function has no body: its clauses are theorems about the definitions.
 ghost use Rattle.std.specs.Prelude.{List};
-ghost use Rattle.roster_tables.specs.declared.plain.Tables.{Tables};
+ghost use Rattle.values_tables.specs.declared.plain.Tables.{Tables};
 ghost use Rattle.roster.specs.Judged.{IsRoster};
 ghost use Rattle.node_book.specs.declared.record.Record.{Record};
 ghost use Rattle.purge_master.specs.declared.book.MasterEntry.{MasterEntry};

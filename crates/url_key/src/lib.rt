@@ -35,7 +35,7 @@
 //!    the same of texts that pass `specs/Plain.antt`.
 //!
 //! The crate `http_uri` cuts all other texts; its grammar is near that of RFC 3986 and not the
-//! same. `key_texts` has the definition of `specs/Key.antt` as a function. This crate resolves no
+//! same. `values_keys` has the definition of `specs/Key.antt` as a function. This crate resolves no
 //! name and touches no file, socket, clock or thread.
 #![tactic(auto)]
 

@@ -20,7 +20,7 @@ use Rattle.htcp_wire.specs.Grammar as htcp
 use Rattle.htcp_wire.specs.Faults as htcp_faults
 use Rattle.wire_script.specs.declared.wire.Codec.{Codec}
 use Rattle.wire_script.specs.declared.wire.Codec.TheVariants.{Icp, Htcp}
-use Rattle.script_lines.specs.Words.{is_word}
+use Rattle.values_lines.specs.Words.{is_word}
 
 -- octets in hex, and `-` where there are none
 abbrev pub shown : List ℕ → List ℕ

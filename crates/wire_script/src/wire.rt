@@ -3,13 +3,13 @@ mod htcp;
 mod icp;
 
 ghost use Rattle.std.specs.Prelude.{◌≡◌, ◌++◌, OnOk};
-ghost use Rattle.script_lines.specs.Script.{HasPlayed};
+ghost use Rattle.values_lines.specs.Script.{HasPlayed};
 ghost use Rattle.wire_script.specs.Wire.{shown, WireAnswers};
 ghost use Rattle.wire_script.specs.declared.wire.Codec.{Codec as TheCodec};
 
-use script_lines::{RunFault, Script, is_word, play};
 use std::alloc::{AllocError, Global};
 use std::io::{Read, Write};
+use values_lines::{RunFault, Script, is_word, play};
 
 /// The protocol by which datagrams are decoded.
 #[derive(Clone, Copy, Debug, PartialEq, Eq)]

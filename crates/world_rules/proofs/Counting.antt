@@ -12,7 +12,7 @@ use Rattle.purge_rules.specs.declared.fault.MasterFault.TheVariants.{NumbersSpen
 use Rattle.purge_rules.specs.Purges.{PurgeList, pending_at, with_purge}
 use Rattle.purge_rules.specs.Calls.{issue_fault}
 use Rattle.url_key.specs.Key.{IsKey}
-use Rattle.roster_tables.specs.declared.plain.Tables.{Tables}
+use Rattle.values_tables.specs.declared.plain.Tables.{Tables}
 use Rattle.world_rules.specs.declared.event.WorldEvent.{WorldEvent}
 use Rattle.world_rules.specs.declared.event.WorldEvent.TheVariants.{Issue}
 use Rattle.world_rules.specs.World.{World, node_at}

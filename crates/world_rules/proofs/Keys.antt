@@ -1,6 +1,6 @@
 -- The key of a key's own text is that key. The text either has a fault or spells no URI, which
 -- IsKey excludes, or it spells a URI, and then IsKey says which key it has.
-use Rattle.roster_tables.specs.declared.plain.Tables.{Tables}
+use Rattle.values_tables.specs.declared.plain.Tables.{Tables}
 use Rattle.std.proofs.Common.{◌≡◌, ℕ, Bool, true, false, List, Option, Some, None, Ok, Err, refl, sym, ◌∙◌, ap, subst, inl, inr, [], unwrap_or}
 use Rattle.std.proofs.lemmas.Option.{none-some}
 use Rattle.std.specs.Prelude.{bytes_eq}
@@ -12,8 +12,8 @@ use Rattle.url_key.specs.declared.fault.KeyFault.TheVariants.{NotUri}
 use Rattle.url_key.specs.Key.{IsKey, HasKey, HasKeyBy, early_fault, key_of_uri}
 use Rattle.node_rules.proofs.FloorLaws.{same_text, text_same}
 use Rattle.node_rules.proofs.Cases.{true_not_false}
-use Rattle.key_texts.specs.KeyOf.{key_of, key_in}
-use Rattle.key_texts.proofs.Outcomes.{gives_keys}
+use Rattle.values_keys.specs.KeyOf.{key_of, key_in}
+use Rattle.values_keys.proofs.Outcomes.{gives_keys}
 
 -- a URI of these parts
 uri_of : (text : List ℕ) (scheme authority : Option (List ℕ)) (kept : List ℕ) → IsUriText text scheme authority kept → (u : Uri) × Spells text u

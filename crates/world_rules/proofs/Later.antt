@@ -9,7 +9,7 @@ use Rattle.node_rules.specs.declared.state.NodeState.{NodeState}
 use Rattle.floor_rules.specs.Floors.{floor}
 use Rattle.node_rules.proofs.Pendings.{all_mapped}
 use Rattle.purge_rules.specs.declared.purges.Purge.{Purge}
-use Rattle.roster_tables.specs.declared.plain.Tables.{Tables}
+use Rattle.values_tables.specs.declared.plain.Tables.{Tables}
 use Rattle.world_rules.specs.World.{Seat, Datagram, PeerAnswer, node_at, with_node}
 use Rattle.world_rules.specs.Run.{Step, IsItem, purges, issued}
 use Rattle.world_rules.specs.Lineage.{IsStamped, IsStampedCopy, IsStampedFetch, IsStampedRead, IsSentAnswer, HasRaised, IsClear, IsMastersRightly, IsObeyed, NodeHasLineage, PurgeHasLineage, AllHaveRaised}

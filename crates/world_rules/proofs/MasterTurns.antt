@@ -7,7 +7,7 @@ use Rattle.std.specs.List.{AllByRecursion, flat_map}
 use Rattle.std.proofs.Math.Decide.{ℕ_discrete}
 use Rattle.std.proofs.lemmas.Option.{none-some, slice_get_within}
 use Rattle.htcp_wire.specs.declared.message.Htcp.{Htcp}
-use Rattle.roster_tables.specs.declared.plain.Member.{Member}
+use Rattle.values_tables.specs.declared.plain.Member.{Member}
 use Rattle.roster.specs.Lookups.{member_of}
 use Rattle.roster.specs.Judged.{IsRoster}
 use Rattle.node_rules.specs.declared.message.Message.TheVariants as message
@@ -21,7 +21,7 @@ use Rattle.purge_rules.specs.Purges.{PurgeList, is_numbered, pending_at, marked_
 use Rattle.purge_rules.specs.Calls.{Acknowledged, unchanged, counted, acknowledged, due, status_by, status_of}
 use Rattle.htcp_wire.specs.Clearing.{is_acknowledging}
 use Rattle.purge_rules.specs.Clear.{clear, message_of}
-use Rattle.roster_tables.specs.declared.plain.Tables.{Tables}
+use Rattle.values_tables.specs.declared.plain.Tables.{Tables}
 use Rattle.world_rules.specs.World.{Seat, World, node_at}
 use Rattle.world_rules.specs.Turn.{Told, with_clock, with_master, with_sent, clear_to, clears_of, clears_due}
 use Rattle.world_rules.specs.Run.{Step, purges, TellsDone}

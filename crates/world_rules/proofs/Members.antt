@@ -4,10 +4,10 @@ use Rattle.std.proofs.Common.{◌≡◌, ℕ, zero, suc, ◌+◌, ◌≤◌, ◌
 use Rattle.std.specs.Prelude.{is_some, find}
 use Rattle.std.specs.List.{AllByRecursion, list_all}
 use Rattle.std.proofs.Math.Decide.{ℕ_discrete}
-use Rattle.roster_tables.specs.Ranges as ranges
-use Rattle.roster_tables.specs.Ranges.{are_tables, is_member_id, are_limits, is_port, is_cache, is_peer, is_foreign, is_origin}
-use Rattle.roster_tables.specs.declared.plain.Member.{Member}
-use Rattle.roster_tables.specs.declared.plain.Tables.{Tables}
+use Rattle.values_tables.specs.Ranges as ranges
+use Rattle.values_tables.specs.Ranges.{are_tables, is_member_id, are_limits, is_port, is_cache, is_peer, is_foreign, is_origin}
+use Rattle.values_tables.specs.declared.plain.Member.{Member}
+use Rattle.values_tables.specs.declared.plain.Tables.{Tables}
 use Rattle.roster.specs.Lookups.{is_member}
 use Rattle.node_rules.proofs.Cases.{branches, true_not_false, or_true}
 use Rattle.node_rules.proofs.Pendings.{found, found_passes}

@@ -13,15 +13,15 @@ use Rattle.htcp_wire.specs.Numbers.{is_blank, trim_front, trim_end, value_in, is
 use Rattle.htcp_wire.specs.Lines.{IsLine, AreLines}
 use Rattle.htcp_wire.proofs.Digits.{same_digit_tests, numerals}
 use Rattle.htcp_wire.proofs.Cuts.{lines_alone}
-use Rattle.roster_tables.specs.declared.plain.Address.{Address}
+use Rattle.values_tables.specs.declared.plain.Address.{Address}
 use Rattle.roster.specs.Lookups.{is_master}
 use Rattle.node_rules.specs.declared.message.Message.TheVariants as message
 use Rattle.node_rules.specs.Relation.{purge_in_message, purge_by_line}
 use Rattle.node_rules.proofs.Cases.{true_not_false, or_true}
 use Rattle.node_rules.proofs.Pendings.{all_mapped, all_joined}
 use Rattle.purge_rules.specs.Clear.{number_line, clear}
-use Rattle.roster_tables.specs.declared.plain.Tables.{Tables}
-use Rattle.key_texts.specs.KeyOf.{key_of}
+use Rattle.values_tables.specs.declared.plain.Tables.{Tables}
+use Rattle.values_keys.specs.KeyOf.{key_of}
 use Rattle.node_rules.specs.State.{setting}
 use Rattle.world_rules.proofs.Members.{all_tested}
 use Rattle.world_rules.proofs.Seats.{same_id, other_id, or_left}

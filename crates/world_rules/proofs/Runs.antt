@@ -3,10 +3,10 @@
 use Rattle.std.proofs.Common.{◌≡◌, ℕ, zero, suc, ◌+◌, ◌-◌, List, [], ◌∷◌, ◌++◌, length, take, map, Some, refl, sym, subst, nat_eq, inl, inr, arith, length-append, append_assoc}
 use Rattle.std.specs.Prelude.{slice_get}
 use Rattle.std.proofs.lemmas.Option.{same_Some}
-use Rattle.roster_tables.specs.declared.plain.Member.{Member}
+use Rattle.values_tables.specs.declared.plain.Member.{Member}
 use Rattle.floor_rules.proofs.MapLemmas.{seen_empty}
 use Rattle.node_rules.proofs.Cases.{branches}
-use Rattle.roster_tables.specs.declared.plain.Tables.{Tables}
+use Rattle.values_tables.specs.declared.plain.Tables.{Tables}
 use Rattle.roster.specs.Judged.{IsRoster}
 use Rattle.world_rules.specs.World.{World, new_node, new_world, node_at}
 use Rattle.world_rules.specs.declared.event.WorldEvent.{WorldEvent}

@@ -11,7 +11,7 @@ use Rattle.floor_rules.specs.Floors.{floor}
 use Rattle.node_rules.specs.Effect.{copy_served, sent}
 use Rattle.node_rules.specs.Questions.{BeginsNothing}
 use Rattle.node_rules.proofs.Lawful.{steps_are_lawful}
-use Rattle.roster_tables.specs.declared.plain.Tables.{Tables}
+use Rattle.values_tables.specs.declared.plain.Tables.{Tables}
 use Rattle.roster.specs.Judged.{IsRoster}
 use Rattle.node_rules.specs.State.{setting}
 use Rattle.purge_rules.specs.declared.fault.MasterFault.{MasterFault}

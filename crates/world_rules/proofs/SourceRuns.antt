@@ -4,7 +4,7 @@ use Rattle.std.proofs.Common.{◌≡◌, ℕ, zero, suc, ◌+◌, ◌-◌, List,
 use Rattle.std.specs.Prelude.{slice_get}
 use Rattle.std.proofs.lemmas.Option.{same_Some}
 use Rattle.object_store.specs.declared.copy.WebCopy.{WebCopy}
-use Rattle.roster_tables.specs.declared.plain.Member.{Member}
+use Rattle.values_tables.specs.declared.plain.Member.{Member}
 use Rattle.node_rules.specs.declared.reply.Served.{Served}
 use Rattle.node_rules.specs.declared.reply.Served.TheVariants.{Copy}
 use Rattle.node_rules.specs.declared.reply.Serve.{Serve}
@@ -14,7 +14,7 @@ use Rattle.node_rules.specs.State.{served_age, setting}
 use Rattle.node_rules.specs.Effect.{copy_in, copy_in_serve, copy_served}
 use Rattle.node_rules.proofs.Cases.{branches}
 use Rattle.node_rules.proofs.Lawful.{steps_are_lawful}
-use Rattle.roster_tables.specs.declared.plain.Tables.{Tables}
+use Rattle.values_tables.specs.declared.plain.Tables.{Tables}
 use Rattle.world_rules.specs.declared.event.WorldEvent.{WorldEvent}
 use Rattle.world_rules.specs.World.{World, new_node, new_world, node_at}
 use Rattle.world_rules.specs.Turn.{Seen, Replied, Turn, NodeSteps, Ends, Refused, turn}

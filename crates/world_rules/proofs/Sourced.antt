@@ -6,8 +6,8 @@ use Rattle.std.specs.Prelude.{◌⊎◌}
 use Rattle.std.specs.List.{AllByRecursion, Contains}
 use Rattle.std.proofs.Math.Decide.{ℕ_discrete}
 use Rattle.std.proofs.lemmas.Option.{none-some}
-use Rattle.fetch_messages.specs.declared.ask.Ask.{Ask}
-use Rattle.fetch_messages.specs.Answer.{AnswerText}
+use Rattle.http_messages.specs.declared.ask.Ask.{Ask}
+use Rattle.http_messages.specs.Answer.{AnswerText}
 use Rattle.object_store.specs.declared.copy.WebCopy.{WebCopy}
 use Rattle.node_rules.specs.declared.state.Fetch.{Fetch}
 use Rattle.node_rules.specs.declared.state.Fetch.TheVariants.{Nowhere, AtPeer, AtOrigin}
@@ -29,7 +29,7 @@ use Rattle.node_rules.specs.Lawful.{HasOrGets, Lawful}
 use Rattle.node_rules.proofs.Cases.{true_not_false, same_Some}
 use Rattle.node_rules.proofs.Pendings.{all_mapped, all_joined, contained}
 use Rattle.node_rules.proofs.Lawful.{steps_are_lawful}
-use Rattle.roster_tables.specs.declared.plain.Tables.{Tables}
+use Rattle.values_tables.specs.declared.plain.Tables.{Tables}
 use Rattle.world_rules.specs.declared.event.WorldEvent.{WorldEvent}
 use Rattle.world_rules.specs.World.{Seat, PeerAnswer, World, new_world, node_at, with_node, Answered, answer_of, mark_of, answer_to, asked_before, asked_by, answers_in, reply_in, after_node}
 use Rattle.world_rules.specs.Turn.{Replied, NodeSteps, turn}

@@ -5,16 +5,16 @@ use Rattle.std.proofs.Common.{◌≡◌, ℕ, ◌+◌, Bool, true, false, cond, 
 use Rattle.std.specs.Prelude.{find, is_some, option_map}
 use Rattle.url_key.specs.Key.{IsKey}
 use Rattle.std.proofs.lemmas.Option.{none-some}
-use Rattle.roster_tables.specs.declared.plain.Address.{Address}
-use Rattle.roster_tables.specs.declared.plain.Udp.{Udp}
-use Rattle.roster_tables.specs.declared.plain.Udp.TheVariants as udp
+use Rattle.values_tables.specs.declared.plain.Address.{Address}
+use Rattle.values_tables.specs.declared.plain.Udp.{Udp}
+use Rattle.values_tables.specs.declared.plain.Udp.TheVariants as udp
 use Rattle.htcp_wire.specs.declared.message.Content.{Content}
 use Rattle.htcp_wire.specs.declared.message.Content.TheVariants as content
 use Rattle.node_rules.specs.declared.message.Message.{Message}
 use Rattle.node_rules.specs.declared.message.Message.TheVariants as message
-use Rattle.fetch_messages.specs.Answer.{AnswerText}
+use Rattle.http_messages.specs.Answer.{AnswerText}
 use Rattle.object_store.specs.declared.copy.WebCopy.{WebCopy}
-use Rattle.roster_tables.specs.declared.plain.Member.{Member}
+use Rattle.values_tables.specs.declared.plain.Member.{Member}
 use Rattle.node_rules.specs.declared.state.Fetch.{Fetch}
 use Rattle.node_rules.specs.declared.state.Fetch.TheVariants.{Nowhere, AtPeer, AtOrigin}
 use Rattle.node_rules.specs.declared.state.Pending.{Pending}
@@ -22,7 +22,7 @@ use Rattle.node_rules.specs.declared.event.Event.{Event}
 use Rattle.node_rules.specs.declared.event.Event.TheVariants as event
 use Rattle.node_rules.specs.declared.reply.Reply.{Reply}
 use Rattle.node_rules.specs.declared.reply.StepFault.{StepFault}
-use Rattle.roster_tables.specs.Ranges.{is_foreign_id}
+use Rattle.values_tables.specs.Ranges.{is_foreign_id}
 use Rattle.roster.specs.Lookups.{is_master, is_member, member_at, same_address, address_by, is_own}
 use Rattle.node_rules.specs.State.{opened, setting, closed_node}
 use Rattle.node_rules.specs.Effect.{acknowledged as acknowledged_by_message}
@@ -32,7 +32,7 @@ use Rattle.purge_rules.specs.Calls.{issue_fault, acknowledged, status_of}
 use Rattle.htcp_wire.specs.Clearing.{is_acknowledging}
 use Rattle.node_rules.proofs.Cases.{branches, same_Some, true_not_false}
 use Rattle.node_rules.proofs.Lawful.{steps_are_lawful}
-use Rattle.roster_tables.specs.declared.plain.Tables.{Tables}
+use Rattle.values_tables.specs.declared.plain.Tables.{Tables}
 use Rattle.roster.specs.Judged.{IsRoster}
 use Rattle.node_rules.specs.Messages.{protocol_of as udp_of}
 use Rattle.world_rules.specs.World.{Datagram, PeerAsk, PeerAnswer, World, item, node_at, after_node}

@@ -8,7 +8,7 @@ use Rattle.node_rules.specs.declared.reply.StepFault.{StepFault}
 use Rattle.node_rules.specs.State.{Stepped, quiet, setting}
 use Rattle.node_rules.specs.Step.{step}
 use Rattle.purge_rules.specs.declared.calls.Status.{Status}
-use Rattle.roster_tables.specs.declared.plain.Tables.{Tables}
+use Rattle.values_tables.specs.declared.plain.Tables.{Tables}
 use Rattle.world_rules.specs.declared.event.WorldEvent.{WorldEvent}
 use Rattle.world_rules.specs.declared.outcome.Outcome.{Outcome}
 use Rattle.world_rules.specs.declared.outcome.ActorFault.{ActorFault}

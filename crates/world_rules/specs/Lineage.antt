@@ -4,10 +4,10 @@
 use Rattle.std.specs.Prelude.{◌≡◌, ℕ, ◌≤◌, List, length, Some, None, true, false, unwrap_or, ◌⊎◌}
 use Rattle.std.specs.List.{AllByRecursion}
 use Rattle.url_key.specs.Key.{IsKey}
-use Rattle.fetch_messages.specs.Answer.{AnswerText}
+use Rattle.http_messages.specs.Answer.{AnswerText}
 use Rattle.object_store.specs.declared.copy.WebCopy.{WebCopy}
 use Rattle.floor_rules.specs.Floors.{floor, seen}
-use Rattle.roster_tables.specs.declared.plain.Udp.TheVariants as udp
+use Rattle.values_tables.specs.declared.plain.Udp.TheVariants as udp
 use Rattle.roster.specs.Lookups.{is_member, is_master, member_at}
 use Rattle.node_rules.specs.declared.message.Message.{Message}
 use Rattle.node_rules.specs.declared.message.Message.TheVariants as message
@@ -21,7 +21,7 @@ use Rattle.purge_rules.specs.declared.purges.Purge.{Purge}
 use Rattle.purge_rules.specs.Members.{is_among}
 use Rattle.purge_rules.specs.Purges.{pending_at}
 use Rattle.purge_rules.specs.Clear.{clear}
-use Rattle.roster_tables.specs.declared.plain.Tables.{Tables}
+use Rattle.values_tables.specs.declared.plain.Tables.{Tables}
 use Rattle.world_rules.specs.World.{Seat, Datagram, PeerAnswer, World, node_at}
 use Rattle.world_rules.specs.Run.{Step, IsItem, purges, issued, IsReportedAt}
 

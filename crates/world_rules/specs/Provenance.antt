@@ -2,8 +2,8 @@
 -- sources says. EachHasSource and EachHasAge, the last definitions, are its clauses.
 use Rattle.std.specs.Prelude.{◌≡◌, ◌⊎◌, ℕ, ◌+◌, List, [], ◌∷◌, ◌++◌, length, Some, Result, Ok}
 use Rattle.std.specs.List.{Contains}
-use Rattle.fetch_messages.specs.declared.ask.Ask.{Ask}
-use Rattle.fetch_messages.specs.Answer.{AnswerText}
+use Rattle.http_messages.specs.declared.ask.Ask.{Ask}
+use Rattle.http_messages.specs.Answer.{AnswerText}
 use Rattle.object_store.specs.declared.copy.WebCopy.{WebCopy}
 use Rattle.node_rules.specs.declared.state.Fetch.TheVariants.{AtOrigin}
 use Rattle.node_rules.specs.declared.state.Pending.{Pending}
@@ -16,7 +16,7 @@ use Rattle.node_rules.specs.declared.reply.Reply.{Reply}
 use Rattle.node_rules.specs.declared.reply.StepFault.{StepFault}
 use Rattle.node_rules.specs.State.{fetch_serial, served_age}
 use Rattle.node_rules.specs.Questions.{begun}
-use Rattle.roster_tables.specs.declared.plain.Tables.{Tables}
+use Rattle.values_tables.specs.declared.plain.Tables.{Tables}
 use Rattle.world_rules.specs.declared.event.WorldEvent.{WorldEvent}
 use Rattle.world_rules.specs.World.{World, new_world, node_at}
 use Rattle.world_rules.specs.Turn.{Replied, NodeSteps, turn}

@@ -9,7 +9,7 @@ use Rattle.node_rules.specs.declared.reply.StepFault.{StepFault}
 use Rattle.node_rules.specs.Relation.{Steps}
 use Rattle.node_rules.specs.Effect.{copy_served}
 use Rattle.purge_rules.specs.declared.calls.Status.TheVariants.{Done}
-use Rattle.roster_tables.specs.declared.plain.Tables.{Tables}
+use Rattle.values_tables.specs.declared.plain.Tables.{Tables}
 use Rattle.world_rules.specs.declared.event.WorldEvent.{WorldEvent}
 use Rattle.world_rules.specs.declared.event.WorldEvent.TheVariants.{Issue}
 use Rattle.world_rules.specs.declared.outcome.WorldFault.{WorldFault}

@@ -9,7 +9,7 @@ use Rattle.node_rules.specs.declared.reply.Reply.{Reply}
 use Rattle.node_rules.specs.declared.reply.StepFault.{StepFault}
 use Rattle.node_rules.specs.Questions.{is_from_sibling, BeginsNothing}
 use Rattle.node_rules.specs.Effect.{sent}
-use Rattle.roster_tables.specs.declared.plain.Tables.{Tables}
+use Rattle.values_tables.specs.declared.plain.Tables.{Tables}
 use Rattle.world_rules.specs.declared.event.WorldEvent.{WorldEvent}
 use Rattle.node_rules.specs.State.{setting}
 use Rattle.world_rules.specs.World.{World, new_world, node_at}

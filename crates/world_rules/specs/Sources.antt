@@ -8,7 +8,7 @@ use Rattle.node_rules.specs.declared.state.Pending.{Pending}
 use Rattle.node_rules.specs.declared.state.NodeState.{NodeState}
 use Rattle.node_rules.specs.State.{fetch_serial}
 use Rattle.node_rules.specs.Arrivals.{is_gateway_fault}
-use Rattle.roster_tables.specs.declared.plain.Tables.{Tables}
+use Rattle.values_tables.specs.declared.plain.Tables.{Tables}
 use Rattle.world_rules.specs.World.{PeerAnswer, Waiting, World, node_at, Answered, asked_before}
 use Rattle.world_rules.specs.Run.{Step}
 use Rattle.world_rules.specs.Provenance.{BeginsReadAt, HasSource, IsSourcedCopy}

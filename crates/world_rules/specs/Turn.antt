@@ -5,12 +5,12 @@ use Rattle.std.specs.List.{flat_map}
 use Rattle.htcp_wire.specs.declared.message.Content.{Content}
 use Rattle.htcp_wire.specs.declared.message.Content.TheVariants as content
 use Rattle.htcp_wire.specs.declared.message.Htcp.{Htcp}
-use Rattle.fetch_messages.specs.Answer.{AnswerText}
-use Rattle.roster_tables.specs.Ranges.{is_foreign_id}
-use Rattle.roster_tables.specs.declared.plain.Address.{Address}
-use Rattle.roster_tables.specs.declared.plain.Udp.TheVariants as udp
-use Rattle.roster_tables.specs.declared.plain.Member.{Member}
-use Rattle.roster_tables.specs.declared.plain.Tables.{Tables}
+use Rattle.http_messages.specs.Answer.{AnswerText}
+use Rattle.values_tables.specs.Ranges.{is_foreign_id}
+use Rattle.values_tables.specs.declared.plain.Address.{Address}
+use Rattle.values_tables.specs.declared.plain.Udp.TheVariants as udp
+use Rattle.values_tables.specs.declared.plain.Member.{Member}
+use Rattle.values_tables.specs.declared.plain.Tables.{Tables}
 use Rattle.roster.specs.Lookups.{member_of, is_member, member_at, is_master, is_own}
 use Rattle.node_rules.specs.declared.message.Message.{Message}
 use Rattle.node_rules.specs.declared.message.Message.TheVariants as message

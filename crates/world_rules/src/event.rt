@@ -1,4 +1,4 @@
-use fetch_messages::{Answer, Ask};
+use http_messages::{Answer, Ask};
 use node_rules::Received;
 use roster::Address;
 use url_key::Key;

@@ -7,7 +7,7 @@ ghost use Rattle.node_rules.specs.declared.reply.Reply.{Reply};
 ghost use Rattle.node_rules.specs.declared.reply.StepFault.{StepFault};
 ghost use Rattle.node_rules.specs.State.{Setting};
 ghost use Rattle.node_rules.specs.Relation.{Steps};
-ghost use Rattle.roster_tables.specs.declared.plain.Tables.{Tables};
+ghost use Rattle.values_tables.specs.declared.plain.Tables.{Tables};
 ghost use Rattle.roster.specs.Judged.{IsRoster};
 ghost use Rattle.world_rules.specs.declared.event.WorldEvent.{WorldEvent};
 ghost use Rattle.world_rules.specs.World.{World, new_world};

@@ -41,7 +41,7 @@
 //!   and every list of events has a run, so the laws above are not vacuous.
 //!
 //! `served` and `lineage` of the first law need a roster that can be read (`IsRoster`). An event
-//! that issues a purge needs the key of a URL (`IsKey`). Which key a text has is `key_texts`'s
+//! that issues a purge needs the key of a URL (`IsKey`). Which key a text has is `values_keys`'s
 //! definition.
 //!
 //! Read first `specs/Safety` (the promise), then `specs/Run` (what a run is, and when a purge is

@@ -1,6 +1,6 @@
 use Rattle.std.proofs.Common.{◌≡◌, ◌⊎◌, inl, inr, Err, List, ℕ, Option, refl, ap}
-use Rattle.script_lines.specs.declared.fault.RunFault.{RunFault}
-use Rattle.script_lines.specs.declared.fault.RunFault.TheVariants.{NoMemory, NoFirstNode}
+use Rattle.values_lines.specs.declared.fault.RunFault.{RunFault}
+use Rattle.values_lines.specs.declared.fault.RunFault.TheVariants.{NoMemory, NoFirstNode}
 use Rattle.answer_script.specs.Answered.{HasNotBegun}
 use Rattle.answer_script.proofs.answer.run_answer.Goals as goal
 

@@ -1,4 +1,4 @@
-use Rattle.peer_writing.specs.Ask.{ask_text}
+use Rattle.http_writing.specs.Ask.{ask_text}
 use Rattle.peer_fetch.proofs.AskTexts.{ask_spelled}
 use Rattle.peer_fetch.proofs.AskReads.{ask_reads}
 use Rattle.peer_fetch.proofs.laws.written_asks_are_read_back.Goals as goal

@@ -1,7 +1,7 @@
 use Rattle.std.proofs.Common.{rules, tests}
 use Rattle.std.proofs.lemmas.Iterator.Consumers.{YieldsList-from_first}
 use Rattle.std.proofs.lemmas.Iterator.Search.{any_from_yields_List}
-use Rattle.list_values.specs.Left.{members_left}
+use Rattle.http_lists.specs.Left.{members_left}
 use Rattle.peer_fields.specs.Directives.{is_bare}
 use Rattle.peer_fields.proofs.directives.has_member.Goals as goal
 

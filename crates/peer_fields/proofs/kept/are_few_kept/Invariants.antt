@@ -1,5 +1,5 @@
 use Rattle.std.proofs.Common.{◌≡◌}
-use Rattle.fetch_messages.specs.Field.{are_few_fields}
+use Rattle.http_messages.specs.Field.{are_few_fields}
 use Rattle.peer_fields.specs.Fields.{fields_of}
 use Rattle.peer_fields.specs.Kept.{kept, options_of}
 use Rattle.peer_fields.proofs.Keeping.{kept_from, have_room}

@@ -2,7 +2,7 @@ use Rattle.std.proofs.Common.{ℕ, List, rules, tests}
 use Rattle.std.specs.Str.{str_eq_ignore_ascii_case}
 use Rattle.std.proofs.lemmas.Iterator.Splits.{YieldsList-from_slice_split}
 use Rattle.std.proofs.lemmas.Iterator.Search.{any_from_yields_List}
-use Rattle.list_values.specs.Blanks.{trim}
+use Rattle.http_lists.specs.Blanks.{trim}
 use Rattle.peer_fields.specs.Kept.{is_comma}
 use Rattle.peer_fields.proofs.kept.is_listed_in.Goals as goal
 

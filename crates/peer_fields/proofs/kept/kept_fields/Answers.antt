@@ -4,8 +4,8 @@
 use Rattle.std.proofs.Common.{◌≡◌, ◌+◌, true, IsErrOf, List, ◌∷◌, ◌++◌, [], map, get_or, sym, ap, ◌∙◌, rules}
 use Rattle.httparse.specs.declared.spans.HeaderSpan.{HeaderSpan}
 use Rattle.httparse.specs.Spans.{header_bytes}
-use Rattle.fetch_messages.specs.declared.fault.FetchFault.TheVariants.{BadHead}
-use Rattle.fetch_messages.specs.Field.{FieldText, field_text, is_trimmed, are_few_fields}
+use Rattle.http_messages.specs.declared.fault.FetchFault.TheVariants.{BadHead}
+use Rattle.http_messages.specs.Field.{FieldText, field_text, is_trimmed, are_few_fields}
 use Rattle.peer_fields.specs.Fields.{fields_of}
 use Rattle.peer_fields.specs.Kept.{kept_text, options_of, kept}
 use Rattle.peer_fields.proofs.Keeping.{kept_from, kept_from-kept, kept_from-dropped, held_at, same_pushed, held_pushed, may_stand}

@@ -1,6 +1,6 @@
 use Rattle.std.proofs.Common.{◌≡◌, true, ◌++◌, map}
 use Rattle.std.specs.List.{list_all}
-use Rattle.fetch_messages.specs.Field.{field_text, is_kept_field}
+use Rattle.http_messages.specs.Field.{field_text, is_kept_field}
 use Rattle.peer_fields.specs.Fields.{fields_of}
 use Rattle.peer_fields.specs.Kept.{kept, options_of}
 use Rattle.peer_fields.proofs.Keeping.{kept_from}

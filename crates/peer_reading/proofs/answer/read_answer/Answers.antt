@@ -1,7 +1,7 @@
 -- The loop holds that the octets up to `start` are interim heads. A head has at least one octet,
 -- so the loop ends; a final head leads to the body, and a fault to the reason why reading stopped.
 use Rattle.std.proofs.Common.{[], length, ap, sym, ◌∙◌, arith, Err}
-use Rattle.peer_intake.specs.Heads.{head_window}
+use Rattle.http_intake.specs.Heads.{head_window}
 use Rattle.peer_reading.proofs.AnswerLemmas.{passes_taken, one_more, some_octets, head_stops, takes_then, read_on}
 use Rattle.peer_reading.proofs.answer.read_answer.Goals as goal
 

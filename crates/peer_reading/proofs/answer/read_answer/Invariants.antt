@@ -1,6 +1,6 @@
 use Rattle.std.proofs.Common.{◌≡◌, ◌-◌, [], length}
-use Rattle.peer_intake.specs.Reading.{Takes}
-use Rattle.peer_intake.specs.Heads.{most_fields}
+use Rattle.http_intake.specs.Reading.{Takes}
+use Rattle.http_intake.specs.Heads.{most_fields}
 use Rattle.peer_reading.specs.Answers.{PassesInterim}
 use Rattle.peer_reading.proofs.answer.read_answer.Given as goal
 

@@ -1,5 +1,5 @@
 use Rattle.std.proofs.Common.{◌≡◌, ◌++◌, map, take}
-use Rattle.roster_tables.specs.declared.plain.Member.{Member}
+use Rattle.values_tables.specs.declared.plain.Member.{Member}
 use Rattle.roster.proofs.judge.caches.Given as goal
 
 abbrev pub invariant-loop-member : goal.invariant-loop-member

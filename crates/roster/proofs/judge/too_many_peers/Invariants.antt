@@ -1,6 +1,6 @@
 use Rattle.std.proofs.Common.{◌≡◌, length, take, false, nat_lt}
 use Rattle.std.specs.List.{list_any}
-use Rattle.roster_tables.specs.declared.plain.Member.{Member}
+use Rattle.values_tables.specs.declared.plain.Member.{Member}
 use Rattle.roster.proofs.judge.too_many_peers.Given as goal
 
 abbrev pub invariant-loop-index : goal.invariant-loop-index

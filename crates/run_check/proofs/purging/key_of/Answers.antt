@@ -1,7 +1,7 @@
 use Rattle.std.proofs.Common.{◌≡◌, ℕ, List, Option, sym, ◌∙◌}
 use Rattle.std.proofs.lemmas.Result.{IfOk-weaker}
-use Rattle.key_texts.specs.KeyOf.{key_of}
-use Rattle.key_texts.proofs.Outcomes.{gives_keys}
+use Rattle.values_keys.specs.KeyOf.{key_of}
+use Rattle.values_keys.proofs.Outcomes.{gives_keys}
 use Rattle.node_core.specs.View.{HasKeyOf}
 use Rattle.run_check.proofs.purging.key_of.Goals as goal
 

@@ -4,8 +4,8 @@ use Rattle.std.proofs.lemmas.Result.{IfOk-weaker}
 use Rattle.htcp_wire.specs.declared.message.Htcp.{Htcp}
 use Rattle.htcp_wire.specs.declared.message.Specifier.{Specifier}
 use Rattle.htcp_wire.specs.declared.message.Content.TheVariants as content
-use Rattle.roster_tables.specs.declared.plain.Address.{Address}
-use Rattle.roster_tables.specs.declared.plain.Tables.{Tables}
+use Rattle.values_tables.specs.declared.plain.Address.{Address}
+use Rattle.values_tables.specs.declared.plain.Tables.{Tables}
 use Rattle.node_rules.specs.declared.message.Message.{Message}
 use Rattle.node_rules.specs.declared.message.Message.TheVariants as message
 use Rattle.node_rules.specs.Relation.{purge_in_message, purge_in_content, purge_meant}

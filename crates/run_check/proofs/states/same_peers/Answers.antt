@@ -1,6 +1,6 @@
 use Rattle.std.proofs.Common.{rules, tests}
 use Rattle.std.proofs.lemmas.Slice.Eq.{slice_eq-Decides}
-use Rattle.roster_tables.specs.declared.plain.Peer.{Peer}
+use Rattle.values_tables.specs.declared.plain.Peer.{Peer}
 use Rattle.run_check.proofs.states.same_peers.Goals as goal
 
 pub returns : goal.returns

@@ -1,5 +1,5 @@
-use Rattle.key_texts.specs.KeyOf.{key_of}
-use Rattle.key_texts.proofs.Outcomes.{gives_keys}
+use Rattle.values_keys.specs.KeyOf.{key_of}
+use Rattle.values_keys.proofs.Outcomes.{gives_keys}
 use Rattle.node_core.specs.View.{setting_of}
 use Rattle.node_bytes.proofs.Asks.{outcomes_answer}
 use Rattle.node_bytes.proofs.stepper.NodeUnitStepper.step.Goals as goal

@@ -1,5 +1,5 @@
 use Rattle.std.proofs.Common.{◌≡◌, true, false, sym}
-use Rattle.roster_tables.specs.Ranges.{is_foreign_id}
+use Rattle.values_tables.specs.Ranges.{is_foreign_id}
 use Rattle.node_rules.specs.Arrivals.{foreign_answer}
 use Rattle.node_core.proofs.node.Node.foreign_answer.Goals as goal
 

@@ -3,7 +3,7 @@
 use Rattle.std.proofs.Common.{◌≡◌}
 use Rattle.node_core.specs.View.{setting_of}
 use Rattle.node_core.proofs.SameWords.{hit, miss}
-use Rattle.key_texts.specs.KeyOf.{key_of}
+use Rattle.values_keys.specs.KeyOf.{key_of}
 use Rattle.node_core.proofs.Outcomes.{without_fault, without_fault_by}
 use Rattle.node_core.proofs.node.Node.htcp.Goals as goal
 

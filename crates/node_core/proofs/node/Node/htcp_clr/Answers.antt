@@ -2,7 +2,7 @@
 use Rattle.std.proofs.Common.{◌≡◌, ◌∙◌, sym, ap, Ok}
 use Rattle.node_core.specs.View.{setting_of}
 use Rattle.node_core.proofs.NumberLines.{key_is, without_number, with_number}
-use Rattle.key_texts.specs.KeyOf.{key_of}
+use Rattle.values_keys.specs.KeyOf.{key_of}
 use Rattle.node_core.proofs.Outcomes.{without_fault}
 use Rattle.node_core.proofs.node.Node.htcp_clr.Goals as goal
 

@@ -5,7 +5,7 @@ use Rattle.node_rules.specs.declared.event.Event.TheVariants as event
 use Rattle.node_rules.specs.Step.{open_step}
 use Rattle.node_core.specs.View.{setting_of}
 use Rattle.node_core.proofs.Outcomes.{steps_may_close, without_fault}
-use Rattle.key_texts.specs.KeyOf.{key_of}
+use Rattle.values_keys.specs.KeyOf.{key_of}
 use Rattle.node_core.proofs.node.Node.open_step.Goals as goal
 
 pub returns-in-Datagram-clause-steps : goal.returns-in-Datagram-clause-steps

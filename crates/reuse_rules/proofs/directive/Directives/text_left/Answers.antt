@@ -1,6 +1,6 @@
 use Rattle.std.proofs.Common.{◌≡◌, ◌++◌, None, map, option_copied, sym, ap, ◌∙◌, arith, length, rules}
 use Rattle.std.specs.List.{flat_map}
-use Rattle.fetch_messages.specs.Field.{field_text}
+use Rattle.http_messages.specs.Field.{field_text}
 use Rattle.reuse_rules.specs.Directives.{directives_of_field}
 use Rattle.reuse_rules.specs.Left.{directives_in}
 use Rattle.reuse_rules.proofs.Fields.{next_field}

@@ -1,6 +1,6 @@
 -- A response that is found under its print is held already; else it is put under that print.
 use Rattle.std.proofs.Common.{◌≡◌, refl, ◌∙◌, ap, subst}
-use Rattle.fetch_messages.specs.Answer.{AnswerText}
+use Rattle.http_messages.specs.Answer.{AnswerText}
 use Rattle.run_rules.specs.Sent.{SentAnswer, text_of}
 use Rattle.run_network.specs.declared.answers.SentAnswer.{SentAnswer as HeldAnswer}
 use Rattle.run_network.specs.Bags.{bag_of, Has}

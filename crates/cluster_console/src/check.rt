@@ -1,0 +1,39 @@
+//! Who judges the run of a hierarchy.
+ghost use Rattle.std.specs.Prelude.{IfOk, Option};
+ghost use Rattle.cluster_console.specs.Checked.{Gathered, GoesOn, IsChecked};
+
+use roster::Roster;
+use run_rules::Verdict;
+use std::alloc::{AllocError, Global};
+use std::sync::Wait;
+
+/// What is said of a run so far.
+#[derive(Clone, Copy, Debug, PartialEq, Eq)]
+pub enum Checked {
+    /// The verdict on all that the members and the master did.
+    Judged(Verdict),
+    /// Not all of it is kept, so there is no verdict.
+    Forgotten,
+    /// The records of a member are not given: a seat did not come back.
+    SeatMissing,
+    /// The records of a member are not given: what a thread was told is not what the member's book
+    /// has.
+    Mismatch,
+}
+
+/// Judges the run of a hierarchy.
+pub trait Checker {
+    /// What was gathered of the run; none, where some of it is lost.
+    ghost gathered: { Self → Option Gathered };
+
+    /// Gathers what the members of this roster and the master did since the last time, and judges
+    /// all that was gathered. `AllocError` comes where there is no memory for that.
+    fn check<R: Wait>(
+        &mut self,
+        rt: &R,
+        alloc: Global,
+        roster: &Roster,
+    ) -> Result<Checked, AllocError>
+        ensures said { IfOk result (IsChecked roster.now (gathered self.new)) }
+        ensures goes_on { GoesOn (gathered self.old) (gathered self.new) };
+}

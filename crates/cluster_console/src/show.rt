@@ -1,0 +1,141 @@
+//! How the answer to a line reads.
+ghost use Rattle.std.specs.Prelude.{◌≡◌, ◌++◌, OnOk, IfOk, IsTrue, decimal};
+ghost use Rattle.http_messages.specs.Answer.{is_writable};
+ghost use Rattle.cluster_console.specs.Shown.{purge_shown, status_shown, asked_shown, got_shown, body_shown, answer_shown, cause_name as name_of_cause, verdict_shown, checked_shown};
+
+use crate::check::Checked;
+use http_messages::{Answer, FetchFault};
+use itoa::Buffer;
+use purge_rules::{MasterFault, Status};
+use run_rules::{Cause, Verdict};
+use std::alloc::{AllocError, Global};
+
+/// Writes a number.
+fn push_number(number: u64, text: &mut Vec<u8>) -> Result<(), AllocError>
+    ensures { OnOk result (text.new.items ≡ text.old.items ++ decimal number) }
+{
+    let mut buffer = Buffer::new();
+    text.extend_from_slice(buffer.format(number).as_bytes())
+}
+
+/// Writes the number of a purge that was issued, or why it was not.
+pub(crate) fn push_purge(
+    issued: Result<u32, MasterFault>,
+    text: &mut Vec<u8>,
+) -> Result<(), AllocError>
+    ensures { OnOk result (text.new.items ≡ text.old.items ++ purge_shown issued) }
+{
+    match issued {
+        Ok(number) => {
+            text.extend_from_slice(b"purge ")?;
+            push_number(u64::from(number), text)
+        }
+        Err(fault) => text.extend_from_slice(fault.name().as_bytes()),
+    }
+}
+
+/// Writes how far the purge of a number is.
+fn push_status(number: u32, status: Status, text: &mut Vec<u8>) -> Result<(), AllocError>
+    ensures { OnOk result (text.new.items ≡ text.old.items ++ status_shown number status) }
+{
+    match status {
+        Status::Unknown => text.extend_from_slice(b"unknown"),
+        Status::Pending(missing) => {
+            text.extend_from_slice(b"pending ")?;
+            push_number(u64::from(missing), text)
+        }
+        Status::Done => {
+            text.extend_from_slice(b"done ")?;
+            push_number(u64::from(number), text)
+        }
+    }
+}
+
+/// Writes how far the purge of a number is, or why the master does not tell.
+pub(crate) fn push_asked(
+    number: u32,
+    asked: Result<Status, MasterFault>,
+    text: &mut Vec<u8>,
+) -> Result<(), AllocError>
+    ensures { OnOk result (text.new.items ≡ text.old.items ++ asked_shown number asked) }
+{
+    match asked {
+        Ok(status) => push_status(number, status, text),
+        Err(fault) => text.extend_from_slice(fault.name().as_bytes()),
+    }
+}
+
+/// Writes what a member answered, or the name of the fault.
+pub(crate) fn push_got(
+    alloc: Global,
+    got: &Result<Answer, FetchFault>,
+    text: &mut Vec<u8>,
+) -> Result<(), AllocError>
+    ensures shown { OnOk result (text.new.items ≡ text.old.items ++ got_shown got.now) }
+    ensures writable { OnOk result (IfOk got.now (λ answer. IsTrue (is_writable answer))) }
+{
+    match got {
+        Ok(answer) => push_answer(alloc, answer, text),
+        Err(fault) => text.extend_from_slice(fault.name().as_bytes()),
+    }
+}
+
+/// Writes the status and the body of an answer.
+fn push_answer(alloc: Global, answer: &Answer, text: &mut Vec<u8>) -> Result<(), AllocError>
+    ensures shown { OnOk result (text.new.items ≡ text.old.items ++ answer_shown answer.now) }
+    ensures writable { OnOk result (IsTrue (is_writable answer.now)) }
+{
+    push_number(u64::from(answer.status()), text)?;
+    text.extend_from_slice(b" ")?;
+    push_body(alloc, answer.body(), text)
+}
+
+/// Writes a body in hex, and `-` where it is empty.
+fn push_body(alloc: Global, body: &[u8], text: &mut Vec<u8>) -> Result<(), AllocError>
+    ensures { OnOk result (text.new.items ≡ text.old.items ++ body_shown body.now) }
+{
+    if body.is_empty() {
+        text.extend_from_slice(b"-")
+    } else {
+        text.extend_from_slice(hex::encode(alloc, body)?.as_bytes())
+    }
+}
+
+/// The name of a flaw of a run.
+const fn cause_name(cause: Cause) -> &'static str
+    ensures { result.now ≡ name_of_cause cause }
+{
+    match cause {
+        Cause::DoublePlace => "DoublePlace",
+        Cause::NotSent => "NotSent",
+        Cause::OtherReply => "OtherReply",
+        Cause::OtherState => "OtherState",
+    }
+}
+
+/// Writes the verdict on a run.
+fn push_verdict(verdict: Verdict, text: &mut Vec<u8>) -> Result<(), AllocError>
+    ensures { OnOk result (text.new.items ≡ text.old.items ++ verdict_shown verdict) }
+{
+    match verdict {
+        Verdict::Yes => text.extend_from_slice(b"yes"),
+        Verdict::No { place, cause } => {
+            text.extend_from_slice(b"no ")?;
+            push_number(place, text)?;
+            text.extend_from_slice(b" ")?;
+            text.extend_from_slice(cause_name(cause).as_bytes())
+        }
+    }
+}
+
+/// Writes what is said of a run.
+pub(crate) fn push_checked(checked: Checked, text: &mut Vec<u8>) -> Result<(), AllocError>
+    ensures { OnOk result (text.new.items ≡ text.old.items ++ checked_shown checked) }
+{
+    match checked {
+        Checked::Judged(verdict) => push_verdict(verdict, text),
+        Checked::Forgotten => text.extend_from_slice(b"forgotten"),
+        Checked::SeatMissing => text.extend_from_slice(b"SeatMissing"),
+        Checked::Mismatch => text.extend_from_slice(b"Mismatch"),
+    }
+}

@@ -1,0 +1,89 @@
+-- A master's book under its lock, and what a call does to it.
+use Rattle.std.specs.Prelude.{◌≡◌, ◌⊎◌, ℕ, nat_le, nat_lt, Bool, true, false, List, [], ◌∷◌, ◌++◌, length, if◌then◌else◌, Result, Ok, Err}
+use Rattle.purge_rules.specs.declared.calls.MasterCall.{MasterCall}
+use Rattle.purge_rules.specs.declared.calls.MasterAnswer.{MasterAnswer}
+use Rattle.purge_rules.specs.declared.calls.MasterAnswer.TheVariants as answer
+use Rattle.purge_rules.specs.declared.fault.MasterFault.{MasterFault}
+use Rattle.purge_rules.specs.declared.fault.MasterFault.TheVariants.{Closed, NoMemory}
+use Rattle.purge_rules.specs.Calls.{due}
+use Rattle.purge_master.specs.declared.book.MasterEntry.{MasterEntry}
+use Rattle.purge_master.specs.View.{MasterView}
+use Rattle.purge_master.specs.Store.{Witness}
+use Rattle.purge_master.specs.Book.{BookView, IsEntered}
+use Rattle.cluster_master.specs.declared.desk.History.{History}
+use Rattle.cluster_master.specs.declared.desk.History.TheVariants.{UpTo, Dropped}
+
+-- the book, the entries of the pages that were turned, whether these are kept, and whether a CLR may be due
+pub record DeskView (S : Type 0) : Type 0 where
+  pub book : BookView S
+  pub kept : List MasterEntry
+  pub history : History
+  pub may_be_due : Bool
+
+-- no CLR is due: the master is closed, or no member is missing of a pending purge
+abbrev pub IsNothingDue : {S : Type 0} → MasterView S → Type 0
+IsNothingDue master = (master.state.closed ≡ true) ⊎ (due master.members master.state.purges ≡ [])
+
+-- whether a CLR may be due after an answer: not once the answer is that nothing is due, or that the master is closed,
+-- which it stays; but from the next purge or response on
+abbrev pub may_be_due_after : Result MasterAnswer MasterFault → Bool → Bool
+may_be_due_after (Ok (answer.Due [])) was = false
+may_be_due_after (Ok (answer.Due (_ ∷ _))) was = true
+may_be_due_after (Ok (answer.Status _)) was = was
+may_be_due_after (Ok (answer.Issue _)) was = true
+may_be_due_after (Ok (answer.Acknowledge _)) was = true
+may_be_due_after (Err Closed) was = false
+may_be_due_after (Err _) was = was
+
+-- the book after its entries were taken
+abbrev pub emptied : {S : Type 0} → BookView S → BookView S
+emptied book = record { master = book.master; entries = [] }
+
+-- whether a page is kept behind this many entries
+abbrev pub keeps : History → ℕ → Bool
+keeps (UpTo most) kept = nat_lt kept most
+keeps Dropped kept = false
+
+-- whether entries are dropped
+abbrev pub is_dropped : History → Bool
+is_dropped (UpTo most) = false
+is_dropped Dropped = true
+
+-- the entries of a page stand behind those that are kept; or all are dropped, where the page is not kept
+abbrev pub kept_with : History → List MasterEntry → List MasterEntry → List MasterEntry
+kept_with history kept page = if keeps history (length kept) then kept ++ page else []
+
+-- once a page is not kept, none is kept from then on
+abbrev pub history_after : History → List MasterEntry → History
+history_after history kept = if keeps history (length kept) then history else Dropped
+
+-- the page is turned: the book has no entry, and the same master
+abbrev pub turned : {S : Type 0} → DeskView S → DeskView S
+turned desk = record { book = emptied desk.book; kept = kept_with desk.history desk.kept desk.book.entries; history = history_after desk.history desk.kept; may_be_due = desk.may_be_due }
+
+-- a page of 4,096 entries is full, and is turned before a call
+abbrev pub ready : {S : Type 0} → DeskView S → DeskView S
+ready desk = if nat_le 4096 (length desk.book.entries) then turned desk else desk
+
+-- the master has answered the call so, at some place, and the call is entered with that answer behind the entries of
+-- the page
+pub record IsCalledAt {S : Type 0} (was now : Witness) (before after : DeskView S) (c : MasterCall) (out : Result MasterAnswer MasterFault) : Type 0 where
+  pub place : ℕ
+  pub entered : IsEntered was now (ready before).book after.book place c out
+  pub kept : after.kept ≡ (ready before).kept
+  pub history : after.history ≡ (ready before).history
+  pub may_be_due : after.may_be_due ≡ may_be_due_after out before.may_be_due
+
+-- there was no memory, so the call was not made; the page may have been turned
+abbrev pub IsUnmade : {S : Type 0} → DeskView S → DeskView S → Result MasterAnswer MasterFault → Type 0
+IsUnmade before after out = (out ≡ Err NoMemory) × ((after ≡ before) ⊎ (after ≡ ready before))
+
+-- a desk with this book, and with no entries kept
+abbrev pub cleared : {S : Type 0} → DeskView S → BookView S → DeskView S
+cleared desk book = record { book = book; kept = []; history = desk.history; may_be_due = desk.may_be_due }
+
+-- all entries are taken; or those that are kept, where there was no memory to put the open page's behind them
+abbrev pub IsTaken : {S : Type 0} → DeskView S → List MasterEntry → DeskView S → Type 0
+IsTaken before taken after =
+    (taken ≡ before.kept ++ before.book.entries) × (after ≡ cleared before (emptied before.book))
+    ⊎ (taken ≡ before.kept) × (after ≡ cleared before before.book)

@@ -1,0 +1,181 @@
+//! What the lock of a shared master holds: its book, and the pages that were turned.
+ghost use Rattle.std.specs.Prelude.{◌≡◌, ◌≢◌, ◌⊎◌, ◌<◌, ◌++◌, [], length, false, Err, IfOk, IfSome, OnOk, OnErr};
+ghost use Rattle.htcp_wire.specs.Written.{Fits};
+ghost use Rattle.purge_master.specs.Store.{witness};
+ghost use Rattle.purge_rules.specs.declared.fault.MasterFault.TheVariants as faults;
+ghost use Rattle.cluster_master.specs.Desk.{IsCalledAt, IsUnmade, IsTaken, IsNothingDue, is_dropped, keeps, may_be_due_after as may_be_due_by, ready, turned, emptied};
+ghost use Rattle.cluster_master.specs.Answers.{IsToldOf, IsClearOf};
+
+use htcp_wire::Htcp;
+use node_seats::Places;
+use purge_master::{MOST_ENTRIES, MasterBook, MasterEntry};
+use purge_rules::{MasterAnswer, MasterCall, MasterFault, PurgeStore};
+use std::alloc::{AllocError, Global};
+use std::marker::Model;
+use std::mem::replace;
+
+/// What becomes of the entries of a page that is turned.
+#[derive(Clone, Copy, Debug, PartialEq, Eq)]
+pub enum History {
+    /// They are kept until they are taken, while fewer than this many are kept. Where a page would
+    /// come after so many, all of them are dropped, and none is kept from then on.
+    UpTo(u32),
+    /// They are dropped.
+    Dropped,
+}
+
+/// Whether a page is kept behind this many entries.
+fn has_place(history: History, kept: usize) -> bool
+    ensures { result ≡ keeps history kept }
+{
+    match history {
+        History::UpTo(most) => (kept as u64) < u64::from(most),
+        History::Dropped => false,
+    }
+}
+
+/// Whether a CLR may be due after an answer. None is due once the answer is that nothing is due, or
+/// that the master is closed, which it stays. One may be due from the next purge or response on.
+fn may_be_due_after(answer: &Result<MasterAnswer, MasterFault>, was: bool) -> bool
+    ensures { result ≡ may_be_due_by answer.now was }
+{
+    match answer {
+        Ok(MasterAnswer::Due(pairs)) => !pairs.as_slice().is_empty(),
+        Ok(MasterAnswer::Status(_)) => was,
+        Ok(MasterAnswer::Issue(_) | MasterAnswer::Acknowledge(_)) => true,
+        Err(MasterFault::Closed) => false,
+        Err(_) => was,
+    }
+}
+
+/// A master's book, the entries of the pages that were turned, and whether a CLR may be due. Where
+/// none may be due, none is.
+#[derive(Drop)]
+pub(crate) struct Desk<S: PurgeStore> {
+    pub(crate) alloc: Global,
+    /// The master, and the open page of its calls.
+    pub(crate) book: MasterBook<S>,
+    /// The entries of the pages that were turned.
+    pub(crate) kept: Vec<MasterEntry>,
+    /// What becomes of the entries of a page that is turned.
+    pub(crate) history: History,
+    /// Whether a CLR may be due.
+    pub(crate) may_be_due: bool,
+    /// Where each call draws its place.
+    pub(crate) places: Places,
+}
+
+impl<S: PurgeStore> Model for Desk<S> {
+    ghost use Rattle.std.specs.Prelude.{◌≡◌, false};
+    ghost use Rattle.std.specs.Coded.{codes};
+    ghost use Rattle.cluster_master.specs.Desk.{DeskView, IsNothingDue};
+
+    ghost Value = { DeskView S };
+
+    ghost coded = { Prim.hlevel (codes) };
+
+    ghost view = { λ desk. record { book = desk.book; kept = desk.kept.items; history = desk.history; may_be_due = desk.may_be_due } };
+
+    ghost invariant = { λ desk. desk.may_be_due ≡ false → IsNothingDue desk.book.master };
+}
+
+/// Puts the book's entries behind those that are kept, or leaves both unchanged where there is no
+/// memory. Where no entry is kept, this takes no memory.
+fn keep<S: PurgeStore>(
+    kept: &mut Vec<MasterEntry>,
+    book: &mut MasterBook<S>,
+) -> Result<(), AllocError>
+    ensures kept { OnOk result ((kept.new.items ≡ kept.old.items ++ book.old.entries) × (book.new ≡ emptied book.old)) }
+    ensures refused { OnErr result ((kept.new.items ≡ kept.old.items) × (book.new ≡ book.old)) }
+    ensures memory { OnErr result (kept.old.items ≢ []) }
+{
+    if kept.is_empty() {
+        *kept = book.take_entries();
+        return Ok(());
+    }
+    kept.reserve(book.entries().len())?;
+    let mut page = book.take_entries();
+    match kept.append(&mut page) {
+        Ok(()) => Ok(()),
+        Err(_) => unreachable!(),
+    }
+}
+
+impl<S: PurgeStore> Desk<S> {
+    /// Turns the page; or leaves everything unchanged, where there is no memory for what is kept.
+    fn turn_page(&mut self) -> Result<(), AllocError>
+        ensures turned { OnOk result (self.new ≡ turned self.old) }
+        ensures refused { OnErr result (self.new ≡ self.old) }
+    {
+        if has_place(self.history, self.kept.len()) {
+            return keep(&mut self.kept, &mut self.book);
+        }
+        let _page = self.book.take_entries();
+        self.kept.clear();
+        self.history = History::Dropped;
+        Ok(())
+    }
+
+    /// Makes room for an entry: a page that is full is turned.
+    fn make_ready(&mut self) -> Result<(), AllocError>
+        ensures ready { OnOk result (self.new ≡ ready self.old) }
+        ensures room { OnOk result (length self.new.book.entries < 4096) }
+        ensures refused { OnErr result (self.new ≡ self.old) }
+    {
+        if self.book.entries().len() >= MOST_ENTRIES {
+            return self.turn_page();
+        }
+        Ok(())
+    }
+
+    /// Makes one call of the master, which is entered with its answer; a page that is full is
+    /// turned before it. Where there is no memory for that, or for the entry, the answer is
+    /// `NoMemory`, the master is not called, and no entry is lost.
+    pub(crate) fn call(&mut self, call: MasterCall) -> Result<MasterAnswer, MasterFault>
+        ensures called { IsUnmade self.old self.new result
+            ⊎ IsCalledAt (witness (S.is_honest self.old.book.master.store) (S.may_find self.old.book.master.store) (S.failed self.old.book.master.store))
+            (witness (S.is_honest self.new.book.master.store) (S.may_find self.new.book.master.store) (S.failed self.new.book.master.store))
+            self.old self.new call result }
+        ensures told { IsToldOf call result }
+    {
+        self.make_ready()?;
+        let place = self.places.draw();
+        let answer = self.book.call(place, call);
+        self.may_be_due = may_be_due_after(&answer, self.may_be_due);
+        answer
+    }
+
+    /// Whether a CLR may be due. This is no call, and makes no entry.
+    pub(crate) fn may_be_due(&self) -> bool
+        ensures value { result ≡ self.now.may_be_due }
+        ensures nothing { result ≡ false → IsNothingDue self.now.book.master }
+    {
+        self.may_be_due
+    }
+
+    /// The CLR of the pending purge of a number, if there is one.
+    pub(crate) fn message(&self, number: u32) -> Result<Option<Htcp>, AllocError>
+        ensures clear { IfOk result (λ message. IfSome message (IsClearOf number)) }
+        ensures fits { IfOk result (λ message. IfSome message Fits) }
+    {
+        self.book.message(number)
+    }
+
+    /// Takes the entries since they were last taken, in their order. Where there is no memory to
+    /// put the open page behind the others, it stays for the next time.
+    pub(crate) fn take_entries(&mut self) -> Vec<MasterEntry>
+        ensures taken { IsTaken self.old result.items self.new }
+        ensures whole { self.old.kept ≡ [] → result.items ≡ self.old.book.entries }
+    {
+        // (a page that is not kept now stays in the book)
+        let _ = keep(&mut self.kept, &mut self.book);
+        replace(&mut self.kept, Vec::new(self.alloc))
+    }
+
+    /// Whether entries are dropped: what is kept does not go back to the first call.
+    pub(crate) fn has_forgotten(&self) -> bool
+        ensures { result ≡ is_dropped self.now.history }
+    {
+        matches!(self.history, History::Dropped)
+    }
+}

@@ -1,0 +1,224 @@
+//! The master's event loop.
+ghost use Rattle.std.specs.Prelude.{IfErr};
+ghost use Rattle.cluster_master.specs.Names.{IsAtPort};
+
+use crate::fault::MasterStartFault;
+use crate::sending::{MasterSender, socket_address};
+use crate::shared::SharedMaster;
+use mio::net::UdpSocket;
+use mio::{Events, Interest, Poll, Token};
+use node_bytes::master_call_of;
+use purge_rules::PurgeStore;
+use roster::{Address, Roster};
+use std::alloc::{AllocError, Global};
+use std::io::{self, ErrorKind};
+use std::net::{Net, SocketAddr};
+use std::sync::atomic::{AtomicBool, Ordering};
+use std::sync::{Arc, Wait};
+use std::thread;
+use std::time::{Clock, Duration, Instant};
+
+/// The poll token of the master's socket.
+const SOCKET: Token = Token(0);
+
+/// How many events one poll tells at most.
+const MOST_EVENTS: usize = 16;
+
+/// The size of the receive buffer in octets. No datagram of IPv4 is longer.
+const LONGEST: usize = 65_536;
+
+/// How many datagrams a turn reads at most, so that sending gets its share of a turn.
+const MOST_AT_ONCE: usize = 256;
+
+/// How many milliseconds a turn waits at most, and how long the loop pauses after a turn that
+/// failed.
+const WAIT: u64 = 100;
+
+/// How many seconds pass between one sending of what is due and the next.
+const PAUSE: u64 = 1;
+
+/// The address of a sender. An IPv6 sender, which an IPv4 socket never has, is given as 0.0.0.0.
+fn address_of(from: SocketAddr) -> Address {
+    match from {
+        SocketAddr::V4(from) => Address {
+            ip: u32::from(*from.ip()),
+            port: from.port(),
+        },
+        SocketAddr::V6(from) => Address {
+            ip: 0,
+            port: from.port(),
+        },
+    }
+}
+
+/// A socket at the master's address.
+fn bound<N: Net>(net: &N, address: Address) -> Result<UdpSocket, MasterStartFault>
+    ensures { IfErr result (IsAtPort address.port) }
+{
+    match UdpSocket::bind(net, socket_address(address)) {
+        Ok(socket) => Ok(socket),
+        Err(error) => match error.kind() {
+            ErrorKind::AddrInUse | ErrorKind::AddrNotAvailable => {
+                Err(MasterStartFault::Port(address.port))
+            }
+            _ => Err(MasterStartFault::Io),
+        },
+    }
+}
+
+/// Reads the master's socket, and sends what is due. One thread has it.
+#[derive(Drop)]
+pub struct MasterLoop {
+    alloc: Global,
+    poll: Poll,
+    events: Events,
+    sender: MasterSender,
+    buffer: Vec<u8>,
+    is_ready: bool,
+    sent: Instant,
+}
+
+impl MasterLoop {
+    /// Opens the master's UDP socket, at the roster's address.
+    ///
+    /// Faults: `Port` with the roster's port where it is in use, or the address is not this
+    /// machine's; `Io` where the system refuses in another way; `NoMemory`. After a fault nothing
+    /// is open.
+    pub fn open<N: Net + Clock>(
+        rt: &N,
+        alloc: Global,
+        roster: &Roster,
+    ) -> Result<MasterLoop, MasterStartFault>
+        ensures { IfErr result (IsAtPort roster.now.master.port) }
+    {
+        let mut socket = bound(rt, roster.master())?;
+        let poll = Poll::new(rt)?;
+        poll.registry()
+            .register(&mut socket, SOCKET, Interest::READABLE)?;
+        let socket = match Arc::new(alloc, socket) {
+            Ok(socket) => socket,
+            Err(_) => return Err(MasterStartFault::NoMemory),
+        };
+        Ok(MasterLoop {
+            alloc,
+            poll,
+            events: Events::with_capacity(alloc, MOST_EVENTS)?,
+            sender: MasterSender::of(alloc, socket),
+            buffer: vec![in alloc; 0; LONGEST]?,
+            is_ready: true,
+            sent: Instant::now(rt)?,
+        })
+    }
+
+    /// A sender on this socket, for another thread. `AllocError` comes where one more owner cannot
+    /// be counted.
+    pub fn sender(&self) -> Result<MasterSender, AllocError> {
+        self.sender.try_clone()
+    }
+
+    /// Polls until the socket is ready, for 100 milliseconds at most.
+    fn wait_for_datagrams(&mut self) -> io::Result<()> {
+        let most = if self.is_ready {
+            Duration::ZERO
+        } else {
+            Duration::from_millis(WAIT)
+        };
+        self.poll.poll(&mut self.events, Some(most))?;
+        self.is_ready = self.is_ready || !self.events.is_empty();
+        Ok(())
+    }
+
+    /// Makes the calls of the datagrams that are there, 256 datagrams at most.
+    fn take_datagrams<S: PurgeStore, R: Wait>(
+        &mut self,
+        rt: &R,
+        roster: &Roster,
+        master: &SharedMaster<S>,
+    ) -> io::Result<()> {
+        if !self.is_ready {
+            return Ok(());
+        }
+        for _ in 0..MOST_AT_ONCE {
+            match self.sender.socket().recv_from(self.buffer.as_mut_slice()) {
+                Ok((length, from)) => {
+                    let octets = &self.buffer.as_slice()[..length];
+                    take_in(rt, self.alloc, roster, master, address_of(from), octets);
+                }
+                Err(error) if error.kind() == ErrorKind::WouldBlock => {
+                    self.is_ready = false;
+                    return Ok(());
+                }
+                Err(error) => return Err(error),
+            }
+        }
+        Ok(())
+    }
+
+    /// Sends what is due, if the last time was a second ago or more.
+    fn send_each_second<S: PurgeStore, R: Wait + Clock>(
+        &mut self,
+        rt: &R,
+        roster: &Roster,
+        master: &SharedMaster<S>,
+    ) -> io::Result<()> {
+        let now = Instant::now(rt)?;
+        if now.saturating_duration_since(self.sent).as_secs() >= PAUSE {
+            self.sent = now;
+            self.sender.send_due(rt, roster, master);
+        }
+        Ok(())
+    }
+
+    /// Polls until the socket is ready, for 100 milliseconds at most. Then makes the calls of the
+    /// datagrams that are there, 256 at most; the rest is for the next turn. Then, if the last time
+    /// was a second ago or more, sends what is due: the CLR of each pending purge to each member
+    /// that has not acknowledged it.
+    ///
+    /// An error is the system's refusal of a poll, a read or the clock. What can be done all the
+    /// same is done, and a later turn goes on. Where there is no memory for a call, it is lost, as
+    /// its datagram may be; the member is told again, and answers again.
+    pub fn turn<S: PurgeStore, R: Wait + Clock>(
+        &mut self,
+        rt: &R,
+        roster: &Roster,
+        master: &SharedMaster<S>,
+    ) -> io::Result<()> {
+        let waited = self.wait_for_datagrams();
+        let taken = self.take_datagrams(rt, roster, master);
+        let sent = self.send_each_second(rt, roster, master);
+        waited.and(taken).and(sent)
+    }
+
+    /// Takes turns until it is told to stop, which it sees after 100 milliseconds and a turn at
+    /// most. After a turn that failed it pauses for 100 milliseconds and goes on.
+    pub fn run_until<S: PurgeStore, R: Wait + Clock>(
+        &mut self,
+        rt: &R,
+        roster: &Roster,
+        master: &SharedMaster<S>,
+        stop: &AtomicBool,
+    ) {
+        for _ in rt.forever() {
+            if stop.load(Ordering::SeqCst) {
+                return;
+            }
+            if self.turn(rt, roster, master).is_err() {
+                thread::sleep(rt, Duration::from_millis(WAIT));
+            }
+        }
+    }
+}
+
+/// Makes the call of a datagram, if it is one. The answer stands in the book.
+fn take_in<S: PurgeStore, R: Wait>(
+    rt: &R,
+    alloc: Global,
+    roster: &Roster,
+    master: &SharedMaster<S>,
+    from: Address,
+    octets: &[u8],
+) {
+    if let Ok(Some(call)) = master_call_of(alloc, roster, from, octets) {
+        let _ = master.call(rt, call);
+    }
+}

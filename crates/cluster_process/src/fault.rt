@@ -1,0 +1,127 @@
+//! Why a cluster does not start, or ends early.
+ghost use Rattle.std.specs.Prelude.{◌≡◌};
+ghost use Rattle.cluster_process.specs.Names.{cluster_fault_name};
+
+use cluster_master::MasterStartFault;
+use floor_rules::FloorFault;
+use node_workers::{StartFault, StopFault};
+use purge_master::MasterOpenFault;
+use purge_rules::PurgeFault;
+use std::alloc::AllocError;
+use thiserror::Error;
+use values_lines::RunFault;
+
+/// Why a cluster does not start, or ends before its input. No thread of it runs then, and no socket
+/// of it is open.
+#[derive(Debug, Drop, Error)]
+pub enum ClusterFault {
+    /// The folder has a master's file, and the members that have a file there are not those of the
+    /// roster.
+    #[error("the files in {dir} are those of other members than the roster's")]
+    OtherRoster {
+        /// The folder.
+        dir: String,
+    },
+    /// The file of a member or of the master could not be opened.
+    #[error("the file {path} could not be opened")]
+    File {
+        /// The file.
+        path: String,
+    },
+    /// The file of a member was opened, and is not one that can be used.
+    #[error("{path}: {fault}")]
+    Floors {
+        /// The file.
+        path: String,
+        /// Why.
+        fault: FloorFault,
+    },
+    /// The master's file was opened, and is not one that can be used.
+    #[error("{path}: {fault}")]
+    Purges {
+        /// The file.
+        path: String,
+        /// Why.
+        fault: PurgeFault,
+    },
+    /// The purges of the master's file could not be read.
+    #[error("the master: {0}")]
+    MasterOpen(MasterOpenFault),
+    /// The master's socket is not opened.
+    #[error("{0}")]
+    MasterStart(MasterStartFault),
+    /// A socket of a member is not opened: one of its ports is in use, its address is not this
+    /// machine's, or the system gives no more sockets or poll instances.
+    #[error("node {id}: not each of its ports {http} (HTTP), {icp} (ICP) and {htcp} (HTCP) could be opened")]
+    Ports {
+        /// Its id.
+        id: u8,
+        /// Its TCP port for HTTP.
+        http: u16,
+        /// Its UDP port for ICP.
+        icp: u16,
+        /// Its UDP port for HTCP.
+        htcp: u16,
+    },
+    /// A member is not started.
+    #[error("node {id}: {fault}")]
+    Node {
+        /// Its id.
+        id: u8,
+        /// Why.
+        fault: StartFault,
+    },
+    /// The thread of the master could not be started.
+    #[error("no thread could be made for the master")]
+    NoThread,
+    /// The system gave no random hash keys, or no poll instance for the client of `get`.
+    #[error("the system gave no random keys, or nothing to wait on")]
+    System,
+    /// The run over the input stopped before its end.
+    #[error("the input: {0}")]
+    Run(RunFault),
+    /// A member ran, and its records are not given.
+    #[error("node {id}, at its end: {fault}")]
+    Stop {
+        /// Its id.
+        id: u8,
+        /// Why.
+        fault: StopFault,
+    },
+    /// There was no memory.
+    #[error("there was no memory")]
+    NoMemory,
+}
+
+impl ClusterFault {
+    /// The name that the program prints: that of the fault inside, where there is one; `Io` for a
+    /// file or a socket that is not opened.
+    pub const fn name(&self) -> &'static str
+        ensures { result.now ≡ cluster_fault_name self.now }
+    {
+        match self {
+            ClusterFault::File { .. } | ClusterFault::Ports { .. } | ClusterFault::System => "Io",
+            ClusterFault::OtherRoster { .. } => "OtherRoster",
+            ClusterFault::Floors { fault, .. } => fault.name(),
+            ClusterFault::Purges { fault, .. } => fault.name(),
+            ClusterFault::MasterOpen(fault) => fault.name(),
+            ClusterFault::MasterStart(fault) => fault.name(),
+            ClusterFault::Node { fault, .. } => fault.name(),
+            ClusterFault::NoThread => "NoThread",
+            ClusterFault::Run(fault) => fault.name(),
+            ClusterFault::Stop { fault, .. } => fault.name(),
+            ClusterFault::NoMemory => "NoMemory",
+        }
+    }
+}
+
+impl From<AllocError> for ClusterFault {
+    ghost use Rattle.std.specs.Prelude.{◌≡◌};
+    ghost use Rattle.cluster_process.specs.declared.fault.ClusterFault.TheVariants.{NoMemory};
+
+    ghost from_gives = { λ _ fault. fault ≡ NoMemory };
+
+    fn from(_: AllocError) -> ClusterFault {
+        ClusterFault::NoMemory
+    }
+}

@@ -1,0 +1,134 @@
+//! The judge of the run of the members and their master.
+ghost use Rattle.std.specs.Prelude.{IfOk};
+ghost use Rattle.cluster_console.specs.Checked.{GoesOn, IsChecked};
+ghost use Rattle.cluster_process.specs.Kept.{gathered_in};
+
+use crate::cluster::Running;
+use crate::kept::{Kept, Memory};
+use cluster_console::{Checked, Checker};
+use cluster_master::SharedMaster;
+use node_workers::StopFault;
+use purge_rules::PurgeStore;
+use roster::Roster;
+use run_check::check_run;
+use std::alloc::{AllocError, Global};
+use std::hash::RandomState;
+use std::sync::Wait;
+
+/// What was gathered of what the members and the master did, and where the rest of it comes from.
+#[derive(Drop)]
+pub(crate) struct Judge<'a, S: PurgeStore> {
+    /// The members that run.
+    pub(crate) nodes: &'a [Running],
+    /// The master that runs.
+    pub(crate) master: &'a SharedMaster<S>,
+    /// What was gathered so far.
+    pub(crate) memory: Memory,
+    /// Random hash keys for the check of what was sent.
+    pub(crate) keys: RandomState,
+}
+
+impl<S: PurgeStore> Judge<'_, S> {
+    /// Adds the records of a member to what was gathered.
+    #[tactic(auto, using(crate::proofs::Gathering::kept_as_it_was, crate::proofs::Gathering::dropped))]
+    fn take_records<R: Wait>(&mut self, rt: &R, node: &Running) -> Result<(), StopFault>
+        ensures { GoesOn (gathered_in self.old.memory.kept) (gathered_in self.new.memory.kept) }
+    {
+        match node.workers.records(rt)? {
+            Some(records) => self.memory.put_records(records)?,
+            None => self.memory.forget(),
+        }
+        Ok(())
+    }
+
+    /// Adds the calls of the master to what was gathered.
+    #[tactic(auto, using(crate::proofs::Gathering::kept_twice, crate::proofs::Gathering::dropped))]
+    fn take_entries<R: Wait>(&mut self, rt: &R) -> Result<(), AllocError>
+        ensures { GoesOn (gathered_in self.old.memory.kept) (gathered_in self.new.memory.kept) }
+    {
+        // (where there is no memory to put the open page behind the others, the second take has it)
+        self.memory.put_entries(self.master.take_entries(rt))?;
+        self.memory.put_entries(self.master.take_entries(rt))?;
+        if self.master.has_forgotten(rt) {
+            self.memory.forget();
+        }
+        Ok(())
+    }
+
+    /// Adds the records of the members and the calls of the master to what was gathered, while the
+    /// members are held.
+    #[tactic(auto, using(crate::proofs::Gathering::kept_as_it_was, crate::proofs::Gathering::kept_twice))]
+    fn take_all<R: Wait>(&mut self, rt: &R) -> Result<(), StopFault>
+        ensures { GoesOn (gathered_in self.old.memory.kept) (gathered_in self.new.memory.kept) }
+    {
+        for node in self.nodes {
+            self.take_records(rt, node)?;
+        }
+        self.take_entries(rt)?;
+        self.memory.limit();
+        Ok(())
+    }
+
+    /// Holds all members, gathers what they and the master did since the last time, and lets the
+    /// members go on. The master is not held: each of its calls rests on what was done before it.
+    ///
+    /// Faults: those of [`Workers::records`](node_workers::Workers::records). What was gathered
+    /// before such a fault stays, and the rest is gathered the next time. Where there is no memory
+    /// for what is gathered, all of it is dropped.
+    pub(crate) fn gather<R: Wait>(&mut self, rt: &R) -> Result<(), StopFault>
+        ensures { GoesOn (gathered_in self.old.memory.kept) (gathered_in self.new.memory.kept) }
+    {
+        for node in self.nodes {
+            node.workers.hold(rt);
+        }
+        let taken = self.take_all(rt);
+        for node in self.nodes {
+            node.workers.resume(rt);
+        }
+        taken
+    }
+
+    /// What is kept of the run until now; none, where some of it cannot be gathered.
+    #[tactic(auto, using(crate::proofs::Gathering::kept_as_it_was, crate::proofs::Gathering::dropped))]
+    pub(crate) fn into_kept<R: Wait>(mut self, rt: &R) -> Option<Kept>
+        ensures { GoesOn (gathered_in self.entry.memory.kept) (gathered_in result) }
+    {
+        if self.memory.kept().is_some() && self.gather(rt).is_err() {
+            self.memory.forget();
+        }
+        self.memory.into_kept()
+    }
+
+    /// The verdict on what was gathered, if all of it is kept.
+    fn judged(&self, alloc: Global, roster: &Roster) -> Result<Checked, AllocError>
+        ensures { IfOk result (IsChecked roster.now (gathered_in self.now.memory.kept)) }
+    {
+        let Some(kept) = self.memory.kept() else {
+            return Ok(Checked::Forgotten);
+        };
+        let (records, entries) = (kept.records.as_slice(), kept.entries.as_slice());
+        let verdict = check_run(alloc, self.keys, roster, records, entries)?;
+        Ok(Checked::Judged(verdict))
+    }
+}
+
+impl<S: PurgeStore> Checker for Judge<'_, S> {
+    ghost gathered = { λ judge. gathered_in judge.memory.kept };
+
+    fn check<R: Wait>(
+        &mut self,
+        rt: &R,
+        alloc: Global,
+        roster: &Roster,
+    ) -> Result<Checked, AllocError> {
+        if self.memory.kept().is_none() {
+            return Ok(Checked::Forgotten);
+        }
+        match self.gather(rt) {
+            Ok(()) => self.judged(alloc, roster),
+            Err(StopFault::NoMemory) => Err(AllocError),
+            Err(StopFault::SeatMissing) => Ok(Checked::SeatMissing),
+            Err(StopFault::Mismatch) => Ok(Checked::Mismatch),
+        }
+    }
+}

@@ -1,0 +1,123 @@
+//! The thread of the master's event loop.
+use crate::fault::ClusterFault;
+use cluster_master::{History, MasterLoop, MasterSender, SharedMaster};
+use node_book::MOST_ENTRIES;
+use node_seats::Places;
+use purge_master::{Master, MasterBook};
+use purge_rules::PurgeStore;
+use roster::Roster;
+use std::alloc::Global;
+use std::net::Net;
+use std::sync::atomic::{AtomicBool, Ordering};
+use std::sync::{Arc, Wait};
+use std::thread::{self, JoinHandle, Threads};
+use std::time::Clock;
+
+/// A master whose thread runs.
+#[derive(Drop)]
+pub(crate) struct MasterThread<S: PurgeStore> {
+    /// The master, which its thread and the lines share.
+    pub(crate) master: Arc<SharedMaster<S>, Global>,
+    /// What issues purges on the master's socket.
+    pub(crate) sender: MasterSender,
+    is_stopped: Arc<AtomicBool, Global>,
+    thread: JoinHandle<()>,
+}
+
+/// What the master's thread has.
+#[derive(Drop)]
+struct Turned<S: PurgeStore> {
+    turner: MasterLoop,
+    roster: Roster,
+    master: Arc<SharedMaster<S>, Global>,
+    is_stopped: Arc<AtomicBool, Global>,
+}
+
+impl<S: PurgeStore + Drop> Turned<S> {
+    /// Takes turns until it is told to stop.
+    fn run<R: Wait + Clock>(mut self, rt: &R) {
+        self.turner
+            .run_until(rt, &self.roster, &self.master, &self.is_stopped);
+    }
+}
+
+/// The master of a roster's members over a store, shared.
+fn shared<S: PurgeStore + Drop>(
+    alloc: Global,
+    roster: &Roster,
+    purges: S,
+    places: Places,
+    history: History,
+) -> Result<Arc<SharedMaster<S>, Global>, ClusterFault> {
+    let master = match Master::open(alloc, roster, purges) {
+        Ok(master) => master,
+        Err(fault) => return Err(ClusterFault::MasterOpen(fault)),
+    };
+    let book = MasterBook::open(master);
+    match Arc::new(alloc, SharedMaster::open(alloc, book, places, history)) {
+        Ok(master) => Ok(master),
+        Err(_) => Err(ClusterFault::NoMemory),
+    }
+}
+
+/// What becomes of the master's entries where this many pages of 4,096 are kept.
+fn history_of(most: u32) -> History {
+    if most == 0 {
+        History::Dropped
+    } else {
+        History::UpTo(most.saturating_mul(MOST_ENTRIES as u32))
+    }
+}
+
+/// A flag that is not set.
+fn flag(alloc: Global) -> Result<Arc<AtomicBool, Global>, ClusterFault> {
+    match Arc::new(alloc, AtomicBool::new(false)) {
+        Ok(flag) => Ok(flag),
+        Err(_) => Err(ClusterFault::NoMemory),
+    }
+}
+
+impl<S: PurgeStore + Drop + Send + 'static> MasterThread<S> {
+    /// Opens the master's socket, and starts its thread. `history` pages of its book are kept, of
+    /// 4,096 entries each.
+    ///
+    /// Faults: `MasterOpen`, `MasterStart`, `NoThread` and `NoMemory`. After a fault nothing runs
+    /// or is open.
+    pub(crate) fn start<R: Threads + Wait + Clock + Net + Copy + Drop + Send + Sync + 'static>(
+        rt: R,
+        alloc: Global,
+        roster: &Roster,
+        purges: S,
+        places: Places,
+        history: u32,
+    ) -> Result<MasterThread<S>, ClusterFault> {
+        let master = shared(alloc, roster, purges, places, history_of(history))?;
+        let is_stopped = flag(alloc)?;
+        let turner = match MasterLoop::open(&rt, alloc, roster) {
+            Ok(turner) => turner,
+            Err(fault) => return Err(ClusterFault::MasterStart(fault)),
+        };
+        let sender = turner.sender()?;
+        let turned = Turned {
+            turner,
+            roster: roster.copy(alloc)?,
+            master: Arc::try_clone(&master)?,
+            is_stopped: Arc::try_clone(&is_stopped)?,
+        };
+        match thread::spawn(&rt, move || turned.run(&rt)) {
+            Ok(thread) => Ok(MasterThread {
+                master,
+                sender,
+                is_stopped,
+                thread,
+            }),
+            Err(_) => Err(ClusterFault::NoThread),
+        }
+    }
+
+    /// Tells the thread to stop, and waits for its end.
+    pub(crate) fn stop<R: Threads>(self, rt: &R) {
+        self.is_stopped.store(true, Ordering::SeqCst);
+        self.thread.join(rt);
+    }
+}

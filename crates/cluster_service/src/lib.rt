@@ -1,0 +1,44 @@
+//! What the threads of a node do with datagrams, requests, timers and fetches.
+//!
+//! - A [`Worker`] does jobs. It hands a datagram, an HTTP request or a timer to the node, sends the
+//!   datagrams that the step asks for, and answers its client or leaves it in the tables. It leaves
+//!   each fetch to the fetchers.
+//! - A [`Fetcher`] does errands. It asks a peer or an origin, takes the step at the end of the
+//!   fetch, and does what that step begins.
+//! - [`Questions`] answers ICP queries and HTCP TST requests on the thread of the event loop,
+//!   without a job.
+//!
+//! All three take the node's steps through a [`Stepper`](node_bytes::Stepper), so this crate does
+//! not stand on the seats. They share a [`Station`]: the tables, the bell, the errands, the roster
+//! and the senders. A [`Gate`] is told of each read of an origin before it begins. No lock is held
+//! while a socket is waited for.
+//!
+//! Order of reading: `src/station.rt` (what is shared); `src/worker.rt`, `src/fetcher.rt`,
+//! `src/questions.rt`; `src/seated.rt` (what workers and fetchers do with a step); `src/telling.rt`
+//! (how a client is answered); `src/tools.rt`, `src/gate.rt`; `specs/Questions.antt`,
+//! `specs/Addresses.antt`.
+//!
+//! The crate reads and writes sockets, opens connections (`cluster_fetch`), reads the clock, and waits
+//! at the station's locks. It starts no thread and opens no listener.
+//!
+//! Contracts say which octets are a question (`is_question`) and where a peer is asked
+//! (`source_of`). No contract says what is done over sockets: tests show it.
+#![tactic(auto)]
+
+mod fetcher;
+mod gate;
+mod questions;
+mod seated;
+mod station;
+mod telling;
+mod tools;
+mod worker;
+
+pub use fetcher::Fetcher;
+pub use gate::{Gate, NoGate};
+pub use questions::Questions;
+pub use seated::Seated;
+pub use station::{Station, milliseconds};
+pub use telling::refuse_all;
+pub use tools::Tools;
+pub use worker::Worker;

@@ -1,0 +1,120 @@
+//! ICP queries and HTCP TST requests, which are answered on the thread of the event loop.
+ghost use Rattle.std.specs.Prelude.{◌≡◌};
+ghost use Rattle.cluster_service.specs.Questions.{is_question as asks};
+
+use crate::gate::Gate;
+use crate::station::{Station, seconds};
+use cluster_sockets::AtOnce;
+use node_bytes::{Stepper, Turn, on_datagram};
+use roster::{Address, Udp};
+use std::sync::Wait;
+use std::time::Clock;
+
+/// The opcode of an ICP QUERY (RFC 2186) and of an HTCP TST (RFC 2756).
+const QUESTION: u8 = 1;
+
+/// How many responses are held back at most, so that the first waits for no more than 32 steps.
+const MOST_HELD: usize = 32;
+
+/// Answers ICP queries and HTCP TST requests as they come. The step of such a question begins
+/// nothing and serves no client. So it waits for no fetch and no client, only for the node's lock,
+/// and no worker is woken.
+///
+/// Responses to questions that came together are sent together: the first one wakes the receiver,
+/// and the others mostly find it awake.
+#[derive(Drop)]
+pub struct Questions<'a, N: Stepper + Drop, G: Gate + Drop> {
+    station: &'a Station<G>,
+    node: N,
+    held: Vec<Turn>,
+}
+
+impl<'a, N: Stepper + Drop, G: Gate + Drop> Questions<'a, N, G> {
+    /// Questions to this node, none of which is held back.
+    pub fn new(station: &'a Station<G>, node: N) -> Questions<'a, N, G> {
+        Questions {
+            station,
+            node,
+            held: Vec::new(station.alloc),
+        }
+    }
+}
+
+impl<N: Stepper + Drop, G: Gate + Drop> Questions<'_, N, G> {
+    /// Sends the responses that are held back, in the order of their questions.
+    fn send_held(&mut self) {
+        for turn in self.held.as_slice() {
+            self.station.send_all(turn.send.as_slice());
+        }
+        self.held.clear();
+    }
+
+    /// Holds a response back until the loop has read what is ready, or 32 are held. Where there is
+    /// no memory to hold it, it is sent now, after those that are held.
+    fn hold(&mut self, turn: Turn) {
+        if self.held.len() >= MOST_HELD {
+            self.send_held();
+        }
+        if self.held.reserve(1).is_ok() {
+            self.held.push_reserved(turn);
+        } else {
+            self.send_held();
+            self.station.send_all(turn.send.as_slice());
+        }
+    }
+
+    /// Has what a step asks for sent. What a question never asks for (to serve a client, or to
+    /// begin a fetch) is left to a fetcher, since it would have to be waited for.
+    fn carry_out<R: Wait>(&mut self, rt: &R, turn: Turn) {
+        if turn.serve.is_none() && turn.begin.is_none() {
+            self.hold(turn);
+        } else {
+            // (where there is no memory for that, it is lost, as a reply is for which there is
+            // none)
+            let _ = self.station.errands.put(rt, turn);
+        }
+    }
+}
+
+/// Whether octets are a question, if they are a message at all: by the opcode, and in HTCP by the
+/// bit RR, which is clear in a request.
+fn is_question(udp: Udp, octets: &[u8]) -> bool
+    ensures { result ≡ asks udp octets.now }
+{
+    match (udp, octets) {
+        (Udp::Icp, [code, ..]) => *code == QUESTION,
+        (Udp::Htcp, [_, _, _, _, _, _, code, flags, ..]) => {
+            code >> 4 == QUESTION && flags & 1 == 0
+        }
+        _ => false,
+    }
+}
+
+impl<N: Stepper + Drop, G: Gate + Drop> AtOnce for Questions<'_, N, G> {
+    fn deals_with<R: Wait + Clock>(
+        &mut self,
+        rt: &R,
+        udp: Udp,
+        from: Address,
+        octets: &[u8],
+    ) -> bool {
+        if !is_question(udp, octets) {
+            return false;
+        }
+        let now = seconds(rt);
+        match on_datagram(self.station.alloc, &mut self.node, udp, from, octets, now) {
+            Ok(turn) => {
+                self.carry_out(rt, turn);
+                true
+            }
+            // (a worker tries again, and answers those who wait if the node has closed)
+            Err(_) => false,
+        }
+    }
+
+    fn finish(&mut self) {
+        if !self.held.is_empty() {
+            self.send_held();
+        }
+    }
+}

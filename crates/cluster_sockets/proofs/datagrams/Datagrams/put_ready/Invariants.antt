@@ -1,0 +1,5 @@
+use Rattle.cluster_sockets.specs.Turns.{HasPut}
+use Rattle.cluster_sockets.proofs.datagrams.Datagrams.put_ready.Given as goal
+
+abbrev pub invariant-loop : goal.invariant-loop
+invariant-loop g l = HasPut l.fn.pass l.pass

@@ -1,0 +1,5 @@
+use Rattle.cluster_sockets.specs.Turns.{HasPut}
+use Rattle.cluster_sockets.proofs.streams.Streams.put_accepted.Given as goal
+
+abbrev pub invariant-loop : goal.invariant-loop
+invariant-loop g l = HasPut l.fn.pass l.pass

@@ -1,0 +1,5 @@
+use Rattle.cluster_sockets.specs.Turns.{HasPut}
+use Rattle.cluster_sockets.proofs.streams.Streams.put_late.Given as goal
+
+abbrev pub invariant-loop-key : goal.invariant-loop-key
+invariant-loop-key g l = HasPut l.fn.pass l.pass

@@ -1,0 +1,5 @@
+use Rattle.cluster_sockets.specs.Turns.{HasPut}
+use Rattle.cluster_sockets.proofs.streams.Streams.put_noted.Given as goal
+
+abbrev pub invariant-loop-place : goal.invariant-loop-place
+invariant-loop-place g l = HasPut l.fn.pass l.pass

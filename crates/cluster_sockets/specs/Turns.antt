@@ -1,0 +1,26 @@
+-- What a turn of the event loop does to the queue of jobs.
+use Rattle.std.specs.Prelude.{◌≡◌, List, ◌++◌, map, All, IfSome}
+use Rattle.cluster_jobs.specs.declared.order.Sight.{Sight}
+use Rattle.cluster_jobs.specs.declared.order.Sight.TheVariants as sight
+use Rattle.cluster_jobs.specs.declared.order.Step.TheVariants.{Put}
+use Rattle.cluster_jobs.specs.declared.order.View.{View}
+use Rattle.cluster_jobs.specs.Order.{sight_of, Begins}
+use Rattle.cluster_sockets.specs.declared.putting.Come.{Come}
+use Rattle.cluster_sockets.specs.declared.putting.Come.TheVariants.{Taken, Nothing}
+
+-- the job came over a socket: it is a datagram or a stream, and no timer
+abbrev pub HasCome : Sight → Type 0
+HasCome (sight.Datagram udp from octets) = Unit {0}
+HasCome (sight.Stream number) = Unit {0}
+HasCome (sight.Timer serial) = ⊥
+
+-- the pass has seen more steps, and its own new ones are puts of jobs that came over a socket
+pub record HasPut (before after : View) : Type 0 where
+  pub parts : after.parts ≡ before.parts
+  pub seen : Begins before.seen after.seen
+  pub own : (come : List Sight) × (after.own ≡ before.own ++ map Put come) × All HasCome come
+
+-- the job of what came, if it has one, came over a socket
+abbrev pub IsSound : Come → Type 0
+IsSound (Taken job) = IfSome job (λ j. HasCome (sight_of j))
+IsSound Nothing = Unit {0}

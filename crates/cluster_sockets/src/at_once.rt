@@ -1,0 +1,43 @@
+//! Datagrams that are answered without a job.
+use std::sync::Wait;
+use std::time::Clock;
+use values_tables::{Address, Udp};
+
+/// Answers datagrams on the thread of the event loop, without queueing a job and without waking a
+/// worker. It must not wait for a socket or a client. It may wait for a lock that others hold for
+/// one step, such as the node's, also while what the step changed is written to a file. Meanwhile
+/// the loop reads nothing, and datagrams wait in the sockets' buffers.
+pub trait AtOnce {
+    /// Answers this datagram, which came by this protocol from this address, and returns true; or
+    /// returns false, and the loop queues a job for it.
+    fn deals_with<R: Wait + Clock>(
+        &mut self,
+        rt: &R,
+        udp: Udp,
+        from: Address,
+        octets: &[u8],
+    ) -> bool;
+
+    /// Sends what was held back since the last call, such as answers that are sent together. The
+    /// loop calls it once in each turn, after it has read the datagrams that were ready. It waits
+    /// for no more than `deals_with` does.
+    fn finish(&mut self);
+}
+
+/// Answers no datagram: each is queued.
+#[derive(Clone, Copy, Debug, PartialEq, Eq)]
+pub struct Never;
+
+impl AtOnce for Never {
+    fn deals_with<R: Wait + Clock>(
+        &mut self,
+        _rt: &R,
+        _udp: Udp,
+        _from: Address,
+        _octets: &[u8],
+    ) -> bool {
+        false
+    }
+
+    fn finish(&mut self) {}
+}

@@ -1,0 +1,147 @@
+//! Connections whose request head has not come whole.
+ghost use Rattle.std.specs.Prelude.{IfSome};
+ghost use Rattle.cluster_jobs.specs.Order.{sight_of};
+ghost use Rattle.cluster_sockets.specs.Turns.{HasCome};
+
+use cluster_jobs::Job;
+use mio::net::TcpStream;
+use mio::{Interest, Registry, Token};
+use std::alloc::{AllocError, Global};
+use std::io::{self, ErrorKind, Read};
+use std::net::Shutdown;
+use std::time::Instant;
+
+/// How many octets of a connection are read at most before a worker gets it. No request head is
+/// longer.
+const LONGEST: usize = 16_384;
+
+/// How many seconds a request head may take, from when the connection was accepted.
+const PATIENCE: u64 = 5;
+
+/// How many octets of empty lines stand before the request line; they do not count (RFC 9112,
+/// section 2.2). The first `known` octets are known to be such.
+fn front_of(octets: &[u8], known: usize) -> usize {
+    let rest = octets.get(known..).unwrap_or_default();
+    let more = rest
+        .iter()
+        .position(|octet| !matches!(*octet, b'\r' | b'\n'))
+        .unwrap_or(rest.len());
+    known.saturating_add(more)
+}
+
+/// Whether the head that begins at `front` ends in these octets, of which the last `new` have just
+/// come: there is an empty line after its first line. A line ends with CRLF or LF alone (RFC 9112,
+/// section 2.2).
+fn ends_in(octets: &[u8], front: usize, new: usize) -> bool {
+    let old = octets.len().saturating_sub(new).saturating_sub(2);
+    let last = octets.get(front.max(old)..).unwrap_or_default();
+    last.windows(2).any(|pair| pair == b"\n\n".as_slice())
+        || last.windows(3).any(|triple| triple == b"\n\r\n".as_slice())
+}
+
+/// What became of a connection that was read.
+pub(crate) enum Reading {
+    /// More of the head has to come.
+    Waits,
+    /// A worker can read the request without waiting for the head.
+    Came,
+    /// It failed, or ended before anything came, or there was no memory for what came.
+    Gone,
+}
+
+/// A connection, and what was read of it.
+#[derive(Drop)]
+pub(crate) struct Head {
+    number: u64,
+    stream: TcpStream,
+    octets: Vec<u8>,
+    front: usize,
+    since: Instant,
+}
+
+impl Head {
+    /// A connection that was accepted at this moment, before anything is read of it.
+    pub(crate) fn new(alloc: Global, number: u64, stream: TcpStream, since: Instant) -> Head {
+        Head {
+            number,
+            stream,
+            octets: Vec::new(alloc),
+            front: 0,
+            since,
+        }
+    }
+
+    /// Adds octets that came. Returns whether the head has come whole, or is too long.
+    fn take_in(&mut self, piece: &[u8]) -> Result<bool, AllocError> {
+        self.octets.extend_from_slice(piece)?;
+        let octets = self.octets.as_slice();
+        self.front = front_of(octets, self.front);
+        Ok(octets.len() >= LONGEST || ends_in(octets, self.front, piece.len()))
+    }
+
+    /// Reads what is there, without waiting, until the head has come whole.
+    pub(crate) fn read(&mut self) -> Reading {
+        let mut piece = [0; 2048];
+        for _ in 0..LONGEST {
+            match self.stream.read(&mut piece) {
+                Ok(0) if self.is_silent() => return Reading::Gone,
+                Ok(0) => return Reading::Came,
+                Ok(count) => match self.take_in(&piece[..count]) {
+                    Ok(true) => return Reading::Came,
+                    Ok(false) => {}
+                    Err(_) => return Reading::Gone,
+                },
+                Err(error) if error.kind() == ErrorKind::WouldBlock => return Reading::Waits,
+                Err(error) if error.kind() == ErrorKind::Interrupted => {}
+                Err(_) => return Reading::Gone,
+            }
+        }
+        Reading::Came
+    }
+
+    /// Has the poll tell, under this key, when more has come.
+    pub(crate) fn register(&mut self, registry: &Registry, key: usize) -> io::Result<()> {
+        registry.register(&mut self.stream, Token(key), Interest::READABLE)
+    }
+
+    /// Whether nothing has come of it.
+    pub(crate) fn is_silent(&self) -> bool {
+        self.octets.is_empty()
+    }
+
+    /// Whether its five seconds have passed.
+    pub(crate) fn is_late(&self, now: Instant) -> bool {
+        now.saturating_duration_since(self.since).as_secs() >= PATIENCE
+    }
+
+    /// Shuts down its reading side: a worker reads no more of it than has come by now.
+    pub(crate) fn end(&mut self) {
+        // (a stream that its client has reset cannot be shut down; it has ended anyway)
+        let _ = self.stream.shutdown(Shutdown::Read);
+    }
+
+    /// Takes it out of the poll.
+    pub(crate) fn deregister(&mut self, registry: &Registry) {
+        // (where this fails, the poll forgets the stream once it is closed; until then it may tell
+        // of a key under which none waits)
+        let _ = registry.deregister(&mut self.stream);
+    }
+
+    /// Makes it a job for a worker.
+    pub(crate) fn into_job(self) -> Job
+        ensures { HasCome (sight_of result) }
+    {
+        let Head {
+            number,
+            stream,
+            octets,
+            front: _,
+            since: _,
+        } = self;
+        Job::Stream {
+            number,
+            stream,
+            octets,
+        }
+    }
+}

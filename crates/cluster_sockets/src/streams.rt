@@ -1,0 +1,255 @@
+//! From the listener into the job queue.
+ghost use Rattle.std.specs.Prelude.{IfOk, IfSome};
+ghost use Rattle.cluster_jobs.specs.Order.{sight_of};
+ghost use Rattle.cluster_sockets.specs.Turns.{HasCome, HasPut, IsSound};
+
+use crate::fault::LoopFault;
+use crate::heads::{Head, Reading};
+use crate::putting::{Come, put};
+use cluster_jobs::{Job, Jobs, Pass, QueueName};
+use mio::Registry;
+use mio::net::{TcpListener, TcpStream};
+use slab::Slab;
+use std::alloc::{AllocError, Global};
+use std::io::ErrorKind;
+use std::mem::replace;
+use std::sync::Wait;
+use std::time::Instant;
+
+/// How many connections wait in the loop at most.
+const MOST_HEADS: usize = 1024;
+
+/// How many connections a turn accepts at most, so that each source gets its share of a turn.
+const MOST_AT_ONCE: usize = 256;
+
+/// How many connections whose five seconds have passed are put at one look, so that the queue keeps
+/// room for others.
+const MOST_LATE: usize = 64;
+
+/// How many milliseconds pass between two looks for connections whose five seconds have passed.
+const BETWEEN_LOOKS: u128 = 100;
+
+/// Accepts a node's connections, and keeps those whose requests have not come.
+#[derive(Drop)]
+pub(crate) struct Streams {
+    alloc: Global,
+    listener: TcpListener,
+    is_ready: bool,
+    heads: Slab<Head>,
+    came: Vec<usize>,
+    number: u64,
+    looked: Instant,
+    had_jobs: bool,
+}
+
+impl Streams {
+    /// Accepts from this listener. `AllocError` comes where there is no memory for 1,024 waiting
+    /// connections.
+    pub(crate) fn new(
+        alloc: Global,
+        listener: TcpListener,
+        now: Instant,
+    ) -> Result<Streams, AllocError> {
+        Ok(Streams {
+            alloc,
+            listener,
+            is_ready: true,
+            heads: Slab::with_capacity(alloc, MOST_HEADS)?,
+            came: Vec::with_capacity(alloc, MOST_HEADS)?,
+            number: 0,
+            looked: now,
+            had_jobs: false,
+        })
+    }
+
+    /// Notes that the listener may have connections to accept.
+    pub(crate) fn set_ready(&mut self) {
+        self.is_ready = true;
+    }
+
+    /// Whether a connection has had a job since this was last called.
+    pub(crate) fn had_jobs(&mut self) -> bool {
+        replace(&mut self.had_jobs, false)
+    }
+
+    /// Notes that more has come of the connection under this key. `AllocError` comes where there is
+    /// no room to note it; the connection then waits for more octets, or for its five seconds.
+    pub(crate) fn note(&mut self, key: usize) -> Result<(), AllocError> {
+        Ok(self.came.push(key)?)
+    }
+
+    /// Takes out the connection under this key, as a job.
+    fn take(&mut self, registry: &Registry, key: usize) -> Option<Job>
+        ensures { IfSome result (λ job. HasCome (sight_of job)) }
+    {
+        let mut head = self.heads.try_remove(key)?;
+        head.deregister(registry);
+        self.had_jobs = true;
+        Some(head.into_job())
+    }
+
+    /// Reads what has come of the connection under this key. Returns its job, if a worker can have
+    /// it.
+    fn read_on(&mut self, registry: &Registry, key: usize) -> Option<Job>
+        ensures { IfSome result (λ job. HasCome (sight_of job)) }
+    {
+        let reading = match self.heads.get_mut(key) {
+            Some(head) => head.read(),
+            None => Reading::Waits,
+        };
+        match reading {
+            Reading::Waits => None,
+            Reading::Came => self.take(registry, key),
+            Reading::Gone => {
+                let _ = self.heads.try_remove(key);
+                None
+            }
+        }
+    }
+
+    /// Puts the connections that were noted and whose requests have come.
+    pub(crate) fn put_noted<Q: QueueName, R: Wait>(
+        &mut self,
+        rt: &R,
+        registry: &Registry,
+        jobs: &Jobs<Q>,
+        mut pass: Pass<Q>,
+    ) -> Pass<Q>
+        ensures { HasPut pass result }
+    {
+        for place in 0..self.came.len() {
+            let Some(key) = self.came.get(place).copied() else {
+                break;
+            };
+            let job = self.read_on(registry, key);
+            pass = put(rt, jobs, pass, job);
+        }
+        self.came.clear();
+        pass
+    }
+
+    /// The job of the connection under this key, if its five seconds have passed; no more is read
+    /// of it than has come by then. A connection of which nothing has come is closed.
+    fn take_late(&mut self, registry: &Registry, key: usize, now: Instant) -> Option<Job>
+        ensures { IfSome result (λ job. HasCome (sight_of job)) }
+    {
+        let is_silent = match self.heads.get_mut(key) {
+            Some(head) if head.is_late(now) => {
+                head.end();
+                head.is_silent()
+            }
+            _ => return None,
+        };
+        if is_silent {
+            let _ = self.heads.try_remove(key);
+            return None;
+        }
+        self.take(registry, key)
+    }
+
+    /// Puts the connections whose five seconds have passed, 64 at most, at intervals of 100
+    /// milliseconds.
+    pub(crate) fn put_late<Q: QueueName, R: Wait>(
+        &mut self,
+        rt: &R,
+        registry: &Registry,
+        jobs: &Jobs<Q>,
+        mut pass: Pass<Q>,
+        now: Instant,
+    ) -> Pass<Q>
+        ensures { HasPut pass result }
+    {
+        let since = now.saturating_duration_since(self.looked).as_millis();
+        if self.heads.is_empty() || since < BETWEEN_LOOKS {
+            return pass;
+        }
+        self.looked = now;
+        let mut late = 0usize;
+        for key in 0..MOST_HEADS {
+            let job = self.take_late(registry, key, now);
+            late = late.saturating_add(usize::from(job.is_some()));
+            pass = put(rt, jobs, pass, job);
+            if late >= MOST_LATE {
+                break;
+            }
+        }
+        pass
+    }
+
+    /// Keeps a connection until more has come of it, or closes it where 1,024 wait or the poll does
+    /// not take it.
+    fn keep(&mut self, registry: &Registry, head: Head) {
+        if self.heads.len() >= MOST_HEADS {
+            return;
+        }
+        let Ok(key) = self.heads.insert(head) else {
+            return;
+        };
+        let is_told = match self.heads.get_mut(key) {
+            Some(head) => head.register(registry, key).is_ok(),
+            None => true,
+        };
+        if !is_told {
+            let _ = self.heads.try_remove(key);
+        }
+    }
+
+    /// Reads a connection that was just accepted. Returns its job, if its request is there.
+    fn begin(&mut self, registry: &Registry, stream: TcpStream, now: Instant) -> Option<Job>
+        ensures { IfSome result (λ job. HasCome (sight_of job)) }
+    {
+        let mut head = Head::new(self.alloc, self.number, stream, now);
+        self.number = self.number.wrapping_add(1);
+        match head.read() {
+            Reading::Came => {
+                self.had_jobs = true;
+                Some(head.into_job())
+            }
+            Reading::Waits => {
+                self.keep(registry, head);
+                None
+            }
+            Reading::Gone => None,
+        }
+    }
+
+    /// Accepts a connection, if there is one.
+    fn accept(&mut self, registry: &Registry, now: Instant) -> Result<Come, LoopFault>
+        ensures { IfOk result IsSound }
+    {
+        match self.listener.accept() {
+            Ok((stream, _)) => Ok(Come::Taken(self.begin(registry, stream, now))),
+            Err(error) if error.kind() == ErrorKind::WouldBlock => Ok(Come::Nothing),
+            Err(error) if error.kind() == ErrorKind::ConnectionAborted => Ok(Come::Taken(None)),
+            Err(_) => Err(LoopFault::Io),
+        }
+    }
+
+    /// Accepts what is there, 256 connections at most, and puts those whose requests have come.
+    /// Returns whether there may be more.
+    pub(crate) fn put_accepted<Q: QueueName, R: Wait>(
+        &mut self,
+        rt: &R,
+        registry: &Registry,
+        jobs: &Jobs<Q>,
+        mut pass: Pass<Q>,
+        now: Instant,
+    ) -> (Pass<Q>, Result<bool, LoopFault>)
+        ensures { HasPut pass result.0 }
+    {
+        if !self.is_ready {
+            return (pass, Ok(false));
+        }
+        for _ in 0..MOST_AT_ONCE {
+            match self.accept(registry, now) {
+                Ok(Come::Taken(job)) => pass = put(rt, jobs, pass, job),
+                Ok(Come::Nothing) => {
+                    self.is_ready = false;
+                    return (pass, Ok(false));
+                }
+                Err(fault) => return (pass, Err(fault)),
+            }
+        }
+        (pass, Ok(true))
+    }
+}

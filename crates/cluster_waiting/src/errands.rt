@@ -1,0 +1,109 @@
+//! What some threads of a node leave to others.
+ghost use Rattle.std.specs.Prelude.{◌≡◌, ◌↔◌, [], false, IsTrue, OnOk, OnErr};
+ghost use Rattle.cluster_waiting.specs.Waiting.{Takes, with_last, ended};
+
+use std::alloc::{AllocError, Global};
+use std::collections::VecDeque;
+use std::marker::Model;
+use std::sync::{Condvar, Mutex, Wait};
+
+/// A queue of what is to be done, first in, first out, until it is ended. A contract sees the list
+/// of what waits, and whether it is ended.
+#[derive(Drop)]
+pub struct Row<T> {
+    items: VecDeque<T>,
+    is_over: bool,
+}
+
+impl<T> Model for Row<T> {
+    ghost use Rattle.cluster_waiting.specs.Waiting.{RowView};
+
+    ghost Value = { RowView T };
+
+    ghost view = { λ r. record { items = r.items.items; over = r.is_over } };
+}
+
+impl<T: Drop> Row<T> {
+    /// An empty row. It takes no memory.
+    pub fn new(alloc: Global) -> Row<T>
+        ensures { result ≡ record { items = []; over = false } }
+    {
+        Row {
+            items: VecDeque::new(alloc),
+            is_over: false,
+        }
+    }
+
+    /// Puts an item behind those that wait. Where there is no memory for it, the item is dropped,
+    /// and nothing changes.
+    pub fn put(&mut self, item: T) -> Result<(), AllocError>
+        ensures ok { OnOk result (self.new ≡ with_last self.old item) }
+        ensures err { OnErr result (self.new ≡ self.old) }
+    {
+        self.items.push_back(item)?;
+        Ok(())
+    }
+
+    /// Takes out the item that has waited longest. There is none where nothing waits, or where the
+    /// row is ended.
+    pub fn take(&mut self) -> Option<T>
+        ensures { Takes self.old result self.new }
+    {
+        if self.is_over {
+            return None;
+        }
+        self.items.pop_front()
+    }
+
+    /// Ends the row: what still waits is never taken.
+    pub fn end(&mut self)
+        ensures { self.new ≡ ended self.old }
+    {
+        self.is_over = true;
+    }
+
+    /// Whether a thread that takes has to wait: the row is empty, and not ended.
+    pub fn waits(&self) -> bool
+        ensures { IsTrue result ↔ ((self.now.items ≡ []) × (self.now.over ≡ false)) }
+    {
+        self.items.is_empty() && !self.is_over
+    }
+}
+
+/// A [`Row`] under a lock, with a condition variable where threads wait for items.
+#[derive(Drop)]
+pub struct Errands<T: Drop> {
+    row: Mutex<Row<T>>,
+    has_moved: Condvar,
+}
+
+impl<T: Drop> Errands<T> {
+    /// No errands yet. It takes no memory.
+    pub fn new(alloc: Global) -> Errands<T> {
+        Errands {
+            row: Mutex::new(Row::new(alloc)),
+            has_moved: Condvar::new(),
+        }
+    }
+
+    /// [`Row::put`] under the lock. Wakes one thread that waits.
+    pub fn put<R: Wait>(&self, rt: &R, item: T) -> Result<(), AllocError> {
+        self.row.lock(rt).put(item)?;
+        self.has_moved.notify_one();
+        Ok(())
+    }
+
+    /// Waits until there is an item or the row is ended, and then does [`Row::take`] under the
+    /// lock.
+    pub fn take<R: Wait>(&self, rt: &R) -> Option<T> {
+        self.has_moved
+            .wait_while(rt, self.row.lock(rt), |row| row.waits())
+            .take()
+    }
+
+    /// [`Row::end`] under the lock. Wakes all threads that wait.
+    pub fn end<R: Wait>(&self, rt: &R) {
+        self.row.lock(rt).end();
+        self.has_moved.notify_all();
+    }
+}

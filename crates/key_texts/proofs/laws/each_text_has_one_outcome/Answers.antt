@@ -1,5 +1,0 @@
-use Rattle.key_texts.proofs.Outcomes.{found, only}
-use Rattle.key_texts.proofs.laws.each_text_has_one_outcome.Goals as goal
-
-pub returns : goal.returns
-returns c = record { found = λ text. found text; only = λ text outcome. only text outcome }

@@ -1,4 +1,0 @@
-use Rattle.loop_tests.proofs.loops.counted_at.Given as goal
-
-abbrev pub ghosts-counted : goal.ghosts-counted
-ghosts-counted g a = record { table = a.new }

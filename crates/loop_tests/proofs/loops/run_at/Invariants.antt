@@ -1,4 +1,0 @@
-use Rattle.loop_tests.proofs.loops.run_at.Given as goal
-
-abbrev pub ghosts-played : goal.ghosts-played
-ghosts-played g a = record { table = a.new }

@@ -1,4 +1,0 @@
-use Rattle.loop_tests.proofs.queues.each_job_is_taken_once.Given as goal
-
-abbrev pub ghosts-relayed : goal.ghosts-relayed
-ghosts-relayed g a = record { table = a.new }

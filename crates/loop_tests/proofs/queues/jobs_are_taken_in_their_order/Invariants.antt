@@ -1,4 +1,0 @@
-use Rattle.loop_tests.proofs.queues.jobs_are_taken_in_their_order.Given as goal
-
-abbrev pub ghosts-filled : goal.ghosts-filled
-ghosts-filled g a = record { table = a.new }

@@ -1,0 +1,190 @@
+//! What nodes meet, and what the master is called for.
+use http_messages::{Answer, Ask, Body, Fields};
+use icp_wire::{Icp, IcpOp};
+use node_rules::{Event, Message, Received, can_be_answered};
+use purge_rules::{MasterCall, clear};
+use roster::{Address, Roster};
+use std::alloc::Global;
+use std::test::Fail;
+use url_key::Key;
+use wire_octets::Octets;
+
+/// 127.0.0.1.
+const HOST: u32 = 2130706433;
+
+/// Where the master is.
+pub(crate) const MASTER: Address = Address {
+    ip: HOST,
+    port: 4800,
+};
+
+/// A URL.
+pub(crate) type Url = &'static [u8];
+
+/// The URL of all runs that are made by hand.
+pub(crate) const A: Url = b"http://o/a";
+
+/// What a node meets, at moment 0.
+#[derive(Clone, Copy)]
+pub(crate) enum Met {
+    /// A client asks.
+    Client(Url),
+    /// A client asks for a copy that the node has.
+    Cached(Url),
+    /// This member asks for a copy that the node has.
+    PeerAsk(u8, Url),
+    /// This member answers the fetch of this serial, with an age of 0 and this purge number, or without both.
+    PeerAnswer(u8, u32, Option<u32>, Url),
+    /// The origin answers the read of this serial.
+    Origin(u32, Url),
+    /// The fetch of this serial fails.
+    Failed(u32),
+    /// A datagram of ICP with this number comes from this port (RFC 2186).
+    Icp(u16, IcpOp, u32, Url),
+    /// The CLR of this purge comes from the master.
+    Clear(u32, Url),
+}
+
+/// What the master is called for.
+#[derive(Clone, Copy)]
+pub(crate) enum Called {
+    /// A purge is issued.
+    Issue(Url),
+    /// This node acknowledges purge 1 with this code.
+    Acknowledge(u8, u8),
+    /// What is to be sent again is listed.
+    Due,
+    /// The status of a purge is asked.
+    Status(u32),
+}
+
+/// A roster of this text.
+pub(crate) fn roster_of(alloc: Global, text: &str) -> Result<Roster, Fail> {
+    match Roster::read(alloc, text) {
+        Ok(roster) => Ok(roster),
+        Err(error) => Err(error.fault.name().into()),
+    }
+}
+
+pub(crate) fn key_of(alloc: Global, url: Url) -> Result<Key, Fail> {
+    match Key::read(alloc, url) {
+        Ok(key) => Ok(key),
+        Err(fault) => Err(fault.name().into()),
+    }
+}
+
+fn ask_of(alloc: Global, url: Url, only_if_cached: bool, member: Option<u8>) -> Result<Ask, Fail> {
+    Ok(Ask {
+        key: key_of(alloc, url)?,
+        only_if_cached,
+        no_cache: false,
+        member,
+    })
+}
+
+/// An answer of the status 200, which a member has given where it bears a purge number.
+fn answer_of(alloc: Global, stamp: Option<u32>) -> Result<Answer, Fail> {
+    let Ok(fields) = Fields::new(alloc, Vec::new(alloc)) else {
+        return Err("the fields".into());
+    };
+    let body = Body::from_slice(alloc, b"page")?;
+    let age = match stamp {
+        Some(_) => Some(0),
+        None => None,
+    };
+    match Answer::new(200, fields, age, stamp, body) {
+        Some(answer) => Ok(answer),
+        None => Err("the answer".into()),
+    }
+}
+
+/// A datagram comes from a port of this machine.
+fn datagram(port: u16, message: Message) -> Result<Event<()>, Fail> {
+    if !can_be_answered(&message) {
+        return Err("the message".into());
+    }
+    Ok(Event::Datagram {
+        from: Address { ip: HOST, port },
+        message: Received::new(message),
+        now: 0,
+    })
+}
+
+fn icp_of(alloc: Global, op: IcpOp, number: u32, url: Url) -> Result<Message, Fail> {
+    Ok(Message::Icp(Icp {
+        op,
+        number,
+        url: Octets::from_slice(alloc, url)?,
+        object: Octets::new(alloc),
+    }))
+}
+
+fn clear_of(alloc: Global, number: u32, url: Url) -> Result<Message, Fail> {
+    let key = key_of(alloc, url)?;
+    Ok(Message::Htcp(clear(alloc, number, &key)?))
+}
+
+fn peer_answer(
+    alloc: Global,
+    peer: u8,
+    serial: u32,
+    stamp: Option<u32>,
+    url: Url,
+) -> Result<Event<()>, Fail> {
+    let key = key_of(alloc, url)?;
+    Ok(Event::PeerAnswer {
+        serial,
+        peer,
+        key,
+        answer: answer_of(alloc, stamp)?,
+        tag: (),
+        now: 0,
+    })
+}
+
+fn origin_answer(alloc: Global, serial: u32, url: Url) -> Result<Event<()>, Fail> {
+    let key = key_of(alloc, url)?;
+    Ok(Event::OriginAnswer {
+        serial,
+        key,
+        answer: answer_of(alloc, None)?,
+        now: 0,
+    })
+}
+
+fn client(alloc: Global, url: Url, only_if_cached: bool) -> Result<Event<()>, Fail> {
+    Ok(Event::Client {
+        ask: ask_of(alloc, url, only_if_cached, None)?,
+        now: 0,
+    })
+}
+
+pub(crate) fn event_of(alloc: Global, met: Met) -> Result<Event<()>, Fail> {
+    match met {
+        Met::Client(url) => client(alloc, url, false),
+        Met::Cached(url) => client(alloc, url, true),
+        Met::PeerAsk(asker, url) => Ok(Event::PeerAsk {
+            asker,
+            ask: ask_of(alloc, url, true, Some(asker))?,
+            now: 0,
+        }),
+        Met::PeerAnswer(peer, serial, stamp, url) => peer_answer(alloc, peer, serial, stamp, url),
+        Met::Origin(serial, url) => origin_answer(alloc, serial, url),
+        Met::Failed(serial) => Ok(Event::FetchFailed { serial, now: 0 }),
+        Met::Icp(port, op, number, url) => datagram(port, icp_of(alloc, op, number, url)?),
+        Met::Clear(number, url) => datagram(MASTER.port, clear_of(alloc, number, url)?),
+    }
+}
+
+pub(crate) fn call_of(alloc: Global, called: Called) -> Result<MasterCall, Fail> {
+    Ok(match called {
+        Called::Issue(url) => MasterCall::Issue(key_of(alloc, url)?),
+        Called::Acknowledge(member, code) => MasterCall::Acknowledge {
+            member,
+            trans: 1,
+            code,
+        },
+        Called::Due => MasterCall::Due,
+        Called::Status(number) => MasterCall::Status(number),
+    })
+}

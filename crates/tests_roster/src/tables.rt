@@ -1,0 +1,108 @@
+use crate::first_wrong;
+use std::process::Abort;
+use values_tables::{Address, Member, Origin, Place, TableKind, Tables, TablesFault};
+
+/// The tables of one node and one origin.
+const ONE: &str = "default_lifetime = 60
+copies = 1000
+bytes = 1048576
+query_wait = 2000
+
+[master]
+address = \"127.0.0.1\"
+htcp = 4800
+
+[[node]]
+id = 1
+name = \"n1\"
+address = \"10.0.0.255\"
+http = 8101
+icp = 3101
+htcp = 4101
+[[node.peer]]
+id = 108
+role = \"parent\"
+by = \"htcp\"
+
+[[origin]]
+host = \"a-1.o\"
+port = 80
+address = \"127.0.0.1\"
+connect = 8080
+";
+
+/// Whether a member is the node of the tables, with its one peer.
+fn is_node(member: &Member) -> bool {
+    let icp = Address {
+        ip: 0x0a0000ff,
+        port: 3101,
+    };
+    member.cache.icp == icp && matches!(member.peers.as_slice(), [peer] if peer.id == 108)
+}
+
+fn is_origin(origin: &Origin) -> bool {
+    origin.host.as_slice() == b"a-1.o".as_slice() && origin.connect.port == 8080
+}
+
+/// What is wrong with the tables.
+fn flaw(tables: &Tables) -> Option<&'static str> {
+    let members = tables.members.as_slice();
+    let origins = tables.origins.as_slice();
+    first_wrong(&[
+        ("the master's address", tables.master.ip == 0x7f000001),
+        ("the master's port", tables.master.port == 4800),
+        ("the wait", tables.limits.query_wait == 2000),
+        ("the node", matches!(members, [member] if is_node(member))),
+        (
+            "the origin",
+            matches!(origins, [origin] if is_origin(origin)),
+        ),
+        ("no foreign cache", tables.foreign.as_slice().is_empty()),
+    ])
+}
+
+#[test]
+fn one_is_read(rt: HostRuntime) {
+    let tables = Tables::read(rt.alloc(), ONE).expect(&rt, "tables");
+    assert_eq!(rt; flaw(&tables), None);
+}
+
+/// The fault of the tables with a text in the place of another.
+fn fault_of(rt: &(impl Abort + AllocGlobal), old: &str, new: &str) -> Option<TablesFault> {
+    let text = ONE.replace(rt.alloc(), old, new).expect(rt, "memory");
+    Tables::read(rt.alloc(), &text).err()
+}
+
+/// A change of the tables, and the fault of what comes of it.
+const FAULTS: [(&str, &str, TablesFault); 2] = [
+    (
+        "\"htcp\"",
+        "\"http\"",
+        TablesFault::BadField(Place {
+            table: TableKind::Peer,
+            entry: 1,
+            peer: 1,
+            key: "by",
+            line: None,
+        }),
+    ),
+    (
+        "copies = 1000",
+        "x =",
+        TablesFault::BadToml(Place {
+            table: TableKind::Top,
+            entry: 0,
+            peer: 0,
+            key: "",
+            line: Some(2),
+        }),
+    ),
+];
+
+#[test]
+fn faults_have_places(rt: HostRuntime) {
+    for (old, new, fault) in &FAULTS {
+        let found = fault_of(&rt, old, new);
+        assert!(rt; found == Some(*fault), "{new}: {found:?}");
+    }
+}

@@ -1,0 +1,442 @@
+//! What the scripts of a world cannot say: strangers, foreign caches, and runs of a list of events.
+use crate::rosters::{FOREIGN, ONE, roster_of};
+use hierarchy_world::{Datagram, World};
+use htcp_wire::{Content, Htcp, Specifier};
+use http_header::{HeaderName, HeaderValue};
+use http_messages::{Answer, Ask, Body, Field, Fields};
+use icp_wire::{Icp, IcpOp};
+use node_rules::{Message, Received, Serve, Served, can_be_answered};
+use purge_rules::Status;
+use roster::Address;
+use std::alloc::{AllocError, Global};
+use std::test::Fail;
+use url_key::Key;
+use wire_octets::Octets;
+use world_rules::{Outcome, WorldEvent, WorldFault};
+
+/// 127.0.0.1.
+const HOST: u32 = 0x7f00_0001;
+
+/// The address of no member and not of the master.
+const STRANGER: u32 = 0x7f00_0009;
+
+/// What happens: all of it is about `http://o/a` and the first member.
+#[derive(Clone, Copy, Debug)]
+enum Happens {
+    /// A client asks.
+    Client,
+    /// The origin answers read 33, with the body `one`.
+    Origin,
+    /// A foreign cache answers fetch 33, with the body `one`.
+    Foreign,
+    /// The foreign sibling has it (RFC 2186, "ICP_OP_HIT"): it answers the query of round 32.
+    Hit,
+    /// A CLR under the number 7 comes from this address and port.
+    Clear(u32, u16),
+    /// A purge is issued.
+    Issue,
+    /// The datagram of this number comes.
+    Datagram(u64),
+}
+
+/// What is served: its status, its purge number, whether its body is `one`, and its mark, which is the place of the event that began its read.
+#[derive(Clone, Copy, Debug, PartialEq, Eq)]
+struct Page {
+    status: u16,
+    stamp: u32,
+    is_one: bool,
+    mark: u64,
+}
+
+/// What is told of an event: how many datagrams it sent, and the number of the last.
+#[derive(Clone, Copy, Debug, PartialEq, Eq)]
+struct Told {
+    page: Option<Page>,
+    purge: Option<u32>,
+    status: Option<(u32, Status)>,
+    round: Option<u32>,
+    read: Option<u32>,
+    sent: usize,
+    last: u64,
+}
+
+/// Nothing is told.
+const NOTHING: Told = Told {
+    page: None,
+    purge: None,
+    status: None,
+    round: None,
+    read: None,
+    sent: 0,
+    last: 0,
+};
+
+/// An event, and what is told of it, or why it is none.
+type Step = (Happens, Result<Told, WorldFault>);
+
+/// The page is served, of no known purge number; its mark is 0.
+const THE_PAGE: Page = Page {
+    status: 200,
+    stamp: 0,
+    is_one: true,
+    mark: 0,
+};
+
+/// A CLR of a stranger is answered; one that bears the master's or a member's address is no event. Then a foreign cache answers only a fetch from it, and the origin only a read.
+const STRANGERS: &[Step] = &[
+    (
+        Happens::Clear(STRANGER, 9),
+        Ok(Told {
+            sent: 1,
+            last: 1,
+            ..NOTHING
+        }),
+    ),
+    (Happens::Clear(HOST, 4800), Err(WorldFault::NoSuchPacket)),
+    (Happens::Clear(HOST, 4101), Err(WorldFault::NoSuchPacket)),
+    (Happens::Clear(HOST, 3101), Err(WorldFault::NoSuchPacket)),
+    (Happens::Origin, Err(WorldFault::NotPending)),
+    (
+        Happens::Client,
+        Ok(Told {
+            read: Some(33),
+            ..NOTHING
+        }),
+    ),
+    (Happens::Foreign, Err(WorldFault::NotPending)),
+    (
+        Happens::Origin,
+        Ok(Told {
+            page: Some(Page {
+                mark: 2,
+                ..THE_PAGE
+            }),
+            ..NOTHING
+        }),
+    ),
+];
+
+/// A foreign cache that has what is asked for is asked, and its answer is served, without a mark.
+const FOREIGN_ANSWERS: &[Step] = &[
+    (
+        Happens::Client,
+        Ok(Told {
+            round: Some(32),
+            sent: 1,
+            last: 1,
+            ..NOTHING
+        }),
+    ),
+    (Happens::Hit, Ok(NOTHING)),
+    (
+        Happens::Foreign,
+        Ok(Told {
+            page: Some(THE_PAGE),
+            ..NOTHING
+        }),
+    ),
+    (Happens::Foreign, Err(WorldFault::NotPending)),
+];
+
+/// A purge comes to the one member.
+const PURGED: &[Step] = &[
+    (
+        Happens::Client,
+        Ok(Told {
+            read: Some(33),
+            ..NOTHING
+        }),
+    ),
+    (
+        Happens::Origin,
+        Ok(Told {
+            page: Some(Page {
+                mark: 1,
+                ..THE_PAGE
+            }),
+            ..NOTHING
+        }),
+    ),
+    (
+        Happens::Issue,
+        Ok(Told {
+            purge: Some(1),
+            sent: 1,
+            last: 1,
+            ..NOTHING
+        }),
+    ),
+    (
+        Happens::Datagram(1),
+        Ok(Told {
+            sent: 1,
+            last: 2,
+            ..NOTHING
+        }),
+    ),
+];
+
+/// Its acknowledgement comes to the master.
+const ACKNOWLEDGED: &[Step] = &[(
+    Happens::Datagram(2),
+    Ok(Told {
+        status: Some((1, Status::Done)),
+        ..NOTHING
+    }),
+)];
+
+/// Events of which the first is none.
+const WRONG: &[Step] = &[
+    (Happens::Origin, Err(WorldFault::NotPending)),
+    (
+        Happens::Client,
+        Ok(Told {
+            read: Some(33),
+            ..NOTHING
+        }),
+    ),
+];
+
+fn key_of(alloc: Global) -> Result<Key, Fail> {
+    Ok(Key::read(alloc, b"http://o/a")?)
+}
+
+/// The fields of an answer with a lifetime of 60 seconds.
+fn fields_of(alloc: Global) -> Result<Fields, Fail> {
+    let name = HeaderName::from_bytes(alloc, b"cache-control")?;
+    let value = HeaderValue::from_bytes(alloc, b"max-age=60")?;
+    Ok(Fields::new(alloc, vec![in alloc; Field { name, value }]?)?)
+}
+
+/// An answer of status 200 with these fields.
+fn answer_of(alloc: Global) -> Result<Answer, Fail> {
+    let fields = fields_of(alloc)?;
+    let body = Body::from_slice(alloc, b"one")?;
+    match Answer::new(200, fields, None, None, body) {
+        Some(answer) => Ok(answer),
+        None => Err("writable".into()),
+    }
+}
+
+/// The ask of a client.
+fn ask_of(alloc: Global) -> Result<Ask, Fail> {
+    Ok(Ask {
+        key: key_of(alloc)?,
+        only_if_cached: false,
+        no_cache: false,
+        member: None,
+    })
+}
+
+/// The request of a CLR under the number 7.
+fn spec_of(alloc: Global) -> Result<Specifier, AllocError> {
+    Ok(Specifier {
+        method: Octets::from_slice(alloc, b"GET")?,
+        uri: Octets::from_slice(alloc, b"http://o/a")?,
+        version: Octets::from_slice(alloc, b"HTTP/1.1")?,
+        request_headers: Octets::from_slice(alloc, b"X-Purge-Number: 7\r\n")?,
+    })
+}
+
+fn clear(alloc: Global) -> Result<Message, AllocError> {
+    let content = Content::ClrAsk {
+        desired: true,
+        reason: 0,
+        spec: spec_of(alloc)?,
+    };
+    Ok(Message::Htcp(Htcp {
+        minor: 0,
+        trans: 7,
+        content,
+    }))
+}
+
+fn hit(alloc: Global) -> Result<Message, AllocError> {
+    Ok(Message::Icp(Icp {
+        op: IcpOp::Hit,
+        number: 32,
+        url: Octets::from_slice(alloc, b"http://o/a")?,
+        object: Octets::new(alloc),
+    }))
+}
+
+/// A datagram comes from this address to this port of the first member.
+fn strange(to: u16, ip: u32, port: u16, message: Message) -> Result<WorldEvent, Fail> {
+    if !can_be_answered(&message) {
+        return Err("no answer has a text".into());
+    }
+    Ok(WorldEvent::Strange {
+        to: Address { ip: HOST, port: to },
+        from: Address { ip, port },
+        message: Received::new(message),
+    })
+}
+
+fn event_of(alloc: Global, happens: Happens) -> Result<WorldEvent, Fail> {
+    match happens {
+        Happens::Client => Ok(WorldEvent::Client {
+            node: 1,
+            ask: ask_of(alloc)?,
+        }),
+        Happens::Origin => Ok(WorldEvent::Origin {
+            node: 1,
+            serial: 33,
+            answer: answer_of(alloc)?,
+        }),
+        Happens::Foreign => Ok(WorldEvent::Foreign {
+            node: 1,
+            serial: 33,
+            answer: answer_of(alloc)?,
+        }),
+        Happens::Hit => strange(3101, HOST, 3201, hit(alloc)?),
+        Happens::Clear(ip, port) => strange(4101, ip, port, clear(alloc)?),
+        Happens::Issue => Ok(WorldEvent::Issue {
+            key: key_of(alloc)?,
+        }),
+        Happens::Datagram(number) => Ok(WorldEvent::Datagram { number }),
+    }
+}
+
+/// The page that is served, where it is a copy.
+fn page_of(serve: &Serve<u64>) -> Option<Page> {
+    match &serve.served {
+        Served::Copy { copy, .. } => Some(Page {
+            status: copy.answer.status(),
+            stamp: copy.stamp,
+            is_one: copy.answer.body() == b"one".as_slice(),
+            mark: copy.tag,
+        }),
+        Served::Status(_) => None,
+    }
+}
+
+/// What is told of an outcome.
+fn told_of(outcome: &Outcome) -> Told {
+    let sent = outcome.sent.as_slice();
+    Told {
+        page: match &outcome.serve {
+            Some(serve) => page_of(serve),
+            None => None,
+        },
+        purge: outcome.purge,
+        status: outcome.status,
+        round: outcome.round,
+        read: outcome.read,
+        sent: sent.len(),
+        last: match sent.last() {
+            Some(last) => *last,
+            None => 0,
+        },
+    }
+}
+
+/// What is told of an event that happens in a world.
+fn told_by(world: &mut World, event: WorldEvent) -> Result<Told, WorldFault> {
+    match world.apply(event) {
+        Ok(outcome) => Ok(told_of(&outcome)),
+        Err(fault) => Err(fault),
+    }
+}
+
+/// What is told of a step in place of what is wanted.
+type Other = Option<(Happens, Result<Told, WorldFault>)>;
+
+/// The first of these steps of which something else is told than is wanted, as they happen in a world.
+fn first_other(alloc: Global, world: &mut World, steps: &[Step]) -> Result<Other, Fail> {
+    for (happens, wanted) in steps {
+        let told = told_by(world, event_of(alloc, *happens)?);
+        if told != *wanted {
+            return Ok(Some((*happens, told)));
+        }
+    }
+    Ok(None)
+}
+
+/// Whether a datagram refuses a CLR of the stranger.
+fn refuses_stranger(sent: &Datagram) -> bool {
+    sent.receiver.ip == STRANGER
+        && sent.receiver.port == 9
+        && match sent.message.message() {
+            Message::Htcp(answer) => matches!(
+                answer.content,
+                Content::Overall { opcode: 4, code: 5 }
+            ),
+            Message::Icp(_) => false,
+        }
+}
+
+/// Whether the only datagram of a world refuses a CLR of the stranger.
+fn has_refused(world: &World) -> bool {
+    match world.datagrams() {
+        [sent] => refuses_stranger(sent),
+        _ => false,
+    }
+}
+
+/// The first of these steps that goes otherwise in a new world of this roster, where a stranger is refused or not.
+fn other_in(alloc: Global, roster: &str, steps: &[Step], is_refusing: bool) -> Result<Other, Fail> {
+    let roster = roster_of(alloc, roster)?;
+    let mut world = World::new(alloc, &roster)?;
+    let other = first_other(alloc, &mut world, steps)?;
+    if has_refused(&world) == is_refusing {
+        Ok(other)
+    } else {
+        Err("the refusal".into())
+    }
+}
+
+/// The events of these steps.
+fn events_of(alloc: Global, steps: &[Step]) -> Result<Vec<WorldEvent>, Fail> {
+    let mut events = Vec::new(alloc);
+    for (happens, _) in steps {
+        events.push(event_of(alloc, *happens)?)?;
+    }
+    Ok(events)
+}
+
+/// The first of these steps of which an outcome tells something else.
+fn first_untold(outcomes: &[Outcome], steps: &[Step]) -> Other {
+    for at in 0..outcomes.len().min(steps.len()) {
+        let told = Ok(told_of(&outcomes[at]));
+        if told != steps[at].1 {
+            return Some((steps[at].0, told));
+        }
+    }
+    None
+}
+
+/// The first step that goes otherwise as a list is played whose purge comes to the one member, and its acknowledgement comes to the master.
+fn other_in_list(alloc: Global) -> Result<Other, Fail> {
+    let roster = roster_of(alloc, ONE)?;
+    let (mut world, outcomes) = World::run(alloc, &roster, events_of(alloc, PURGED)?)?;
+    let outcomes = outcomes.as_slice();
+    if outcomes.len() != PURGED.len() {
+        return Err("as many outcomes as events".into());
+    }
+    match first_untold(outcomes, PURGED) {
+        None => first_other(alloc, &mut world, ACKNOWLEDGED),
+        other => Ok(other),
+    }
+}
+
+/// The fault that stops a list.
+fn fault_in_list(alloc: Global, steps: &[Step]) -> Result<Option<WorldFault>, Fail> {
+    let roster = roster_of(alloc, ONE)?;
+    match World::run(alloc, &roster, events_of(alloc, steps)?) {
+        Ok(_) => Ok(None),
+        Err(fault) => Ok(Some(fault)),
+    }
+}
+
+#[test]
+fn strangers_foreign_caches_and_lists(rt: HostRuntime) -> Result<(), Fail> {
+    let other = other_in(rt.alloc(), ONE, STRANGERS, true)?;
+    assert!(rt; other.is_none(), "strangers: {other:?}");
+    let other = other_in(rt.alloc(), FOREIGN, FOREIGN_ANSWERS, false)?;
+    assert!(rt; other.is_none(), "a foreign cache: {other:?}");
+    let other = other_in_list(rt.alloc())?;
+    assert!(rt; other.is_none(), "a list: {other:?}");
+    let fault = fault_in_list(rt.alloc(), WRONG)?;
+    assert_eq!(rt; fault, Some(WorldFault::NotPending));
+    Ok(())
+}

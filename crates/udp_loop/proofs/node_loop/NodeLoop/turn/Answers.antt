@@ -1,7 +1,0 @@
-use Rattle.udp_loop.proofs.Puts.{more_put}
-use Rattle.udp_loop.proofs.node_loop.NodeLoop.turn.Goals as goal
-
-pub returns : goal.returns
-returns g c =
-    let icp = c.put_ready-pass in let htcp = c.put_ready-pass-2 in let last = c.put_streams-pass in
-    more_put c.args.pass icp.result.0 last.result.0 icp.ensures (more_put icp.result.0 htcp.result.0 last.result.0 htcp.ensures last.ensures)

@@ -1,5 +1,0 @@
-use Rattle.udp_loop.proofs.Puts.{put_or_not}
-use Rattle.udp_loop.proofs.putting.put_one.Goals as goal
-
-pub returns : goal.returns
-returns g c = put_or_not c.args.pass c.put-pass.result.0 c.args.job c.put-pass.result.1 c.requires c.put-pass.ensures

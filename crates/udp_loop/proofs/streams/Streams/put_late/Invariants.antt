@@ -1,5 +1,0 @@
-use Rattle.udp_loop.specs.Turns.{HasPut}
-use Rattle.udp_loop.proofs.streams.Streams.put_late.Given as goal
-
-abbrev pub invariant-loop-key : goal.invariant-loop-key
-invariant-loop-key g l = HasPut l.fn.pass l.pass

@@ -1,5 +1,0 @@
-use Rattle.udp_loop.proofs.Puts.{more_put}
-use Rattle.udp_loop.proofs.streams.Streams.put_noted.Goals as goal
-
-pub loop-place-preserved : goal.loop-place-preserved
-loop-place-preserved g c = more_put c.args.pass c.loop-place.pass c.put-pass.result c.loop-place.invariant c.put-pass.ensures

@@ -1,0 +1,127 @@
+ghost use Rattle.std.specs.Prelude.{◌≡◌};
+ghost use Rattle.values_tables.specs.Roles.{is_sibling as is_sibling_role, is_parent as is_parent_role};
+
+use crate::Listed;
+
+/// An IPv4 address and a port, of TCP or of UDP.
+#[derive(Clone, Copy, Debug, PartialEq, Eq)]
+pub struct Address {
+    /// The four octets as one number, the first octet highest.
+    pub ip: u32,
+    /// The port, from 1.
+    pub port: u16,
+}
+
+/// A protocol over UDP.
+#[derive(Clone, Copy, Debug, PartialEq, Eq)]
+pub enum Udp {
+    /// ICP version 2 (RFC 2186).
+    Icp,
+    /// HTCP/0.0 (RFC 2756).
+    Htcp,
+}
+
+/// What a peer is to the node that names it (RFC 2187, section 2).
+#[derive(Clone, Copy, Debug, PartialEq, Eq)]
+pub enum Role {
+    /// The node asks it only for what it holds.
+    Sibling,
+    /// The node may also ask it to fetch what it does not hold.
+    Parent,
+}
+
+impl Role {
+    /// Whether the role is `Sibling`.
+    pub fn is_sibling(self) -> bool
+        ensures { result ≡ is_sibling_role self }
+    {
+        match self {
+            Role::Sibling => true,
+            Role::Parent => false,
+        }
+    }
+
+    /// Whether the role is `Parent`.
+    pub fn is_parent(self) -> bool
+        ensures { result ≡ is_parent_role self }
+    {
+        match self {
+            Role::Sibling => false,
+            Role::Parent => true,
+        }
+    }
+}
+
+/// A cache that a node asks, as the entry of the node names it.
+#[derive(Clone, Copy, Debug, PartialEq, Eq)]
+pub struct Peer {
+    /// Its id: 1 to 16 for a member, 101 to 108 for a foreign cache.
+    pub id: u8,
+    /// What it is to the node that names it.
+    pub role: Role,
+    /// The protocol by which the node queries it.
+    pub by: Udp,
+}
+
+/// A cache: its id, its name and its three addresses, which have one IPv4 address.
+#[derive(Debug, Drop)]
+pub struct Cache {
+    /// Its id: 1 to 16 for a member, 101 to 108 for a foreign cache.
+    pub id: u8,
+    /// Its name: 1 to 32 lower-case letters and digits.
+    pub name: Listed<u8>,
+    /// Its address for HTTP, over TCP.
+    pub http: Address,
+    /// Its address for ICP, over UDP.
+    pub icp: Address,
+    /// Its address for HTCP, over UDP.
+    pub htcp: Address,
+}
+
+/// A cache of the hierarchy, and the peers that it asks.
+#[derive(Debug, Drop)]
+pub struct Member {
+    /// The cache.
+    pub cache: Cache,
+    /// Its peers, in the order in which it asks them.
+    pub peers: Listed<Peer>,
+}
+
+/// An origin server, by the host and the port that URLs name.
+#[derive(Debug, Drop)]
+pub struct Origin {
+    /// The host: 1 to 255 lower-case letters, digits, `.` and `-`.
+    pub host: Listed<u8>,
+    /// The port in URLs, from 1.
+    pub port: u16,
+    /// The address to connect to, over TCP.
+    pub connect: Address,
+}
+
+/// The limits of each node.
+#[derive(Clone, Copy, Debug, PartialEq, Eq)]
+pub struct Limits {
+    /// The lifetime of an answer that gives none, 0 to 2147483648 seconds.
+    pub default_lifetime: u64,
+    /// The greatest number of copies in the store of a node, 1 to 65,536.
+    pub copies: u64,
+    /// The greatest size of the store of a node, 1 to 1,073,741,824 octets.
+    pub bytes: u64,
+    /// How long a node waits for replies of its peers, 1 to 60,000 milliseconds.
+    pub query_wait: u64,
+}
+
+/// What the text of a roster says.
+#[derive(Debug, Drop)]
+pub struct Tables {
+    /// The limits of each node.
+    pub limits: Limits,
+    /// The address of the master of purges, over UDP.
+    pub master: Address,
+    /// The caches of the hierarchy, in the order of the text. There is at least one.
+    pub members: Listed<Member>,
+    /// Caches of others, which members may ask, in the order of the text.
+    pub foreign: Listed<Cache>,
+    /// The origin servers, in the order of the text.
+    pub origins: Listed<Origin>,
+}

@@ -1,0 +1,115 @@
+//! Reads the whole document.
+ghost use Rattle.std.specs.Prelude.{◌≡◌, true, MatchResult, Some, None, IfOk, IfErr, option_map, option_and_then, codes, nat_le, length};
+ghost use Rattle.std.specs.List.{list_all};
+ghost use Rattle.toml.specs.Data.{get_member};
+ghost use Rattle.toml.specs.View.{view, table_view};
+ghost use Rattle.values_tables.specs.Fault.{IsFieldFault, IsReason, IsBadToml};
+ghost use Rattle.values_tables.specs.Keys.{keys_of, has_only};
+ghost use Rattle.values_tables.specs.Ranges.{are_limits, are_tables, is_port, is_member};
+ghost use Rattle.values_tables.specs.Reading.{tables_of as tables_in_document, tables_in, master_of, limits_of, members_of};
+
+use crate::entries::{known_table, read_list, table_of};
+use crate::fields::{ip, number, port, value_at};
+use crate::{Address, Limits, Listed, Member, Place, TableKind, Tables, TablesFault};
+use std::alloc::Global;
+use toml::Table;
+
+impl Tables {
+    /// The tables that a text says. They are in their ranges.
+    ///
+    /// The error is `BadToml` exactly if the text is no TOML document, `BadField` exactly if a
+    /// field of the document is bad; `NoMemory` may replace either.
+    pub fn read(alloc: Global, text: &str) -> Result<Tables, TablesFault>
+        ensures ok { IfOk result (λ tables. tables_in text.now ≡ Some (Some tables)) }
+        ensures ranges { IfOk result (λ tables. are_tables tables ≡ true) }
+        ensures err { IfErr result (IsReason text.now) }
+    {
+        match toml::table_from_str(alloc, text) {
+            Ok(document) => tables_of(alloc, &document),
+            Err(error) => match error.span() {
+                None => Err(TablesFault::NoMemory),
+                Some(span) => Err(bad_toml(text.as_bytes(), span.start)),
+            },
+        }
+    }
+}
+
+/// The fault of a text that is no document, with the line of the octet at `start`.
+fn bad_toml(text: &[u8], start: usize) -> TablesFault
+    ensures { IsBadToml result }
+{
+    let before = &text[..start.min(text.len())];
+    let ends = before.iter().filter(|octet| **octet == b'\n').count();
+    TablesFault::BadToml(Place {
+        line: Some(ends.saturating_add(1)),
+        ..Place::of(TableKind::Top)
+    })
+}
+
+/// What a document says.
+fn tables_of(alloc: Global, document: &Table) -> Result<Tables, TablesFault>
+    ensures { MatchResult result
+        (λ tables. (tables_in_document (table_view document.now) ≡ Some tables) × (are_tables tables ≡ true))
+        (λ fault. IsFieldFault fault (tables_in_document (table_view document.now) ≡ None)) }
+{
+    let place = Place::of(TableKind::Top);
+    let table = known_table(TableKind::Top, document, place)?;
+    let limits = limits(table, place)?;
+    let master = master(table)?;
+    let members = members(alloc, table)?;
+    let foreign = read_list(alloc, table, "foreign", Place::of(TableKind::Foreign))?;
+    let origins = read_list(alloc, table, "origin", Place::of(TableKind::Origin))?;
+    Ok(Tables {
+        limits,
+        master,
+        members,
+        foreign,
+        origins,
+    })
+}
+
+/// The limits of each node.
+fn limits(table: &Table, place: Place) -> Result<Limits, TablesFault>
+    ensures { MatchResult result
+        (λ limits. (limits_of (table_view table.now) ≡ Some limits) × (are_limits limits ≡ true))
+        (λ fault. IsFieldFault fault (limits_of (table_view table.now) ≡ None)) }
+{
+    let default_lifetime = number(table, "default_lifetime", 0, 2147483648, place)?;
+    let copies = number(table, "copies", 1, 65536, place)?;
+    let bytes = number(table, "bytes", 1, 1073741824, place)?;
+    let query_wait = number(table, "query_wait", 1, 60000, place)?;
+    Ok(Limits {
+        default_lifetime,
+        copies,
+        bytes,
+        query_wait,
+    })
+}
+
+/// The address of the master.
+fn master(table: &Table) -> Result<Address, TablesFault>
+    ensures { MatchResult result
+        (λ a. (master_of (get_member (codes "master") (table_view table.now)) ≡ Some a) × (is_port a.port ≡ true))
+        (λ fault. IsFieldFault fault (master_of (get_member (codes "master") (table_view table.now)) ≡ None)) }
+{
+    let place = Place::of(TableKind::Master);
+    let master = table_of(TableKind::Master, value_at(table, "master"), place)?;
+    let ip = ip(master, place)?;
+    let port = port(master, "htcp", place)?;
+    Ok(Address { ip, port })
+}
+
+/// The members, at least one.
+fn members(alloc: Global, table: &Table) -> Result<Listed<Member>, TablesFault>
+    ensures { MatchResult result
+        (λ ms. (members_of (table_view table.now) ≡ Some ms) × (nat_le 1 (length ms) ≡ true) × (list_all is_member ms ≡ true))
+        (λ fault. IsFieldFault fault (members_of (table_view table.now) ≡ None)) }
+{
+    let place = Place::of(TableKind::Node);
+    let members: Listed<Member> = read_list(alloc, table, "node", place)?;
+    if members.as_slice().is_empty() {
+        Err(place.fault_at(""))
+    } else {
+        Ok(members)
+    }
+}

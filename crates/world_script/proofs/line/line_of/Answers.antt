@@ -1,5 +1,0 @@
-use Rattle.world_script.proofs.Long.{long_lines_are_bad}
-use Rattle.world_script.proofs.line.line_of.Goals as goal
-
-pub returns-in-len6-up : goal.returns-in-len6-up
-returns-in-len6-up c = long_lines_are_bad c.args.words.now c.in-len6-up.len_at_least
