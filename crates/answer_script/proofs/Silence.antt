@@ -2,7 +2,7 @@
 -- are shown, or `nothing`; octets that spell none take no step, send nothing, and have a first fault, which is shown.
 use Rattle.std.proofs.Common.{◌≡◌, ◌≢◌, inl, inr, ℕ, List, [], ◌∷◌, ◌++◌, map, flat_map, codes, ◌==◌, true, false, length, Some, None, Result, Ok, Err, IfOk, IfErr, rules, arith, refl, sym, subst, ap, ◌∙◌}
 use Rattle.std.specs.Result.{result_err}
-use Rattle.wire_octets.specs.Fields.{IsOctets}
+use Rattle.values_plain.specs.Fields.{IsOctets}
 use Rattle.icp_wire.specs.declared.message.Icp.{Icp}
 use Rattle.icp_wire.specs.declared.fault.IcpFault.{IcpFault}
 use Rattle.icp_wire.specs.declared.fault.IcpFault.TheVariants as icp_fault
@@ -17,9 +17,9 @@ use Rattle.htcp_wire.specs.Grammar as htcp_grammar
 use Rattle.htcp_wire.specs.Faults as htcp_faults
 use Rattle.htcp_wire.specs.Laws as htcp_laws
 use Rattle.htcp_wire.proofs.Decided as htcp
-use Rattle.values_tables.specs.declared.plain.Address.{Address}
-use Rattle.values_tables.specs.declared.plain.Udp.{Udp}
-use Rattle.values_tables.specs.declared.plain.Udp.TheVariants as udp
+use Rattle.values_plain.specs.declared.address.Address.{Address}
+use Rattle.values_plain.specs.declared.address.Udp.{Udp}
+use Rattle.values_plain.specs.declared.address.Udp.TheVariants as udp
 use Rattle.node_rules.specs.declared.message.Message.{Message}
 use Rattle.node_rules.specs.declared.message.Outgoing.{Outgoing}
 use Rattle.node_rules.specs.declared.event.Event.{Event}

@@ -16,9 +16,9 @@ use Rattle.htcp_wire.specs.Names.{htcp_fault_name}
 use Rattle.htcp_wire.specs.Faults as htcp_faults
 use Rattle.floor_rules.specs.Floors.{FloorMap}
 use Rattle.values_tables.specs.Reading.{tables_in}
-use Rattle.values_tables.specs.declared.plain.Address.{Address}
-use Rattle.values_tables.specs.declared.plain.Udp.{Udp}
-use Rattle.values_tables.specs.declared.plain.Udp.TheVariants as udp
+use Rattle.values_plain.specs.declared.address.Address.{Address}
+use Rattle.values_plain.specs.declared.address.Udp.{Udp}
+use Rattle.values_plain.specs.declared.address.Udp.TheVariants as udp
 use Rattle.node_rules.specs.declared.message.Message.{Message}
 use Rattle.node_rules.specs.declared.message.Outgoing.{Outgoing}
 use Rattle.node_rules.specs.declared.state.NodeState.{NodeState}

@@ -9,7 +9,7 @@ use clap::error::ErrorKind;
 use clap::{ArgMatches, Error};
 use std::alloc::{AllocError, Global};
 use std::net::SocketAddrV4;
-use values_tables::Address;
+use values_plain::Address;
 use wire_script::Codec;
 
 /// The status of a process that lacked memory.

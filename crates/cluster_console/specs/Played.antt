@@ -9,7 +9,7 @@ use Rattle.purge_rules.specs.declared.calls.Status.{Status}
 use Rattle.purge_rules.specs.declared.fault.MasterFault.{MasterFault}
 use Rattle.purge_rules.specs.declared.fault.MasterFault.TheVariants.{ShiftFull}
 use Rattle.roster.specs.Lookups.{member_of, is_member}
-use Rattle.values_tables.specs.declared.plain.Address.{Address}
+use Rattle.values_plain.specs.declared.address.Address.{Address}
 use Rattle.values_tables.specs.declared.plain.Tables.{Tables}
 use Rattle.values_lines.specs.declared.fault.RunFault.{RunFault}
 use Rattle.values_lines.specs.Script.{HasPlayedUntil}

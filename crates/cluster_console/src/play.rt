@@ -21,7 +21,7 @@ use std::sync::Wait;
 use std::time::Clock;
 use url_key::{Key, KeyFault};
 use values_lines::{RunFault, Script, play_until, words_of};
-use values_tables::Address;
+use values_plain::Address;
 
 /// The line that ends the input: no line after it is answered.
 const QUIT: &[u8] = b"quit";

@@ -9,9 +9,9 @@ use mio::net::TcpStream;
 use peer_reading::read_answer;
 use std::alloc::Global;
 use std::io::{self, Write};
-use std::net::{Ipv4Addr, Net, SocketAddr};
+use std::net::Net;
 use std::time::{Clock, Duration};
-use values_tables::Address;
+use values_plain::Address;
 
 /// How many seconds an exchange may take: to connect, to write the request and to read the
 /// response.
@@ -42,7 +42,7 @@ pub fn exchange<R: Net + Clock>(
 
 /// Begins to connect, without waiting.
 fn connected<R: Net>(rt: &R, at: Address) -> io::Result<TcpStream> {
-    TcpStream::connect(rt, SocketAddr::from((Ipv4Addr::from(at.ip), at.port)))
+    TcpStream::connect(rt, at.socket())
 }
 
 /// Writes the request to a stream that is connected or still connecting, and reads the response.

@@ -1,6 +1,6 @@
 //! What a worker is to do next.
 use mio::net::TcpStream;
-use values_tables::{Address, Udp};
+use values_plain::{Address, Udp};
 
 /// A datagram, a connection whose request head has come, or a round of queries whose time is over.
 #[derive(Drop)]

@@ -3,7 +3,7 @@
 use crate::job::Job;
 use crossbeam_queue::protocol::{Join, Lesson, Outcome, Protocol, Split};
 use std::collections::LinkedList;
-use values_tables::{Address, Udp};
+use values_plain::{Address, Udp};
 
 /// A job as contracts see it: of a stream, its number alone.
 pub enum Sight {

@@ -9,7 +9,7 @@ use Rattle.purge_rules.specs.declared.calls.MasterAnswer.TheVariants as answer
 use Rattle.purge_rules.specs.declared.fault.MasterFault.{MasterFault}
 use Rattle.purge_rules.specs.declared.fault.MasterFault.TheVariants as fault
 use Rattle.purge_rules.specs.Clear.{clear}
-use Rattle.values_tables.specs.declared.plain.Address.{Address}
+use Rattle.values_plain.specs.declared.address.Address.{Address}
 use Rattle.values_tables.specs.declared.plain.Tables.{Tables}
 use Rattle.roster.specs.Lookups.{member_of}
 

@@ -3,7 +3,7 @@ ghost use Rattle.std.specs.Prelude.{IfErr};
 ghost use Rattle.cluster_master.specs.Names.{IsAtPort};
 
 use crate::fault::MasterStartFault;
-use crate::sending::{MasterSender, socket_address};
+use crate::sending::MasterSender;
 use crate::shared::SharedMaster;
 use mio::net::UdpSocket;
 use mio::{Events, Interest, Poll, Token};
@@ -12,7 +12,7 @@ use purge_rules::PurgeStore;
 use roster::{Address, Roster};
 use std::alloc::{AllocError, Global};
 use std::io::{self, ErrorKind};
-use std::net::{Net, SocketAddr};
+use std::net::Net;
 use std::sync::atomic::{AtomicBool, Ordering};
 use std::sync::{Arc, Wait};
 use std::thread;
@@ -37,25 +37,11 @@ const WAIT: u64 = 100;
 /// How many seconds pass between one sending of what is due and the next.
 const PAUSE: u64 = 1;
 
-/// The address of a sender. An IPv6 sender, which an IPv4 socket never has, is given as 0.0.0.0.
-fn address_of(from: SocketAddr) -> Address {
-    match from {
-        SocketAddr::V4(from) => Address {
-            ip: u32::from(*from.ip()),
-            port: from.port(),
-        },
-        SocketAddr::V6(from) => Address {
-            ip: 0,
-            port: from.port(),
-        },
-    }
-}
-
 /// A socket at the master's address.
 fn bound<N: Net>(net: &N, address: Address) -> Result<UdpSocket, MasterStartFault>
     ensures { IfErr result (IsAtPort address.port) }
 {
-    match UdpSocket::bind(net, socket_address(address)) {
+    match UdpSocket::bind(net, address.socket()) {
         Ok(socket) => Ok(socket),
         Err(error) => match error.kind() {
             ErrorKind::AddrInUse | ErrorKind::AddrNotAvailable => {
@@ -142,7 +128,8 @@ impl MasterLoop {
             match self.sender.socket().recv_from(self.buffer.as_mut_slice()) {
                 Ok((length, from)) => {
                     let octets = &self.buffer.as_slice()[..length];
-                    take_in(rt, self.alloc, roster, master, address_of(from), octets);
+                    let from = Address::of_socket(from);
+                    take_in(rt, self.alloc, roster, master, from, octets);
                 }
                 Err(error) if error.kind() == ErrorKind::WouldBlock => {
                     self.is_ready = false;

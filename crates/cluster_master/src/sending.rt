@@ -8,17 +8,11 @@ use mio::net::UdpSocket;
 use purge_rules::{MasterAnswer, MasterCall, MasterFault, PurgeStore};
 use roster::{Address, Roster};
 use std::alloc::{AllocError, Global};
-use std::net::{Ipv4Addr, SocketAddr};
 use std::sync::{Arc, Wait};
 use url_key::Key;
 
 /// The greatest id that a member may have.
 const LAST_MEMBER: u8 = 16;
-
-/// An address of a roster as the system takes it.
-pub(crate) fn socket_address(address: Address) -> SocketAddr {
-    SocketAddr::from((Ipv4Addr::from(address.ip), address.port))
-}
 
 /// Where the member of an id is told of purges: its HTCP address.
 fn htcp_of(roster: &Roster, id: u8) -> Option<Address>
@@ -74,7 +68,7 @@ impl MasterSender {
     fn send(&self, roster: &Roster, member: u8, octets: &[u8]) {
         if let Some(address) = htcp_of(roster, member) {
             // (a CLR that is lost is sent again about a second later)
-            let _ = self.socket.send_to(octets, socket_address(address));
+            let _ = self.socket.send_to(octets, address.socket());
         }
     }
 

@@ -3,7 +3,7 @@
 use Rattle.std.proofs.Common.{◌≡◌, ℕ, ◌≤◌, true, List, [], ◌∷◌, length, nat_le, Option, Some, None, Result, Ok, Err, IfErr, refl, sym, ◌∙◌, subst, arith, if◌then◌else◌}
 use Rattle.std.proofs.lemmas.Option.{none-some}
 use Rattle.std.proofs.lemmas.Bool.{le-leb}
-use Rattle.text_writer.specs.Writing.{Writes}
+use Rattle.values_plain.specs.Writing.{Writes}
 use Rattle.http_messages.specs.Field.{FieldText}
 use Rattle.http_messages.specs.Answer.{AnswerText, is_writable}
 use Rattle.http_messages.specs.declared.ask.Ask.{Ask}

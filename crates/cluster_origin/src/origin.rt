@@ -7,9 +7,9 @@ use crate::serving::serve_next;
 use cluster_streams::{Timed, Waiter};
 use std::alloc::Global;
 use std::io::{self, ErrorKind, Read, Write};
-use std::net::{Ipv4Addr, Net, SocketAddr, TcpListener, TcpStream};
+use std::net::{Net, TcpListener, TcpStream};
 use std::time::{Clock, Duration};
-use values_tables::Address;
+use values_plain::Address;
 
 /// How many seconds a client may take in all, to send its request and to take its response.
 const PATIENCE: u64 = 5;
@@ -50,8 +50,7 @@ pub fn run_origin<R: Net + Clock>(
 fn listen<N: Net>(net: &N, at: Address) -> Result<TcpListener, OriginFault>
     ensures { IfErr result (IsAtPort at.port) }
 {
-    let address = SocketAddr::from((Ipv4Addr::from(at.ip), at.port));
-    let listener = match mio::net::TcpListener::bind(net, address) {
+    let listener = match mio::net::TcpListener::bind(net, at.socket()) {
         Ok(listener) => TcpListener::from(listener),
         Err(error) => return Err(fault_of(&error, at.port)),
     };

@@ -1,6 +1,6 @@
 //! Refusals of requests.
 ghost use Rattle.std.specs.Prelude.{◌≡◌};
-ghost use Rattle.text_writer.specs.Writing.{AppendsFront};
+ghost use Rattle.values_plain.specs.Writing.{AppendsFront};
 ghost use Rattle.cluster_origin.specs.Statuses.{refusal_of as status_refusing};
 ghost use Rattle.cluster_origin.specs.Serving.{refusal};
 

@@ -1,6 +1,6 @@
 -- Where a peer is asked.
 use Rattle.std.specs.Prelude.{ℕ, ◌==◌, find, Option, Some, None}
-use Rattle.values_tables.specs.declared.plain.Address.{Address}
+use Rattle.values_plain.specs.declared.address.Address.{Address}
 use Rattle.values_tables.specs.declared.plain.Cache.{Cache}
 use Rattle.values_tables.specs.declared.plain.Member.{Member as MemberEntry}
 use Rattle.values_tables.specs.declared.plain.Tables.{Tables}

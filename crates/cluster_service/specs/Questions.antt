@@ -1,7 +1,7 @@
 -- Which octets are a question whether a cache has a copy, if they are a message at all.
 use Rattle.std.specs.Prelude.{ℕ, ◌/◌, ◌%◌, Bool, ◌&&◌, ◌==◌, nat_le, List, length, slice_index}
-use Rattle.values_tables.specs.declared.plain.Udp.{Udp}
-use Rattle.values_tables.specs.declared.plain.Udp.TheVariants.{Icp, Htcp}
+use Rattle.values_plain.specs.declared.address.Udp.{Udp}
+use Rattle.values_plain.specs.declared.address.Udp.TheVariants.{Icp, Htcp}
 
 -- an ICP QUERY: the opcode, which is the first octet, is 1 (RFC 2186, "ICP Opcodes")
 abbrev pub is_query : List ℕ → Bool

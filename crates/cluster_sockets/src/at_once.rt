@@ -1,7 +1,7 @@
 //! Datagrams that are answered without a job.
 use std::sync::Wait;
 use std::time::Clock;
-use values_tables::{Address, Udp};
+use values_plain::{Address, Udp};
 
 /// Answers datagrams on the thread of the event loop, without queueing a job and without waking a
 /// worker. It must not wait for a socket or a client. It may wait for a lock that others hold for

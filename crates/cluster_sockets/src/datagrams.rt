@@ -5,14 +5,14 @@ ghost use Rattle.cluster_sockets.specs.Turns.{HasPut, IsSound};
 use crate::at_once::AtOnce;
 use crate::fault::LoopFault;
 use crate::putting::{Come, put};
-use crate::sockets::{Sockets, address_of};
+use crate::sockets::Sockets;
 use cluster_jobs::{Job, Jobs, Pass, QueueName};
 use std::alloc::{AllocError, Global};
 use std::io::ErrorKind;
 use std::mem::replace;
 use std::sync::{Arc, Wait};
 use std::time::Clock;
-use values_tables::Udp;
+use values_plain::{Address, Udp};
 
 /// The size of the receive buffer in octets. No datagram of IPv4 is longer.
 const LONGEST: usize = 65_536;
@@ -82,7 +82,7 @@ impl Datagrams {
     {
         match self.sockets.by(udp).recv_from(self.buffer.as_mut_slice()) {
             Ok((length, from)) => {
-                let (from, came) = (address_of(from), &self.buffer.as_slice()[..length]);
+                let (from, came) = (Address::of_socket(from), &self.buffer.as_slice()[..length]);
                 if at_once.deals_with(rt, udp, from, came) {
                     return Ok(Come::Taken(None));
                 }

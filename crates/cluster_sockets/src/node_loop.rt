@@ -4,7 +4,7 @@ ghost use Rattle.cluster_sockets.specs.Turns.{HasPut};
 use crate::at_once::AtOnce;
 use crate::datagrams::Datagrams;
 use crate::fault::LoopFault;
-use crate::sockets::{Senders, Sockets, socket_address};
+use crate::sockets::{Senders, Sockets};
 use crate::streams::Streams;
 use cluster_jobs::{Jobs, Pass, QueueName};
 use mio::net::TcpListener;
@@ -13,7 +13,8 @@ use std::alloc::Global;
 use std::net::Net;
 use std::sync::{Arc, Wait};
 use std::time::{Clock, Duration, Instant};
-use values_tables::{Cache, Udp};
+use values_plain::Udp;
+use values_tables::Cache;
 
 /// The poll tokens of the node's own sockets. The token of a connection is its key, and keys are
 /// less than 1,024.
@@ -53,7 +54,7 @@ impl NodeLoop {
     ) -> Result<(NodeLoop, Senders), LoopFault> {
         let poll = Poll::new(rt)?;
         let sockets = Sockets::open(rt, poll.registry(), cache, (ICP, HTCP))?;
-        let mut listener = TcpListener::bind(rt, socket_address(cache.http))?;
+        let mut listener = TcpListener::bind(rt, cache.http.socket())?;
         poll.registry()
             .register(&mut listener, LISTENER, Interest::READABLE)?;
         let sockets = match Arc::new(alloc, sockets) {

@@ -4,28 +4,10 @@ use mio::net::UdpSocket;
 use mio::{Interest, Registry, Token};
 use std::alloc::{AllocError, Global};
 use std::io;
-use std::net::{Ipv4Addr, Net, SocketAddr};
+use std::net::Net;
 use std::sync::Arc;
-use values_tables::{Address, Cache, Udp};
-
-/// An address of a roster as the system takes it.
-pub(crate) fn socket_address(address: Address) -> SocketAddr {
-    SocketAddr::from((Ipv4Addr::from(address.ip), address.port))
-}
-
-/// The address of a sender. An IPv6 sender, which an IPv4 socket never has, is given as 0.0.0.0.
-pub(crate) fn address_of(from: SocketAddr) -> Address {
-    match from {
-        SocketAddr::V4(from) => Address {
-            ip: u32::from(*from.ip()),
-            port: from.port(),
-        },
-        SocketAddr::V6(from) => Address {
-            ip: 0,
-            port: from.port(),
-        },
-    }
-}
+use values_plain::{Address, Udp};
+use values_tables::Cache;
 
 /// The two UDP sockets of a node.
 #[derive(Drop)]
@@ -42,8 +24,8 @@ impl Sockets {
         cache: &Cache,
         tokens: (Token, Token),
     ) -> io::Result<Sockets> {
-        let mut icp = UdpSocket::bind(net, socket_address(cache.icp))?;
-        let mut htcp = UdpSocket::bind(net, socket_address(cache.htcp))?;
+        let mut icp = UdpSocket::bind(net, cache.icp.socket())?;
+        let mut htcp = UdpSocket::bind(net, cache.htcp.socket())?;
         registry.register(&mut icp, tokens.0, Interest::READABLE)?;
         registry.register(&mut htcp, tokens.1, Interest::READABLE)?;
         Ok(Sockets { icp, htcp })
@@ -79,7 +61,7 @@ impl Senders {
     /// Sends a datagram by a protocol, without waiting. `Io` comes where the system does not take
     /// it whole; it is then lost, as any datagram may be lost on its way.
     pub fn send(&self, udp: Udp, to: Address, octets: &[u8]) -> Result<(), LoopFault> {
-        let count = self.sockets.by(udp).send_to(octets, socket_address(to))?;
+        let count = self.sockets.by(udp).send_to(octets, to.socket())?;
         if count == octets.len() {
             Ok(())
         } else {

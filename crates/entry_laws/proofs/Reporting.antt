@@ -6,9 +6,9 @@ use Rattle.std.specs.Prelude.{find}
 use Rattle.std.proofs.lemmas.Option.{none-some, same_Some, slice_get_within}
 use Rattle.htcp_wire.specs.declared.message.Content.{Content}
 use Rattle.htcp_wire.specs.declared.message.Content.TheVariants as content
-use Rattle.values_tables.specs.declared.plain.Address.{Address}
+use Rattle.values_plain.specs.declared.address.Address.{Address}
 use Rattle.values_tables.specs.declared.plain.Tables.{Tables}
-use Rattle.values_tables.specs.declared.plain.Udp.TheVariants as udp
+use Rattle.values_plain.specs.declared.address.Udp.TheVariants as udp
 use Rattle.roster.specs.Judged.{IsRoster}
 use Rattle.roster.specs.Lookups.{is_master, member_at}
 use Rattle.node_rules.specs.declared.message.Message.{Message}

@@ -6,8 +6,8 @@ use Rattle.std.proofs.lemmas.Option.{none-some}
 use Rattle.node_rules.proofs.Cases.{same_Some}
 use Rattle.values_tables.specs.declared.plain.Member.{Member}
 use Rattle.values_tables.specs.declared.plain.Tables.{Tables}
-use Rattle.values_tables.specs.declared.plain.Address.{Address}
-use Rattle.values_tables.specs.declared.plain.Udp.{Udp}
+use Rattle.values_plain.specs.declared.address.Address.{Address}
+use Rattle.values_plain.specs.declared.address.Udp.{Udp}
 use Rattle.roster.specs.Lookups.{is_member, member_at, same_address, address_by}
 use Rattle.world_rules.proofs.Seats.{ids_same, same_id}
 use Rattle.hierarchy_world.specs.declared.parts.Parts.{Parts}

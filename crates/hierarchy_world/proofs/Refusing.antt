@@ -7,8 +7,8 @@ use Rattle.http_messages.specs.Answer.{AnswerText}
 use Rattle.purge_rules.specs.declared.fault.MasterFault.{MasterFault}
 use Rattle.purge_rules.specs.Calls.{issue_fault}
 use Rattle.values_tables.specs.Ranges.{is_foreign_id}
-use Rattle.values_tables.specs.declared.plain.Address.{Address}
-use Rattle.values_tables.specs.declared.plain.Udp.TheVariants as udp
+use Rattle.values_plain.specs.declared.address.Address.{Address}
+use Rattle.values_plain.specs.declared.address.Udp.TheVariants as udp
 use Rattle.values_tables.specs.declared.plain.Tables.{Tables}
 use Rattle.roster.specs.Lookups.{is_member, is_master, member_at, is_own}
 use Rattle.node_rules.specs.declared.message.Message.{Message}

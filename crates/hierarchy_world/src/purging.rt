@@ -5,7 +5,7 @@ ghost use Rattle.url_key.specs.Key.{IsKey};
 ghost use Rattle.htcp_wire.specs.Written.{Fits};
 ghost use Rattle.node_rules.specs.declared.message.Message.TheVariants as messages;
 ghost use Rattle.roster.specs.Lookups.{member_of as member_by_id, member_at};
-ghost use Rattle.values_tables.specs.declared.plain.Udp.TheVariants as udp;
+ghost use Rattle.values_plain.specs.declared.address.Udp.TheVariants as udp;
 ghost use Rattle.purge_rules.specs.Clear.{clear as clear_of, message_of};
 ghost use Rattle.purge_rules.specs.Calls.{issue_fault};
 ghost use Rattle.world_rules.specs.Turn as turns;

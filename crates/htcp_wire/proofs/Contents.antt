@@ -6,9 +6,9 @@ use Rattle.std.specs.Option.{option_map}
 use Rattle.std.proofs.Math.Nat.{div-add-mod', mod-lt, mod-eq_of_lt, mul-add-mod_self_right}
 use Rattle.std.proofs.lemmas.Bool.{eqb-true, ltb-false, le-ltb, leb-true, le-leb, not-true, not-false, and_parts, or_parts, or_from}
 use Rattle.std.proofs.lemmas.List.{length-append}
-use Rattle.wire_octets.specs.Fields.{IsOctets}
-use Rattle.wire_octets.specs.Counted.{counted, split_counted}
-use Rattle.wire_octets.specs.Laws.{IsOctets-drop, split_counted-counted}
+use Rattle.values_plain.specs.Fields.{IsOctets}
+use Rattle.values_plain.specs.Counted.{counted, split_counted}
+use Rattle.values_plain.specs.Laws.{IsOctets-drop, split_counted-counted}
 use Rattle.htcp_wire.specs.declared.message.Specifier.{Specifier}
 use Rattle.htcp_wire.specs.declared.message.Content.{Content}
 use Rattle.htcp_wire.specs.declared.message.Content.TheVariants.{NopAsk, NopAnswer, TstAsk, TstHit, TstMiss, ClrAsk, ClrAnswer, Other, Overall, OtherAnswer}

@@ -2,7 +2,7 @@
 -- offsets, and two messages at the same offsets are one.
 use Rattle.std.proofs.Common.{◌≡◌, ℕ, Bool, true, false, cond, List, Option, Some, None, Result, Ok, Err, refl, sym, ap, ◌∙◌, inl, inr}
 use Rattle.std.specs.Prelude.{◌⊎◌, ◌≢◌, IfOk, IfErr, MatchResult, is_none}
-use Rattle.wire_octets.specs.Fields.{IsOctets}
+use Rattle.values_plain.specs.Fields.{IsOctets}
 use Rattle.htcp_wire.specs.declared.message.Content.{Content}
 use Rattle.htcp_wire.specs.declared.message.Htcp.{Htcp}
 use Rattle.htcp_wire.specs.declared.fault.HtcpFault.{HtcpFault}

@@ -7,8 +7,8 @@ use Rattle.std.proofs.Math.Nat.{div-add-mod', mod-eq_of_lt, mul-add-mod_self_rig
 use Rattle.std.proofs.lemmas.Nat.{div-mul-add}
 use Rattle.std.proofs.lemmas.List.{drop_at, take_at, drop-drop, take-append-drop, length-append, length-take, length-drop}
 use Rattle.byteorder.specs.Endian.{big_bytes, big_number}
-use Rattle.wire_octets.specs.Fields.{IsOctets}
-use Rattle.wire_octets.specs.Laws.{IsOctets-drop, cut_number, big_number-big_bytes}
+use Rattle.values_plain.specs.Fields.{IsOctets}
+use Rattle.values_plain.specs.Laws.{IsOctets-drop, cut_number, big_number-big_bytes}
 use Rattle.htcp_wire.specs.Grammar.{Data, bit, header, data_text, auth}
 use Rattle.htcp_wire.specs.Reading.{length_field, major_field, minor_field, data_length_field, trans_field, data_field, auth_field}
 

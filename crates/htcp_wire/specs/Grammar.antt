@@ -3,7 +3,7 @@
 -- figures.
 use Rattle.std.specs.Prelude.{◌≡◌, ℕ, ◌+◌, ◌*◌, ◌^◌, ◌<◌, ◌≤◌, Bool, true, false, ◌||◌, ◌&&◌, ◌==◌, nat_le, List, [], ◌∷◌, ◌++◌, length}
 use Rattle.byteorder.specs.Endian.{big_bytes}
-use Rattle.wire_octets.specs.Counted.{counted}
+use Rattle.values_plain.specs.Counted.{counted}
 use Rattle.htcp_wire.specs.declared.message.Specifier.{Specifier}
 use Rattle.htcp_wire.specs.declared.message.Detail.{Detail}
 use Rattle.htcp_wire.specs.declared.message.Content.{Content}

@@ -1,7 +1,7 @@
 -- The octets that are written for a message, and which messages are written. MINOR, RESERVED and a
 -- request's RESPONSE are 0, there are no spare octets, and AUTH is empty.
 use Rattle.std.specs.Prelude.{◌≡◌, ℕ, ◌+◌, ◌<◌, ◌≤◌, Bool, true, false, List, [], ◌∷◌, ◌++◌, length}
-use Rattle.wire_octets.specs.Counted.{counted}
+use Rattle.values_plain.specs.Counted.{counted}
 use Rattle.htcp_wire.specs.declared.message.Content.{Content}
 use Rattle.htcp_wire.specs.declared.message.Content.TheVariants.{NopAsk, NopAnswer, TstAsk, TstHit, TstMiss, ClrAsk, ClrAnswer, Other, Overall, OtherAnswer}
 use Rattle.htcp_wire.specs.declared.message.Htcp.{Htcp}

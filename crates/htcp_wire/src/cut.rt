@@ -6,7 +6,7 @@ ghost use Rattle.htcp_wire.specs.Reading.{specifier_at, detail_at, clr_at, ask_a
 use crate::message::{CLR, NOP, TST};
 use crate::{Content, Detail, Specifier};
 use std::alloc::{AllocError, Global};
-use wire_octets::{Octets, split_counted};
+use values_plain::{Octets, split_counted};
 
 /// A specifier whose texts are still in the datagram.
 #[derive(Drop)]

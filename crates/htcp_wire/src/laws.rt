@@ -1,5 +1,5 @@
 ghost use Rattle.std.specs.Prelude.{◌≡◌, ℕ, ◌^◌, ◌<◌, List};
-ghost use Rattle.wire_octets.specs.Fields.{IsOctets};
+ghost use Rattle.values_plain.specs.Fields.{IsOctets};
 ghost use Rattle.htcp_wire.specs.declared.message.Htcp.{Htcp};
 ghost use Rattle.htcp_wire.specs.Grammar.{Spells};
 ghost use Rattle.htcp_wire.specs.Laws.{IsDecided};

@@ -2,7 +2,7 @@ ghost use Rattle.std.specs.Prelude.{◌≡◌, IfOk};
 ghost use Rattle.htcp_wire.specs.Names.{content_name};
 
 use std::alloc::{AllocError, Global};
-use wire_octets::Octets;
+use values_plain::Octets;
 
 /// The greatest length of a written message, in octets. One that is read may have 65,535.
 pub const LONGEST_WRITTEN: usize = 16_384;

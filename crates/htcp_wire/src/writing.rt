@@ -1,6 +1,6 @@
 ghost use Rattle.std.specs.Prelude.{◌≡◌, ℕ, ◌+◌, ◌-◌, ◌*◌, ◌^◌, ◌<◌, ◌≤◌, ◌↔◌, ◌∷◌, ◌++◌, length, min, IsTrue, OnOk, MatchResult};
 ghost use Rattle.byteorder.specs.Endian.{big_bytes};
-ghost use Rattle.wire_octets.specs.Counted.{counted};
+ghost use Rattle.values_plain.specs.Counted.{counted};
 ghost use Rattle.htcp_wire.specs.Grammar.{bit, header, specifier, detail as detail_text};
 ghost use Rattle.htcp_wire.specs.Written.{Fits, InRange, written, written_data};
 
@@ -8,7 +8,7 @@ use crate::message::{CLR, LONGEST_WRITTEN, NOP, TST};
 use crate::{Content, Detail, Htcp, HtcpFault, Specifier};
 use byteorder::{BigEndian, ByteOrder};
 use std::alloc::{AllocError, Global};
-use wire_octets::Octets;
+use values_plain::Octets;
 
 /// The length in octets of a written message without OP-DATA.
 const FRAME_LENGTH: usize = 14;

@@ -1,5 +1,5 @@
 ghost use Rattle.std.specs.Prelude.{◌≡◌, IfErr, IsTrue, map};
-ghost use Rattle.text_writer.specs.Writing.{Writes};
+ghost use Rattle.values_plain.specs.Writing.{Writes};
 ghost use Rattle.http_messages.specs.Field.{field_text};
 ghost use Rattle.http_writing.specs.Answer.{answer_text, status_line, kept_line, kept_lines, first_lines, number_lines, told_length};
 ghost use Rattle.http_writing.specs.Name.{is_name as names_cache};

@@ -1,5 +1,5 @@
 ghost use Rattle.std.specs.Prelude.{◌≡◌, IfErr, IsTrue};
-ghost use Rattle.text_writer.specs.Writing.{Writes};
+ghost use Rattle.values_plain.specs.Writing.{Writes};
 ghost use Rattle.http_writing.specs.Ask.{ask_text, target as target_text, request_line, key_lines, cache_control_line};
 ghost use Rattle.http_writing.specs.Name.{is_name as names_cache};
 

@@ -1,13 +1,13 @@
 //! Lines of a message's head (RFC 9112, section 5). A call that fails has written a proper front
 //! of its text.
 ghost use Rattle.std.specs.Prelude.{◌≡◌, ◌++◌, IfErr, decimal};
-ghost use Rattle.text_writer.specs.Writing.{Writes};
+ghost use Rattle.values_plain.specs.Writing.{Writes};
 ghost use Rattle.http_writing.specs.Lines.{field_line, number_line, last_lines};
 
 use http_messages::FetchFault;
 use itoa::Buffer;
 use std::io::Write;
-use text_writer::write_text;
+use values_plain::write_text;
 
 /// Writes a text. `Io`: the writer failed.
 pub(crate) fn write<W: Write>(writer: &mut W, text: &[u8]) -> Result<(), FetchFault>

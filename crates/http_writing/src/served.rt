@@ -1,7 +1,7 @@
 //! Writes what a cache serves: a stored response, or a status alone. Nothing here allocates or
 //! copies a body.
 ghost use Rattle.std.specs.Prelude.{◌≡◌, IfErr, IsTrue, [], None, map};
-ghost use Rattle.text_writer.specs.Writing.{Writes};
+ghost use Rattle.values_plain.specs.Writing.{Writes};
 ghost use Rattle.http_messages.specs.Field.{field_text};
 ghost use Rattle.http_messages.specs.Answer.{AnswerText};
 ghost use Rattle.http_writing.specs.Lines.{number_line};

@@ -3,8 +3,8 @@
 use Rattle.std.proofs.Common.{◌≡◌, ℕ, ◌+◌, ◌^◌, ◌<◌, ◌≤◌, List, ◌++◌, length, take, drop, sym, ap, ◌∙◌, append_assoc, arith}
 use Rattle.std.proofs.lemmas.List.{drop_at, drop-drop, take-append-drop, length-append, length-drop}
 use Rattle.byteorder.specs.Endian.{big_bytes, big_number}
-use Rattle.wire_octets.specs.Fields.{IsOctets}
-use Rattle.wire_octets.specs.Laws.{IsOctets-drop, cut_number, big_number-big_bytes, drop-big_bytes}
+use Rattle.values_plain.specs.Fields.{IsOctets}
+use Rattle.values_plain.specs.Laws.{IsOctets-drop, cut_number, big_number-big_bytes, drop-big_bytes}
 
 regroup : (a b c d e f : List ℕ) → a ++ b ++ c ++ d ++ e ++ f ≡ a ++ (b ++ (c ++ (d ++ (e ++ f))))
 regroup a b c d e f = simp append_assoc

@@ -5,9 +5,9 @@ use Rattle.std.specs.Prelude.{Contains, is_none, position}
 use Rattle.std.specs.List.{before_first, after_first}
 use Rattle.std.proofs.lemmas.Bool.{eqb-true}
 use Rattle.std.proofs.lemmas.List.{drop_at, take-append-drop, length-append, length-take, length-drop, nil_from_length, append-nil}
-use Rattle.wire_octets.specs.Fields.{IsOctets}
-use Rattle.wire_octets.specs.Counted.{counted, split_counted}
-use Rattle.wire_octets.specs.Laws.{IsOctets-drop, split_counted-Some, split_counted-counted}
+use Rattle.values_plain.specs.Fields.{IsOctets}
+use Rattle.values_plain.specs.Counted.{counted, split_counted}
+use Rattle.values_plain.specs.Laws.{IsOctets-drop, split_counted-Some, split_counted-counted}
 use Rattle.icp_wire.specs.declared.message.IcpOp.{IcpOp}
 use Rattle.icp_wire.specs.declared.message.IcpOp.TheVariants.{Query, Hit, Miss, Error, MissNoFetch, Denied, HitObj}
 use Rattle.icp_wire.specs.declared.fault.IcpFault.{IcpFault}

@@ -5,8 +5,8 @@ use Rattle.std.specs.Prelude.{slice_index, find}
 use Rattle.std.proofs.lemmas.Bool.{eqb-true, eq-eqb, ltb-false, le-ltb, not-false, not_from_true}
 use Rattle.std.proofs.lemmas.List.{drop-drop, length-take, length-drop}
 use Rattle.byteorder.specs.Endian.{big_number}
-use Rattle.wire_octets.specs.Fields.{IsOctets}
-use Rattle.wire_octets.specs.Laws.{IsOctets-drop, big_number-lt}
+use Rattle.values_plain.specs.Fields.{IsOctets}
+use Rattle.values_plain.specs.Laws.{IsOctets-drop, big_number-lt}
 use Rattle.icp_wire.specs.declared.message.Icp.{Icp}
 use Rattle.icp_wire.specs.declared.message.IcpOp.{IcpOp}
 use Rattle.icp_wire.specs.declared.message.IcpOp.TheVariants.{Query, Hit, Miss, Error, MissNoFetch, Denied, HitObj}

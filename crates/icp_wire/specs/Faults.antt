@@ -1,7 +1,7 @@
 -- Why octets spell no message: the first fault, in the order of the tests.
 use Rattle.std.specs.Prelude.{ℕ, not, ◌==◌, nat_lt, List, length, position, Option, Some, None, is_none, if◌then◌else◌}
 use Rattle.std.specs.List.{after_first}
-use Rattle.wire_octets.specs.Counted.{split_counted}
+use Rattle.values_plain.specs.Counted.{split_counted}
 use Rattle.icp_wire.specs.declared.message.IcpOp.{IcpOp}
 use Rattle.icp_wire.specs.declared.message.IcpOp.TheVariants.{HitObj}
 use Rattle.icp_wire.specs.declared.fault.IcpFault.{IcpFault}

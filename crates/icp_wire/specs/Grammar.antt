@@ -3,7 +3,7 @@
 -- of the RFC.
 use Rattle.std.specs.Prelude.{◌≡◌, ℕ, ◌^◌, ◌<◌, ◌≤◌, List, [], ◌∷◌, ◌++◌, length, Contains}
 use Rattle.byteorder.specs.Endian.{big_bytes}
-use Rattle.wire_octets.specs.Counted.{counted}
+use Rattle.values_plain.specs.Counted.{counted}
 use Rattle.icp_wire.specs.declared.message.Icp.{Icp}
 use Rattle.icp_wire.specs.declared.message.IcpOp.{IcpOp}
 use Rattle.icp_wire.specs.declared.message.IcpOp.TheVariants.{Query, Hit, Miss, Error, MissNoFetch, Denied, HitObj}

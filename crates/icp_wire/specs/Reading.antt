@@ -3,7 +3,7 @@
 use Rattle.std.specs.Prelude.{◌≡◌, ℕ, Bool, ◌==◌, List, [], ◌∷◌, drop, slice_index, find, Option, Some, None}
 use Rattle.std.specs.List.{before_first, after_first}
 use Rattle.byteorder.specs.Endian.{big_number}
-use Rattle.wire_octets.specs.Counted.{split_counted}
+use Rattle.values_plain.specs.Counted.{split_counted}
 use Rattle.icp_wire.specs.declared.message.Icp.{Icp}
 use Rattle.icp_wire.specs.declared.message.IcpOp.{IcpOp}
 use Rattle.icp_wire.specs.declared.message.IcpOp.TheVariants.{Query, Hit, Miss, Error, MissNoFetch, Denied, HitObj}

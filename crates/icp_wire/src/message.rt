@@ -2,7 +2,7 @@ ghost use Rattle.std.specs.Prelude.{◌≡◌, IfOk};
 ghost use Rattle.icp_wire.specs.Names.{icp_op_name};
 
 use std::alloc::{AllocError, Global};
-use wire_octets::Octets;
+use values_plain::Octets;
 
 /// The greatest length of a message in octets, header included (RFC 2186, "Message Length").
 pub const LONGEST_MESSAGE: usize = 16_384;

@@ -9,7 +9,7 @@ use crate::{Icp, IcpFault, IcpOp};
 use byteorder::{BigEndian, ByteOrder};
 use memchr::memchr;
 use std::alloc::Global;
-use wire_octets::{Octets, split_counted};
+use values_plain::{Octets, split_counted};
 
 /// The message that a datagram spells, or its first fault, in the order of [`IcpFault`].
 ///

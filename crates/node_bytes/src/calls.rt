@@ -1,7 +1,7 @@
 //! What datagrams tell the master of purges.
 ghost use Rattle.std.specs.Prelude.{◌≡◌, IfOk, IfErr, IsSome};
 ghost use Rattle.roster.specs.Lookups.{member_at as member_by_address};
-ghost use Rattle.values_tables.specs.declared.plain.Udp.TheVariants as udp;
+ghost use Rattle.values_plain.specs.declared.address.Udp.TheVariants as udp;
 ghost use Rattle.node_bytes.specs.Bytes.{HasFault};
 ghost use Rattle.node_bytes.specs.Calls.{IsCallFrom};
 

@@ -6,7 +6,7 @@ use crate::{Stepper, event_of, octets_of};
 use node_rules::{Begin, Outgoing, Reply, Serve, StepFault};
 use roster::{Address, Listed, Udp};
 use std::alloc::{AllocError, Global};
-use wire_octets::Octets;
+use values_plain::Octets;
 
 /// A datagram to send.
 #[derive(Debug, Drop)]

@@ -5,10 +5,10 @@ use Rattle.std.specs.Option.{option_and_then}
 use Rattle.std.proofs.lemmas.Option.{none-some, slice_get_cases}
 use Rattle.icp_wire.specs.declared.message.Icp.{Icp}
 use Rattle.values_tables.specs.Ranges.{is_foreign_id}
-use Rattle.values_tables.specs.declared.plain.Address.{Address}
+use Rattle.values_plain.specs.declared.address.Address.{Address}
 use Rattle.values_tables.specs.declared.plain.Peer.{Peer}
-use Rattle.values_tables.specs.declared.plain.Udp.{Udp}
-use Rattle.values_tables.specs.declared.plain.Udp.TheVariants as udp
+use Rattle.values_plain.specs.declared.address.Udp.{Udp}
+use Rattle.values_plain.specs.declared.address.Udp.TheVariants as udp
 use Rattle.peer_chooser.specs.declared.said.Said.{Said}
 use Rattle.peer_chooser.specs.Round.{RoundText, has_told, answered}
 use Rattle.node_rules.specs.declared.state.Pending.{Pending}

@@ -4,7 +4,7 @@ use Rattle.std.proofs.Common.{◌≡◌, ℕ, Bool, List, Option, Some, None, Re
 use Rattle.htcp_wire.specs.declared.message.Specifier.{Specifier}
 use Rattle.htcp_wire.specs.declared.numbers.HeaderKind.TheVariants.{PurgeNumber}
 use Rattle.htcp_wire.specs.Numbers.{number_in_text}
-use Rattle.values_tables.specs.declared.plain.Address.{Address}
+use Rattle.values_plain.specs.declared.address.Address.{Address}
 use Rattle.node_rules.specs.declared.state.NodeState.{NodeState}
 use Rattle.node_rules.specs.declared.reply.Reply.{Reply}
 use Rattle.node_rules.specs.declared.reply.StepFault.{StepFault}

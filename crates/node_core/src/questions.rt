@@ -6,7 +6,7 @@ ghost use Rattle.node_rules.specs.Texts.{IsSendable};
 ghost use Rattle.node_rules.specs.Messages as messages;
 ghost use Rattle.icp_wire.specs.declared.message.IcpOp.TheVariants as ops;
 ghost use Rattle.values_tables.specs.declared.plain.Peer.{Peer as PeerText};
-ghost use Rattle.values_tables.specs.declared.plain.Udp.TheVariants as udp;
+ghost use Rattle.values_plain.specs.declared.address.Udp.TheVariants as udp;
 ghost use Rattle.peer_chooser.specs.Round.{has_told as has_told_in};
 ghost use Rattle.node_rules.specs.Known.{is_known as is_known_at};
 ghost use Rattle.values_keys.specs.KeyOf.{GivesKeys};

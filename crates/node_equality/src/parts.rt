@@ -5,7 +5,7 @@ ghost use Rattle.http_messages.specs.Field.{field_text};
 use http_messages::{Answer, Ask, Field};
 use object_store::WebCopy;
 use url_key::Key;
-use wire_octets::Octets;
+use values_plain::Octets;
 
 /// Whether two texts are the same octets.
 pub(crate) fn same_octets(one: &Octets, other: &Octets) -> bool

@@ -1,7 +1,7 @@
 -- What becomes of a request over HTTP. The rule is `ServesAsk`, at the end.
 use Rattle.std.specs.Prelude.{◌≡◌, ◌⊎◌, ℕ, ◌/◌, Bool, not, ◌&&◌, ◌==◌, List, [], Option, Some, None, Result, Ok, Err, MatchResult, if◌then◌else◌}
 use Rattle.std.specs.Io.KnownBytes.{Appends}
-use Rattle.text_writer.specs.Writing.{AppendsFront, AppendsProperFront}
+use Rattle.values_plain.specs.Writing.{AppendsFront, AppendsProperFront}
 use Rattle.http_messages.specs.declared.ask.Ask.{Ask}
 use Rattle.http_messages.specs.declared.fault.FetchFault.{FetchFault}
 use Rattle.http_messages.specs.declared.fault.FetchFault.TheVariants.{Io}

@@ -1,6 +1,6 @@
 //! Refusals of requests.
 ghost use Rattle.std.specs.Prelude.{◌≡◌, IsTrue};
-ghost use Rattle.text_writer.specs.Writing.{AppendsFront};
+ghost use Rattle.values_plain.specs.Writing.{AppendsFront};
 ghost use Rattle.http_writing.specs.Name.{is_name as names_cache};
 ghost use Rattle.node_http.specs.Statuses.{refusal_of as status_refusing};
 ghost use Rattle.node_http.specs.Serving.{refusal_text};

@@ -1,6 +1,6 @@
 //! Writes what is served.
 ghost use Rattle.std.specs.Prelude.{◌≡◌, IfErr, IsTrue};
-ghost use Rattle.text_writer.specs.Writing.{Writes};
+ghost use Rattle.values_plain.specs.Writing.{Writes};
 ghost use Rattle.http_writing.specs.Name.{is_name as names_cache};
 ghost use Rattle.node_http.specs.Serving.{serve_text, stamp_for as stamp_told};
 

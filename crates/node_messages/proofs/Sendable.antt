@@ -17,7 +17,7 @@ use Rattle.icp_wire.specs.declared.message.IcpOp.TheVariants as op
 use Rattle.icp_wire.specs.Written as icp_text
 use Rattle.htcp_wire.specs.declared.message.Content.TheVariants as content
 use Rattle.htcp_wire.specs.Written as htcp_text
-use Rattle.wire_octets.specs.Counted.{counted}
+use Rattle.values_plain.specs.Counted.{counted}
 use Rattle.htcp_wire.proofs.Writings.{length-written_with}
 use Rattle.node_rules.specs.Texts.{icp_message}
 use Rattle.node_rules.specs.Messages.{get}

@@ -1,7 +1,7 @@
 //! The queries of a round.
 ghost use Rattle.std.specs.Prelude.{◌≡◌, ◌++◌, IfOk, OnOk, option_to_list};
 ghost use Rattle.std.specs.List.{filter_map};
-ghost use Rattle.values_tables.specs.declared.plain.Udp.TheVariants as udp;
+ghost use Rattle.values_plain.specs.declared.address.Udp.TheVariants as udp;
 ghost use Rattle.node_rules.specs.Messages as messages;
 ghost use Rattle.node_rules.specs.Asks.{question_to};
 
@@ -12,7 +12,7 @@ use node_rules::{Message, Outgoing, Sent};
 use roster::{Listed, Peer, Roster, Udp, address_by};
 use std::alloc::{AllocError, Global};
 use url_key::Key;
-use wire_octets::Octets;
+use values_plain::Octets;
 
 /// GET of a key, as a SPECIFIER with empty REQ-HDRS (RFC 2756, "SPECIFIER").
 fn get(alloc: Global, key: &[u8]) -> Result<Specifier, AllocError>

@@ -13,7 +13,7 @@ use itoa::Buffer;
 use node_rules::{Message, Outgoing, Sent};
 use roster::Address;
 use std::alloc::{AllocError, Global};
-use wire_octets::Octets;
+use values_plain::Octets;
 
 /// The opcode of TST.
 const TST: u8 = 1;

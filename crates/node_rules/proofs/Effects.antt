@@ -7,8 +7,8 @@ use Rattle.node_rules.specs.declared.message.Outgoing.{Outgoing}
 use Rattle.values_tables.specs.declared.plain.Cache.{Cache}
 use Rattle.node_rules.specs.declared.reply.Reply.{Reply}
 use Rattle.node_rules.specs.declared.reply.StepFault.{StepFault}
-use Rattle.values_tables.specs.declared.plain.Address.{Address}
-use Rattle.values_tables.specs.declared.plain.Udp.{Udp}
+use Rattle.values_plain.specs.declared.address.Address.{Address}
+use Rattle.values_plain.specs.declared.address.Udp.{Udp}
 use Rattle.icp_wire.specs.declared.message.IcpOp.{IcpOp}
 use Rattle.icp_wire.specs.declared.message.IcpOp.TheVariants as op
 use Rattle.icp_wire.specs.declared.message.Icp.{Icp}
@@ -41,7 +41,7 @@ use Rattle.peer_chooser.specs.Round.{has_told, answered, ended}
 use Rattle.object_store.specs.Listed.{copy_of}
 use Rattle.reuse_rules.specs.Lifetime.{lifetime}
 use Rattle.htcp_wire.specs.declared.fault.HtcpFault.{HtcpFault}
-use Rattle.values_tables.specs.declared.plain.Udp.TheVariants as udp
+use Rattle.values_plain.specs.declared.address.Udp.TheVariants as udp
 use Rattle.node_rules.specs.Effect.{copy_served, sent, IsOwnFault, ServesBareStatus, ComesFrom, HasRaised, IsObedient, IsUnderWay, IsReadOf, IsAt, IsFromOrigin, IsFromPeer, IsAnswerTo, IsAnswerOf, Effect, Stays, Serves, Brings, Purges, Drops, IsHeldAbove, state_of}
 use Rattle.node_rules.specs.State.{Setting, Stepped, replies, refuses, quiet, fetch_serial, is_idle, is_of_block, age_of, is_good, if_good, good_copy}
 use Rattle.reuse_rules.specs.Freshness.{is_fresh}

@@ -13,10 +13,10 @@ use Rattle.http_messages.specs.Answer.{AnswerText}
 use Rattle.object_store.specs.declared.copy.WebCopy.{WebCopy}
 use Rattle.floor_rules.specs.Floors.{floor, seen}
 use Rattle.values_tables.specs.Ranges.{is_foreign_id}
-use Rattle.values_tables.specs.declared.plain.Address.{Address}
+use Rattle.values_plain.specs.declared.address.Address.{Address}
 use Rattle.values_tables.specs.declared.plain.Peer.{Peer}
-use Rattle.values_tables.specs.declared.plain.Udp.{Udp}
-use Rattle.values_tables.specs.declared.plain.Udp.TheVariants as udp
+use Rattle.values_plain.specs.declared.address.Udp.{Udp}
+use Rattle.values_plain.specs.declared.address.Udp.TheVariants as udp
 use Rattle.roster.specs.Lookups.{is_master}
 use Rattle.peer_chooser.specs.declared.said.Said.{Said}
 use Rattle.peer_chooser.specs.declared.said.Source.{Source}

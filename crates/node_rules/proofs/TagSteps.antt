@@ -3,8 +3,8 @@
 -- tags.
 use Rattle.std.proofs.Common.{◌≡◌, ℕ, ◌+◌, Bool, true, false, not, ◌&&◌, ◌||◌, cond, List, [], ◌∷◌, ◌++◌, Option, Some, None, refl, nat_le, nat_eq, ap, unwrap_or}
 use Rattle.std.specs.Prelude.{bytes_eq}
-use Rattle.values_tables.specs.declared.plain.Address.{Address}
-use Rattle.values_tables.specs.declared.plain.Udp.{Udp}
+use Rattle.values_plain.specs.declared.address.Address.{Address}
+use Rattle.values_plain.specs.declared.address.Udp.{Udp}
 use Rattle.icp_wire.specs.declared.message.IcpOp.{IcpOp}
 use Rattle.icp_wire.specs.declared.message.IcpOp.TheVariants as op
 use Rattle.icp_wire.specs.declared.message.Icp.{Icp}
@@ -38,7 +38,7 @@ use Rattle.reuse_rules.specs.Lifetime.{lifetime}
 use Rattle.htcp_wire.specs.declared.fault.HtcpFault.{HtcpFault}
 use Rattle.htcp_wire.specs.declared.numbers.HeaderKind.TheVariants.{PurgeNumber}
 use Rattle.htcp_wire.specs.Numbers.{number_in_text}
-use Rattle.values_tables.specs.declared.plain.Udp.TheVariants as udp
+use Rattle.values_plain.specs.declared.address.Udp.TheVariants as udp
 use Rattle.node_rules.specs.State.{Setting, Stepped, is_idle, good_copy, served_age, round_serial, fetch_serial}
 use Rattle.node_rules.specs.Fetching.{ask_peer, begin_read, read_origin, go_to, go_on, choice_of}
 use Rattle.node_rules.specs.Asks.{is_cached_only, is_busy, begin_round, ask_around, begin_ask, not_held, by_copy, copy_for, ask_comes, peers_to_ask}

@@ -4,7 +4,7 @@ ghost use Rattle.node_shifts.specs.Weight.{content_octets as octets_of_content, 
 
 use htcp_wire::{Content, Detail, Specifier};
 use node_rules::{Event, Message};
-use wire_octets::Octets;
+use values_plain::Octets;
 
 /// The longest text of a message that was read, in octets (RFC 2756, "COUNTSTR").
 const LONGEST_TEXT: usize = 65_535;

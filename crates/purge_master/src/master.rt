@@ -15,7 +15,7 @@ use purge_rules::{
 use std::alloc::{AllocError, Global};
 use std::marker::Model;
 use url_key::Key;
-use values_tables::Listed;
+use values_plain::Listed;
 
 /// The last number that a purge can get.
 const LAST_NUMBER: u32 = 4294967295;

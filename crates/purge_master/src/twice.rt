@@ -8,7 +8,7 @@ ghost use Rattle.purge_master.specs.Store.{IsCalled, witness};
 use crate::Master;
 use purge_rules::{MasterAnswer, MasterCall, MasterFault, PurgeStore};
 use std::alloc::Global;
-use values_tables::Listed;
+use values_plain::Listed;
 
 /// What a call returns.
 type Outcome = Result<MasterAnswer, MasterFault>;

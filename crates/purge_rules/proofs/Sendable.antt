@@ -3,7 +3,7 @@
 use Rattle.std.proofs.Common.{ℕ, ◌≤◌, ◌<◌, ◌^◌, List, [], ◌∷◌, ◌++◌, length, refl, codes, decimal, arith, length-append}
 use Rattle.std.proofs.lemmas.Fmt.{length-decimal-le}
 use Rattle.url_key.specs.Key.{IsKey}
-use Rattle.wire_octets.specs.Counted.{counted}
+use Rattle.values_plain.specs.Counted.{counted}
 use Rattle.htcp_wire.specs.Written.{Fits, written_data}
 use Rattle.htcp_wire.proofs.Writings.{length-written_with}
 use Rattle.purge_rules.specs.Clear.{clear, number_line}

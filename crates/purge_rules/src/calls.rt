@@ -3,7 +3,7 @@ ghost use Rattle.htcp_wire.specs.Clearing.{is_acknowledging as acknowledges};
 
 use std::alloc::{AllocError, Global};
 use url_key::Key;
-use values_tables::Listed;
+use values_plain::Listed;
 
 /// How far the purge of a number is.
 #[derive(Clone, Copy, Debug, PartialEq, Eq)]

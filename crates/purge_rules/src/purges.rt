@@ -8,7 +8,7 @@ use crate::{MemberSet, Status};
 use std::alloc::{AllocError, Global};
 use std::marker::Model;
 use url_key::Key;
-use values_tables::Listed;
+use values_plain::Listed;
 
 /// The most purges that may be pending at a time.
 pub const MOST_PENDING: usize = 1024;

@@ -7,7 +7,7 @@ use htcp_wire::{Content, Htcp, Specifier};
 use itoa::Buffer;
 use std::alloc::{AllocError, Global};
 use url_key::Key;
-use wire_octets::Octets;
+use values_plain::Octets;
 
 /// The CLR that a member gets for a purge of the key (RFC 2756, section 6.5). Its TRANS-ID is the
 /// purge's number, and so is the value of its header line `X-Purge-Number`. It desires a response,

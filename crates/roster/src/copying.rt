@@ -3,7 +3,8 @@ ghost use Rattle.std.specs.Prelude.{◌≡◌, IfOk};
 
 use crate::{Cache, Member, Origin};
 use std::alloc::{AllocError, Global};
-use values_tables::{Listed, Tables};
+use values_plain::Listed;
+use values_tables::Tables;
 
 /// A second copy of a cache.
 fn copy_of_cache(alloc: Global, cache: &Cache) -> Result<Cache, AllocError>

@@ -43,6 +43,5 @@ mod roster;
 
 pub use crate::fault::{RosterError, RosterFault};
 pub use crate::roster::{Roster, address_by, is_foreign};
-pub use values_tables::{
-    Address, Cache, Limits, Listed, Member, Origin, Peer, Place, Role, TableKind, Udp,
-};
+pub use values_plain::{Address, Listed, Udp};
+pub use values_tables::{Cache, Limits, Member, Origin, Peer, Place, Role, TableKind};

@@ -9,7 +9,7 @@ use Rattle.std.specs.declared.hash.DefaultHasher.{DefaultHasher}
 use Rattle.std.specs.declared.hash.RandomState.{RandomState}
 use Rattle.htcp_wire.specs.declared.message.Content.{Content}
 use Rattle.htcp_wire.specs.declared.message.Content.TheVariants as content
-use Rattle.values_tables.specs.declared.plain.Address.{Address}
+use Rattle.values_plain.specs.declared.address.Address.{Address}
 use Rattle.http_messages.specs.Field.{FieldText}
 use Rattle.http_messages.specs.Answer.{AnswerText}
 use Rattle.node_rules.specs.declared.message.Message.{Message}

@@ -3,12 +3,12 @@
 use Rattle.std.proofs.Common.{◌≡◌, Bool, true, false, cond, ◌&&◌, ◌||◌, ℕ, nat_eq, List, [], ◌∷◌, ◌++◌, map, Option, Some, None, refl, sym, ◌∙◌, ap, inl, inr, subst}
 use Rattle.std.specs.Prelude.{find, option_map, is_some}
 use Rattle.std.specs.List.{list_any}
-use Rattle.values_tables.specs.declared.plain.Address.{Address}
+use Rattle.values_plain.specs.declared.address.Address.{Address}
 use Rattle.values_tables.specs.declared.plain.Cache.{Cache}
 use Rattle.values_tables.specs.declared.plain.Member.{Member}
 use Rattle.values_tables.specs.declared.plain.Tables.{Tables}
-use Rattle.values_tables.specs.declared.plain.Udp.{Udp}
-use Rattle.values_tables.specs.declared.plain.Udp.TheVariants as udp
+use Rattle.values_plain.specs.declared.address.Udp.{Udp}
+use Rattle.values_plain.specs.declared.address.Udp.TheVariants as udp
 use Rattle.roster.specs.Lookups.{same_address, address_by, member_of, member_at, is_member}
 use Rattle.roster.specs.Judged.{clashes, caches_of, udp_of, udp_addresses, has_doubles, IsRoster}
 use Rattle.node_rules.proofs.Cases.{true_not_false}

@@ -7,7 +7,7 @@ use Rattle.htcp_wire.specs.declared.fault.HtcpFault.{HtcpFault}
 use Rattle.htcp_wire.specs.declared.numbers.HeaderKind.TheVariants.{PurgeNumber}
 use Rattle.htcp_wire.specs.Numbers.{number_in_text}
 use Rattle.floor_rules.specs.Floors.{raised}
-use Rattle.values_tables.specs.declared.plain.Address.{Address}
+use Rattle.values_plain.specs.declared.address.Address.{Address}
 use Rattle.node_rules.specs.declared.message.Message.{Message}
 use Rattle.node_rules.specs.declared.message.Message.TheVariants as message
 use Rattle.node_rules.specs.declared.state.NodeState.{NodeState}

@@ -4,8 +4,8 @@ use Rattle.std.specs.Prelude.{◌≡◌, ℕ, ◌/◌, Bool, true, false, ◌==�
 use Rattle.http_messages.specs.declared.ask.Ask.{Ask}
 use Rattle.http_messages.specs.Answer.{AnswerText}
 use Rattle.values_tables.specs.Ranges.{is_foreign_id}
-use Rattle.values_tables.specs.declared.plain.Address.{Address}
-use Rattle.values_tables.specs.declared.plain.Udp.TheVariants as udp
+use Rattle.values_plain.specs.declared.address.Address.{Address}
+use Rattle.values_plain.specs.declared.address.Udp.TheVariants as udp
 use Rattle.values_tables.specs.declared.plain.Tables.{Tables}
 use Rattle.roster.specs.Lookups.{member_of, member_at, is_master, is_own}
 use Rattle.node_rules.specs.declared.message.Message.{Message}

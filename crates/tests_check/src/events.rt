@@ -7,7 +7,7 @@ use roster::{Address, Roster};
 use std::alloc::Global;
 use std::test::Fail;
 use url_key::Key;
-use wire_octets::Octets;
+use values_plain::Octets;
 
 /// 127.0.0.1.
 const HOST: u32 = 2130706433;

@@ -9,7 +9,7 @@ use object_store::WebCopy;
 use roster::{Address, Listed};
 use std::test::Fail;
 use url_key::Key;
-use wire_octets::Octets;
+use values_plain::Octets;
 
 fn key_of(rt: &HostRuntime) -> Result<Key, Fail> {
     Ok(Key::read(rt.alloc(), b"http://o/a")?)

@@ -9,7 +9,7 @@ use node_rules::{Message, Served};
 use object_store::WebCopy;
 use std::test::Fail;
 use url_key::Key;
-use wire_octets::Octets;
+use values_plain::Octets;
 
 fn key_of(rt: &HostRuntime, url: &str) -> Result<Key, Fail> {
     Ok(Key::read(rt.alloc(), url.as_bytes())?)

@@ -1,6 +1,6 @@
 use crate::made::Narrow;
 use std::alloc::Global;
-use text_writer::{WriteFailed, write_text};
+use values_plain::{WriteFailed, write_text};
 
 /// A writer's room, and what comes of a text of three octets: the result, and what is written.
 const ROOMS: [(usize, Result<(), WriteFailed>, &[u8]); 3] = [

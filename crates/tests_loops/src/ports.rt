@@ -1,6 +1,6 @@
 //! An origin at a port of this machine.
 use cluster_origin::run_origin;
-use values_tables::Address;
+use values_plain::Address;
 
 /// The address of a port of this machine.
 fn address_at(port: u16) -> Address {

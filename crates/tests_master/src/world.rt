@@ -5,7 +5,7 @@ use roster::{Address, Roster};
 use std::alloc::Global;
 use std::test::Fail;
 use url_key::Key;
-use wire_octets::Octets;
+use values_plain::Octets;
 
 /// Members 1 and 2, the master, and the origin of `http://o/`.
 const TWO: &str = "default_lifetime = 60

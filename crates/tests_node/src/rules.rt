@@ -4,7 +4,7 @@ use icp_wire::{Icp, IcpOp};
 use node_rules::{Message, StepFault, can_be_answered, fits, laws};
 use std::alloc::AllocError;
 use std::test::Fail;
-use wire_octets::Octets;
+use values_plain::Octets;
 
 /// An ICP message with a URL of so many octets, each of them this one.
 fn icp(rt: &HostRuntime, op: IcpOp, octet: u8, length: usize) -> Result<Message, AllocError> {

@@ -13,7 +13,7 @@ use std::fmt::Write;
 use std::hash::RandomState;
 use std::test::Fail;
 use url_key::Key;
-use wire_octets::Octets;
+use values_plain::Octets;
 
 /// One member, and the origin of `http://o/`.
 const ONE: &str = "default_lifetime = 60

@@ -1,6 +1,7 @@
 use crate::first_wrong;
 use std::process::Abort;
-use values_tables::{Address, Member, Origin, Place, TableKind, Tables, TablesFault};
+use values_plain::Address;
+use values_tables::{Member, Origin, Place, TableKind, Tables, TablesFault};
 
 /// The tables of one node and one origin.
 const ONE: &str = "default_lifetime = 60

@@ -11,7 +11,8 @@ use std::net::{Ipv4Addr, Shutdown, SocketAddr};
 use std::sync::Wait;
 use std::test::Fail;
 use std::time::{Clock, Duration, Instant};
-use values_tables::{Address, Cache, Listed, Udp};
+use values_plain::{Address, Listed, Udp};
+use values_tables::Cache;
 
 /// What clients do, and the loop.
 #[derive(Clone, Copy)]

@@ -7,7 +7,7 @@ use htcp_wire::{
 };
 use std::alloc::Global;
 use std::process::Abort;
-use wire_octets::Octets;
+use values_plain::Octets;
 
 /// A NOP, a TST and a numbered CLR, with TRANS-ID 7.
 const NOP: &str = "000e0000 0008 0002 00000007 0002";

@@ -1,7 +1,7 @@
 use icp_wire::{Icp, IcpFault, IcpOp, decode, encode, fits, grammar_is_exact, written_is_spelled};
 use std::alloc::Global;
 use std::process::Abort;
-use wire_octets::Octets;
+use values_plain::Octets;
 
 /// Some octets, some zero octets, and some octets more.
 fn datagram(rt: &(impl Abort + AllocGlobal), head: &[u8], zeros: usize, tail: &[u8]) -> Vec<u8> {

@@ -1,5 +1,5 @@
 use std::alloc::Global;
-use wire_octets::{Octets, split_counted};
+use values_plain::{Octets, split_counted};
 
 /// Whether octets are a list of these.
 fn is_list(octets: &Octets, list: &[u8]) -> bool {

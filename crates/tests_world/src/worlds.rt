@@ -11,7 +11,7 @@ use roster::Address;
 use std::alloc::{AllocError, Global};
 use std::test::Fail;
 use url_key::Key;
-use wire_octets::Octets;
+use values_plain::Octets;
 use world_rules::{Outcome, WorldEvent, WorldFault};
 
 /// 127.0.0.1.

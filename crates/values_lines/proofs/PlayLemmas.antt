@@ -12,8 +12,8 @@ use Rattle.values_lines.specs.declared.fault.RunFault.{RunFault}
 use Rattle.values_lines.specs.declared.fault.RunFault.TheVariants.{Io, TooManyTurns, LineTooLong}
 use Rattle.values_lines.specs.Lines.{newline, lines_of, lines_before, is_last, is_long, has_long_line, begins_long}
 use Rattle.values_lines.specs.Reading.{TakesLine, TakesNone, FailsToTake, IsCounted}
-use Rattle.text_writer.specs.Writing.{AppendsFront, Writes}
-use Rattle.text_writer.proofs.Laws.{proper_front}
+use Rattle.values_plain.specs.Writing.{AppendsFront, Writes}
+use Rattle.values_plain.proofs.Laws.{proper_front}
 use Rattle.values_lines.specs.Script.{Plays, HasPlayedBefore}
 use Rattle.values_lines.specs.Playing.{Playing}
 

@@ -5,7 +5,7 @@ use Rattle.std.specs.Io.KnownBytes.{Appends}
 use Rattle.values_lines.specs.declared.fault.RunFault.{RunFault}
 use Rattle.values_lines.specs.declared.fault.RunFault.TheVariants.{TooManyTurns, LineTooLong}
 use Rattle.values_lines.specs.Lines.{newline, lines_of, lines_before, has_long_line, begins_long}
-use Rattle.text_writer.specs.Writing.{AppendsFront}
+use Rattle.values_plain.specs.Writing.{AppendsFront}
 
 -- from the first state the lines are answered one after another, and this text is the answers, each
 -- followed by LF

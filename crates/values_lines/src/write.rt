@@ -1,5 +1,5 @@
 ghost use Rattle.std.specs.Prelude.{◌≡◌, IfErr};
-ghost use Rattle.text_writer.specs.Writing.{Writes};
+ghost use Rattle.values_plain.specs.Writing.{Writes};
 
 use crate::fault::RunFault;
 use std::io::Write;
@@ -9,7 +9,7 @@ pub(crate) fn write_text<W: Write>(writer: &mut W, text: &[u8]) -> Result<(), Ru
     ensures written { Writes (W.contents writer.old) (W.contents writer.new) result text.now }
     ensures fault { IfErr result (λ fault. fault ≡ RunFault.Io) }
 {
-    match text_writer::write_text(writer, text) {
+    match values_plain::write_text(writer, text) {
         Ok(()) => Ok(()),
         Err(_) => Err(RunFault::Io),
     }

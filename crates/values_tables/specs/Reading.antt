@@ -6,12 +6,12 @@ use Rattle.toml.specs.Data.{Data, string, integer, array, table, Items, no_items
 use Rattle.toml.specs.Parse.{parse_document}
 use Rattle.values_tables.specs.declared.place.TableKind.{TableKind}
 use Rattle.values_tables.specs.declared.place.TableKind.TheVariants as kind
-use Rattle.values_tables.specs.declared.plain.Address.{Address}
+use Rattle.values_plain.specs.declared.address.Address.{Address}
 use Rattle.values_tables.specs.declared.plain.Limits.{Limits}
 use Rattle.values_tables.specs.declared.plain.Role.{Role}
 use Rattle.values_tables.specs.declared.plain.Role.TheVariants as role
-use Rattle.values_tables.specs.declared.plain.Udp.{Udp}
-use Rattle.values_tables.specs.declared.plain.Udp.TheVariants as udp
+use Rattle.values_plain.specs.declared.address.Udp.{Udp}
+use Rattle.values_plain.specs.declared.address.Udp.TheVariants as udp
 use Rattle.values_tables.specs.declared.plain.Peer.{Peer}
 use Rattle.values_tables.specs.declared.plain.Cache.{Cache}
 use Rattle.values_tables.specs.declared.plain.Member.{Member}

@@ -10,9 +10,10 @@ ghost use Rattle.values_tables.specs.Ranges.{is_peer, is_peer_id as may_be_peer,
 ghost use Rattle.values_tables.specs.Reading.{table_in, peer_of, cache_of, foreign_of, member_of, origin_of, list_in, all_of, number as number_within, checked};
 
 use crate::fields::{host, ip, name, number, port, role, udp, value_at};
-use crate::{Address, Cache, Listed, Member, Origin, Peer, Place, TableKind, TablesFault};
+use crate::{Cache, Member, Origin, Peer, Place, TableKind, TablesFault};
 use std::alloc::Global;
 use toml::{Table, Value};
+use values_plain::{Address, Listed};
 
 /// A table that may stand several times in its list.
 pub(crate) trait Entry: Sized + Drop {

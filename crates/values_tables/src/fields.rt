@@ -8,10 +8,11 @@ ghost use Rattle.values_tables.specs.Keys.{keys_of, has_only as has_only_keys, i
 ghost use Rattle.values_tables.specs.Ranges.{is_between, is_port, is_name_letter as is_letter_of_name, is_host_letter as is_letter_of_host, is_name as is_name_text, is_host as is_host_text};
 ghost use Rattle.values_tables.specs.Reading.{natural_in, natural_of, text_in, ip_value, port as port_at, role_of, udp_of, number as number_within, ip_of as ip_of_text, ip as ip_in, text as text_where, table_in};
 
-use crate::{Listed, Place, Role, TablesFault, Udp};
+use crate::{Place, Role, TablesFault};
 use std::alloc::Global;
 use std::net::Ipv4Addr;
 use toml::{Table, Value};
+use values_plain::{Listed, Udp};
 
 /// The value at a key.
 pub(crate) fn value_at<'a>(table: &'a Table, key: &str) -> Option<&'a Value>

@@ -2,11 +2,9 @@
 //! TOML 1.1 document. Each key is checked alone: its table, type and range. Whether the tables fit
 //! together is judged by the crate `roster`.
 //!
-//! - [`Tables`]: the whole text, read by `Tables::read`: [`Limits`], the master's [`Address`], and
+//! - [`Tables`]: the whole text, read by `Tables::read`: [`Limits`], the master's address, and
 //!   lists of [`Member`], [`Cache`] (foreign caches) and [`Origin`]. A member has [`Peer`]s, each
-//!   with a [`Role`] and a protocol ([`Udp`]).
-//! - [`Listed`]: a list that does not change. A contract sees it as a list; all other types are
-//!   seen field by field.
+//!   with a [`Role`] and a protocol. A contract sees each type field by field.
 //! - [`TablesFault`]: why a text has no tables; [`Place`] and [`TableKind`]: where it is wrong.
 //!
 //! To read, in this order:
@@ -15,7 +13,7 @@
 //!    `specs/Roles.antt`: sibling and parent.
 //! 2. `specs/Reading.antt`: what a document says (`tables_in`). `specs/Fault.antt`: what a fault
 //!    says of the text.
-//! 3. `src/plain.rt`: the types, with units and ranges. `src/listed.rt`.
+//! 3. `src/plain.rt`: the types, with units and ranges.
 //! 4. `src/read.rt`: the whole document. `src/entries.rt`: each kind of table. `src/fields.rt`: one
 //!    key. `src/place.rt`, `src/fault.rt`.
 //! 5. `proofs/Lists.antt`, `proofs/Ips.antt`.
@@ -27,12 +25,10 @@
 mod entries;
 mod fault;
 mod fields;
-mod listed;
 mod place;
 mod plain;
 mod read;
 
 pub use fault::TablesFault;
-pub use listed::Listed;
 pub use place::{Place, TableKind};
-pub use plain::{Address, Cache, Limits, Member, Origin, Peer, Role, Tables, Udp};
+pub use plain::{Cache, Limits, Member, Origin, Peer, Role, Tables};

@@ -1,25 +1,7 @@
 ghost use Rattle.std.specs.Prelude.{◌≡◌};
 ghost use Rattle.values_tables.specs.Roles.{is_sibling as is_sibling_role, is_parent as is_parent_role};
 
-use crate::Listed;
-
-/// An IPv4 address and a port, of TCP or of UDP.
-#[derive(Clone, Copy, Debug, PartialEq, Eq)]
-pub struct Address {
-    /// The four octets as one number, the first octet highest.
-    pub ip: u32,
-    /// The port, from 1.
-    pub port: u16,
-}
-
-/// A protocol over UDP.
-#[derive(Clone, Copy, Debug, PartialEq, Eq)]
-pub enum Udp {
-    /// ICP version 2 (RFC 2186).
-    Icp,
-    /// HTCP/0.0 (RFC 2756).
-    Htcp,
-}
+use values_plain::{Address, Listed, Udp};
 
 /// What a peer is to the node that names it (RFC 2187, section 2).
 #[derive(Clone, Copy, Debug, PartialEq, Eq)]

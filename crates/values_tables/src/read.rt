@@ -10,9 +10,10 @@ ghost use Rattle.values_tables.specs.Reading.{tables_of as tables_in_document, t
 
 use crate::entries::{known_table, read_list, table_of};
 use crate::fields::{ip, number, port, value_at};
-use crate::{Address, Limits, Listed, Member, Place, TableKind, Tables, TablesFault};
+use crate::{Limits, Member, Place, TableKind, Tables, TablesFault};
 use std::alloc::Global;
 use toml::Table;
+use values_plain::{Address, Listed};
 
 impl Tables {
     /// The tables that a text says. They are in their ranges.

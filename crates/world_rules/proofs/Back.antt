@@ -10,7 +10,7 @@ use Rattle.htcp_wire.specs.declared.message.Content.{Content}
 use Rattle.htcp_wire.specs.declared.message.Content.TheVariants as content
 use Rattle.http_messages.specs.declared.ask.Ask.{Ask}
 use Rattle.object_store.specs.declared.copy.WebCopy.{WebCopy}
-use Rattle.values_tables.specs.declared.plain.Address.{Address}
+use Rattle.values_plain.specs.declared.address.Address.{Address}
 use Rattle.roster.specs.Lookups.{names_sibling}
 use Rattle.node_rules.specs.declared.message.Message.{Message}
 use Rattle.node_rules.specs.declared.message.Message.TheVariants as message

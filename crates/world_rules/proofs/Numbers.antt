@@ -13,7 +13,7 @@ use Rattle.htcp_wire.specs.Numbers.{is_blank, trim_front, trim_end, value_in, is
 use Rattle.htcp_wire.specs.Lines.{IsLine, AreLines}
 use Rattle.htcp_wire.proofs.Digits.{same_digit_tests, numerals}
 use Rattle.htcp_wire.proofs.Cuts.{lines_alone}
-use Rattle.values_tables.specs.declared.plain.Address.{Address}
+use Rattle.values_plain.specs.declared.address.Address.{Address}
 use Rattle.roster.specs.Lookups.{is_master}
 use Rattle.node_rules.specs.declared.message.Message.TheVariants as message
 use Rattle.node_rules.specs.Relation.{purge_in_message, purge_by_line}

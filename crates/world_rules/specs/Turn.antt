@@ -7,8 +7,8 @@ use Rattle.htcp_wire.specs.declared.message.Content.TheVariants as content
 use Rattle.htcp_wire.specs.declared.message.Htcp.{Htcp}
 use Rattle.http_messages.specs.Answer.{AnswerText}
 use Rattle.values_tables.specs.Ranges.{is_foreign_id}
-use Rattle.values_tables.specs.declared.plain.Address.{Address}
-use Rattle.values_tables.specs.declared.plain.Udp.TheVariants as udp
+use Rattle.values_plain.specs.declared.address.Address.{Address}
+use Rattle.values_plain.specs.declared.address.Udp.TheVariants as udp
 use Rattle.values_tables.specs.declared.plain.Member.{Member}
 use Rattle.values_tables.specs.declared.plain.Tables.{Tables}
 use Rattle.roster.specs.Lookups.{member_of, is_member, member_at, is_master, is_own}

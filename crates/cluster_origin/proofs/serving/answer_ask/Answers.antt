@@ -1,5 +1,5 @@
 use Rattle.std.proofs.Common.{subst}
-use Rattle.text_writer.specs.Writing.{Writes}
+use Rattle.values_plain.specs.Writing.{Writes}
 use Rattle.http_writing.specs.Answer.{answer_text}
 use Rattle.cluster_origin.specs.Serving.{own_name}
 use Rattle.cluster_origin.proofs.Answers.{written_answer}

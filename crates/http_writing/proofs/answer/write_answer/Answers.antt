@@ -3,7 +3,7 @@
 use Rattle.std.proofs.Common.{◌++◌}
 use Rattle.http_writing.specs.Lines.{crlf, last_lines}
 use Rattle.http_writing.specs.Answer.{first_lines, number_lines, told_length}
-use Rattle.text_writer.proofs.Laws.{writes_then}
+use Rattle.values_plain.proofs.Laws.{writes_then}
 use Rattle.http_writing.proofs.Stops.{stops}
 use Rattle.http_writing.proofs.answer.write_answer.Goals as goal
 

@@ -1,6 +1,6 @@
 use Rattle.std.proofs.Common.{◌+◌, subst}
-use Rattle.text_writer.specs.Writing.{AppendsUpTo}
-use Rattle.text_writer.proofs.Laws.{up_to_piece, up_to_fault}
+use Rattle.values_plain.specs.Writing.{AppendsUpTo}
+use Rattle.values_plain.proofs.Laws.{up_to_piece, up_to_fault}
 use Rattle.http_messages.specs.Field.{field_text}
 use Rattle.http_writing.specs.Answer.{kept_line}
 use Rattle.http_writing.proofs.Fields.{lines_from, lines_from-next}

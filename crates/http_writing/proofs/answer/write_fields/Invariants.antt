@@ -1,4 +1,4 @@
-use Rattle.text_writer.specs.Writing.{AppendsUpTo}
+use Rattle.values_plain.specs.Writing.{AppendsUpTo}
 use Rattle.http_writing.proofs.Fields.{lines_from}
 use Rattle.http_writing.proofs.answer.write_fields.Given as goal
 

@@ -2,7 +2,7 @@ use Rattle.std.proofs.Common.{◌++◌}
 use Rattle.std.specs.Prelude.{map}
 use Rattle.http_messages.specs.Field.{field_text}
 use Rattle.http_writing.specs.Answer.{status_line, kept_lines}
-use Rattle.text_writer.proofs.Laws.{writes_then}
+use Rattle.values_plain.proofs.Laws.{writes_then}
 use Rattle.http_writing.proofs.Stops.{stops}
 use Rattle.http_writing.proofs.answer.write_first_lines.Goals as goal
 

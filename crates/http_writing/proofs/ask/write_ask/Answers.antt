@@ -4,7 +4,7 @@ use Rattle.std.proofs.Common.{◌++◌}
 use Rattle.std.specs.Prelude.{codes}
 use Rattle.http_writing.specs.Lines.{crlf, last_lines, number_line}
 use Rattle.http_writing.specs.Ask.{key_lines, cache_control_line}
-use Rattle.text_writer.proofs.Laws.{writes_then}
+use Rattle.values_plain.proofs.Laws.{writes_then}
 use Rattle.http_writing.proofs.Stops.{stops}
 use Rattle.http_writing.proofs.ask.write_ask.Goals as goal
 

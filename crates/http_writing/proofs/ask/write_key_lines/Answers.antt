@@ -3,7 +3,7 @@ use Rattle.std.specs.Prelude.{codes}
 use Rattle.url_key.specs.Text.{key_authority}
 use Rattle.http_writing.specs.Lines.{field_line}
 use Rattle.http_writing.specs.Ask.{target, request_line}
-use Rattle.text_writer.proofs.Laws.{writes_then}
+use Rattle.values_plain.proofs.Laws.{writes_then}
 use Rattle.http_writing.proofs.Stops.{stops}
 use Rattle.http_writing.proofs.ask.write_key_lines.Goals as goal
 

@@ -1,5 +1,5 @@
 use Rattle.std.proofs.Common.{◌++◌}
-use Rattle.text_writer.proofs.Laws.{writes_then}
+use Rattle.values_plain.proofs.Laws.{writes_then}
 use Rattle.http_writing.proofs.Stops.{stops}
 use Rattle.http_writing.proofs.lines.write_three.Goals as goal
 

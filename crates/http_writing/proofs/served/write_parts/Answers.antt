@@ -6,7 +6,7 @@ use Rattle.http_messages.specs.Field.{FieldText, field_text}
 use Rattle.http_messages.specs.Answer.{AnswerText}
 use Rattle.http_writing.specs.Lines.{crlf, last_lines}
 use Rattle.http_writing.specs.Answer.{first_lines, number_lines, told_length}
-use Rattle.text_writer.proofs.Laws.{writes_then}
+use Rattle.values_plain.proofs.Laws.{writes_then}
 use Rattle.http_writing.proofs.Stops.{stops}
 use Rattle.http_writing.proofs.served.write_parts.Goals as goal
 

@@ -2,7 +2,7 @@
 -- lemma of PlayLemmas.
 use Rattle.std.proofs.Common.{option_map, ◌≡◌, [], drop, refl, sym, ap, subst, Err, ◌∙◌}
 use Rattle.values_lines.specs.declared.fault.RunFault.TheVariants.{Io, TooManyTurns, LineTooLong, NoMemory}
-use Rattle.text_writer.proofs.Laws.{proper_front}
+use Rattle.values_plain.proofs.Laws.{proper_front}
 use Rattle.values_lines.specs.Lines.{is_last}
 use Rattle.values_lines.specs.Reading.{IsCounted}
 use Rattle.values_lines.proofs.Counting.{counted_same, counted_then}

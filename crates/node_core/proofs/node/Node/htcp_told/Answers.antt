@@ -1,6 +1,6 @@
 -- A TST response: the request that is found by its TRANS-ID is the one that the rule finds.
 use Rattle.std.proofs.Common.{◌==◌, ap}
-use Rattle.values_tables.specs.declared.plain.Udp.TheVariants as udp
+use Rattle.values_plain.specs.declared.address.Udp.TheVariants as udp
 use Rattle.node_rules.specs.State.{round_serial}
 use Rattle.node_rules.specs.Datagrams.{htcp_told}
 use Rattle.node_core.specs.Heard.{said_by}

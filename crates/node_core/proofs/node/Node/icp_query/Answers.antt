@@ -1,6 +1,6 @@
 -- A QUERY: the answer is neither QUERY nor HIT_OBJ, and is the rule's for the key that was read.
 use Rattle.std.proofs.Common.{option_map}
-use Rattle.values_tables.specs.declared.plain.Udp.TheVariants as udp
+use Rattle.values_plain.specs.declared.address.Udp.TheVariants as udp
 use Rattle.node_rules.specs.Known.{is_known}
 use Rattle.node_core.specs.View.{setting_of}
 use Rattle.node_core.proofs.HearingQuestions.{no_query, no_object, answers_query}

@@ -1,4 +1,4 @@
-ghost use Rattle.text_writer.specs.Writing.{Writes};
+ghost use Rattle.values_plain.specs.Writing.{Writes};
 
 use std::io::Write;
 use thiserror::Error;

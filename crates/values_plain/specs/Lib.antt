@@ -2,3 +2,5 @@
 pub mod Fields
 pub mod Counted
 pub mod Laws
+pub mod Writing
+pub mod Sockets

@@ -3,7 +3,7 @@
 use Rattle.std.proofs.Common.{◌≡◌, ℕ, ◌==◌, false, List, [], ◌∷◌, ◌++◌, length, take, drop, Option, Some, None, Result, Ok, Err, refl, sym, ap, ◌∙◌, subst, append_assoc, append-nil, take-append-drop}
 use Rattle.std.specs.Io.KnownBytes.{Appends, Keeps}
 use Rattle.std.proofs.KnownBytes.{Appends-nil, Appends-trans, Appends-kept}
-use Rattle.text_writer.specs.Writing.{AppendsFront, AppendsProperFront, AppendsUpTo, Writes}
+use Rattle.values_plain.specs.Writing.{AppendsFront, AppendsProperFront, AppendsUpTo, Writes}
 
 -- a front that is not the whole text is one
 pub proper_front : (a b : Option (List ℕ)) (text : List ℕ) → AppendsProperFront a b text → AppendsFront a b text

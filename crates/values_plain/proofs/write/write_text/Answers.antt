@@ -1,9 +1,9 @@
 -- Each call moves octets from the rest of the text to the writer; a call that fails or takes none
 -- leaves at least one octet unwritten.
 use Rattle.std.proofs.Common.{◌≡◌, ◌==◌, false, length, rules, sym, subst}
-use Rattle.text_writer.specs.Writing.{AppendsUpTo}
-use Rattle.text_writer.proofs.Laws.{up_to_more, up_to_kept, up_to_none}
-use Rattle.text_writer.proofs.write.write_text.Goals as goal
+use Rattle.values_plain.specs.Writing.{AppendsUpTo}
+use Rattle.values_plain.proofs.Laws.{up_to_more, up_to_kept, up_to_none}
+use Rattle.values_plain.proofs.write.write_text.Goals as goal
 
 pub loop-rest-preserved : goal.loop-rest-preserved
 loop-rest-preserved g c =

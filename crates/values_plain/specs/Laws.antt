@@ -9,8 +9,8 @@ use Rattle.std.proofs.lemmas.Nat.{div-mul-add}
 use Rattle.std.specs.Int.{byte_at, bytes_high_first}
 use Rattle.byteorder.specs.Endian.{big_number, big_bytes}
 use Rattle.byteorder.specs.Numbers.{big_from-cons, big_from-take, big_from-lt, big_number-reads_back, length-bytes_high_first}
-use Rattle.wire_octets.specs.Fields.{IsOctets}
-use Rattle.wire_octets.specs.Counted.{counted, split_counted}
+use Rattle.values_plain.specs.Fields.{IsOctets}
+use Rattle.values_plain.specs.Counted.{counted, split_counted}
 
 -- ---- octets
 

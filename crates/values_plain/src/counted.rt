@@ -1,6 +1,6 @@
 ghost use Rattle.std.specs.Prelude.{◌≡◌};
 ghost use Rattle.std.specs.Option.{option_map};
-ghost use Rattle.wire_octets.specs.Counted.{split_counted as counted_front};
+ghost use Rattle.values_plain.specs.Counted.{split_counted as counted_front};
 
 use byteorder::{BigEndian, ByteOrder};
 

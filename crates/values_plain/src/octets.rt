@@ -1,7 +1,7 @@
 ghost use Rattle.std.specs.Prelude.{◌≡◌, ◌==◌, [], length, nat_eq, IfOk};
 ghost use Rattle.std.specs.Cmp.{partial_equiv_from_equiv};
 ghost use Rattle.std.specs.Cmp.Lexicographic.{pointwise, nat_list_eq_equiv};
-ghost use Rattle.wire_octets.specs.Fields.{IsOctets};
+ghost use Rattle.values_plain.specs.Fields.{IsOctets};
 
 use std::alloc::{AllocError, Global};
 use std::fmt;
