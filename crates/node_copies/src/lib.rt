@@ -1,19 +1,38 @@
-//! Copies a node's events, replies and messages. A copy is equal to the original. Bodies and fields
-//! of responses are shared, not duplicated.
+//! Copies a node's events, replies and messages, and compares them.
 //!
 //! - `src/events.rt`: [`copy_of_event`]
 //! - `src/replies.rt`: [`copy_of_reply`]
 //! - `src/messages.rt`: [`copy_of_received`], [`copy_of_sent`]
+//! - `src/same_events.rt`: [`same_event`]
+//! - `src/same_replies.rt`: [`same_outcome`], [`same_reply`], [`same_served`]
+//! - `src/same_messages.rt`: [`same_message`]
+//! - `src/parts.rt`: [`same_key`], [`same_ask`], [`same_answer`], [`same_fields`], [`same_copy`]
 //!
-//! A node's book uses it (`node_book`): it keeps its own copy of each event and hands out a copy of
-//! each reply. So does the check of recorded runs. Pure; `AllocError` is the only fault. Tags must
-//! be `Copy`.
+//! A copy is equal to the original. Bodies and fields of responses are shared, not duplicated.
+//! `AllocError` is the only fault. Tags must be `Copy`.
+//!
+//! A comparison returns true exactly if its two arguments are equal as contracts see them, octet by
+//! octet. The order of the arguments does not matter. Tags are `()`: only a running node's values
+//! are compared. It allocates nothing.
+//!
+//! A node's book uses the copies (`node_book`): it keeps its own copy of each event and hands out a
+//! copy of each reply. `node_seats` compares what its threads were told with the book. The check of
+//! recorded runs uses both, to compare a record with a replay. The crate touches no file, socket,
+//! clock or thread.
 #![tactic(auto)]
 
 mod events;
 mod messages;
+mod parts;
 mod replies;
+mod same_events;
+mod same_messages;
+mod same_replies;
 
 pub use events::copy_of_event;
 pub use messages::{copy_of_received, copy_of_sent};
+pub use parts::{same_answer, same_ask, same_copy, same_fields, same_key};
 pub use replies::copy_of_reply;
+pub use same_events::same_event;
+pub use same_messages::same_message;
+pub use same_replies::{same_outcome, same_reply, same_served};

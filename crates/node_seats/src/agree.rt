@@ -6,7 +6,7 @@ ghost use Rattle.node_seats.specs.Shifts.{AreAll, IsSeatOf, parts_in};
 
 use crate::seat::{Calls, Made, Seat, Told};
 use node_book::NodeEntry;
-use node_equality::{same_event, same_outcome};
+use node_copies::{same_event, same_outcome};
 use node_rules::{Reply, StepFault};
 
 /// Whether what was told is the outcome, or is unknown.

@@ -3,8 +3,8 @@ ghost use Rattle.std.specs.Prelude.{◌≡◌, ◌↔◌, IsTrue};
 ghost use Rattle.run_rules.specs.Judging.{Reaches, IsPending, is_read as is_origin_fetch, is_foreign_fetch as is_fetch_from};
 
 use floor_rules::MemoryFloors;
+use node_copies::same_key;
 use node_core::Node;
-use node_equality::same_key;
 use node_rules::{Event, Fetch};
 use roster::is_foreign;
 use url_key::Key;

@@ -3,7 +3,7 @@ ghost use Rattle.std.specs.Prelude.{◌≡◌, ◌↔◌, true, [], IsTrue};
 ghost use Rattle.node_rules.specs.State.{opened};
 
 use floor_rules::Floors;
-use node_equality::{same_ask, same_copy};
+use node_copies::{same_ask, same_copy};
 use node_rules::{Fetch, NodeState, Pending};
 use object_store::WebCopy;
 use peer_chooser::{Round, Told};

@@ -9,7 +9,7 @@ use crate::bags::Bags;
 use crate::prints::answer_print;
 use crate::written::Written;
 use http_messages::Answer;
-use node_equality::same_key;
+use node_copies::same_key;
 use node_rules::{Serve, Served};
 use std::alloc::{AllocError, Global};
 use std::hash::RandomState;

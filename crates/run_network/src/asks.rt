@@ -7,7 +7,7 @@ ghost use Rattle.run_network.specs.Held.{ask_in, HasAsk, HoldsAsks};
 use crate::bags::Bags;
 use crate::prints::ask_print;
 use http_messages::Ask;
-use node_equality::same_ask;
+use node_copies::same_ask;
 use node_rules::Begin;
 use roster::is_foreign;
 use std::alloc::{AllocError, Global};

@@ -11,8 +11,7 @@ ghost use Rattle.run_network.specs.Held.{HasLetter, HasAcknowledged, HoldsLetter
 
 use crate::bags::Bags;
 use crate::prints::letter_print;
-use node_copies::copy_of_sent;
-use node_equality::same_message;
+use node_copies::{copy_of_sent, same_message};
 use node_rules::{Message, Outgoing, Sent};
 use purge_rules::clear;
 use roster::{Address, Cache, Roster, Udp, address_by};

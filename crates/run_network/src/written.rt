@@ -4,7 +4,7 @@ ghost use Rattle.run_rules.specs.Sent.{text_of};
 ghost use Rattle.run_network.specs.Written.{written_text};
 
 use http_messages::{Answer, Field};
-use node_equality::same_fields;
+use node_copies::same_fields;
 use node_rules::Served;
 
 /// What is written of a response. Two responses with the same parts count as the same.

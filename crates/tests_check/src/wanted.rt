@@ -3,7 +3,7 @@ use crate::changes::{Change, Outcome, place_before};
 use htcp_wire::Content;
 use icp_wire::IcpOp;
 use node_book::NodeEntry;
-use node_equality::same_outcome;
+use node_copies::same_outcome;
 use node_rules::{Event, Message};
 use run_rules::{Cause, Verdict};
 

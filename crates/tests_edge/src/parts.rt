@@ -2,7 +2,7 @@
 use http_header::{HeaderName, HeaderValue};
 use http_messages::{Answer, Ask, Body, Field, Fields};
 use icp_wire::{Icp, IcpOp};
-use node_equality::{
+use node_copies::{
     same_answer, same_ask, same_copy, same_fields, same_key, same_message, same_served,
 };
 use node_rules::{Message, Served};

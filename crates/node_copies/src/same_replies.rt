@@ -1,8 +1,8 @@
 //! Compares replies and outcomes.
 ghost use Rattle.std.specs.Prelude.{◌≡◌, ◌↔◌, IsTrue};
 
-use crate::messages::same_sent;
 use crate::parts::{same_ask, same_copy};
+use crate::same_messages::same_sent;
 use node_rules::{Begin, Outgoing, Reply, Serve, Served, StepFault};
 
 /// Whether what is served is equal: a copy with its age, or a bare status.

@@ -1,8 +1,8 @@
 //! Compares events.
 ghost use Rattle.std.specs.Prelude.{◌≡◌, ◌↔◌, IsTrue};
 
-use crate::messages::same_received;
 use crate::parts::{same_answer, same_ask, same_key};
+use crate::same_messages::same_received;
 use node_rules::Event;
 
 /// Whether two events are equal.
