@@ -69,7 +69,7 @@ pub fn steps_are_lawful<T>()
 {}
 
 /// A node carries tags and never looks at them: replace each tag by another, and each step stays a
-/// step. `tag_laws` has the converse.
+/// step. `run_laws` has the converse.
 pub fn nodes_never_look_at_tags<T, U>()
     ensures function { (f : T → U) (g : Setting) (s : NodeState T) (e : Event T) (mark : T) →
         step g (retag_state f s) (retag_event f e) (f mark) ≡ retag_stepped f (step g s e mark) }

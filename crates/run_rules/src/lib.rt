@@ -17,7 +17,7 @@
 //!   (`IsRecordedRun`).
 //! - `src/laws.rt` joins the two: a run with the verdict `Yes` is a run of the model
 //!   (`flawless_runs_are_runs_of_the_world`), and purges are safe in each such run
-//!   (`recorded_runs_are_safe`). `entry_laws` says the latter of the entries themselves.
+//!   (`recorded_runs_are_safe`). `run_laws` says the latter of the entries themselves.
 //!
 //! `proofs/Lib` gives the order of reading of the proofs.
 //!

@@ -17,7 +17,7 @@ use Rattle.purge_rules.specs.declared.fault.MasterFault.{MasterFault}
 use Rattle.purge_rules.specs.declared.fault.MasterFault.TheVariants as master_fault
 use Rattle.floor_rules.specs.Floors.{FloorMap}
 use Rattle.run_rules.specs.Notes.{Note, Steps, Calls}
-use Rattle.entry_laws.specs.Entries.{Issues, Reports, Serves, begun_by, IsSentBack}
+use Rattle.run_laws.specs.Entries.{Issues, Reports, Serves, begun_by, IsSentBack}
 
 called : MasterCall → Result MasterAnswer MasterFault → Note
 called c a = Calls record { place = 7; call = c; answer = a } false

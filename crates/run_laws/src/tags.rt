@@ -1,4 +1,4 @@
-//! The law. Its function does nothing: its contract states the law.
+//! The law of tags.
 ghost use Rattle.std.specs.Prelude.{◌≡◌, Result};
 ghost use Rattle.node_rules.specs.declared.state.NodeState.{NodeState};
 ghost use Rattle.node_rules.specs.declared.event.Event.{Event};
@@ -7,7 +7,7 @@ ghost use Rattle.node_rules.specs.declared.reply.StepFault.{StepFault};
 ghost use Rattle.node_rules.specs.State.{Setting};
 ghost use Rattle.node_rules.specs.Relation.{Steps};
 ghost use Rattle.node_rules.specs.Tags.{retag_state, retag_event};
-ghost use Rattle.tag_laws.specs.Tagged.{ComesOfStep};
+ghost use Rattle.run_laws.specs.Tagged.{ComesOfStep};
 
 /// A step that a node takes with other tags is one that it takes with its own: the outcome and the
 /// next state are the same, but for the tags.

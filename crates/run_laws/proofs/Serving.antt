@@ -26,8 +26,8 @@ use Rattle.world_rules.specs.Run.{Step, IsItem, IsServedAt}
 use Rattle.world_rules.specs.Asked.{moment}
 use Rattle.run_rules.specs.Notes.{Note, Opens, Steps, Closes, Calls}
 use Rattle.run_rules.specs.Recorded.{IsTaken, event_step, node_in, unmarked, unmarked_outcome}
-use Rattle.entry_laws.specs.Entries.{Serves as ServesBy}
-use Rattle.entry_laws.proofs.Placing.{Placed}
+use Rattle.run_laws.specs.Entries.{Serves as ServesBy}
+use Rattle.run_laws.proofs.Placing.{Placed}
 
 abbrev unmarked_copy : WebCopy ℕ → WebCopy (Unit {0})
 unmarked_copy c = retag_copy (λ _. tt) c

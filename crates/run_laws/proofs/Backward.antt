@@ -14,7 +14,7 @@ use Rattle.node_rules.specs.Tags.{retag_state, retag_event}
 use Rattle.node_rules.proofs.Cases.{true_not_false}
 use Rattle.node_rules.proofs.Lawful.{step_steps}
 use Rattle.node_rules.proofs.TagSteps.{step-retag}
-use Rattle.tag_laws.specs.Tagged.{IsAlike, ComesOfStep}
+use Rattle.run_laws.specs.Tagged.{IsAlike, ComesOfStep}
 
 alike_same : {Y : Type 0} (a b : NodeState Y) → a ≡ b → IsAlike a b
 alike_same a b same = record { closed = ap (λ s. s.closed) same; floors = ap (λ s. s.floors) same; pending = ap (λ s. s.pending) same; whole = λ _. same }

@@ -23,8 +23,8 @@ use Rattle.world_rules.proofs.Safe.{seen_outcome}
 use Rattle.world_rules.proofs.Back.{nothing_back, sibling_sends_back}
 use Rattle.run_rules.specs.Notes.{Note, Opens, Steps, Closes, Calls}
 use Rattle.run_rules.specs.Recorded.{Progress, IsTaken, IsRecordedRun, event_step, node_in, unmarked, unmarked_event, unmarked_outcome}
-use Rattle.entry_laws.specs.Entries.{IsOfSibling, begun_by, IsSentBack, SiblingsBeginNothing}
-use Rattle.entry_laws.proofs.Placing.{Placed, placed}
+use Rattle.run_laws.specs.Entries.{IsOfSibling, begun_by, IsSentBack, SiblingsBeginNothing}
+use Rattle.run_laws.proofs.Placing.{Placed, placed}
 
 -- marks change neither who requests, nor what begins, nor what is sent
 

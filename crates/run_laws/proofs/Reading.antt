@@ -12,10 +12,10 @@ use Rattle.world_rules.proofs.Safe.{nothing_old_is_served}
 use Rattle.world_rules.proofs.SourceRuns.{each_has_source}
 use Rattle.run_rules.specs.Recorded.{IsRecordedRun, beginning}
 use Rattle.run_rules.proofs.Running.{notes_lead}
-use Rattle.entry_laws.specs.Entries.{EntriesServeNothingOld}
-use Rattle.entry_laws.proofs.Placing.{placed, both_placed}
-use Rattle.entry_laws.proofs.Reporting.{reports_done, issues_purge}
-use Rattle.entry_laws.proofs.Serving.{serves_in_world}
+use Rattle.run_laws.specs.Entries.{EntriesServeNothingOld}
+use Rattle.run_laws.proofs.Placing.{placed, both_placed}
+use Rattle.run_laws.proofs.Reporting.{reports_done, issues_purge}
+use Rattle.run_laws.proofs.Serving.{serves_in_world}
 
 -- a copy with a mark greater than 0 comes from an origin
 from_origin : (t : Tables) (steps : List Step) (key : List ℕ) (c : WebCopy ℕ) → 0 < c.tag → HasSource t steps key c.tag c.answer → IsFromOrigin t steps key c.tag c.answer

@@ -39,8 +39,8 @@ use Rattle.world_rules.proofs.Runs.{run_lineage}
 use Rattle.world_rules.proofs.Seats.{pending-found}
 use Rattle.run_rules.specs.Notes.{Note, Opens, Steps, Closes, Calls}
 use Rattle.run_rules.specs.Recorded.{Progress, Goes, CallsIn, event_step}
-use Rattle.entry_laws.specs.Entries.{Issues, Reports}
-use Rattle.entry_laws.proofs.Placing.{IsReached, Placed}
+use Rattle.run_laws.specs.Entries.{Issues, Reports}
+use Rattle.run_laws.proofs.Placing.{IsReached, Placed}
 
 -- A datagram that makes the master report a purge's status
 

@@ -1,4 +1,4 @@
-//! The law. Its function has no body: its clauses are theorems about the entries of a recorded run.
+//! The law of entries. Its clauses are theorems about the entries of a recorded run.
 ghost use Rattle.std.specs.Prelude.{List};
 ghost use Rattle.values_tables.specs.declared.plain.Tables.{Tables};
 ghost use Rattle.roster.specs.Judged.{IsRoster};
@@ -6,7 +6,7 @@ ghost use Rattle.node_book.specs.declared.record.Record.{Record};
 ghost use Rattle.purge_master.specs.declared.book.MasterEntry.{MasterEntry};
 ghost use Rattle.world_rules.specs.Run.{Step};
 ghost use Rattle.run_rules.specs.Recorded.{IsRecordedRun};
-ghost use Rattle.entry_laws.specs.Entries.{EntriesServeNothingOld, SiblingsBeginNothing};
+ghost use Rattle.run_laws.specs.Entries.{EntriesServeNothingOld, SiblingsBeginNothing};
 
 /// Purges are safe, as the entries of a recorded run tell it.
 ///

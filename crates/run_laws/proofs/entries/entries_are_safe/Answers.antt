@@ -1,6 +1,6 @@
-use Rattle.entry_laws.proofs.Reading.{serve_nothing_old}
-use Rattle.entry_laws.proofs.Siblings.{begin_nothing}
-use Rattle.entry_laws.proofs.laws.entries_are_safe.Goals as goal
+use Rattle.run_laws.proofs.Reading.{serve_nothing_old}
+use Rattle.run_laws.proofs.Siblings.{begin_nothing}
+use Rattle.run_laws.proofs.entries.entries_are_safe.Goals as goal
 
 -- src/laws.rt
 pub returns-clause-served : goal.returns-clause-served

@@ -1,2 +1,0 @@
--- what entries say of purges
-pub mod Entries
