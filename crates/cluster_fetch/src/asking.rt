@@ -4,9 +4,9 @@ ghost use Rattle.http_writing.specs.Name.{is_name as names_cache};
 
 use cluster_streams::{Timed, Waiter};
 use http_messages::{Answer, Ask, FetchFault};
+use http_reading::read_answer;
 use http_writing::{AskForm, write_ask};
 use mio::net::TcpStream;
-use peer_reading::read_answer;
 use std::alloc::Global;
 use std::io::{self, Write};
 use std::net::Net;

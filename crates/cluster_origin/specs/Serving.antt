@@ -7,7 +7,7 @@ use Rattle.http_messages.specs.declared.fault.FetchFault.{FetchFault}
 use Rattle.http_messages.specs.declared.fault.FetchFault.TheVariants.{Io, NoMemory}
 use Rattle.http_writing.specs.Answer.{answer_text}
 use Rattle.http_writing.specs.Served.{bare}
-use Rattle.peer_reading.specs.Asks.{ReadsAsk}
+use Rattle.http_reading.specs.Asks.{ReadsAsk}
 use Rattle.cluster_origin.specs.Answer.{answer_for}
 use Rattle.cluster_origin.specs.Statuses.{refusal_of}
 

@@ -4,8 +4,8 @@ ghost use Rattle.cluster_origin.specs.Serving.{AnswersAsk, ServesNext};
 use crate::answering::answer_to;
 use crate::refusing::refuse;
 use http_messages::{Ask, FetchFault};
+use http_reading::read_ask;
 use http_writing::write_answer;
-use peer_reading::read_ask;
 use std::alloc::Global;
 use std::io::{Read, Write};
 

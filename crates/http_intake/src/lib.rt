@@ -28,7 +28,7 @@
 //! Read first `specs/Reading` and `specs/Heads`, then `src/intake.rt` (`src/heads.rt`: the verdict
 //! of the parser; `src/piece.rt`: one call of the reader). Bodies: `specs/Bodies` and
 //! `src/bodies.rt` (with `src/fill.rt`), `specs/Chunks` and `src/chunks.rt`, `specs/Trailer` and
-//! `src/trailer.rt`. What fields mean is in `peer_fields`; `peer_reading` joins both.
+//! `src/trailer.rt`. `http_reading` says what fields mean and joins both.
 #![tactic(auto)]
 
 mod bodies;

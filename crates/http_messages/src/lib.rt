@@ -16,7 +16,7 @@
 //! Contracts see an `Answer` as the record `AnswerText` of `specs/Answer`, a field as `FieldText`
 //! of `specs/Field`, and a body as the list of its octets.
 //!
-//! `peer_reading` reads these values, `http_writing` writes them, and `peer_fetch` exports all
+//! `http_reading` reads these values, `http_writing` writes them, and `peer_fetch` exports all
 //! three. Whether a response may be stored, and for how long it is fresh, is `reuse_rules`' to
 //! say.
 //!

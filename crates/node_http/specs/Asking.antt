@@ -5,7 +5,7 @@ use Rattle.values_plain.specs.Writing.{AppendsFront, AppendsProperFront}
 use Rattle.http_messages.specs.declared.ask.Ask.{Ask}
 use Rattle.http_messages.specs.declared.fault.FetchFault.{FetchFault}
 use Rattle.http_messages.specs.declared.fault.FetchFault.TheVariants.{Io}
-use Rattle.peer_reading.specs.Asks.{ReadsAsk}
+use Rattle.http_reading.specs.Asks.{ReadsAsk}
 use Rattle.values_tables.specs.declared.plain.Member.{Member}
 use Rattle.values_tables.specs.declared.plain.Tables.{Tables}
 use Rattle.roster.specs.Lookups.{member_of, is_member}

@@ -16,8 +16,8 @@ use Rattle.httparse.specs.Grammar.{IsToken, is_token_byte}
 use Rattle.http_messages.specs.Field.{FieldText, is_dropped_name, dropped_names, is_trimmed, is_kept_field}
 use Rattle.http_writing.specs.Lines.{number_line, last_lines}
 use Rattle.http_writing.specs.Answer.{kept_line, kept_lines, number_lines}
-use Rattle.peer_fields.specs.Fields.{is_named, value_of, values_named}
-use Rattle.peer_fields.specs.Kept.{is_kept, kept_text, kept_by, kept}
+use Rattle.http_reading.specs.Fields.{is_named, value_of, values_named}
+use Rattle.http_reading.specs.Kept.{is_kept, kept_text, kept_by, kept}
 use Rattle.peer_fetch.specs.Writable.{IsFieldText}
 use Rattle.peer_fetch.proofs.Pairs.{IsPlainPair, ArePlain, pair_line, visible_pair}
 use Rattle.peer_fetch.proofs.Names.{age_token, stamp_token, length_token}

@@ -9,10 +9,10 @@ use Rattle.httparse.proofs.GrammarLemmas.{response_unique}
 use Rattle.http_messages.specs.Answer.{AnswerText}
 use Rattle.http_messages.specs.declared.fault.FetchFault.{FetchFault}
 use Rattle.http_messages.specs.declared.fault.FetchFault.TheVariants.{BadHead}
-use Rattle.peer_fields.specs.declared.framing.Framing.{Framing}
-use Rattle.peer_fields.specs.declared.framing.Framing.TheVariants.{Length, Chunked, ToEnd}
-use Rattle.peer_reading.specs.AnswerHead.{AnswerHead, ToldText, parts_of, is_interim, is_final, told}
-use Rattle.peer_reading.specs.Answers.{IsInterim, PassesInterim, HeadSays, SpellsBody, SpellsAnswer, answer_of}
+use Rattle.http_reading.specs.declared.framing.Framing.{Framing}
+use Rattle.http_reading.specs.declared.framing.Framing.TheVariants.{Length, Chunked, ToEnd}
+use Rattle.http_reading.specs.AnswerHead.{AnswerHead, ToldText, parts_of, is_interim, is_final, told}
+use Rattle.http_reading.specs.Answers.{IsInterim, PassesInterim, HeadSays, SpellsBody, SpellsAnswer, answer_of}
 use Rattle.peer_fetch.proofs.BodyOnce.{EndsItself, body_once}
 
 final_not_interim : (status : ℕ) → is_final status ≡ true → is_interim status ≡ false

@@ -9,12 +9,12 @@ use Rattle.http_messages.specs.declared.fault.FetchFault.{FetchFault}
 use Rattle.http_messages.specs.declared.fault.FetchFault.TheVariants.{Io, EndOfInput, BadHead, HeadTooLong, BadTarget, MethodNotServed, Credentials, BadBody, BodyTooLong, TooManyTurns, NoMemory}
 use Rattle.http_writing.specs.Name.{is_name}
 use Rattle.http_writing.specs.Answer.{answer_text}
-use Rattle.peer_fields.specs.declared.framing.Framing.TheVariants.{Length}
+use Rattle.http_reading.specs.declared.framing.Framing.TheVariants.{Length}
 use Rattle.http_intake.specs.Reading.{Takes, most_turns}
 use Rattle.http_intake.specs.Heads.{longest_head, head_window, IsLongResponse}
 use Rattle.http_intake.specs.Bodies.{StopsBefore}
-use Rattle.peer_reading.specs.AnswerHead.{ToldText, parts_of, is_interim, told}
-use Rattle.peer_reading.specs.Answers.{IsInterim, PassesInterim, HeadSays, SpellsAnswer, EndsWithInput, StopsAtHead, StopsInBody, StopsInAnswer, ReadsAnswer}
+use Rattle.http_reading.specs.AnswerHead.{ToldText, parts_of, is_interim, told}
+use Rattle.http_reading.specs.Answers.{IsInterim, PassesInterim, HeadSays, SpellsAnswer, EndsWithInput, StopsAtHead, StopsInBody, StopsInAnswer, ReadsAnswer}
 use Rattle.peer_fetch.specs.Writable.{IsWritableAnswer}
 use Rattle.peer_fetch.specs.Reading.{StopsInAnswerText}
 use Rattle.peer_fetch.proofs.Excess.{response_longer}

@@ -6,8 +6,8 @@ use Rattle.httparse.specs.Grammar.{ReadsResponse, print_response}
 use Rattle.http_messages.specs.Answer.{AnswerText, has_no_body}
 use Rattle.http_writing.specs.Name.{is_name}
 use Rattle.http_writing.specs.Answer.{answer_text}
-use Rattle.peer_fields.specs.declared.framing.Framing.TheVariants.{Length}
-use Rattle.peer_reading.specs.Answers.{PassesInterim, HeadSays, SpellsBody, SpellsAnswer}
+use Rattle.http_reading.specs.declared.framing.Framing.TheVariants.{Length}
+use Rattle.http_reading.specs.Answers.{PassesInterim, HeadSays, SpellsBody, SpellsAnswer}
 use Rattle.peer_fetch.specs.Writable.{IsWritableAnswer}
 use Rattle.peer_fetch.proofs.AnswerTexts.{Parts, parts, head_of, head_text, text_is, head_reads, head_short, pairs_few, told_of, head_tells}
 use Rattle.peer_fetch.proofs.AnswerOnce.{told_not_interim}

@@ -15,14 +15,14 @@ use Rattle.http_messages.specs.Answer.{AnswerText, has_no_body, is_body_of}
 use Rattle.http_writing.specs.Name.{is_name}
 use Rattle.http_writing.specs.Lines.{crlf, number_line, last_lines}
 use Rattle.http_writing.specs.Answer.{answer_text, status_line, kept_line, kept_lines, number_lines, told_length}
-use Rattle.peer_fields.specs.declared.framing.Framing.{Framing}
-use Rattle.peer_fields.specs.declared.framing.Framing.TheVariants.{Length}
-use Rattle.peer_fields.specs.Fields.{first_of, only_of}
-use Rattle.peer_fields.specs.Decimal.{number_up_to, plain_number}
-use Rattle.peer_fields.specs.Framing.{framing, framing_told, coding_told, length_told}
-use Rattle.peer_fields.specs.Answer.{age, stamp}
-use Rattle.peer_fields.specs.Kept.{kept}
-use Rattle.peer_reading.specs.AnswerHead.{ToldText, parts_of, is_final, some_framing, framing_by, told}
+use Rattle.http_reading.specs.declared.framing.Framing.{Framing}
+use Rattle.http_reading.specs.declared.framing.Framing.TheVariants.{Length}
+use Rattle.http_reading.specs.Fields.{first_of, only_of}
+use Rattle.http_reading.specs.Decimal.{number_up_to, plain_number}
+use Rattle.http_reading.specs.Framing.{framing, framing_told, coding_told, length_told}
+use Rattle.http_reading.specs.AnswerFields.{age, stamp}
+use Rattle.http_reading.specs.Kept.{kept}
+use Rattle.http_reading.specs.AnswerHead.{ToldText, parts_of, is_final, some_framing, framing_by, told}
 use Rattle.peer_fetch.specs.Writable.{IsWritableAnswer}
 use Rattle.peer_fetch.proofs.Pairs.{ArePlain, pair_line, field_of, fields_read}
 use Rattle.peer_fetch.proofs.Heads.{response_of, response_reads}

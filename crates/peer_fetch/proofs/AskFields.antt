@@ -16,10 +16,10 @@ use Rattle.http_messages.specs.Field.{is_blank, is_trimmed}
 use Rattle.http_writing.specs.Name.{is_name, is_name_octet}
 use Rattle.http_writing.specs.Lines.{field_line, number_line, last_lines}
 use Rattle.http_writing.specs.Ask.{cache_control_line}
-use Rattle.peer_fields.specs.Ask.{one, host, has_credentials, member}
-use Rattle.peer_fields.specs.Decimal.{plain_number}
-use Rattle.peer_fields.specs.Directives.{only_if_cached, no_cache}
-use Rattle.peer_fields.specs.Framing.{ask_has_body}
+use Rattle.http_reading.specs.AskFields.{one, host, has_credentials, member}
+use Rattle.http_reading.specs.Decimal.{plain_number}
+use Rattle.http_reading.specs.Directives.{only_if_cached, no_cache}
+use Rattle.http_reading.specs.Framing.{ask_has_body}
 use Rattle.peer_fetch.specs.Writable.{IsMember}
 use Rattle.peer_fetch.proofs.Pairs.{IsPlainPair, ArePlain, pair_line, visible_pair, visible_value, visible_no_blank}
 use Rattle.peer_fetch.proofs.Names.{host_token, cache_control_token, connection_token, via_token, member_token}

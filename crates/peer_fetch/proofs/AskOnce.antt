@@ -5,8 +5,8 @@ use Rattle.httparse.specs.Grammar.{RequestHead, ReadsRequest}
 use Rattle.httparse.proofs.GrammarLemmas.{request_unique, ReadsRequest-append}
 use Rattle.http_messages.specs.declared.ask.Ask.{Ask}
 use Rattle.http_messages.specs.declared.fault.FetchFault.{FetchFault}
-use Rattle.peer_reading.specs.AskHead.{AskHead, parts_of, first_fault, url_of, asked, Says, SaysBy}
-use Rattle.peer_reading.specs.Asks.{SpellsHead}
+use Rattle.http_reading.specs.AskHead.{AskHead, parts_of, first_fault, url_of, asked, Says, SaysBy}
+use Rattle.http_reading.specs.Asks.{SpellsHead}
 use Rattle.peer_fetch.proofs.Keys.{key_once}
 
 says_by_once : (fault : Option FetchFault) (h : AskHead) (x y : Result Ask FetchFault) → SaysBy fault h x → SaysBy fault h y → x ≡ y

@@ -9,7 +9,7 @@ use Rattle.http_messages.specs.declared.fault.FetchFault.{FetchFault}
 use Rattle.http_messages.specs.declared.fault.FetchFault.TheVariants.{Io, EndOfInput, BadHead, HeadTooLong, BadTarget, MethodNotServed, Credentials, BadBody, BodyTooLong, TooManyTurns, NoMemory}
 use Rattle.http_intake.specs.Reading.{Takes, most_turns}
 use Rattle.http_intake.specs.Heads.{longest_head, head_window, IsLongRequest}
-use Rattle.peer_reading.specs.Asks.{SpellsHead, FrontSays, StopsInAsk, ReadsAsk}
+use Rattle.http_reading.specs.Asks.{SpellsHead, FrontSays, StopsInAsk, ReadsAsk}
 use Rattle.peer_fetch.specs.Reading.{StopsInAskText}
 use Rattle.peer_fetch.proofs.Excess.{request_longer}
 use Rattle.peer_fetch.proofs.AskOnce.{fronts_once}

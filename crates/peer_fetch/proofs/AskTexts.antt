@@ -13,10 +13,10 @@ use Rattle.http_writing.specs.declared.ask.AskForm.{AskForm}
 use Rattle.http_writing.specs.Name.{is_name}
 use Rattle.http_writing.specs.Lines.{crlf, field_line, number_line, last_lines}
 use Rattle.http_writing.specs.Ask.{ask_text, target, request_line, cache_control_line}
-use Rattle.peer_fields.specs.Ask.{host, member}
-use Rattle.peer_fields.specs.Directives.{only_if_cached, no_cache}
-use Rattle.peer_reading.specs.AskHead.{AskHead, parts_of, url_by, Says, asked}
-use Rattle.peer_reading.specs.Asks.{SpellsAsk}
+use Rattle.http_reading.specs.AskFields.{host, member}
+use Rattle.http_reading.specs.Directives.{only_if_cached, no_cache}
+use Rattle.http_reading.specs.AskHead.{AskHead, parts_of, url_by, Says, asked}
+use Rattle.http_reading.specs.Asks.{SpellsAsk}
 use Rattle.peer_fetch.specs.Writable.{IsMember, IsWritableAsk}
 use Rattle.peer_fetch.proofs.Keys.{IsPlainText, key_plain}
 use Rattle.peer_fetch.proofs.KeyReads.{key_reads}

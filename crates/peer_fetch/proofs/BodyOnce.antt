@@ -7,11 +7,11 @@ use Rattle.httparse.specs.Grammar.{LineEnd, Field, IsField, print_section, Chunk
 use Rattle.httparse.specs.Ascii.{crlf_bytes}
 use Rattle.httparse.proofs.GrammarLemmas.{section_unique}
 use Rattle.httparse.proofs.ChunkLemmas.{chunk_line_unique}
-use Rattle.peer_fields.specs.declared.framing.Framing.{Framing}
-use Rattle.peer_fields.specs.declared.framing.Framing.TheVariants.{Length, Chunked, ToEnd}
+use Rattle.http_reading.specs.declared.framing.Framing.{Framing}
+use Rattle.http_reading.specs.declared.framing.Framing.TheVariants.{Length, Chunked, ToEnd}
 use Rattle.http_intake.specs.Chunks.{ChunkText, IsChunk, print_chunk}
 use Rattle.http_intake.specs.Trailer.{HoldsChunkedBody}
-use Rattle.peer_reading.specs.Answers.{SpellsBody}
+use Rattle.http_reading.specs.Answers.{SpellsBody}
 
 -- The same without places: the octets of the body, and what follows it
 

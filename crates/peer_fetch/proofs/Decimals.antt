@@ -8,8 +8,8 @@ use Rattle.std.proofs.lemmas.Bool.Decides.{nat_tests}
 use Rattle.std.proofs.lemmas.Fmt.{decimal_is_IsNumeral, decimal_nonempty, first_decimal, decimal_digit, decimal_step, digits_decimal, length-decimal-le}
 use Rattle.std.proofs.lemmas.Str.Parse.{IsNumeralModel, numerals_by_value}
 use Rattle.url_key.specs.Text.{is_visible}
-use Rattle.peer_fields.specs.Decimal.{is_digits, has_leading_zero, plain_number, number_up_to}
-use Rattle.peer_fields.specs.Framing.{length_told}
+use Rattle.http_reading.specs.Decimal.{is_digits, has_leading_zero, plain_number, number_up_to}
+use Rattle.http_reading.specs.Framing.{length_told}
 
 own : IsNumeralModel (λ ds. list_all is_ascii_digit ds ≡ true) (digits_value 10)
 own = numerals_by_value (λ ds. list_all is_ascii_digit ds ≡ true) (search rules)

@@ -20,8 +20,8 @@ use Rattle.url_key.proofs.PathLemmas.{shows_path, path_first}
 use Rattle.http_writing.specs.declared.ask.AskForm.{AskForm}
 use Rattle.http_writing.specs.declared.ask.AskForm.TheVariants.{Absolute, Origin}
 use Rattle.http_writing.specs.Ask.{target}
-use Rattle.peer_fields.specs.Ask.{one}
-use Rattle.peer_reading.specs.AskHead.{is_origin_form, url_by}
+use Rattle.http_reading.specs.AskFields.{one}
+use Rattle.http_reading.specs.AskHead.{is_origin_form, url_by}
 use Rattle.peer_fetch.proofs.Keys.{IsPlainText, key_plain, IsHttpText, key_begins, http_scheme}
 
 -- A key's path begins with a slash

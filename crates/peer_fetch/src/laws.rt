@@ -7,9 +7,9 @@ ghost use Rattle.http_writing.specs.declared.ask.AskForm.{AskForm};
 ghost use Rattle.http_writing.specs.Ask.{ask_text};
 ghost use Rattle.http_writing.specs.Answer.{answer_text};
 ghost use Rattle.http_writing.specs.Name.{is_name as names_cache};
-ghost use Rattle.peer_reading.specs.Asks.{SpellsHead, SpellsAsk, ReadsAsk};
-ghost use Rattle.peer_reading.specs.Answers.{SpellsAnswer, ReadsAnswer};
-ghost use Rattle.peer_fields.specs.declared.framing.Framing.TheVariants.{ToEnd};
+ghost use Rattle.http_reading.specs.Asks.{SpellsHead, SpellsAsk, ReadsAsk};
+ghost use Rattle.http_reading.specs.Answers.{SpellsAnswer, ReadsAnswer};
+ghost use Rattle.http_reading.specs.declared.framing.Framing.TheVariants.{ToEnd};
 ghost use Rattle.peer_fetch.specs.Writable.{IsWritableAsk, IsWritableAnswer};
 ghost use Rattle.peer_fetch.specs.Reading.{StopsInAskText, StopsInAnswerText};
 

@@ -2,7 +2,7 @@
 //! are read, from one crate.
 //!
 //! It exports the types of `http_messages`, the calls of `http_writing` for requests and
-//! responses, and those of `peer_reading`. What a cache serves (`write_served`, `write_status`) is
+//! responses, and those of `http_reading`. What a cache serves (`write_served`, `write_status`) is
 //! in `http_writing` alone.
 //!
 //! Its own part is [`laws`], which join writing and reading:
@@ -25,5 +25,5 @@
 pub mod laws;
 
 pub use http_messages::{Answer, Ask, Body, FetchFault, Field, Fields};
+pub use http_reading::{read_answer, read_ask};
 pub use http_writing::{AskForm, is_name, write_answer, write_ask};
-pub use peer_reading::{read_answer, read_ask};

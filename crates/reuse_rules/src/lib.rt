@@ -10,7 +10,7 @@
 //! statuses only; a response with `vary` is not stored; `no-cache` and `private` forbid storing
 //! even with a value; without `max-age` and `s-maxage`, a response with `expires` is not stored,
 //! since no date is read. The request is not looked at: that a request with credentials is refused
-//! is `peer_reading`'s rule.
+//! is `http_reading`'s rule.
 //!
 //! Read first `specs/Lifetime` (the lifetime, by cases) and `specs/Freshness` (one comparison),
 //! then `specs/Directives` (the `cache-control` directives of a response). In the code,

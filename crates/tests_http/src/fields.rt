@@ -1,12 +1,12 @@
 use crate::made::first_wrong;
 use http_messages::{Answer, Body, FetchFault, Fields};
-use httparse::Status;
-use httparse::spans::{EMPTY_HEADER_SPAN, HeaderSpan, Span, parse_headers};
-use peer_fields::{
+use http_reading::{
     BadCoding, BadLength, Framing, Host, age, ask_has_body, content_length, count_named,
     first_named, framing_of, has_credentials, host_of, is_chunked, is_no_cache, is_only_if_cached,
     kept_fields, member, only_named, stamp,
 };
+use httparse::Status;
+use httparse::spans::{EMPTY_HEADER_SPAN, HeaderSpan, Span, parse_headers};
 use std::alloc::Global;
 use std::process::Abort;
 

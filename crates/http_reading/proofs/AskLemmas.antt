@@ -1,0 +1,116 @@
+-- From the places that the parser gave to the head that stands there, and from the faults of a
+-- head to those of a request. A head in the window is a front of the octets, so what holds of its
+-- parts holds of that front.
+use Rattle.std.proofs.Common.{◌≡◌, ℕ, ◌≤◌, ◌⊎◌, List, [], ◌++◌, length, take, drop, max, Option, Result, Ok, Err, IfErr, IsTrue, MatchResult, refl, sym, ◌∙◌, ap, subst, inl, inr, arith, ◌+◌, length-take, take-append-drop, append_assoc, append-nil, length-append}
+use Rattle.std.proofs.lemmas.List.{length-map}
+use Rattle.httparse.specs.Grammar.{RequestHead, print_request, NeverHasRequest}
+use Rattle.httparse.specs.declared.spans.HeaderSpan.{HeaderSpan}
+use Rattle.httparse.specs.declared.spans.RequestSpans.{RequestSpans}
+use Rattle.httparse.specs.Spans.{span_bytes, header_bytes, name_and_value, AreFieldsAt, IsRequestAt, IsRequestOf}
+use Rattle.http_messages.specs.declared.ask.Ask.{Ask}
+use Rattle.http_messages.specs.declared.fault.FetchFault.{FetchFault}
+use Rattle.http_messages.specs.declared.fault.FetchFault.TheVariants.{Io, EndOfInput, BadHead, HeadTooLong, BadTarget, MethodNotServed, Credentials, BadBody, BodyTooLong, TooManyTurns, NoMemory}
+use Rattle.http_reading.specs.Fields.{fields_of}
+use Rattle.std.specs.Io.KnownBytes.{IsAtEnd}
+use Rattle.http_intake.specs.Reading.{Takes, IsReadFault}
+use Rattle.http_intake.specs.Heads.{longest_head, longest_read, most_fields, head_window, IsLongRequest, IsOpenRequest, IsHeadFault}
+use Rattle.http_reading.specs.AskHead.{AskHead, parts_of, head_at, is_ask_fault, Says}
+use Rattle.http_reading.specs.Asks.{FrontSays, StopsInAsk, ReadsAsk}
+
+-- a head of these parts
+made : List ℕ → List ℕ → ℕ → List (List ℕ × List ℕ) → AskHead
+made method target minor fields = record { method = method; target = target; minor = minor; fields = fields }
+
+-- the parts that the places cover are those of the head
+head_is : (window : List ℕ) (headers : List HeaderSpan) (r : RequestSpans) (h : RequestHead) → IsRequestAt window headers r h → head_at window headers r ≡ parts_of h
+unfolding made
+head_is window headers r h is =
+    ap (λ m. made m (span_bytes window r.path) r.version (fields_of window (take r.headers headers))) is.method
+    ∙ ap (λ t. made h.method t r.version (fields_of window (take r.headers headers))) is.path
+    ∙ ap (λ v. made h.method h.target v (fields_of window (take r.headers headers))) is.version
+    ∙ ap (made h.method h.target h.minor) is.fields
+
+-- a head has no more fields than there was room for
+few_fields : (window : List ℕ) (headers : List HeaderSpan) (r : RequestSpans) (h : RequestHead) → AreFieldsAt window headers r.headers h.fields → length headers ≡ most_fields → length h.fields ≤ most_fields
+few_fields window headers r h fields room =
+    let written : length (take r.headers headers) ≡ length h.fields =
+    sym (length-map (take r.headers headers) (header_bytes window)) ∙ ap length fields ∙ length-map h.fields name_and_value in
+    omega (arith, written, length-take r.headers headers, room)
+
+-- a head in the window is a front of the octets, and says what its parts say
+pub front_says : (octets : List ℕ) (headers : List HeaderSpan) (r : RequestSpans) (outcome : Result Ask FetchFault) → length headers ≡ most_fields → IsRequestOf (head_window 0 octets) headers r
+    → Says (head_at (head_window 0 octets) headers r) outcome → FrontSays octets outcome
+front_says octets headers r outcome room (h, is) says =
+    let window : List ℕ = head_window 0 octets in
+    let front : List ℕ = print_request h in
+    let behind : List ℕ = drop r.len window in
+    let rest : List ℕ = behind ++ drop longest_head octets in
+    let cut : octets ≡ front ++ rest =
+    sym (take-append-drop longest_head octets) ∙ ap (λ w. w ++ drop longest_head octets) is.reads.1 ∙ append_assoc front behind (drop longest_head octets) in
+    let size : length window ≡ length front + length behind = ap length is.reads.1 ∙ length-append front behind in (
+      front,
+      rest,
+      cut,
+      record {
+        head = h;
+        reads = (is.reads.0, sym (append-nil front));
+        short = omega (arith, size, length-take longest_head octets);
+        few = few_fields window headers r h is.fields room;
+        says = subst (λ parts. Says parts outcome) (head_is window headers r h is) says;
+      },
+    )
+
+-- the fault of reading a head, by its kind
+pub head_stops : (reader : Option (List ℕ)) (octets : List ℕ) (fault : FetchFault) → IsHeadFault fault
+    → (fault ≡ BadHead → NeverHasRequest (head_window 0 octets)) → (fault ≡ HeadTooLong → IsLongRequest (head_window 0 octets))
+    → (IsReadFault fault → IsOpenRequest octets) → (fault ≡ EndOfInput → IsAtEnd reader) → (fault ≡ TooManyTurns → 70000 ≤ length octets) → StopsInAsk reader octets fault
+head_stops reader octets Io kind bad long opened ended spent = opened refl
+head_stops reader octets EndOfInput kind bad long opened ended spent = (opened refl, ended refl)
+head_stops reader octets BadHead kind bad long opened ended spent = inl (bad refl)
+head_stops reader octets HeadTooLong kind bad long opened ended spent = long refl
+head_stops reader octets (BadTarget f) kind bad long opened ended spent = absurd cc
+head_stops reader octets MethodNotServed kind bad long opened ended spent = absurd cc
+head_stops reader octets Credentials kind bad long opened ended spent = absurd cc
+head_stops reader octets BadBody kind bad long opened ended spent = absurd cc
+head_stops reader octets BodyTooLong kind bad long opened ended spent = absurd cc
+head_stops reader octets TooManyTurns kind bad long opened ended spent = (opened refl, spent refl)
+head_stops reader octets NoMemory kind bad long opened ended spent = tt
+
+-- the fault that a whole head has
+says_stops : (reader : Option (List ℕ)) (octets : List ℕ) (fault : FetchFault) → IsTrue (is_ask_fault fault) → FrontSays octets (Err fault) → StopsInAsk reader octets fault
+says_stops reader octets BadHead kind front = inr front
+says_stops reader octets (BadTarget f) kind front = front
+says_stops reader octets MethodNotServed kind front = front
+says_stops reader octets Credentials kind front = front
+says_stops reader octets BadBody kind front = front
+says_stops reader octets NoMemory kind front = tt
+says_stops reader octets Io kind front = absurd cc
+says_stops reader octets EndOfInput kind front = absurd cc
+says_stops reader octets HeadTooLong kind front = absurd cc
+says_stops reader octets BodyTooLong kind front = absurd cc
+says_stops reader octets TooManyTurns kind front = absurd cc
+
+-- at most 20,480 octets are read of a message of which nothing was read before
+pub few_read : (old new : List ℕ) → old ≡ [] → length new ≤ max (length old) (0 + longest_read) → length new ≤ longest_read
+few_read old new none few = let empty : length old ≡ 0 = ap length none in omega (arith, empty, few)
+
+-- what a whole head says is what reading returns
+pub head_read : (reader_old reader_new : Option (List ℕ)) (octets : List ℕ) (headers : List HeaderSpan) (r : RequestSpans) (result : Result Ask FetchFault) → Takes reader_old reader_new [] octets
+    → length octets ≤ longest_read → length headers ≡ most_fields → IsRequestOf (head_window 0 octets) headers r
+    → MatchResult result (λ ask. Says (head_at (head_window 0 octets) headers r) (Ok ask)) (λ fault. (fault ≡ NoMemory) ⊎ Says (head_at (head_window 0 octets) headers r) (Err fault))
+    → IfErr result (λ fault. IsTrue (is_ask_fault fault)) → ReadsAsk reader_old reader_new result
+head_read reader_old reader_new octets headers r (Ok ask) taken few room is says kind = record {
+  octets = octets;
+  taken = taken;
+  few = few;
+  outcome = front_says octets headers r (Ok ask) room is says;
+}
+head_read reader_old reader_new octets headers r (Err fault) taken few room is says kind = record {
+  octets = octets;
+  taken = taken;
+  few = few;
+  outcome = elim says [
+    | inl same ↦ subst (StopsInAsk reader_new octets) (sym same) tt
+    | inr told ↦ says_stops reader_new octets fault kind (front_says octets headers r (Err fault) room is told)
+  ];
+}

@@ -1,0 +1,44 @@
+-- Which octets spell a request, and why reading stops (RFC 9112, sections 2 and 3).
+use Rattle.std.specs.Prelude.{◌≡◌, ℕ, ◌≤◌, ◌⊎◌, ⊤, List, [], ◌++◌, length, Option, Result, Ok, Err, MatchResult}
+use Rattle.std.specs.Io.KnownBytes.{IsAtEnd}
+use Rattle.httparse.specs.Grammar.{RequestHead, ReadsRequest, NeverHasRequest}
+use Rattle.http_messages.specs.declared.ask.Ask.{Ask}
+use Rattle.http_messages.specs.declared.fault.FetchFault.{FetchFault}
+use Rattle.http_messages.specs.declared.fault.FetchFault.TheVariants.{Io, EndOfInput, BadHead, HeadTooLong, TooManyTurns, NoMemory}
+use Rattle.http_intake.specs.Reading.{Takes, most_turns}
+use Rattle.http_intake.specs.Heads.{longest_head, longest_read, most_fields, head_window, IsLongRequest, IsOpenRequest}
+use Rattle.http_reading.specs.AskHead.{parts_of, Says}
+
+-- the octets are a head within its limits, which makes this request or has this fault
+pub record SpellsHead (octets : List ℕ) (outcome : Result Ask FetchFault) : Type 0 where
+  pub head : RequestHead
+  pub reads : ReadsRequest octets head []
+  pub short : length octets ≤ longest_head
+  pub few : length head.fields ≤ most_fields
+  pub says : Says (parts_of head) outcome
+
+-- the octets spell the request
+abbrev pub SpellsAsk : List ℕ → Ask → Type 0
+SpellsAsk octets ask = SpellsHead octets (Ok ask)
+
+-- the octets begin with a head that makes this request or has this fault
+abbrev pub FrontSays : List ℕ → Result Ask FetchFault → Type 0
+FrontSays octets outcome = (front : List ℕ) × (rest : List ℕ) × (octets ≡ front ++ rest) × SpellsHead front outcome
+
+-- why reading stopped in a request after these octets
+abbrev pub StopsInAsk : Option (List ℕ) → List ℕ → FetchFault → Type 0
+StopsInAsk reader octets Io = IsOpenRequest octets
+StopsInAsk reader octets NoMemory = ⊤
+StopsInAsk reader octets EndOfInput = IsOpenRequest octets × IsAtEnd reader
+StopsInAsk reader octets TooManyTurns = IsOpenRequest octets × (most_turns ≤ length octets)
+StopsInAsk reader octets BadHead = NeverHasRequest (head_window 0 octets) ⊎ FrontSays octets (Err BadHead)
+StopsInAsk reader octets HeadTooLong = IsLongRequest (head_window 0 octets)
+StopsInAsk reader octets fault = FrontSays octets (Err fault)
+
+-- the contract of `read_ask`: the octets taken, at most 20,480, begin with the request, or the
+-- fault says why they do not
+pub record ReadsAsk (reader_old reader_new : Option (List ℕ)) (result : Result Ask FetchFault) : Type 0 where
+  pub octets : List ℕ
+  pub taken : Takes reader_old reader_new [] octets
+  pub few : length octets ≤ longest_read
+  pub outcome : MatchResult result (λ ask. FrontSays octets (Ok ask)) (StopsInAsk reader_new octets)

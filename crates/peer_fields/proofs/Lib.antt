@@ -1,6 +1,0 @@
--- Read `Named` (fields of one name), then `Keeping` (the loop of `kept_fields`) and `HeadFields`
--- (no `BadHead` for a head of the grammar); `Digits` is about numbers.
-pub mod Digits
-pub mod Named
-pub mod Keeping
-pub mod HeadFields

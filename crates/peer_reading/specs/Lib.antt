@@ -1,4 +1,0 @@
-pub mod AskHead
-pub mod Asks
-pub mod AnswerHead
-pub mod Answers
