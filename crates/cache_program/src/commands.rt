@@ -1,6 +1,6 @@
 //! The tasks of the command line, over the process's streams and files.
 use crate::failure::Failure;
-use answer_script::run_answer;
+use cli_answer::{run_answer, run_wire};
 use cli_words::Scripted;
 use cli_world::run_world;
 use cluster_process::{Stores, open_stores};
@@ -10,7 +10,6 @@ use std::io::{BufRead, ErrorKind, Write};
 use std::rt::{Env, Files};
 use std::{env, fs, io};
 use values_lines::RunFault;
-use wire_script::run_wire;
 
 /// The words of the command line; the first is the program's name.
 pub(crate) fn words_of<R: Env + AllocGlobal>(rt: &R) -> io::Result<Vec<String>> {
@@ -29,9 +28,7 @@ pub(crate) fn play<R: Files + Input + Print + AllocGlobal>(
     let (alloc, mut reader, mut writer) = (rt.alloc(), rt.reader(), io::writer(rt));
     match script {
         Scripted::Answer => run_answer(alloc, &mut reader, &mut writer).map_err(Failure::Run),
-        Scripted::Wire(codec) => {
-            run_wire(alloc, *codec, &mut reader, &mut writer).map_err(Failure::Run)
-        }
+        Scripted::Wire(by) => run_wire(alloc, *by, &mut reader, &mut writer).map_err(Failure::Run),
         Scripted::World(file) => {
             let roster = roster_in(rt, file.as_str())?;
             run_world(alloc, &roster, &mut reader, &mut writer).map_err(Failure::Run)

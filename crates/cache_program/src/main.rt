@@ -1,11 +1,10 @@
 //! The command `cache`: it does what its command line asks for, over the process's streams and
 //! files.
 //!
-//! `cli_words` makes a task of the words. `src/commands.rt` runs a script (`answer_script`,
-//! `wire_script`, `cli_world`) between standard input and output, or opens the roster and the
-//! stores of a cluster; `main` runs the cluster (`cluster_process`) or the origin for trials
-//! (`cluster_origin`). `src/failure.rt` says on standard error why a task ended early, and gives the
-//! status.
+//! `cli_words` makes a task of the words. `src/commands.rt` runs a script (`cli_answer`,
+//! `cli_world`) between standard input and output, or opens the roster and the stores of a cluster;
+//! `main` runs the cluster (`cluster_process`) or the origin for trials (`cluster_origin`).
+//! `src/failure.rt` says on standard error why a task ended early, and gives the status.
 //!
 //! The program reads standard input, writes standard output and standard error, and reads the
 //! roster's file. The crates that it calls open the stores, sockets and threads.

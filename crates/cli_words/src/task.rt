@@ -9,8 +9,7 @@ use clap::error::ErrorKind;
 use clap::{ArgMatches, Error};
 use std::alloc::{AllocError, Global};
 use std::net::SocketAddrV4;
-use values_plain::Address;
-use wire_script::Codec;
+use values_plain::{Address, Udp};
 
 /// The status of a process that lacked memory.
 const NO_MEMORY: u8 = 1;
@@ -32,8 +31,8 @@ const SHIFTS: u32 = 16;
 pub enum Scripted {
     /// `cache answer`.
     Answer,
-    /// `cache wire CODEC`.
-    Wire(Codec),
+    /// `cache wire CODEC`: datagrams of this protocol.
+    Wire(Udp),
     /// `cache world FILE`, over the roster in this file.
     World(String),
 }
@@ -97,11 +96,11 @@ pub fn status_of(error: &Error) -> u8
     }
 }
 
-/// The codec that `wire` names.
-fn codec_of(matches: &ArgMatches<'_>) -> Codec {
+/// The protocol that `wire` names.
+fn codec_of(matches: &ArgMatches<'_>) -> Udp {
     match matches.get_str("CODEC") {
-        Some("htcp") => Codec::Htcp,
-        _ => Codec::Icp,
+        Some("htcp") => Udp::Htcp,
+        _ => Udp::Icp,
     }
 }
 
@@ -142,7 +141,7 @@ fn origin_of(alloc: Global, matches: &ArgMatches<'_>) -> Result<Task, Error>
 {
     let at = matches
         .get_one::<SocketAddrV4>("ADDRESS")
-        .and_then(address_of);
+        .and_then(listening_address);
     match (at, matches.get_one("COUNT")) {
         (Some(at), Some(count)) => Ok(Task::Origin { at, count }),
         _ => {
@@ -154,8 +153,8 @@ fn origin_of(alloc: Global, matches: &ArgMatches<'_>) -> Result<Task, Error>
     }
 }
 
-/// The address, unless its port is 0.
-fn address_of(address: SocketAddrV4) -> Option<Address>
+/// The address to listen at, unless its port is 0.
+fn listening_address(address: SocketAddrV4) -> Option<Address>
     ensures { IfSome result (λ at. 1 ≤ at.port) }
 {
     if address.port() == 0 {

@@ -1,7 +1,7 @@
 //! Scripts: reads lines from any reader, answers each, and writes the answers to any writer, one
 //! line for each.
 //!
-//! - [`Script`]: what answers a line. `answer_script`, `wire_script`, `cli_world` and
+//! - [`Script`]: what answers a line. `cli_answer`, `cli_world` and
 //!   `cluster_console` implement it.
 //! - [`play`]: answers all lines. [`play_until`]: answers the lines before the first that is a
 //!   given text, such as `quit`.
