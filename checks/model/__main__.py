@@ -1,4 +1,4 @@
-"""Runs the program and the model on random scripts and rosters; see bench/against-model."""
+"""Runs the program and the model on random scripts and rosters; see checks/against-model."""
 
 import subprocess
 import sys
