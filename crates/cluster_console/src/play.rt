@@ -9,7 +9,7 @@ use crate::line::{Line, line_of};
 use crate::show::{push_asked, push_checked, push_got, push_purge};
 use cluster_fetch::exchange;
 use cluster_master::{MasterSender, SharedMaster};
-use cluster_streams::Waiter;
+use cluster_streams::StreamPoll;
 use http_messages::{Answer, Ask, FetchFault};
 use http_writing::AskForm;
 use purge_rules::{MasterAnswer, MasterCall, MasterFault, PurgeStore, Status};
@@ -29,7 +29,7 @@ const QUIT: &[u8] = b"quit";
 /// The name under which a member is asked.
 const CLIENT: &[u8] = b"client";
 
-/// What answers the lines: the master, its sender, who judges the run, and the waiter of a client.
+/// What answers the lines: the master, its sender, who judges the run, and the poll of a client.
 #[derive(Drop)]
 struct Player<'a, S: PurgeStore, C, R> {
     rt: &'a R,
@@ -37,7 +37,7 @@ struct Player<'a, S: PurgeStore, C, R> {
     master: &'a SharedMaster<S>,
     sender: &'a MasterSender,
     checker: C,
-    waiter: Waiter,
+    poll: StreamPoll,
 }
 
 /// Answers the lines of an input before its first line `quit`, each by one line, by the running
@@ -62,7 +62,7 @@ pub fn answer_lines<S: PurgeStore, C: Checker + Drop, R: Wait + Clock + Net, I: 
     master: &SharedMaster<S>,
     sender: &MasterSender,
     checker: C,
-    waiter: Waiter,
+    poll: StreamPoll,
     input: &mut I,
     output: &mut O,
 ) -> (C, Result<(), RunFault>)
@@ -74,7 +74,7 @@ pub fn answer_lines<S: PurgeStore, C: Checker + Drop, R: Wait + Clock + Net, I: 
         master,
         sender,
         checker,
-        waiter,
+        poll,
     };
     let answered = play_until(alloc, &mut player, QUIT, input, output);
     (player.checker, answered)
@@ -199,8 +199,8 @@ impl<S: PurgeStore, C: Checker, R: Wait + Clock + Net> Player<'_, S, C, R> {
             no_cache: false,
             member: None,
         };
-        let waiter = &mut self.waiter;
-        exchange(self.rt, alloc, waiter, at, &ask, AskForm::Absolute, CLIENT)
+        let poll = &mut self.poll;
+        exchange(self.rt, alloc, poll, at, &ask, AskForm::Absolute, CLIENT)
     }
 }
 

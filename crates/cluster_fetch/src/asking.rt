@@ -2,7 +2,7 @@
 ghost use Rattle.std.specs.Prelude.{IsTrue};
 ghost use Rattle.http_writing.specs.Name.{is_name as names_cache};
 
-use cluster_streams::{Timed, Waiter};
+use cluster_streams::{PATIENCE, StreamPoll, Timed};
 use http_messages::{Answer, Ask, FetchFault};
 use http_reading::read_answer;
 use http_writing::{AskForm, write_ask};
@@ -13,10 +13,6 @@ use std::net::Net;
 use std::time::{Clock, Duration};
 use values_plain::Address;
 
-/// How many seconds an exchange may take: to connect, to write the request and to read the
-/// response.
-const PATIENCE: u64 = 5;
-
 /// Asks whoever serves HTTP at this address, under the name of the cache that asks, and reads the
 /// response: within five seconds in all, over a connection of its own. `form` is the form of the
 /// request target (RFC 9112, section 3.2).
@@ -26,7 +22,7 @@ const PATIENCE: u64 = 5;
 pub fn exchange<R: Net + Clock>(
     rt: &R,
     alloc: Global,
-    waiter: &mut Waiter,
+    poll: &mut StreamPoll,
     at: Address,
     ask: &Ask,
     form: AskForm,
@@ -35,7 +31,7 @@ pub fn exchange<R: Net + Clock>(
     requires { IsTrue (names_cache name.now) }
 {
     match connected(rt, at) {
-        Ok(mut stream) => asked(rt, alloc, waiter, &mut stream, ask, form, name),
+        Ok(mut stream) => asked(rt, alloc, poll, &mut stream, ask, form, name),
         Err(_) => Err(FetchFault::Io),
     }
 }
@@ -49,7 +45,7 @@ fn connected<R: Net>(rt: &R, at: Address) -> io::Result<TcpStream> {
 fn asked<C: Clock>(
     clock: &C,
     alloc: Global,
-    waiter: &mut Waiter,
+    poll: &mut StreamPoll,
     stream: &mut TcpStream,
     ask: &Ask,
     form: AskForm,
@@ -57,7 +53,7 @@ fn asked<C: Clock>(
 ) -> Result<Answer, FetchFault>
     requires { IsTrue (names_cache name.now) }
 {
-    match Timed::new(clock, waiter, stream, Duration::from_secs(PATIENCE)) {
+    match Timed::new(clock, poll, stream, Duration::from_secs(PATIENCE)) {
         Ok(mut timed) => {
             write_ask(&mut timed, ask, form, name)?;
             if timed.flush().is_err() {

@@ -4,22 +4,12 @@ ghost use Rattle.cluster_origin.specs.Names.{IsAtPort};
 
 use crate::fault::OriginFault;
 use crate::serving::serve_next;
-use cluster_streams::{Timed, Waiter};
+use cluster_streams::{PATIENCE, StreamPoll, StreamPolls, Timed};
 use std::alloc::Global;
 use std::io::{self, ErrorKind, Read, Write};
 use std::net::{Net, TcpListener, TcpStream};
 use std::time::{Clock, Duration};
 use values_plain::Address;
-
-/// How many seconds a client may take in all, to send its request and to take its response.
-const PATIENCE: u64 = 5;
-
-/// What the origin polls for one client: for what it reads, and for what it writes.
-#[derive(Drop)]
-struct Waiters {
-    reading: Waiter,
-    writing: Waiter,
-}
 
 /// Answers `count` requests at this address, one after another, and ends. A request that is not
 /// read is refused and not counted; nor is one counted whose response could not be sent. A client
@@ -36,12 +26,9 @@ pub fn run_origin<R: Net + Clock>(
     count: u32,
 ) -> Result<(), OriginFault> {
     let listener = listen(rt, at)?;
-    let mut waiters = Waiters {
-        reading: Waiter::new(rt, alloc)?,
-        writing: Waiter::new(rt, alloc)?,
-    };
+    let mut polls = StreamPolls::new(rt, alloc)?;
     for number in 1..=count {
-        answer_one(rt, alloc, &listener, &mut waiters, number)?;
+        answer_one(rt, alloc, &listener, &mut polls, number)?;
     }
     Ok(())
 }
@@ -74,13 +61,13 @@ fn answer_one<C: Clock>(
     clock: &C,
     alloc: Global,
     listener: &TcpListener,
-    waiters: &mut Waiters,
+    polls: &mut StreamPolls,
     number: u32,
 ) -> Result<(), OriginFault> {
     for client in listener.incoming() {
         match client {
             Ok(stream) => {
-                if serve(clock, alloc, waiters, stream, number)? {
+                if serve(clock, alloc, polls, stream, number)? {
                     return Ok(());
                 }
             }
@@ -95,14 +82,14 @@ fn answer_one<C: Clock>(
 fn serve<C: Clock>(
     clock: &C,
     alloc: Global,
-    waiters: &mut Waiters,
+    polls: &mut StreamPolls,
     stream: TcpStream,
     number: u32,
 ) -> io::Result<bool> {
     stream.set_nonblocking(true)?;
     let outgoing = mio::net::TcpStream::from_std(stream.try_clone()?);
     let mut incoming = mio::net::TcpStream::from_std(stream);
-    let Waiters { reading, writing } = waiters;
+    let StreamPolls { reading, writing } = polls;
     match Timed::new(clock, reading, &mut incoming, Duration::from_secs(PATIENCE)) {
         Ok(mut reader) => serve_reader(clock, alloc, &mut reader, writing, outgoing, number),
         Err(error) => Err(error),
@@ -115,7 +102,7 @@ fn serve_reader<R: Read, C: Clock>(
     clock: &C,
     alloc: Global,
     reader: &mut R,
-    writing: &mut Waiter,
+    writing: &mut StreamPoll,
     mut outgoing: mio::net::TcpStream,
     number: u32,
 ) -> io::Result<bool> {

@@ -10,7 +10,7 @@ use crate::kept::{Kept, Memory};
 use crate::master_thread::MasterThread;
 use crate::stores::{NodeFloors, Stores};
 use cluster_console::answer_lines;
-use cluster_streams::Waiter;
+use cluster_streams::StreamPoll;
 use floor_rules::FloorStore;
 use node_seats::Places;
 use node_shifts::History;
@@ -273,7 +273,7 @@ fn answer<I: Read, O: Write, S: PurgeStore, R: Wait + Clock + RandomSource + Net
 ) -> Result<Option<Kept>, ClusterFault>
     ensures { IfOk result (HasRun common.now.roster.now common.now.history (I.remaining input.old) (O.contents output.old) (O.contents output.new)) }
 {
-    let (Ok(waiter), Ok(keys)) = (Waiter::new(rt, alloc), RandomState::new(rt)) else {
+    let (Ok(poll), Ok(keys)) = (StreamPoll::new(rt, alloc), RandomState::new(rt)) else {
         return Err(ClusterFault::System);
     };
     let MasterThread { master, sender, .. } = running;
@@ -285,7 +285,7 @@ fn answer<I: Read, O: Write, S: PurgeStore, R: Wait + Clock + RandomSource + Net
         keys,
     };
     let (judge, answered) = answer_lines(
-        rt, alloc, roster, master, sender, judge, waiter, input, output,
+        rt, alloc, roster, master, sender, judge, poll, input, output,
     );
     match answered {
         Ok(()) => Ok(judge.into_kept(rt)),

@@ -75,7 +75,7 @@ impl<N: Stepper + Drop, G: Gate + Drop, R: Net + Wait + Clock> Fetcher<'_, N, G,
         let answer = exchange(
             rt,
             station.alloc,
-            &mut self.seated.tools.reading,
+            &mut self.seated.polls.reading,
             at,
             &ask,
             form,

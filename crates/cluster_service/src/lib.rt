@@ -15,7 +15,7 @@
 //!
 //! Order of reading: `src/station.rt` (what is shared); `src/worker.rt`, `src/fetcher.rt`,
 //! `src/questions.rt`; `src/seated.rt` (what workers and fetchers do with a step); `src/telling.rt`
-//! (how a client is answered); `src/tools.rt`, `src/gate.rt`; `specs/Questions.antt`,
+//! (how a client is answered); `src/gate.rt`; `specs/Questions.antt`,
 //! `specs/Addresses.antt`.
 //!
 //! The crate reads and writes sockets, opens connections (`cluster_fetch`), reads the clock, and waits
@@ -31,7 +31,6 @@ mod questions;
 mod seated;
 mod station;
 mod telling;
-mod tools;
 mod worker;
 
 pub use fetcher::Fetcher;
@@ -40,5 +39,4 @@ pub use questions::Questions;
 pub use seated::Seated;
 pub use station::{Station, milliseconds};
 pub use telling::refuse_all;
-pub use tools::Tools;
 pub use worker::Worker;

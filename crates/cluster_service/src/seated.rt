@@ -2,7 +2,7 @@
 use crate::gate::Gate;
 use crate::station::{Station, milliseconds, seconds};
 use crate::telling::{refuse_all, tell};
-use crate::tools::Tools;
+use cluster_streams::StreamPolls;
 use mio::net::TcpStream;
 use node_bytes::{Stepper, Turn};
 use node_rules::{Begin, Event, Serve, StepFault};
@@ -25,7 +25,7 @@ pub struct Seated<'a, N: Stepper + Drop, G: Gate + Drop, R> {
     /// What takes its steps.
     pub node: N,
     /// What it polls its streams with.
-    pub tools: Tools,
+    pub polls: StreamPolls,
 }
 
 impl<N: Stepper + Drop, G: Gate + Drop, R: Wait + Clock> Seated<'_, N, G, R> {
@@ -50,12 +50,12 @@ impl<N: Stepper + Drop, G: Gate + Drop, R: Wait + Clock> Seated<'_, N, G, R> {
 
     /// Answers 503 to all who wait.
     pub(crate) fn refuse_all(&mut self) {
-        refuse_all(self.rt, self.station, &mut self.tools);
+        refuse_all(self.rt, self.station, &mut self.polls);
     }
 
     /// Writes what a client is served.
     pub(crate) fn tell(&mut self, stream: TcpStream, serve: &Serve<()>) {
-        tell(self.rt, self.station, &mut self.tools, stream, serve);
+        tell(self.rt, self.station, &mut self.polls, stream, serve);
     }
 
     /// Sends and serves what a step asks for, and returns what it begins. At a node that is to

@@ -5,10 +5,9 @@ ghost use Rattle.roster.specs.Lookups.{is_member};
 use crate::gate::Gate;
 use crate::seated::{MOST_FURTHER_STEPS, Seated};
 use crate::station::{Station, seconds};
-use crate::telling::{PATIENCE, unavailable};
-use crate::tools::Tools;
+use crate::telling::unavailable;
 use cluster_jobs::Job;
-use cluster_streams::{Timed, Waiter};
+use cluster_streams::{PATIENCE, StreamPoll, StreamPolls, Timed};
 use mio::net::TcpStream;
 use node_bytes::{Stepper, Turn, on_datagram};
 use node_http::{Asked, ServeFault, serve_ask};
@@ -44,12 +43,12 @@ fn ask<N: Stepper, G: Gate + Drop, C: Clock>(
     clock: &C,
     station: &Station<G>,
     node: &mut N,
-    tools: &mut Tools,
+    polls: &mut StreamPolls,
     incoming: &mut TcpStream,
     outgoing: &mut TcpStream,
     octets: &[u8],
 ) -> Result<Asked, ServeFault> {
-    let Tools { reading, writing } = tools;
+    let StreamPolls { reading, writing } = polls;
     match Timed::new(clock, reading, incoming, Duration::from_secs(PATIENCE)) {
         Ok(rest) => {
             let mut reader = octets.chain(rest);
@@ -65,7 +64,7 @@ fn answer<N: Stepper, G: Gate + Drop, I: Read, C: Clock>(
     station: &Station<G>,
     node: &mut N,
     reader: &mut I,
-    writing: &mut Waiter,
+    writing: &mut StreamPoll,
     outgoing: &mut TcpStream,
 ) -> Result<Asked, ServeFault> {
     match Timed::new(clock, writing, outgoing, Duration::from_secs(PATIENCE)) {
@@ -134,7 +133,7 @@ impl<N: Stepper + Drop, G: Gate + Drop, R: Wait + Clock> Worker<'_, N, G, R> {
             seated.rt,
             seated.station,
             &mut seated.node,
-            &mut seated.tools,
+            &mut seated.polls,
             &mut incoming,
             &mut outgoing,
             octets,

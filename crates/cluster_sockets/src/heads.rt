@@ -4,6 +4,7 @@ ghost use Rattle.cluster_jobs.specs.Order.{sight_of};
 ghost use Rattle.cluster_sockets.specs.Turns.{HasCome};
 
 use cluster_jobs::Job;
+use cluster_streams::PATIENCE;
 use mio::net::TcpStream;
 use mio::{Interest, Registry, Token};
 use std::alloc::{AllocError, Global};
@@ -14,9 +15,6 @@ use std::time::Instant;
 /// How many octets of a connection are read at most before a worker gets it. No request head is
 /// longer.
 const LONGEST: usize = 16_384;
-
-/// How many seconds a request head may take, from when the connection was accepted.
-const PATIENCE: u64 = 5;
 
 /// How many octets of empty lines stand before the request line; they do not count (RFC 9112,
 /// section 2.2). The first `known` octets are known to be such.

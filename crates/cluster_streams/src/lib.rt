@@ -1,6 +1,6 @@
 //! TCP streams that a thread reads and writes with one deadline for a whole message.
 //!
-//! A thread polls its streams, those of its clients, its peers and the origins, with a [`Waiter`],
+//! A thread polls its streams, those of its clients, its peers and the origins, with a [`StreamPoll`],
 //! one stream at a time. A [`Timed`] stream implements `Read` and `Write`. It tries each call at
 //! once and polls only where the system would block. Its deadline is that of the whole message and
 //! not of one call, so a client or a peer that sends octet by octet occupies the thread no longer
@@ -8,7 +8,7 @@
 //! `TimedOut`. What is written is kept, up to 16,384 octets, until there is no room for the next
 //! piece or the caller calls `flush`.
 //!
-//! Order of reading: `src/timed.rt` (reading and writing until a deadline), `src/waiter.rt` (the
+//! Order of reading: `src/timed.rt` (reading and writing until a deadline), `src/stream_poll.rt` (the
 //! poll of one thread).
 //!
 //! The crate uses sockets that are passed in, opens a poll instance, and reads the clock.
@@ -18,8 +18,8 @@
 //! nothing, or that says it sent what it did not. What is sent, and how long it waits, is tested.
 #![tactic(auto)]
 
+mod stream_poll;
 mod timed;
-mod waiter;
 
+pub use stream_poll::{PATIENCE, StreamPoll, StreamPolls};
 pub use timed::Timed;
-pub use waiter::Waiter;

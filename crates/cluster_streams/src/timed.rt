@@ -1,7 +1,7 @@
 //! A stream with a deadline.
 ghost use Rattle.std.specs.Io.{ReadsAtMost, WritesAtMost};
 
-use crate::waiter::Waiter;
+use crate::stream_poll::StreamPoll;
 use mio::Interest;
 use mio::net::TcpStream;
 use std::io::{self, Error, ErrorKind, Read, Write};
@@ -18,7 +18,7 @@ const MOST_WRITES: u32 = 20_000;
 #[derive(Drop)]
 pub struct Timed<'w, 's, C: Clock> {
     clock: &'w C,
-    waiter: &'w mut Waiter,
+    poll: &'w mut StreamPoll,
     stream: &'s mut TcpStream,
     until: Instant,
 }
@@ -26,16 +26,16 @@ pub struct Timed<'w, 's, C: Clock> {
 impl<'w, 's, C: Clock> Timed<'w, 's, C> {
     /// The stream, for this long from now on at most. What is written is kept and sent in large
     /// pieces, so the caller has to call `flush` after the last piece; what an earlier message left
-    /// in the waiter is dropped. An error comes where the system refuses the clock.
+    /// in the poll is dropped. An error comes where the system refuses the clock.
     pub fn new(
         clock: &'w C,
-        waiter: &'w mut Waiter,
+        poll: &'w mut StreamPoll,
         stream: &'s mut TcpStream,
         most: Duration,
     ) -> io::Result<Timed<'w, 's, C>> {
         let now = Instant::now(clock)?;
         let until = now.checked_add(most).unwrap_or(now);
-        waiter.kept.clear();
+        poll.kept.clear();
         // (where the system refuses this, a short piece may wait until the one before it is
         // acknowledged)
         match stream.set_nodelay(true) {
@@ -43,7 +43,7 @@ impl<'w, 's, C: Clock> Timed<'w, 's, C> {
         }
         Ok(Timed {
             clock,
-            waiter,
+            poll,
             stream,
             until,
         })
@@ -57,7 +57,7 @@ impl<'w, 's, C: Clock> Timed<'w, 's, C> {
         if left.is_zero() {
             return Err(Error::from(ErrorKind::TimedOut));
         }
-        self.waiter.wait(self.stream, interest, left)
+        self.poll.wait(self.stream, interest, left)
     }
 }
 
@@ -96,13 +96,13 @@ impl<C: Clock> Timed<'_, '_, C> {
     /// Sends what is kept. After an error none of it is kept any more.
     fn send_kept(&mut self) -> io::Result<()> {
         let sent = self.send_all_kept();
-        self.waiter.kept.clear();
+        self.poll.kept.clear();
         sent
     }
 
     /// Writes what is kept from this place on, as much as the system takes.
     fn send_from(&mut self, sent: usize) -> io::Result<usize> {
-        match self.waiter.kept.as_slice().get(sent..) {
+        match self.poll.kept.as_slice().get(sent..) {
             Some(rest) => self.stream.write(rest),
             None => Ok(0),
         }
@@ -112,7 +112,7 @@ impl<C: Clock> Timed<'_, '_, C> {
     fn send_all_kept(&mut self) -> io::Result<()> {
         let mut sent = 0usize;
         for _ in 0..MOST_WRITES {
-            if sent >= self.waiter.kept.len() {
+            if sent >= self.poll.kept.len() {
                 return Ok(());
             }
             match self.send_from(sent) {
@@ -132,13 +132,13 @@ impl<C: Clock> Write for Timed<'_, '_, C> {
     /// Keeps the octets where they have room, and else first sends what is kept. A piece that is
     /// longer than 16,384 octets is sent at once, after what is kept.
     fn write(&mut self, octets: &[u8]) -> io::Result<usize> {
-        if !self.waiter.has_room(octets.len()) {
+        if !self.poll.has_room(octets.len()) {
             self.send_kept()?;
         }
-        if !self.waiter.has_room(octets.len()) {
+        if !self.poll.has_room(octets.len()) {
             return self.send(octets);
         }
-        self.waiter.kept.extend_from_slice(octets)?;
+        self.poll.kept.extend_from_slice(octets)?;
         Ok(octets.len())
     }
 

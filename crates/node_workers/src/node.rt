@@ -5,8 +5,9 @@ use crate::fault::{StartFault, StopFault};
 use crate::signals::Signals;
 use crate::threads::{FetchKit, Kit, Kits, Shared, run_threads};
 use cluster_jobs::{Jobs, NewJobs, Pass, QueueName};
-use cluster_service::{Gate, Station, Tools, refuse_all};
+use cluster_service::{Gate, Station, refuse_all};
 use cluster_sockets::NodeLoop;
+use cluster_streams::StreamPolls;
 use floor_rules::FloorStore;
 use node_book::{NodeBook, Record};
 use node_seats::{Calls, Places};
@@ -30,11 +31,11 @@ pub(crate) struct Edge<G: Drop> {
     /// The event loop.
     pub(crate) turner: NodeLoop,
     /// What each worker polls its streams with.
-    pub(crate) working: Vec<Tools>,
+    pub(crate) working: Vec<StreamPolls>,
     /// What each fetcher polls its streams with.
-    pub(crate) fetching: Vec<Tools>,
+    pub(crate) fetching: Vec<StreamPolls>,
     /// What the node's own thread answers those with who still wait at the end.
-    pub(crate) last: Tools,
+    pub(crate) last: StreamPolls,
 }
 
 /// A node that is opened, and how its shifts are to be.
@@ -66,14 +67,14 @@ fn kits_of<Q: QueueName, R: Wait>(
     alloc: Global,
     jobs: &Jobs<Q>,
     mut pass: Pass<Q>,
-    mut tools: Vec<Tools>,
+    mut polls: Vec<StreamPolls>,
     count: u8,
 ) -> Result<(Pass<Q>, Vec<Kit<Q>>), AllocError>
     requires { pass.parts ≡ 1024 }
 {
     let mut kits = Vec::with_capacity(alloc, usize::from(count))?;
     for number in 0..count {
-        let Some(tools) = tools.pop() else {
+        let Some(polls) = polls.pop() else {
             break;
         };
         let (kept, own) = jobs.split(rt, pass);
@@ -81,7 +82,7 @@ fn kits_of<Q: QueueName, R: Wait>(
         kits.push(Kit {
             number,
             pass: own,
-            tools,
+            polls,
         })?;
     }
     Ok((pass, kits))
@@ -90,12 +91,12 @@ fn kits_of<Q: QueueName, R: Wait>(
 /// What each fetcher begins with. The seats of fetchers come after those of this many workers.
 fn fetch_kits_of(
     alloc: Global,
-    tools: Vec<Tools>,
+    polls: Vec<StreamPolls>,
     workers: u8,
 ) -> Result<Vec<FetchKit>, AllocError> {
-    let mut kits = Vec::with_capacity(alloc, tools.len())?;
-    for (number, tools) in (workers..=u8::MAX).zip(tools) {
-        kits.push(FetchKit { number, tools })?;
+    let mut kits = Vec::with_capacity(alloc, polls.len())?;
+    for (number, polls) in (workers..=u8::MAX).zip(polls) {
+        kits.push(FetchKit { number, polls })?;
     }
     Ok(kits)
 }

@@ -5,8 +5,9 @@ use crate::fault::{StopFault, Unready};
 use crate::halt::{Halt, Taken};
 use crate::signals::Signals;
 use cluster_jobs::{Job, Jobs, Pass, QueueName};
-use cluster_service::{Fetcher, Gate, Questions, Seated, Station, Tools, Worker, milliseconds};
+use cluster_service::{Fetcher, Gate, Questions, Seated, Station, Worker, milliseconds};
 use cluster_sockets::NodeLoop;
+use cluster_streams::StreamPolls;
 use floor_rules::FloorStore;
 use node_bytes::Stepper;
 use node_seats::Calls;
@@ -27,7 +28,7 @@ pub(crate) struct Kit<Q: QueueName> {
     /// Its pass to the job queue.
     pub(crate) pass: Pass<Q>,
     /// What it polls its streams with.
-    pub(crate) tools: Tools,
+    pub(crate) polls: StreamPolls,
 }
 
 /// What one fetcher has of its own.
@@ -36,7 +37,7 @@ pub(crate) struct FetchKit {
     /// The number of its seat.
     pub(crate) number: u8,
     /// What it polls its streams with.
-    pub(crate) tools: Tools,
+    pub(crate) polls: StreamPolls,
 }
 
 /// What the workers have, and what the fetchers have.
@@ -65,13 +66,13 @@ pub(crate) struct Shared<'a, Q: QueueName, S: FloorStore + Drop, L: Calls, G: Ga
 fn seated<'a, Q: QueueName, S: FloorStore + Drop, L: Calls, G: Gate + Drop, R: Wait>(
     shared: &Shared<'a, Q, S, L, G, R>,
     number: u8,
-    tools: Tools,
+    polls: StreamPolls,
 ) -> Seated<'a, AtSeat<'a, S, L, R>, G, R> {
     Seated {
         rt: shared.rt,
         station: shared.station,
         node: AtSeat::new(shared.rt, shared.node, number),
-        tools,
+        polls,
     }
 }
 
@@ -104,10 +105,10 @@ fn work<Q: QueueName, S: FloorStore + Drop, L: Calls, G: Gate + Drop, R: Wait + 
     let Kit {
         number,
         pass,
-        tools,
+        polls,
     } = kit;
     let mut worker = Worker {
-        seated: seated(shared, number, tools),
+        seated: seated(shared, number, polls),
     };
     do_jobs(&mut worker, shared.jobs, pass);
 }
@@ -131,7 +132,7 @@ fn fetch<Q: QueueName, S: FloorStore + Drop, L: Calls, G: Gate + Drop, R: Net + 
     kit: FetchKit,
 ) {
     let mut fetcher = Fetcher {
-        seated: seated(shared, kit.number, kit.tools),
+        seated: seated(shared, kit.number, kit.polls),
     };
     do_errands(&mut fetcher);
 }

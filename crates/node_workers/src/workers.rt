@@ -9,8 +9,9 @@ use crate::fault::{StartFault, StopFault, Unready};
 use crate::halt::Halt;
 use crate::node::{Edge, Prepared, Start, run_node};
 use crate::signals::Signals;
-use cluster_service::{Gate, Station, Tools};
+use cluster_service::{Gate, Station};
 use cluster_sockets::{LoopFault, NodeLoop, Senders};
+use cluster_streams::StreamPolls;
 use floor_rules::FloorStore;
 use node_book::{NodeBook, Record};
 use node_core::{Node, OpenFault};
@@ -98,18 +99,18 @@ fn sockets<R: Net + Clock>(
 }
 
 /// What one thread polls its streams with.
-fn tools<N: Net>(net: &N, alloc: Global) -> Result<Tools, Unready> {
-    match Tools::new(net, alloc) {
-        Ok(tools) => Ok(tools),
+fn polls<N: Net>(net: &N, alloc: Global) -> Result<StreamPolls, Unready> {
+    match StreamPolls::new(net, alloc) {
+        Ok(polls) => Ok(polls),
         Err(_) => Err(Unready::Loop(LoopFault::Io)),
     }
 }
 
 /// What this many threads poll their streams with.
-fn all_tools<N: Net>(net: &N, alloc: Global, count: u8) -> Result<Vec<Tools>, Unready> {
+fn all_polls<N: Net>(net: &N, alloc: Global, count: u8) -> Result<Vec<StreamPolls>, Unready> {
     let mut row = Vec::with_capacity(alloc, usize::from(count))?;
     for _number in 0..count {
-        let one = tools(net, alloc)?;
+        let one = polls(net, alloc)?;
         if row.push(one).is_err() {
             return Err(Unready::NoMemory);
         }
@@ -137,18 +138,18 @@ fn station<G: Gate + Drop>(
 
 /// What the threads of a node poll their streams with.
 #[derive(Drop)]
-struct ToolsOfAll {
-    working: Vec<Tools>,
-    fetching: Vec<Tools>,
-    last: Tools,
+struct PollsOfAll {
+    working: Vec<StreamPolls>,
+    fetching: Vec<StreamPolls>,
+    last: StreamPolls,
 }
 
 /// What this many workers, as many fetchers and the node's thread poll their streams with.
-fn tools_for<N: Net>(net: &N, alloc: Global, count: u8) -> Result<ToolsOfAll, Unready> {
-    let working = all_tools(net, alloc, count)?;
-    let fetching = all_tools(net, alloc, count)?;
-    match tools(net, alloc) {
-        Ok(last) => Ok(ToolsOfAll {
+fn tools_for<N: Net>(net: &N, alloc: Global, count: u8) -> Result<PollsOfAll, Unready> {
+    let working = all_polls(net, alloc, count)?;
+    let fetching = all_polls(net, alloc, count)?;
+    match polls(net, alloc) {
+        Ok(last) => Ok(PollsOfAll {
             working,
             fetching,
             last,
@@ -173,7 +174,7 @@ fn edge_of<G: Gate + Drop, R: Net + Clock>(
     let station = station(alloc, roster, id, senders, gate, &signals)?;
     match tools_for(rt, alloc, count) {
         Ok(
-            ToolsOfAll {
+            PollsOfAll {
                 working,
                 fetching,
                 last,

@@ -1,5 +1,5 @@
 //! Long messages over streams whose other end is slow.
-use cluster_streams::{Timed, Waiter};
+use cluster_streams::{StreamPoll, Timed};
 use mio::net::TcpStream;
 use std::alloc::{AllocError, Global};
 use std::io::{self, Read, Write};
@@ -43,8 +43,8 @@ fn send_pieces<R: Net + Clock>(
     length: usize,
 ) -> io::Result<()> {
     let mut stream = TcpStream::connect(rt, socket_at(port))?;
-    let mut waiter = Waiter::new(rt, alloc)?;
-    let mut timed = Timed::new(rt, &mut waiter, &mut stream, Duration::from_secs(20))?;
+    let mut poll = StreamPoll::new(rt, alloc)?;
+    let mut timed = Timed::new(rt, &mut poll, &mut stream, Duration::from_secs(20))?;
     for piece in octets.chunks(length.max(1)) {
         timed.write_all(piece)?;
     }

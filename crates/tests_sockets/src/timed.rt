@@ -1,5 +1,5 @@
 //! Streams with a moment at which they end, between two ends in one thread.
-use cluster_streams::{Timed, Waiter};
+use cluster_streams::{StreamPoll, Timed};
 use mio::net::{TcpListener, TcpStream};
 use std::alloc::{AllocError, Global};
 use std::io::{self, Error, ErrorKind, Read, Write};
@@ -12,7 +12,7 @@ use std::time::{Duration, Instant};
 struct Pair {
     near: TcpStream,
     far: TcpStream,
-    waiter: Waiter,
+    poll: StreamPoll,
 }
 
 /// The stream that is accepted next.
@@ -35,7 +35,7 @@ fn connected(rt: &HostRuntime, port: u16) -> io::Result<Pair> {
     Ok(Pair {
         near,
         far,
-        waiter: Waiter::new(rt, rt.alloc())?,
+        poll: StreamPoll::new(rt, rt.alloc())?,
     })
 }
 
@@ -43,7 +43,7 @@ fn connected(rt: &HostRuntime, port: u16) -> io::Result<Pair> {
 fn read_within(rt: &HostRuntime, pair: &mut Pair, most: u64) -> io::Result<usize> {
     let mut buffer = [0; 16];
     let most = Duration::from_millis(most);
-    Timed::new(rt, &mut pair.waiter, &mut pair.near, most)?.read(&mut buffer)
+    Timed::new(rt, &mut pair.poll, &mut pair.near, most)?.read(&mut buffer)
 }
 
 /// A read for which nothing comes: the kind of its error, and how many milliseconds it took.
@@ -68,12 +68,12 @@ fn octets_of(alloc: Global, length: usize) -> Result<Vec<u8>, AllocError> {
 /// Writes a head and a body at once each, within five seconds.
 fn write_both(
     rt: &HostRuntime,
-    waiter: &mut Waiter,
+    poll: &mut StreamPoll,
     stream: &mut TcpStream,
     head: &[u8],
     body: &[u8],
 ) -> io::Result<()> {
-    let mut writer = Timed::new(rt, waiter, stream, Duration::from_secs(5))?;
+    let mut writer = Timed::new(rt, poll, stream, Duration::from_secs(5))?;
     writer.write_all(head)?;
     writer.write_all(body)?;
     writer.flush()
@@ -82,20 +82,20 @@ fn write_both(
 /// Whether the next octets of a stream are these, within five seconds.
 fn are_read(
     rt: &HostRuntime,
-    waiter: &mut Waiter,
+    poll: &mut StreamPoll,
     stream: &mut TcpStream,
     wanted: &[u8],
 ) -> io::Result<bool> {
     let mut octets = vec![in rt.alloc(); 0; wanted.len()]?;
-    Timed::new(rt, waiter, stream, Duration::from_secs(5))?.read_exact(octets.as_mut_slice())?;
+    Timed::new(rt, poll, stream, Duration::from_secs(5))?.read_exact(octets.as_mut_slice())?;
     Ok(octets.as_slice() == wanted)
 }
 
 /// Writes octets at one end, as a head of such a length and a body: whether they come at the other end.
 fn are_carried(rt: &HostRuntime, pair: &mut Pair, octets: &[u8], head: usize) -> io::Result<bool> {
     let (head, body) = octets.split_at(head.min(octets.len()));
-    write_both(rt, &mut pair.waiter, &mut pair.near, head, body)?;
-    are_read(rt, &mut pair.waiter, &mut pair.far, octets)
+    write_both(rt, &mut pair.poll, &mut pair.near, head, body)?;
+    are_read(rt, &mut pair.poll, &mut pair.far, octets)
 }
 
 /// Lengths of a head and of a body, which together are more than the 16,384 octets that are kept.
@@ -165,11 +165,11 @@ fn ended(rt: &HostRuntime, port: u16) -> io::Result<usize> {
     let Pair {
         mut near,
         far,
-        mut waiter,
+        mut poll,
     } = connected(rt, port)?;
     drop(far);
     let mut buffer = [0; 16];
-    Timed::new(rt, &mut waiter, &mut near, Duration::from_secs(5))?.read(&mut buffer)
+    Timed::new(rt, &mut poll, &mut near, Duration::from_secs(5))?.read(&mut buffer)
 }
 
 #[test]
@@ -182,8 +182,8 @@ fn a_stream_ends_with_its_peer(rt: HostRuntime) -> Result<(), Fail> {
 fn unheard(rt: &HostRuntime, port: u16) -> io::Result<ErrorKind> {
     let at = SocketAddr::from((Ipv4Addr::LOCALHOST, port));
     let mut stream = TcpStream::connect(rt, at)?;
-    let mut waiter = Waiter::new(rt, rt.alloc())?;
-    let mut timed = Timed::new(rt, &mut waiter, &mut stream, Duration::from_secs(5))?;
+    let mut poll = StreamPoll::new(rt, rt.alloc())?;
+    let mut timed = Timed::new(rt, &mut poll, &mut stream, Duration::from_secs(5))?;
     timed.write_all(b"abc")?;
     match timed.flush() {
         Ok(()) => Ok(ErrorKind::Other),
