@@ -145,7 +145,7 @@ struct PollsOfAll {
 }
 
 /// What this many workers, as many fetchers and the node's thread poll their streams with.
-fn tools_for<N: Net>(net: &N, alloc: Global, count: u8) -> Result<PollsOfAll, Unready> {
+fn polls_for<N: Net>(net: &N, alloc: Global, count: u8) -> Result<PollsOfAll, Unready> {
     let working = all_polls(net, alloc, count)?;
     let fetching = all_polls(net, alloc, count)?;
     match polls(net, alloc) {
@@ -172,7 +172,7 @@ fn edge_of<G: Gate + Drop, R: Net + Clock>(
 {
     let (turner, senders) = sockets(rt, alloc, roster, id)?;
     let station = station(alloc, roster, id, senders, gate, &signals)?;
-    match tools_for(rt, alloc, count) {
+    match polls_for(rt, alloc, count) {
         Ok(
             PollsOfAll {
                 working,
