@@ -1,5 +1,5 @@
 -- Addresses as the calls of the system take and give them.
-use Rattle.std.specs.Prelude.{ℕ, ⊥}
+use Rattle.std.specs.Prelude.{ℕ}
 use Rattle.std.specs.declared.net.ip_addr.IpAddr.{IpAddr}
 use Rattle.std.specs.declared.net.ip_addr.IpAddr.TheVariants.{V4, V6}
 use Rattle.std.specs.declared.net.socket_addr.SocketAddr.{SocketAddr}
