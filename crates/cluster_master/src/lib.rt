@@ -5,7 +5,7 @@
 //! full it is turned before the next call: its entries are kept for the owner to take, or dropped
 //! ([`History`]).
 //!
-//! A [`MasterLoop`] has the master's UDP socket. Each [`MasterLoop::turn`] polls for 100
+//! A [`MasterLoop`] has the master's UDP socket. [`MasterLoop::poll_once`] polls for 100
 //! milliseconds at most, makes the calls that datagrams ask for (responses to a CLR; RFC 2756,
 //! "CLR"), and once a second sends again the CLR of each pending purge to each member that has not
 //! acknowledged it. Where nothing can be due, no call is made and none is entered. A

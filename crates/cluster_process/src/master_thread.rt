@@ -26,17 +26,17 @@ pub(crate) struct MasterThread<S: PurgeStore> {
 
 /// What the master's thread has.
 #[derive(Drop)]
-struct Turned<S: PurgeStore> {
-    turner: MasterLoop,
+struct Polling<S: PurgeStore> {
+    poller: MasterLoop,
     roster: Roster,
     master: Arc<SharedMaster<S>, Global>,
     is_stopped: Arc<AtomicBool, Global>,
 }
 
-impl<S: PurgeStore + Drop> Turned<S> {
-    /// Takes turns until it is told to stop.
+impl<S: PurgeStore + Drop> Polling<S> {
+    /// Polls again and again until it is told to stop.
     fn run<R: Wait + Clock>(mut self, rt: &R) {
-        self.turner
+        self.poller
             .run_until(rt, &self.roster, &self.master, &self.is_stopped);
     }
 }
@@ -93,18 +93,18 @@ impl<S: PurgeStore + Drop + Send + 'static> MasterThread<S> {
     ) -> Result<MasterThread<S>, ClusterFault> {
         let master = shared(alloc, roster, purges, places, history_of(history))?;
         let is_stopped = flag(alloc)?;
-        let turner = match MasterLoop::open(&rt, alloc, roster) {
-            Ok(turner) => turner,
+        let poller = match MasterLoop::open(&rt, alloc, roster) {
+            Ok(poller) => poller,
             Err(fault) => return Err(ClusterFault::MasterStart(fault)),
         };
-        let sender = turner.sender()?;
-        let turned = Turned {
-            turner,
+        let sender = poller.sender()?;
+        let polling = Polling {
+            poller,
             roster: roster.copy(alloc)?,
             master: Arc::try_clone(&master)?,
             is_stopped: Arc::try_clone(&is_stopped)?,
         };
-        match thread::spawn(&rt, move || turned.run(&rt)) {
+        match thread::spawn(&rt, move || polling.run(&rt)) {
             Ok(thread) => Ok(MasterThread {
                 master,
                 sender,

@@ -1,6 +1,6 @@
 //! From the UDP sockets into the job queue.
 ghost use Rattle.std.specs.Prelude.{IfOk};
-ghost use Rattle.cluster_sockets.specs.Turns.{HasPut, IsSound};
+ghost use Rattle.cluster_sockets.specs.Polls.{HasPut, IsSound};
 
 use crate::at_once::AtOnce;
 use crate::fault::LoopFault;
@@ -17,8 +17,8 @@ use values_plain::{Address, Udp};
 /// The size of the receive buffer in octets. No datagram of IPv4 is longer.
 const LONGEST: usize = 65_536;
 
-/// How many datagrams of one protocol a turn reads at most, so that each socket gets its share of a
-/// turn.
+/// How many datagrams of one protocol a poll reads at most, so that each socket gets its share of a
+/// poll.
 const MOST_AT_ONCE: usize = 256;
 
 /// Reads the datagrams of a node.
@@ -33,7 +33,7 @@ pub(crate) struct Datagrams {
 }
 
 impl Datagrams {
-    /// Reads these sockets, from the first turn on. `AllocError` comes where there is no
+    /// Reads these sockets, from the first poll on. `AllocError` comes where there is no
     /// memory for the receive buffer.
     pub(crate) fn new(
         alloc: Global,

@@ -1,7 +1,7 @@
 //! Connections whose request head has not come whole.
 ghost use Rattle.std.specs.Prelude.{IfSome};
 ghost use Rattle.cluster_jobs.specs.Order.{sight_of};
-ghost use Rattle.cluster_sockets.specs.Turns.{HasCome};
+ghost use Rattle.cluster_sockets.specs.Polls.{HasCome};
 
 use cluster_jobs::Job;
 use mio::net::TcpStream;
