@@ -13,7 +13,7 @@ use Rattle.purge_master.specs.Book.{BookView, IsEntered}
 use Rattle.cluster_master.specs.declared.desk.History.{History}
 use Rattle.cluster_master.specs.declared.desk.History.TheVariants.{UpTo, Dropped}
 
--- the book, the entries of the pages that were turned, whether these are kept, and whether a CLR may be due
+-- the book, the entries of the pages that were filed, whether these are kept, and whether a CLR may be due
 pub record DeskView (S : Type 0) : Type 0 where
   pub book : BookView S
   pub kept : List MasterEntry
@@ -57,13 +57,13 @@ kept_with history kept page = if keeps history (length kept) then kept ++ page e
 abbrev pub history_after : History → List MasterEntry → History
 history_after history kept = if keeps history (length kept) then history else Dropped
 
--- the page is turned: the book has no entry, and the same master
-abbrev pub turned : {S : Type 0} → DeskView S → DeskView S
-turned desk = record { book = emptied desk.book; kept = kept_with desk.history desk.kept desk.book.entries; history = history_after desk.history desk.kept; may_be_due = desk.may_be_due }
+-- the page is filed: the book has no entry, and the same master
+abbrev pub filed : {S : Type 0} → DeskView S → DeskView S
+filed desk = record { book = emptied desk.book; kept = kept_with desk.history desk.kept desk.book.entries; history = history_after desk.history desk.kept; may_be_due = desk.may_be_due }
 
--- a page of 4,096 entries is full, and is turned before a call
+-- a page of 4,096 entries is full, and is filed before a call
 abbrev pub ready : {S : Type 0} → DeskView S → DeskView S
-ready desk = if nat_le 4096 (length desk.book.entries) then turned desk else desk
+ready desk = if nat_le 4096 (length desk.book.entries) then filed desk else desk
 
 -- the master has answered the call so, at some place, and the call is entered with that answer behind the entries of
 -- the page
@@ -74,7 +74,7 @@ pub record IsCalledAt {S : Type 0} (was now : Witness) (before after : DeskView 
   pub history : after.history ≡ (ready before).history
   pub may_be_due : after.may_be_due ≡ may_be_due_after out before.may_be_due
 
--- there was no memory, so the call was not made; the page may have been turned
+-- there was no memory, so the call was not made; the page may have been filed
 abbrev pub IsUnmade : {S : Type 0} → DeskView S → DeskView S → Result MasterAnswer MasterFault → Type 0
 IsUnmade before after out = (out ≡ Err NoMemory) × ((after ≡ before) ⊎ (after ≡ ready before))
 

@@ -1,9 +1,9 @@
-//! What the lock of a shared master holds: its book, and the pages that were turned.
+//! What the lock of a shared master holds: its book, and the pages that were filed.
 ghost use Rattle.std.specs.Prelude.{◌≡◌, ◌≢◌, ◌⊎◌, ◌<◌, ◌++◌, [], length, false, Err, IfOk, IfSome, OnOk, OnErr};
 ghost use Rattle.htcp_wire.specs.Written.{Fits};
 ghost use Rattle.purge_master.specs.Store.{witness};
 ghost use Rattle.purge_rules.specs.declared.fault.MasterFault.TheVariants as faults;
-ghost use Rattle.cluster_master.specs.Desk.{IsCalledAt, IsUnmade, IsTaken, IsNothingDue, is_dropped, keeps, may_be_due_after as may_be_due_by, ready, turned, emptied};
+ghost use Rattle.cluster_master.specs.Desk.{IsCalledAt, IsUnmade, IsTaken, IsNothingDue, is_dropped, keeps, may_be_due_after as may_be_due_by, ready, filed, emptied};
 ghost use Rattle.cluster_master.specs.Answers.{IsToldOf, IsClearOf};
 
 use htcp_wire::Htcp;
@@ -14,7 +14,7 @@ use std::alloc::{AllocError, Global};
 use std::marker::Model;
 use std::mem::replace;
 
-/// What becomes of the entries of a page that is turned.
+/// What becomes of the entries of a page that is filed.
 #[derive(Clone, Copy, Debug, PartialEq, Eq)]
 pub enum History {
     /// They are kept until they are taken, while fewer than this many are kept. Where a page would
@@ -48,16 +48,16 @@ fn may_be_due_after(answer: &Result<MasterAnswer, MasterFault>, was: bool) -> bo
     }
 }
 
-/// A master's book, the entries of the pages that were turned, and whether a CLR may be due. Where
+/// A master's book, the entries of the pages that were filed, and whether a CLR may be due. Where
 /// none may be due, none is.
 #[derive(Drop)]
 pub(crate) struct Desk<S: PurgeStore> {
     pub(crate) alloc: Global,
     /// The master, and the open page of its calls.
     pub(crate) book: MasterBook<S>,
-    /// The entries of the pages that were turned.
+    /// The entries of the pages that were filed.
     pub(crate) kept: Vec<MasterEntry>,
-    /// What becomes of the entries of a page that is turned.
+    /// What becomes of the entries of a page that is filed.
     pub(crate) history: History,
     /// Whether a CLR may be due.
     pub(crate) may_be_due: bool,
@@ -102,9 +102,9 @@ fn keep<S: PurgeStore>(
 }
 
 impl<S: PurgeStore> Desk<S> {
-    /// Turns the page; or leaves everything unchanged, where there is no memory for what is kept.
-    fn turn_page(&mut self) -> Result<(), AllocError>
-        ensures turned { OnOk result (self.new ≡ turned self.old) }
+    /// Files the page; or leaves everything unchanged, where there is no memory for what is kept.
+    fn file_page(&mut self) -> Result<(), AllocError>
+        ensures filed { OnOk result (self.new ≡ filed self.old) }
         ensures refused { OnErr result (self.new ≡ self.old) }
     {
         if has_place(self.history, self.kept.len()) {
@@ -116,20 +116,20 @@ impl<S: PurgeStore> Desk<S> {
         Ok(())
     }
 
-    /// Makes room for an entry: a page that is full is turned.
+    /// Makes room for an entry: a page that is full is filed.
     fn make_ready(&mut self) -> Result<(), AllocError>
         ensures ready { OnOk result (self.new ≡ ready self.old) }
         ensures room { OnOk result (length self.new.book.entries < 4096) }
         ensures refused { OnErr result (self.new ≡ self.old) }
     {
         if self.book.entries().len() >= MOST_ENTRIES {
-            return self.turn_page();
+            return self.file_page();
         }
         Ok(())
     }
 
     /// Makes one call of the master, which is entered with its answer; a page that is full is
-    /// turned before it. Where there is no memory for that, or for the entry, the answer is
+    /// filed before it. Where there is no memory for that, or for the entry, the answer is
     /// `NoMemory`, the master is not called, and no entry is lost.
     pub(crate) fn call(&mut self, call: MasterCall) -> Result<MasterAnswer, MasterFault>
         ensures called { IsUnmade self.old self.new result

@@ -2,7 +2,7 @@
 //!
 //! A [`SharedMaster`] is a master's book (the log of its calls) under a lock. Each call draws its
 //! place while the lock is held. A book has 4,096 entries at most, called a page. Where the page is
-//! full it is turned before the next call: its entries are kept for the owner to take, or dropped
+//! full it is filed before the next call: its entries are kept for the owner to take, or dropped
 //! ([`History`]).
 //!
 //! A [`MasterLoop`] has the master's UDP socket. [`MasterLoop::poll_once`] polls for 100

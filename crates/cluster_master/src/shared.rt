@@ -19,7 +19,7 @@ pub struct SharedMaster<S: PurgeStore> {
 
 impl<S: PurgeStore> SharedMaster<S> {
     /// Shares a book. Its calls draw their places from this counter, and the history says what
-    /// becomes of the entries of a page that is turned.
+    /// becomes of the entries of a page that is filed.
     pub fn open(
         alloc: Global,
         book: MasterBook<S>,
@@ -42,7 +42,7 @@ impl<S: PurgeStore> SharedMaster<S> {
     /// Makes one call of the master, and enters it with its answer. The answer is of the kind of
     /// the call.
     ///
-    /// Faults: those of `MasterBook::call` but `ShiftFull`, since a full page is turned first.
+    /// Faults: those of `MasterBook::call` but `ShiftFull`, since a full page is filed first.
     /// `NoMemory` also comes where there is no memory to keep that page; nothing changes then.
     pub fn call<R: Wait>(&self, rt: &R, call: MasterCall) -> Result<MasterAnswer, MasterFault>
         ensures { IsToldOf call result }
@@ -69,7 +69,7 @@ impl<S: PurgeStore> SharedMaster<S> {
     }
 
     /// Takes the entries since they were last taken, in their order; where no history is kept,
-    /// those since the page was turned. Where there is no memory to put the open page behind the
+    /// those since the page was filed. Where there is no memory to put the open page behind the
     /// pages that are kept, its entries come with the next take.
     pub fn take_entries<R: Wait>(&self, rt: &R) -> Vec<MasterEntry> {
         self.desk.lock(rt).take_entries()

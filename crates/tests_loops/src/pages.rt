@@ -1,4 +1,4 @@
-//! A page of the book is turned where it is full.
+//! A page of the book is filed where it is full.
 use crate::starts::{roster_at, shared};
 use cluster_master::{History, SharedMaster};
 use purge_master::MasterEntry;
@@ -69,7 +69,7 @@ fn taken<R: Wait>(
 }
 
 #[test]
-fn no_entry_is_lost_where_a_page_is_turned(rt: HostRuntime) -> Result<(), Fail> {
+fn no_entry_is_lost_where_a_page_is_filed(rt: HostRuntime) -> Result<(), Fail> {
     let (told, entries) = taken(&rt, rt.alloc(), History::UpTo(8192))?;
     assert!(rt; told && are_all(entries.as_slice(), 4096));
     Ok(())
