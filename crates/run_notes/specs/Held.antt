@@ -1,7 +1,7 @@
 -- How notes and tracks are held, and the list of notes that are left.
 use Rattle.std.specs.Prelude.{ℕ, suc, Bool, true, false, nat_le, ◌==◌, List, [], ◌∷◌, map, option_map, Option, Some, None, if◌then◌else◌}
 use Rattle.std.specs.Global.{Vec}
-use Rattle.run_rules.specs.Notes.{Note, Opens, Steps, Closes, Calls, lesser, turn_of}
+use Rattle.run_rules.specs.Notes.{Note, Opens, Steps, Closes, Calls, lesser, rank_of}
 use Rattle.run_rules.specs.Verdict.{Listed, order_by, count_in}
 use Rattle.run_notes.specs.declared.note.Note.{Note as Held}
 use Rattle.run_notes.specs.declared.note.Note.TheVariants as held
@@ -52,12 +52,12 @@ abbrev pub place_in_rest : Bool → Option ℕ → Option ℕ
 place_in_rest true later = Some 0
 place_in_rest false later = option_map suc later
 
--- whether a track's turn is this one
-abbrev pub has_turn : ℕ → Option ℕ → Bool
-has_turn turn None = false
-has_turn turn (Some here) = here == turn
+-- whether a track's rank is this one
+abbrev pub has_rank : ℕ → Option ℕ → Bool
+has_rank rank None = false
+has_rank rank (Some here) = here == rank
 
--- the index of the first track that has this turn, if any
+-- the index of the first track that has this rank, if any
 abbrev pub place_at : ℕ → List (List Note) → Option ℕ
-place_at turn [] = None
-place_at turn (track ∷ tracks) = place_in_rest (has_turn turn (turn_of track)) (place_at turn tracks)
+place_at rank [] = None
+place_at rank (track ∷ tracks) = place_in_rest (has_rank rank (rank_of track)) (place_at rank tracks)

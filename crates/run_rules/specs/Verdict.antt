@@ -9,11 +9,11 @@ use Rattle.run_rules.specs.declared.verdict.Cause.{Cause}
 use Rattle.run_rules.specs.declared.verdict.Cause.TheVariants.{DoublePlace, OtherState}
 use Rattle.run_rules.specs.declared.verdict.Verdict.{Verdict}
 use Rattle.run_rules.specs.declared.verdict.Verdict.TheVariants.{Yes, No}
-use Rattle.run_rules.specs.Notes.{Note, Opens, Steps, Closes, Calls, Taken, tracks_of, place_in, turn_by, turns_of, count_of, least_fall, next_note}
+use Rattle.run_rules.specs.Notes.{Note, Opens, Steps, Closes, Calls, Taken, tracks_of, place_in, rank_by, ranks_of, count_of, least_fall, next_note}
 use Rattle.run_rules.specs.Board.{Post, Board, new_board}
 use Rattle.run_rules.specs.Judging.{Fine, Flawed, Judges, is_astray as is_unknown}
 
--- a note in its turn, with the doubled place that is found there, if any
+-- a note in the order of all notes, with the doubled place that is found there, if any
 pub record Listed : Type 0 where
   pub note : Note
   pub double : Option ℕ
@@ -25,13 +25,13 @@ double_by fall is_shared None = None
 double_by None is_shared (Some place) = if is_shared then Some place else None
 double_by (Some fall) is_shared (Some place) = if nat_le fall place then Some fall else (if is_shared then Some place else None)
 
--- the same, by the turns of all tracks [Record 3]
+-- the same, by the ranks of all tracks [Record 3]
 abbrev pub double_of : Option ℕ → List ℕ → Option ℕ → Option ℕ
-double_of fall turns place = double_by fall (nat_le 2 (count_of (turn_by place) turns)) place
+double_of fall ranks place = double_by fall (nat_le 2 (count_of (rank_by place) ranks)) place
 
 -- a note that is taken from these tracks, with the doubled place
 abbrev pub listed : Option ℕ → List (List Note) → Note → Listed
-listed fall tracks note = record { note = note; double = double_of fall (turns_of tracks) (place_in note) }
+listed fall tracks note = record { note = note; double = double_of fall (ranks_of tracks) (place_in note) }
 
 -- the note that was taken, and the order of the rest
 abbrev pub order_on : Option ℕ → List (List Note) → (List (List Note) → List Listed) → Option Taken → List Listed
