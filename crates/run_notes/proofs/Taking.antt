@@ -6,7 +6,7 @@ use Rattle.std.specs.List.{flat_map, cons_option}
 use Rattle.std.proofs.lemmas.Option.{none-some}
 use Rattle.node_rules.proofs.Cases.{branches, true_not_false}
 use Rattle.run_rules.specs.Notes.{Note, Taken, rank_of, rank_by, ranks_of, place_in, least, lesser, take_from, take_at, take_by, next_note, count_of}
-use Rattle.run_rules.specs.Verdict.{Listed, listed, double_by, double_of, order_by, order_on, count_in}
+use Rattle.run_rules.specs.Verdict.{OrderedNote, ordered, double_by, double_of, order_by, order_on, count_in}
 use Rattle.run_rules.proofs.Lists.{either, same_some}
 use Rattle.run_notes.specs.Held.{place_at, place_in_rest, has_rank}
 

@@ -3,7 +3,7 @@
 ghost use Rattle.std.specs.Prelude.{◌≡◌, ◌≤◌, ◌<◌, ◌∷◌, [], length, nat_le, Some, None, MatchOption, IfSome, IfOk, if◌then◌else◌};
 ghost use Rattle.run_rules.specs.Notes.{rank_of as rank_of_track, ranks_of, least, count_of, tracks_of};
 ghost use Rattle.run_rules.specs.Verdict.{double_by, order_of};
-ghost use Rattle.run_notes.specs.Held.{track_of, tracks_in, place_at as place_of_rank, order_in, listed_of};
+ghost use Rattle.run_notes.specs.Held.{track_of, tracks_in, place_at as place_of_rank, order_in, ordered_of};
 
 use crate::Note;
 use crate::falls::least_fall;
@@ -14,7 +14,7 @@ use std::alloc::{AllocError, Global};
 
 /// A note that was taken.
 #[derive(Clone, Copy)]
-pub struct Listed<'a> {
+pub struct OrderedNote<'a> {
     /// The note.
     pub note: Note<'a>,
     /// The doubled place that is found at this note, if any: one that is not greater than the one
@@ -124,14 +124,14 @@ impl<'a> Notes<'a> {
     }
 
     /// Takes the next note; `None` if all are taken. Allocates nothing.
-    pub fn take(&mut self) -> Option<Listed<'a>>
-        ensures { MatchOption result (order_in self.old ≡ []) (λ listed. order_in self.old ≡ listed_of listed ∷ order_in self.new) }
+    pub fn take(&mut self) -> Option<OrderedNote<'a>>
+        ensures { MatchOption result (order_in self.old ≡ []) (λ ordered. order_in self.old ≡ ordered_of ordered ∷ order_in self.new) }
     {
         let rank = least_rank(self.tracks.as_slice())?;
         let is_shared = count_at(self.tracks.as_slice(), rank) >= 2;
         let at = place_at(self.tracks.as_slice(), rank)?;
         let note = self.tracks[at].pop()?;
         let double = double_at(self.fall, is_shared, note.place());
-        Some(Listed { note, double })
+        Some(OrderedNote { note, double })
     }
 }

@@ -7,7 +7,7 @@ use Rattle.std.proofs.lemmas.Bool.Decides.{nat_tests}
 use Rattle.node_rules.proofs.Cases.{branches, test_le, test_lt}
 use Rattle.world_rules.proofs.Seats.{same_id}
 use Rattle.run_rules.specs.Notes.{Note, place_in, rank_by, rank_of, ranks_of, places_in, falls, falls_from, lesser, least, least_fall, Taken, next_note, count_of}
-use Rattle.run_rules.specs.Verdict.{Listed, double_of, order_on, order_by, count_in, order_of}
+use Rattle.run_rules.specs.Verdict.{OrderedNote, double_of, order_on, order_by, count_in, order_of}
 use Rattle.run_rules.specs.Recorded.{Rise, AllRise}
 use Rattle.run_rules.proofs.Lists.{either, same_some}
 use Rattle.run_rules.proofs.Taking.{Took, taken_by, note_of}
@@ -169,7 +169,7 @@ single_by (Some d) ranks p is =
     (λ late h. some_none_place d h)
     (λ early h. ((λ late. omega (greater d p early, same_some d late.0 late.1, late.2, arith)), shared_by ranks p h))) is
 
-abbrev places_of : List Listed → List ℕ
+abbrev places_of : List OrderedNote → List ℕ
 places_of ls = filter_map place_in (map note_of ls)
 
 nothing_rises : (last : Option ℕ) → RiseFrom last []
@@ -183,7 +183,7 @@ took_rank rank (track ∷ tracks) rest note (inr (others, left, elsewhere, took)
 
 module _ (fall : Option ℕ) where
   -- a note is taken, and the rest goes on after it
-  taken_rise : (tracks : List (List Note)) (last : Option ℕ) (x : Taken) (rank : ℕ) (later : List (List Note) → List Listed) (place : Option ℕ) → least (ranks_of tracks) ≡ Some rank → Took rank tracks x.note x.rest → place_in x.note ≡ place →
+  taken_rise : (tracks : List (List Note)) (last : Option ℕ) (x : Taken) (rank : ℕ) (later : List (List Note) → List OrderedNote) (place : Option ℕ) → least (ranks_of tracks) ≡ Some rank → Took rank tracks x.note x.rest → place_in x.note ≡ place →
       GoOn fall last tracks → double_of fall (ranks_of tracks) (place_in x.note) ≡ None → ((behind : Option ℕ) → GoOn fall behind x.rest → RiseFrom behind (places_of (later x.rest))) →
       RiseFrom last (cons_option (place_in x.note) (places_of (later x.rest)))
   taken_rise tracks last x rank later None has took is on single rises =
@@ -195,14 +195,14 @@ module _ (fall : Option ℕ) where
       let (above, on_later) = steps_up fall last rank p tracks x.rest x.note took is rank_is on below (subst (λ n. count_of n (ranks_of tracks) ≤ 1) (sym rank_is) alone) early in
       subst (λ (o : Option ℕ). RiseFrom last (cons_option o (places_of (later x.rest)))) (sym is) (rise_more last p (places_of (later x.rest)) above (rises (Some p) on_later))
 
-  rise_on : (tracks : List (List Note)) (last : Option ℕ) (later : List (List Note) → List Listed) (o : Option Taken) → next_note tracks ≡ o → GoOn fall last tracks → AllByRecursion (λ (l : Listed). l.double ≡ None) (order_on fall tracks later o) →
-      ((rest : List (List Note)) (behind : Option ℕ) → GoOn fall behind rest → AllByRecursion (λ (l : Listed). l.double ≡ None) (later rest) → RiseFrom behind (places_of (later rest))) → RiseFrom last (places_of (order_on fall tracks later o))
+  rise_on : (tracks : List (List Note)) (last : Option ℕ) (later : List (List Note) → List OrderedNote) (o : Option Taken) → next_note tracks ≡ o → GoOn fall last tracks → AllByRecursion (λ (l : OrderedNote). l.double ≡ None) (order_on fall tracks later o) →
+      ((rest : List (List Note)) (behind : Option ℕ) → GoOn fall behind rest → AllByRecursion (λ (l : OrderedNote). l.double ≡ None) (later rest) → RiseFrom behind (places_of (later rest))) → RiseFrom last (places_of (order_on fall tracks later o))
   rise_on tracks last later None is on single rises = nothing_rises last
   rise_on tracks last later (Some x) is on (single, others) rises =
       let (rank, has, took) = taken_by (least (ranks_of tracks)) tracks x is in
       taken_rise tracks last x rank later (place_in x.note) has took refl on single (λ behind on_later. rises x.rest behind on_later others)
 
-  rise : (count : ℕ) (tracks : List (List Note)) (last : Option ℕ) → GoOn fall last tracks → AllByRecursion (λ (l : Listed). l.double ≡ None) (order_by count fall tracks) → RiseFrom last (places_of (order_by count fall tracks))
+  rise : (count : ℕ) (tracks : List (List Note)) (last : Option ℕ) → GoOn fall last tracks → AllByRecursion (λ (l : OrderedNote). l.double ≡ None) (order_by count fall tracks) → RiseFrom last (places_of (order_by count fall tracks))
   rise zero tracks last on single = nothing_rises last
   rise (suc count) tracks last on single = rise_on tracks last (λ rest. order_by count fall rest) (next_note tracks) refl on single (λ rest behind on_later others. rise count rest behind on_later others)
 
@@ -236,5 +236,5 @@ begin_on fall (track ∷ tracks) late =
     ((first_next fall (places_in track), here), begin_on fall tracks there)
 
 -- if no place is doubled, all places rise
-pub order_rises : (tracks : List (List Note)) → AllByRecursion (λ (l : Listed). l.double ≡ None) (order_of tracks) → AllRise (filter_map place_in (map note_of (order_of tracks)))
+pub order_rises : (tracks : List (List Note)) → AllByRecursion (λ (l : OrderedNote). l.double ≡ None) (order_of tracks) → AllRise (filter_map place_in (map note_of (order_of tracks)))
 order_rises tracks single = rise (least_fall tracks) (count_in tracks) tracks None (begin_on (least_fall tracks) tracks (all_late (flat_map (λ track. falls (places_in track)) tracks))) single

@@ -6,7 +6,7 @@ use Rattle.std.specs.List.{flat_map}
 use Rattle.node_rules.proofs.Cases.{branches, true_not_false}
 use Rattle.world_rules.proofs.Seats.{same_id, ids_same}
 use Rattle.run_rules.specs.Notes.{Note, place_in, rank_by, rank_of, ranks_of, Taken, take_from, take_at, take_by, next_note, lesser, least}
-use Rattle.run_rules.specs.Verdict.{Listed, order_on, order_by, count_in}
+use Rattle.run_rules.specs.Verdict.{OrderedNote, order_on, order_by, count_in}
 use Rattle.run_rules.proofs.Lists.{either, same_some}
 
 nat_same : (m n : ℕ) → m ≡ n → nat_eq m n ≡ true
@@ -182,7 +182,7 @@ none_left test ((note ∷ notes) ∷ tracks) is = absurd (omega (is, arith))
 
 -- All notes in their order
 
-abbrev pub note_of : Listed → Note
+abbrev pub note_of : OrderedNote → Note
 note_of l = l.note
 
 pub taken_by : (ranks : Option ℕ) (tracks : List (List Note)) (x : Taken) → take_by tracks ranks ≡ Some x → (rank : ℕ) × (ranks ≡ Some rank) × Took rank tracks x.note x.rest

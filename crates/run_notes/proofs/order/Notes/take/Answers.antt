@@ -6,7 +6,7 @@ use Rattle.std.specs.Global.{Vec}
 use Rattle.std.proofs.lemmas.List.{map-set, nil_from_length}
 use Rattle.std.proofs.lemmas.Option.{none-some, slice_get_read}
 use Rattle.run_rules.specs.Notes.{Note, place_in, ranks_of, least, count_of}
-use Rattle.run_rules.specs.Verdict.{Listed, double_by, order_by, count_in}
+use Rattle.run_rules.specs.Verdict.{OrderedNote, double_by, order_by, count_in}
 use Rattle.run_notes.specs.declared.note.Note.{Note as Held}
 use Rattle.run_notes.specs.Held.{note_of, track_of, tracks_in, place_at}
 use Rattle.run_notes.proofs.Stacks.{pushed}
