@@ -12,9 +12,9 @@
 //! [`MasterSender`] issues a purge and sends its CLR to each member, from any thread, on the same
 //! socket. No lock is held while a socket is waited for or written.
 //!
-//! Order of reading: `specs/Desk.antt` (what a call does to the book), `specs/Answers.antt` (what a
-//! caller knows of an answer); `src/shared.rt` (the calls), `src/desk.rt` (the calls inside the
-//! lock), `src/master_loop.rt` (the loop), `src/sending.rt` (the CLRs), `src/fault.rt`,
+//! Order of reading: `specs/LockedBook.antt` (what a call does to the book), `specs/Answers.antt`
+//! (what a caller knows of an answer); `src/shared.rt` (the calls), `src/locked_book.rt` (the calls
+//! inside the lock), `src/master_loop.rt` (the loop), `src/sending.rt` (the CLRs), `src/fault.rt`,
 //! `specs/Names.antt`; `proofs/Clears.antt`.
 //!
 //! The crate opens one socket, polls it, reads the clock, and waits at its lock. It starts no
@@ -22,7 +22,7 @@
 //! purges, which is passed in.
 //!
 //! A contract sees no value under a lock, and nothing that a socket takes or gives. So what a call
-//! does is said of the desk inside the lock, and what is sent under a number, and where a member
+//! does is said of the book inside the lock, and what is sent under a number, and where a member
 //! is, is said where it is made. That a datagram that came is read and its call made, that CLRs are
 //! sent, and that a second is a second, is tested. A CLR that the system does not take is lost, as
 //! any datagram may be; it is sent again about a second later.
@@ -33,14 +33,14 @@
 //! acknowledged.
 #![tactic(auto)]
 
-mod desk;
 mod fault;
+mod locked_book;
 mod master_loop;
 mod sending;
 mod shared;
 
-pub use desk::History;
 pub use fault::MasterStartFault;
+pub use locked_book::History;
 pub use master_loop::MasterLoop;
 pub use sending::MasterSender;
 pub use shared::SharedMaster;

@@ -10,11 +10,11 @@ use Rattle.purge_master.specs.declared.book.MasterEntry.{MasterEntry}
 use Rattle.purge_master.specs.View.{MasterView}
 use Rattle.purge_master.specs.Store.{Witness}
 use Rattle.purge_master.specs.Book.{BookView, IsEntered}
-use Rattle.cluster_master.specs.declared.desk.History.{History}
-use Rattle.cluster_master.specs.declared.desk.History.TheVariants.{UpTo, Dropped}
+use Rattle.cluster_master.specs.declared.locked_book.History.{History}
+use Rattle.cluster_master.specs.declared.locked_book.History.TheVariants.{UpTo, Dropped}
 
 -- the book, the entries of the pages that were filed, whether these are kept, and whether a CLR may be due
-pub record DeskView (S : Type 0) : Type 0 where
+pub record LockedBookView (S : Type 0) : Type 0 where
   pub book : BookView S
   pub kept : List MasterEntry
   pub history : History
@@ -58,16 +58,16 @@ abbrev pub history_after : History → List MasterEntry → History
 history_after history kept = if keeps history (length kept) then history else Dropped
 
 -- the page is filed: the book has no entry, and the same master
-abbrev pub filed : {S : Type 0} → DeskView S → DeskView S
-filed desk = record { book = emptied desk.book; kept = kept_with desk.history desk.kept desk.book.entries; history = history_after desk.history desk.kept; may_be_due = desk.may_be_due }
+abbrev pub filed : {S : Type 0} → LockedBookView S → LockedBookView S
+filed locked = record { book = emptied locked.book; kept = kept_with locked.history locked.kept locked.book.entries; history = history_after locked.history locked.kept; may_be_due = locked.may_be_due }
 
 -- a page of 4,096 entries is full, and is filed before a call
-abbrev pub ready : {S : Type 0} → DeskView S → DeskView S
-ready desk = if nat_le 4096 (length desk.book.entries) then filed desk else desk
+abbrev pub ready : {S : Type 0} → LockedBookView S → LockedBookView S
+ready locked = if nat_le 4096 (length locked.book.entries) then filed locked else locked
 
 -- the master has answered the call so, at some place, and the call is entered with that answer behind the entries of
 -- the page
-pub record IsCalledAt {S : Type 0} (was now : Witness) (before after : DeskView S) (c : MasterCall) (out : Result MasterAnswer MasterFault) : Type 0 where
+pub record IsCalledAt {S : Type 0} (was now : Witness) (before after : LockedBookView S) (c : MasterCall) (out : Result MasterAnswer MasterFault) : Type 0 where
   pub place : ℕ
   pub entered : IsEntered was now (ready before).book after.book place c out
   pub kept : after.kept ≡ (ready before).kept
@@ -75,15 +75,15 @@ pub record IsCalledAt {S : Type 0} (was now : Witness) (before after : DeskView 
   pub may_be_due : after.may_be_due ≡ may_be_due_after out before.may_be_due
 
 -- there was no memory, so the call was not made; the page may have been filed
-abbrev pub IsUnmade : {S : Type 0} → DeskView S → DeskView S → Result MasterAnswer MasterFault → Type 0
+abbrev pub IsUnmade : {S : Type 0} → LockedBookView S → LockedBookView S → Result MasterAnswer MasterFault → Type 0
 IsUnmade before after out = (out ≡ Err NoMemory) × ((after ≡ before) ⊎ (after ≡ ready before))
 
--- a desk with this book, and with no entries kept
-abbrev pub cleared : {S : Type 0} → DeskView S → BookView S → DeskView S
-cleared desk book = record { book = book; kept = []; history = desk.history; may_be_due = desk.may_be_due }
+-- this book under the lock, with no entries kept
+abbrev pub cleared : {S : Type 0} → LockedBookView S → BookView S → LockedBookView S
+cleared locked book = record { book = book; kept = []; history = locked.history; may_be_due = locked.may_be_due }
 
 -- all entries are taken; or those that are kept, where there was no memory to put the open page's behind them
-abbrev pub IsTaken : {S : Type 0} → DeskView S → List MasterEntry → DeskView S → Type 0
+abbrev pub IsTaken : {S : Type 0} → LockedBookView S → List MasterEntry → LockedBookView S → Type 0
 IsTaken before taken after =
     (taken ≡ before.kept ++ before.book.entries) × (after ≡ cleared before (emptied before.book))
     ⊎ (taken ≡ before.kept) × (after ≡ cleared before before.book)

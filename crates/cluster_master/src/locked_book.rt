@@ -3,7 +3,7 @@ ghost use Rattle.std.specs.Prelude.{◌≡◌, ◌≢◌, ◌⊎◌, ◌<◌, �
 ghost use Rattle.htcp_wire.specs.Written.{Fits};
 ghost use Rattle.purge_master.specs.Store.{witness};
 ghost use Rattle.purge_rules.specs.declared.fault.MasterFault.TheVariants as faults;
-ghost use Rattle.cluster_master.specs.Desk.{IsCalledAt, IsUnmade, IsTaken, IsNothingDue, is_dropped, keeps, may_be_due_after as may_be_due_by, ready, filed, emptied};
+ghost use Rattle.cluster_master.specs.LockedBook.{IsCalledAt, IsUnmade, IsTaken, IsNothingDue, is_dropped, keeps, may_be_due_after as may_be_due_by, ready, filed, emptied};
 ghost use Rattle.cluster_master.specs.Answers.{IsToldOf, IsClearOf};
 
 use htcp_wire::Htcp;
@@ -51,7 +51,7 @@ fn may_be_due_after(answer: &Result<MasterAnswer, MasterFault>, was: bool) -> bo
 /// A master's book, the entries of the pages that were filed, and whether a CLR may be due. Where
 /// none may be due, none is.
 #[derive(Drop)]
-pub(crate) struct Desk<S: PurgeStore> {
+pub(crate) struct LockedBook<S: PurgeStore> {
     pub(crate) alloc: Global,
     /// The master, and the open page of its calls.
     pub(crate) book: MasterBook<S>,
@@ -65,18 +65,18 @@ pub(crate) struct Desk<S: PurgeStore> {
     pub(crate) places: Places,
 }
 
-impl<S: PurgeStore> Model for Desk<S> {
+impl<S: PurgeStore> Model for LockedBook<S> {
     ghost use Rattle.std.specs.Prelude.{◌≡◌, false};
     ghost use Rattle.std.specs.Coded.{codes};
-    ghost use Rattle.cluster_master.specs.Desk.{DeskView, IsNothingDue};
+    ghost use Rattle.cluster_master.specs.LockedBook.{LockedBookView, IsNothingDue};
 
-    ghost Value = { DeskView S };
+    ghost Value = { LockedBookView S };
 
     ghost coded = { Prim.hlevel (codes) };
 
-    ghost view = { λ desk. record { book = desk.book; kept = desk.kept.items; history = desk.history; may_be_due = desk.may_be_due } };
+    ghost view = { λ locked. record { book = locked.book; kept = locked.kept.items; history = locked.history; may_be_due = locked.may_be_due } };
 
-    ghost invariant = { λ desk. desk.may_be_due ≡ false → IsNothingDue desk.book.master };
+    ghost invariant = { λ locked. locked.may_be_due ≡ false → IsNothingDue locked.book.master };
 }
 
 /// Puts the book's entries behind those that are kept, or leaves both unchanged where there is no
@@ -101,7 +101,7 @@ fn keep<S: PurgeStore>(
     }
 }
 
-impl<S: PurgeStore> Desk<S> {
+impl<S: PurgeStore> LockedBook<S> {
     /// Files the page; or leaves everything unchanged, where there is no memory for what is kept.
     fn file_page(&mut self) -> Result<(), AllocError>
         ensures filed { OnOk result (self.new ≡ filed self.old) }
