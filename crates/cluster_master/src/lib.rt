@@ -3,7 +3,7 @@
 //! A [`SharedMaster`] is a master's book (the log of its calls) under a lock. Each call draws its
 //! place while the lock is held. A book has 4,096 entries at most, called a page. Where the page is
 //! full it is filed before the next call: its entries are kept for the owner to take, or dropped
-//! ([`History`]).
+//! ([`KeptEntries`]).
 //!
 //! A [`MasterLoop`] has the master's UDP socket. [`MasterLoop::poll_once`] polls for 100
 //! milliseconds at most, makes the calls that datagrams ask for (responses to a CLR; RFC 2756,
@@ -40,7 +40,7 @@ mod sending;
 mod shared;
 
 pub use fault::MasterStartFault;
-pub use locked_book::History;
+pub use locked_book::KeptEntries;
 pub use master_loop::MasterLoop;
 pub use sending::MasterSender;
 pub use shared::SharedMaster;

@@ -16,7 +16,7 @@ use std::mem::replace;
 
 /// What becomes of the entries of a page that is filed.
 #[derive(Clone, Copy, Debug, PartialEq, Eq)]
-pub enum History {
+pub enum KeptEntries {
     /// They are kept until they are taken, while fewer than this many are kept. Where a page would
     /// come after so many, all of them are dropped, and none is kept from then on.
     UpTo(u32),
@@ -25,12 +25,12 @@ pub enum History {
 }
 
 /// Whether a page is kept behind this many entries.
-fn has_place(history: History, kept: usize) -> bool
-    ensures { result ≡ keeps history kept }
+fn has_place(to_keep: KeptEntries, kept: usize) -> bool
+    ensures { result ≡ keeps to_keep kept }
 {
-    match history {
-        History::UpTo(most) => (kept as u64) < u64::from(most),
-        History::Dropped => false,
+    match to_keep {
+        KeptEntries::UpTo(most) => (kept as u64) < u64::from(most),
+        KeptEntries::Dropped => false,
     }
 }
 
@@ -58,7 +58,7 @@ pub(crate) struct LockedBook<S: PurgeStore> {
     /// The entries of the pages that were filed.
     pub(crate) kept: Vec<MasterEntry>,
     /// What becomes of the entries of a page that is filed.
-    pub(crate) history: History,
+    pub(crate) to_keep: KeptEntries,
     /// Whether a CLR may be due.
     pub(crate) may_be_due: bool,
     /// Where each call draws its place.
@@ -74,7 +74,7 @@ impl<S: PurgeStore> Model for LockedBook<S> {
 
     ghost coded = { Prim.hlevel (codes) };
 
-    ghost view = { λ locked. record { book = locked.book; kept = locked.kept.items; history = locked.history; may_be_due = locked.may_be_due } };
+    ghost view = { λ locked. record { book = locked.book; kept = locked.kept.items; to_keep = locked.to_keep; may_be_due = locked.may_be_due } };
 
     ghost invariant = { λ locked. locked.may_be_due ≡ false → IsNothingDue locked.book.master };
 }
@@ -107,12 +107,12 @@ impl<S: PurgeStore> LockedBook<S> {
         ensures filed { OnOk result (self.new ≡ filed self.old) }
         ensures refused { OnErr result (self.new ≡ self.old) }
     {
-        if has_place(self.history, self.kept.len()) {
+        if has_place(self.to_keep, self.kept.len()) {
             return keep(&mut self.kept, &mut self.book);
         }
         let _page = self.book.take_entries();
         self.kept.clear();
-        self.history = History::Dropped;
+        self.to_keep = KeptEntries::Dropped;
         Ok(())
     }
 
@@ -174,8 +174,8 @@ impl<S: PurgeStore> LockedBook<S> {
 
     /// Whether entries are dropped: what is kept does not go back to the first call.
     pub(crate) fn has_forgotten(&self) -> bool
-        ensures { result ≡ is_dropped self.now.history }
+        ensures { result ≡ is_dropped self.now.to_keep }
     {
-        matches!(self.history, History::Dropped)
+        matches!(self.to_keep, KeptEntries::Dropped)
     }
 }

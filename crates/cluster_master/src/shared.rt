@@ -3,7 +3,7 @@ ghost use Rattle.std.specs.Prelude.{IfOk, IfSome};
 ghost use Rattle.htcp_wire.specs.Written.{Fits};
 ghost use Rattle.cluster_master.specs.Answers.{IsToldOf, IsClearOf};
 
-use crate::locked_book::{History, LockedBook};
+use crate::locked_book::{KeptEntries, LockedBook};
 use htcp_wire::Htcp;
 use node_seats::Places;
 use purge_master::{MasterBook, MasterEntry};
@@ -18,19 +18,19 @@ pub struct SharedMaster<S: PurgeStore> {
 }
 
 impl<S: PurgeStore> SharedMaster<S> {
-    /// Shares a book. Its calls draw their places from this counter, and the history says what
+    /// Shares a book. Its calls draw their places from this counter, and `to_keep` says what
     /// becomes of the entries of a page that is filed.
     pub fn open(
         alloc: Global,
         book: MasterBook<S>,
         places: Places,
-        history: History,
+        to_keep: KeptEntries,
     ) -> SharedMaster<S> {
         let locked_book = LockedBook {
             alloc,
             book,
             kept: Vec::new(alloc),
-            history,
+            to_keep,
             may_be_due: true,
             places,
         };
@@ -68,7 +68,7 @@ impl<S: PurgeStore> SharedMaster<S> {
         self.locked_book.lock(rt).message(number)
     }
 
-    /// Takes the entries since they were last taken, in their order; where no history is kept,
+    /// Takes the entries since they were last taken, in their order; where no page is kept,
     /// those since the page was filed. Where there is no memory to put the open page behind the
     /// pages that are kept, its entries come with the next take.
     pub fn take_entries<R: Wait>(&self, rt: &R) -> Vec<MasterEntry> {

@@ -1,6 +1,6 @@
 //! The thread of the master's event loop.
 use crate::fault::ClusterFault;
-use cluster_master::{History, MasterLoop, MasterSender, SharedMaster};
+use cluster_master::{KeptEntries, MasterLoop, MasterSender, SharedMaster};
 use node_book::MOST_ENTRIES;
 use node_seats::Places;
 use purge_master::{Master, MasterBook};
@@ -47,25 +47,25 @@ fn shared<S: PurgeStore + Drop>(
     roster: &Roster,
     purges: S,
     places: Places,
-    history: History,
+    to_keep: KeptEntries,
 ) -> Result<Arc<SharedMaster<S>, Global>, ClusterFault> {
     let master = match Master::open(alloc, roster, purges) {
         Ok(master) => master,
         Err(fault) => return Err(ClusterFault::MasterOpen(fault)),
     };
     let book = MasterBook::open(master);
-    match Arc::new(alloc, SharedMaster::open(alloc, book, places, history)) {
+    match Arc::new(alloc, SharedMaster::open(alloc, book, places, to_keep)) {
         Ok(master) => Ok(master),
         Err(_) => Err(ClusterFault::NoMemory),
     }
 }
 
 /// What becomes of the master's entries where this many pages of 4,096 are kept.
-fn history_of(most: u32) -> History {
+fn kept_entries_of(most: u32) -> KeptEntries {
     if most == 0 {
-        History::Dropped
+        KeptEntries::Dropped
     } else {
-        History::UpTo(most.saturating_mul(MOST_ENTRIES as u32))
+        KeptEntries::UpTo(most.saturating_mul(MOST_ENTRIES as u32))
     }
 }
 
@@ -91,7 +91,7 @@ impl<S: PurgeStore + Drop + Send + 'static> MasterThread<S> {
         places: Places,
         history: u32,
     ) -> Result<MasterThread<S>, ClusterFault> {
-        let master = shared(alloc, roster, purges, places, history_of(history))?;
+        let master = shared(alloc, roster, purges, places, kept_entries_of(history))?;
         let is_stopped = flag(alloc)?;
         let poller = match MasterLoop::open(&rt, alloc, roster) {
             Ok(poller) => poller,

@@ -1,6 +1,6 @@
 //! The members of a roster, on sockets of their own, and the master's loop.
 use crate::starts::{roster_at, shared};
-use cluster_master::{History, MasterLoop, MasterSender, SharedMaster};
+use cluster_master::{KeptEntries, MasterLoop, MasterSender, SharedMaster};
 use mio::net::UdpSocket;
 use purge_master::MasterEntry;
 use purge_rules::{MasterAnswer, MasterCall, MasterFault, MemoryPurges, Status};
@@ -64,7 +64,7 @@ fn held_with<R: Net + Clock>(
     roster: Roster,
     members: Members,
 ) -> Result<Held, Fail> {
-    let master = shared(alloc, &roster, History::Dropped)?;
+    let master = shared(alloc, &roster, KeptEntries::Dropped)?;
     let (poller, sender) = opened(rt, alloc, &roster)?;
     Ok(Held {
         roster,
