@@ -25,10 +25,10 @@ const SOCKET: Token = Token(0);
 const MOST_EVENTS: usize = 16;
 
 /// The size of the receive buffer in octets. No datagram of IPv4 is longer.
-const LONGEST: usize = 65_536;
+const LONGEST_DATAGRAM: usize = 65_536;
 
 /// How many datagrams a poll reads at most, so that sending gets its share of a poll.
-const MOST_AT_ONCE: usize = 256;
+const MOST_DATAGRAMS: usize = 256;
 
 /// How many milliseconds a poll waits at most, and how long the loop pauses after a poll that
 /// failed.
@@ -90,7 +90,7 @@ impl MasterLoop {
             poll,
             events: Events::with_capacity(alloc, MOST_EVENTS)?,
             sender: MasterSender::of(alloc, socket),
-            buffer: vec![in alloc; 0; LONGEST]?,
+            buffer: vec![in alloc; 0; LONGEST_DATAGRAM]?,
             is_ready: true,
             sent: Instant::now(rt)?,
         })
@@ -124,7 +124,7 @@ impl MasterLoop {
         if !self.is_ready {
             return Ok(());
         }
-        for _ in 0..MOST_AT_ONCE {
+        for _ in 0..MOST_DATAGRAMS {
             match self.sender.socket().recv_from(self.buffer.as_mut_slice()) {
                 Ok((length, from)) => {
                     let octets = &self.buffer.as_slice()[..length];

@@ -13,7 +13,7 @@ use std::time::Instant;
 
 /// How many octets of a connection are read at most before a worker gets it. No request head is
 /// longer.
-const LONGEST: usize = 16_384;
+const LONGEST_HEAD: usize = 16_384;
 
 /// How many seconds a request head may take, from when the connection was accepted.
 const PATIENCE: u64 = 5;
@@ -76,13 +76,13 @@ impl Head {
         self.octets.extend_from_slice(piece)?;
         let octets = self.octets.as_slice();
         self.front = front_of(octets, self.front);
-        Ok(octets.len() >= LONGEST || ends_in(octets, self.front, piece.len()))
+        Ok(octets.len() >= LONGEST_HEAD || ends_in(octets, self.front, piece.len()))
     }
 
     /// Reads what is there, without waiting, until the head has come whole.
     pub(crate) fn read(&mut self) -> Reading {
         let mut piece = [0; 2048];
-        for _ in 0..LONGEST {
+        for _ in 0..LONGEST_HEAD {
             match self.stream.read(&mut piece) {
                 Ok(0) if self.is_silent() => return Reading::Gone,
                 Ok(0) => return Reading::Came,
