@@ -28,7 +28,7 @@ IsSaidOf Tells (Err fault) text = text ≡ key_fault_name fault
 abbrev pub IsSaid : (List ℕ → Type 0) → List ℕ → List ℕ → Type 0
 IsSaid Tells url text = (outcome : Result (List ℕ) KeyFault) × HasKey url outcome × IsSaidOf Tells outcome text
 
--- a fault that may be told: any but that of a full book, whose page is turned first
+-- a fault that may be told: any but that of a full book, whose page is filed first
 abbrev pub IsTold : MasterFault → Type 0
 IsTold fault = fault ≢ ShiftFull
 

@@ -1,3 +1,3 @@
-pub mod Desk
+pub mod LockedBook
 pub mod Answers
 pub mod Names

@@ -2,19 +2,19 @@
 //!
 //! A [`SharedMaster`] is a master's book (the log of its calls) under a lock. Each call draws its
 //! place while the lock is held. A book has 4,096 entries at most, called a page. Where the page is
-//! full it is turned before the next call: its entries are kept for the owner to take, or dropped
-//! ([`History`]).
+//! full it is filed before the next call: its entries are kept for the owner to take, or dropped
+//! ([`KeptEntries`]).
 //!
-//! A [`MasterLoop`] has the master's UDP socket. Each [`MasterLoop::turn`] polls for 100
+//! A [`MasterLoop`] has the master's UDP socket. [`MasterLoop::poll_once`] polls for 100
 //! milliseconds at most, makes the calls that datagrams ask for (responses to a CLR; RFC 2756,
 //! "CLR"), and once a second sends again the CLR of each pending purge to each member that has not
 //! acknowledged it. Where nothing can be due, no call is made and none is entered. A
 //! [`MasterSender`] issues a purge and sends its CLR to each member, from any thread, on the same
 //! socket. No lock is held while a socket is waited for or written.
 //!
-//! Order of reading: `specs/Desk.antt` (what a call does to the book), `specs/Answers.antt` (what a
-//! caller knows of an answer); `src/shared.rt` (the calls), `src/desk.rt` (the calls inside the
-//! lock), `src/master_loop.rt` (the loop), `src/sending.rt` (the CLRs), `src/fault.rt`,
+//! Order of reading: `specs/LockedBook.antt` (what a call does to the book), `specs/Answers.antt`
+//! (what a caller knows of an answer); `src/shared.rt` (the calls), `src/locked_book.rt` (the calls
+//! inside the lock), `src/master_loop.rt` (the loop), `src/sending.rt` (the CLRs), `src/fault.rt`,
 //! `specs/Names.antt`; `proofs/Clears.antt`.
 //!
 //! The crate opens one socket, polls it, reads the clock, and waits at its lock. It starts no
@@ -22,7 +22,7 @@
 //! purges, which is passed in.
 //!
 //! A contract sees no value under a lock, and nothing that a socket takes or gives. So what a call
-//! does is said of the desk inside the lock, and what is sent under a number, and where a member
+//! does is said of the book inside the lock, and what is sent under a number, and where a member
 //! is, is said where it is made. That a datagram that came is read and its call made, that CLRs are
 //! sent, and that a second is a second, is tested. A CLR that the system does not take is lost, as
 //! any datagram may be; it is sent again about a second later.
@@ -33,14 +33,14 @@
 //! acknowledged.
 #![tactic(auto)]
 
-mod desk;
 mod fault;
+mod locked_book;
 mod master_loop;
 mod sending;
 mod shared;
 
-pub use desk::History;
 pub use fault::MasterStartFault;
+pub use locked_book::KeptEntries;
 pub use master_loop::MasterLoop;
 pub use sending::MasterSender;
 pub use shared::SharedMaster;

@@ -25,12 +25,12 @@ const SOCKET: Token = Token(0);
 const MOST_EVENTS: usize = 16;
 
 /// The size of the receive buffer in octets. No datagram of IPv4 is longer.
-const LONGEST: usize = 65_536;
+const LONGEST_DATAGRAM: usize = 65_536;
 
-/// How many datagrams a turn reads at most, so that sending gets its share of a turn.
-const MOST_AT_ONCE: usize = 256;
+/// How many datagrams a poll reads at most, so that sending gets its share of a poll.
+const MOST_DATAGRAMS: usize = 256;
 
-/// How many milliseconds a turn waits at most, and how long the loop pauses after a turn that
+/// How many milliseconds a poll waits at most, and how long the loop pauses after a poll that
 /// failed.
 const WAIT: u64 = 100;
 
@@ -90,7 +90,7 @@ impl MasterLoop {
             poll,
             events: Events::with_capacity(alloc, MOST_EVENTS)?,
             sender: MasterSender::of(alloc, socket),
-            buffer: vec![in alloc; 0; LONGEST]?,
+            buffer: vec![in alloc; 0; LONGEST_DATAGRAM]?,
             is_ready: true,
             sent: Instant::now(rt)?,
         })
@@ -124,7 +124,7 @@ impl MasterLoop {
         if !self.is_ready {
             return Ok(());
         }
-        for _ in 0..MOST_AT_ONCE {
+        for _ in 0..MOST_DATAGRAMS {
             match self.sender.socket().recv_from(self.buffer.as_mut_slice()) {
                 Ok((length, from)) => {
                     let octets = &self.buffer.as_slice()[..length];
@@ -157,14 +157,14 @@ impl MasterLoop {
     }
 
     /// Polls until the socket is ready, for 100 milliseconds at most. Then makes the calls of the
-    /// datagrams that are there, 256 at most; the rest is for the next turn. Then, if the last time
+    /// datagrams that are there, 256 at most; the rest is for the next poll. Then, if the last time
     /// was a second ago or more, sends what is due: the CLR of each pending purge to each member
     /// that has not acknowledged it.
     ///
     /// An error is the system's refusal of a poll, a read or the clock. What can be done all the
-    /// same is done, and a later turn goes on. Where there is no memory for a call, it is lost, as
+    /// same is done, and a later poll goes on. Where there is no memory for a call, it is lost, as
     /// its datagram may be; the member is told again, and answers again.
-    pub fn turn<S: PurgeStore, R: Wait + Clock>(
+    pub fn poll_once<S: PurgeStore, R: Wait + Clock>(
         &mut self,
         rt: &R,
         roster: &Roster,
@@ -176,8 +176,8 @@ impl MasterLoop {
         waited.and(taken).and(sent)
     }
 
-    /// Takes turns until it is told to stop, which it sees after 100 milliseconds and a turn at
-    /// most. After a turn that failed it pauses for 100 milliseconds and goes on.
+    /// Polls again and again until it is told to stop, which it sees after 100 milliseconds and a
+    /// poll at most. After a poll that failed it pauses for 100 milliseconds and goes on.
     pub fn run_until<S: PurgeStore, R: Wait + Clock>(
         &mut self,
         rt: &R,
@@ -189,7 +189,7 @@ impl MasterLoop {
             if stop.load(Ordering::SeqCst) {
                 return;
             }
-            if self.turn(rt, roster, master).is_err() {
+            if self.poll_once(rt, roster, master).is_err() {
                 thread::sleep(rt, Duration::from_millis(WAIT));
             }
         }

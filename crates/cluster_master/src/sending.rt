@@ -6,13 +6,10 @@ ghost use Rattle.cluster_master.specs.Answers.{AreClearOf, htcp_of as htcp_of_me
 use crate::shared::SharedMaster;
 use mio::net::UdpSocket;
 use purge_rules::{MasterAnswer, MasterCall, MasterFault, PurgeStore};
-use roster::{Address, Roster};
+use roster::{Address, LAST_MEMBER, Roster};
 use std::alloc::{AllocError, Global};
 use std::sync::{Arc, Wait};
 use url_key::Key;
-
-/// The greatest id that a member may have.
-const LAST_MEMBER: u8 = 16;
 
 /// Where the member of an id is told of purges: its HTCP address.
 fn htcp_of(roster: &Roster, id: u8) -> Option<Address>

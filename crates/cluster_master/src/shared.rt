@@ -3,7 +3,7 @@ ghost use Rattle.std.specs.Prelude.{IfOk, IfSome};
 ghost use Rattle.htcp_wire.specs.Written.{Fits};
 ghost use Rattle.cluster_master.specs.Answers.{IsToldOf, IsClearOf};
 
-use crate::desk::{Desk, History};
+use crate::locked_book::{KeptEntries, LockedBook};
 use htcp_wire::Htcp;
 use node_seats::Places;
 use purge_master::{MasterBook, MasterEntry};
@@ -14,40 +14,40 @@ use std::sync::{Mutex, Wait};
 /// A master's book under its lock.
 #[derive(Drop)]
 pub struct SharedMaster<S: PurgeStore> {
-    desk: Mutex<Desk<S>>,
+    locked_book: Mutex<LockedBook<S>>,
 }
 
 impl<S: PurgeStore> SharedMaster<S> {
-    /// Shares a book. Its calls draw their places from this counter, and the history says what
-    /// becomes of the entries of a page that is turned.
+    /// Shares a book. Its calls draw their places from this counter, and `to_keep` says what
+    /// becomes of the entries of a page that is filed.
     pub fn open(
         alloc: Global,
         book: MasterBook<S>,
         places: Places,
-        history: History,
+        to_keep: KeptEntries,
     ) -> SharedMaster<S> {
-        let desk = Desk {
+        let locked_book = LockedBook {
             alloc,
             book,
             kept: Vec::new(alloc),
-            history,
+            to_keep,
             may_be_due: true,
             places,
         };
         SharedMaster {
-            desk: Mutex::new(desk),
+            locked_book: Mutex::new(locked_book),
         }
     }
 
     /// Makes one call of the master, and enters it with its answer. The answer is of the kind of
     /// the call.
     ///
-    /// Faults: those of `MasterBook::call` but `ShiftFull`, since a full page is turned first.
+    /// Faults: those of `MasterBook::call` but `ShiftFull`, since a full page is filed first.
     /// `NoMemory` also comes where there is no memory to keep that page; nothing changes then.
     pub fn call<R: Wait>(&self, rt: &R, call: MasterCall) -> Result<MasterAnswer, MasterFault>
         ensures { IsToldOf call result }
     {
-        self.desk.lock(rt).call(call)
+        self.locked_book.lock(rt).call(call)
     }
 
     /// Whether a CLR may be due. It is `false` only where none is: the master is closed, or each
@@ -56,7 +56,7 @@ impl<S: PurgeStore> SharedMaster<S> {
     /// It is `true` for a book that was just shared, and after each purge that is issued and each
     /// response that is taken, until `Due` is answered with nothing.
     pub fn may_be_due<R: Wait>(&self, rt: &R) -> bool {
-        self.desk.lock(rt).may_be_due()
+        self.locked_book.lock(rt).may_be_due()
     }
 
     /// The CLR of the pending purge of a number, if there is one (RFC 2756, "CLR"). This is no
@@ -65,25 +65,25 @@ impl<S: PurgeStore> SharedMaster<S> {
         ensures clear { IfOk result (λ message. IfSome message (IsClearOf number)) }
         ensures fits { IfOk result (λ message. IfSome message Fits) }
     {
-        self.desk.lock(rt).message(number)
+        self.locked_book.lock(rt).message(number)
     }
 
-    /// Takes the entries since they were last taken, in their order; where no history is kept,
-    /// those since the page was turned. Where there is no memory to put the open page behind the
+    /// Takes the entries since they were last taken, in their order; where no page is kept,
+    /// those since the page was filed. Where there is no memory to put the open page behind the
     /// pages that are kept, its entries come with the next take.
     pub fn take_entries<R: Wait>(&self, rt: &R) -> Vec<MasterEntry> {
-        self.desk.lock(rt).take_entries()
+        self.locked_book.lock(rt).take_entries()
     }
 
     /// Whether entries were dropped, or none is kept: then what is taken is not all that there was.
     pub fn has_forgotten<R: Wait>(&self, rt: &R) -> bool {
-        self.desk.lock(rt).has_forgotten()
+        self.locked_book.lock(rt).has_forgotten()
     }
 
     /// Gives the book back, with the entries of the pages that are kept, which stand before its
     /// own.
     pub fn close(self) -> (MasterBook<S>, Vec<MasterEntry>) {
-        let desk = self.desk.into_inner();
-        (desk.book, desk.kept)
+        let locked_book = self.locked_book.into_inner();
+        (locked_book.book, locked_book.kept)
     }
 }

@@ -1,6 +1,6 @@
 //! The thread of the master's event loop.
 use crate::fault::ClusterFault;
-use cluster_master::{History, MasterLoop, MasterSender, SharedMaster};
+use cluster_master::{KeptEntries, MasterLoop, MasterSender, SharedMaster};
 use node_book::MOST_ENTRIES;
 use node_seats::Places;
 use purge_master::{Master, MasterBook};
@@ -26,17 +26,17 @@ pub(crate) struct MasterThread<S: PurgeStore> {
 
 /// What the master's thread has.
 #[derive(Drop)]
-struct Turned<S: PurgeStore> {
-    turner: MasterLoop,
+struct Polling<S: PurgeStore> {
+    poller: MasterLoop,
     roster: Roster,
     master: Arc<SharedMaster<S>, Global>,
     is_stopped: Arc<AtomicBool, Global>,
 }
 
-impl<S: PurgeStore + Drop> Turned<S> {
-    /// Takes turns until it is told to stop.
+impl<S: PurgeStore + Drop> Polling<S> {
+    /// Polls again and again until it is told to stop.
     fn run<R: Wait + Clock>(mut self, rt: &R) {
-        self.turner
+        self.poller
             .run_until(rt, &self.roster, &self.master, &self.is_stopped);
     }
 }
@@ -47,25 +47,25 @@ fn shared<S: PurgeStore + Drop>(
     roster: &Roster,
     purges: S,
     places: Places,
-    history: History,
+    to_keep: KeptEntries,
 ) -> Result<Arc<SharedMaster<S>, Global>, ClusterFault> {
     let master = match Master::open(alloc, roster, purges) {
         Ok(master) => master,
         Err(fault) => return Err(ClusterFault::MasterOpen(fault)),
     };
     let book = MasterBook::open(master);
-    match Arc::new(alloc, SharedMaster::open(alloc, book, places, history)) {
+    match Arc::new(alloc, SharedMaster::open(alloc, book, places, to_keep)) {
         Ok(master) => Ok(master),
         Err(_) => Err(ClusterFault::NoMemory),
     }
 }
 
 /// What becomes of the master's entries where this many pages of 4,096 are kept.
-fn history_of(most: u32) -> History {
+fn kept_entries_of(most: u32) -> KeptEntries {
     if most == 0 {
-        History::Dropped
+        KeptEntries::Dropped
     } else {
-        History::UpTo(most.saturating_mul(MOST_ENTRIES as u32))
+        KeptEntries::UpTo(most.saturating_mul(MOST_ENTRIES as u32))
     }
 }
 
@@ -91,20 +91,20 @@ impl<S: PurgeStore + Drop + Send + 'static> MasterThread<S> {
         places: Places,
         history: u32,
     ) -> Result<MasterThread<S>, ClusterFault> {
-        let master = shared(alloc, roster, purges, places, history_of(history))?;
+        let master = shared(alloc, roster, purges, places, kept_entries_of(history))?;
         let is_stopped = flag(alloc)?;
-        let turner = match MasterLoop::open(&rt, alloc, roster) {
-            Ok(turner) => turner,
+        let poller = match MasterLoop::open(&rt, alloc, roster) {
+            Ok(poller) => poller,
             Err(fault) => return Err(ClusterFault::MasterStart(fault)),
         };
-        let sender = turner.sender()?;
-        let turned = Turned {
-            turner,
+        let sender = poller.sender()?;
+        let polling = Polling {
+            poller,
             roster: roster.copy(alloc)?,
             master: Arc::try_clone(&master)?,
             is_stopped: Arc::try_clone(&is_stopped)?,
         };
-        match thread::spawn(&rt, move || turned.run(&rt)) {
+        match thread::spawn(&rt, move || polling.run(&rt)) {
             Ok(thread) => Ok(MasterThread {
                 master,
                 sender,

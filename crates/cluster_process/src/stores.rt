@@ -3,13 +3,10 @@ use crate::fault::ClusterFault;
 use crate::files::{MasterStore, NodeStore};
 use purge_numbers::SqliteFloors;
 use purge_records::SqlitePurges;
-use roster::Roster;
+use roster::{LAST_MEMBER, Roster};
 use sqlite::{Connection, Error, ErrorCode, File, FileStore};
 use std::alloc::{AllocError, Global};
 use std::fs;
-
-/// The greatest id that a member may have.
-pub(crate) const LAST_MEMBER: u8 = 16;
 
 /// A member's floors, in a store.
 #[derive(Drop)]

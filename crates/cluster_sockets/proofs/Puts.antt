@@ -1,5 +1,5 @@
 -- A pass that puts nothing, one job, or first some jobs and then others, has only put jobs that came over a socket. So
--- each loop of a turn keeps HasPut, and so does the turn.
+-- each loop of a poll keeps HasPut, and so does the poll.
 use Rattle.std.proofs.Common.{Result, Ok, Err, MatchResult, ◌≡◌, List, [], ◌∷◌, ◌++◌, map, sym, refl, ap, ◌∙◌, append_assoc, append-nil, subst}
 use Rattle.std.proofs.lemmas.List.{map-append}
 use Rattle.std.proofs.lemmas.List.Elements.{All-nil, All-cons, All-append}
@@ -8,7 +8,7 @@ use Rattle.cluster_jobs.specs.declared.order.Step.{Step}
 use Rattle.cluster_jobs.specs.declared.order.Step.TheVariants.{Put}
 use Rattle.cluster_jobs.specs.declared.order.View.{View}
 use Rattle.cluster_jobs.specs.Order.{sight_of, put, Begins, Follows, HeldOnce}
-use Rattle.cluster_sockets.specs.Turns.{HasCome, HasPut}
+use Rattle.cluster_sockets.specs.Polls.{HasCome, HasPut}
 
 -- a beginning of a beginning of a list is a beginning of it
 begins_further : (xs ys zs : List Step) → Begins xs ys → Begins ys zs → Begins xs zs

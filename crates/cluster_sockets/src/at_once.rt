@@ -19,7 +19,7 @@ pub trait AtOnce {
     ) -> bool;
 
     /// Sends what was held back since the last call, such as answers that are sent together. The
-    /// loop calls it once in each turn, after it has read the datagrams that were ready. It waits
+    /// loop calls it once in each poll, after it has read the datagrams that were ready. It waits
     /// for no more than `deals_with` does.
     fn finish(&mut self);
 }

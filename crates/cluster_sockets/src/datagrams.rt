@@ -1,6 +1,6 @@
 //! From the UDP sockets into the job queue.
 ghost use Rattle.std.specs.Prelude.{IfOk};
-ghost use Rattle.cluster_sockets.specs.Turns.{HasPut, IsSound};
+ghost use Rattle.cluster_sockets.specs.Polls.{HasPut, IsSound};
 
 use crate::at_once::AtOnce;
 use crate::fault::LoopFault;
@@ -15,11 +15,11 @@ use std::time::Clock;
 use values_plain::{Address, Udp};
 
 /// The size of the receive buffer in octets. No datagram of IPv4 is longer.
-const LONGEST: usize = 65_536;
+const LONGEST_DATAGRAM: usize = 65_536;
 
-/// How many datagrams of one protocol a turn reads at most, so that each socket gets its share of a
-/// turn.
-const MOST_AT_ONCE: usize = 256;
+/// How many datagrams of one protocol a poll reads at most, so that each socket gets its share of a
+/// poll.
+const MOST_DATAGRAMS: usize = 256;
 
 /// Reads the datagrams of a node.
 #[derive(Drop)]
@@ -33,7 +33,7 @@ pub(crate) struct Datagrams {
 }
 
 impl Datagrams {
-    /// Reads these sockets, from the first turn on. `AllocError` comes where there is no
+    /// Reads these sockets, from the first poll on. `AllocError` comes where there is no
     /// memory for the receive buffer.
     pub(crate) fn new(
         alloc: Global,
@@ -42,7 +42,7 @@ impl Datagrams {
         Ok(Datagrams {
             alloc,
             sockets,
-            buffer: vec![in alloc; 0; LONGEST]?,
+            buffer: vec![in alloc; 0; LONGEST_DATAGRAM]?,
             icp_is_ready: true,
             htcp_is_ready: true,
             had_jobs: false,
@@ -111,7 +111,7 @@ impl Datagrams {
         if !self.is_ready(udp) {
             return (pass, Ok(false));
         }
-        for _ in 0..MOST_AT_ONCE {
+        for _ in 0..MOST_DATAGRAMS {
             match self.next(rt, udp, at_once) {
                 Ok(Come::Taken(job)) => pass = put(rt, jobs, pass, job),
                 Ok(Come::Nothing) => {

@@ -1,7 +1,7 @@
 //! Connections whose request head has not come whole.
 ghost use Rattle.std.specs.Prelude.{IfSome};
 ghost use Rattle.cluster_jobs.specs.Order.{sight_of};
-ghost use Rattle.cluster_sockets.specs.Turns.{HasCome};
+ghost use Rattle.cluster_sockets.specs.Polls.{HasCome};
 
 use cluster_jobs::Job;
 use cluster_streams::PATIENCE;
@@ -14,7 +14,7 @@ use std::time::Instant;
 
 /// How many octets of a connection are read at most before a worker gets it. No request head is
 /// longer.
-const LONGEST: usize = 16_384;
+const LONGEST_HEAD: usize = 16_384;
 
 /// How many octets of empty lines stand before the request line; they do not count (RFC 9112,
 /// section 2.2). The first `known` octets are known to be such.
@@ -74,13 +74,13 @@ impl Head {
         self.octets.extend_from_slice(piece)?;
         let octets = self.octets.as_slice();
         self.front = front_of(octets, self.front);
-        Ok(octets.len() >= LONGEST || ends_in(octets, self.front, piece.len()))
+        Ok(octets.len() >= LONGEST_HEAD || ends_in(octets, self.front, piece.len()))
     }
 
     /// Reads what is there, without waiting, until the head has come whole.
     pub(crate) fn read(&mut self) -> Reading {
         let mut piece = [0; 2048];
-        for _ in 0..LONGEST {
+        for _ in 0..LONGEST_HEAD {
             match self.stream.read(&mut piece) {
                 Ok(0) if self.is_silent() => return Reading::Gone,
                 Ok(0) => return Reading::Came,

@@ -1,5 +1,5 @@
 //! The event loop of a node.
-ghost use Rattle.cluster_sockets.specs.Turns.{HasPut};
+ghost use Rattle.cluster_sockets.specs.Polls.{HasPut};
 
 use crate::at_once::AtOnce;
 use crate::datagrams::Datagrams;
@@ -29,7 +29,7 @@ const LISTENER: Token = Token(usize::MAX - 2);
 /// How many events one poll tells at most.
 const MOST_EVENTS: usize = 1024;
 
-/// How many milliseconds a turn waits at most, unless `set_wait` says otherwise.
+/// How many milliseconds a poll waits at most, unless `set_wait` says otherwise.
 const WAIT: u64 = 100;
 
 /// The event loop of a node. One thread has it.
@@ -73,18 +73,18 @@ impl NodeLoop {
         Ok((opened, senders))
     }
 
-    /// Sets how long a turn waits at most; 100 milliseconds if this is never called.
+    /// Sets how long a poll waits at most; 100 milliseconds if this is never called.
     pub fn set_wait(&mut self, most: Duration) {
         self.wait = most;
     }
 
-    /// Whether a turn has had a job since this was last called, also one that found the queue full.
+    /// Whether a poll has had a job since this was last called, also one that found the queue full.
     pub fn had_jobs(&mut self) -> bool {
         let datagrams = self.datagrams.had_jobs();
         self.streams.had_jobs() || datagrams
     }
 
-    /// Polls until something is ready, for the time of a turn at most, and notes what is ready.
+    /// Polls until something is ready, for the time of a poll at most, and notes what is ready.
     fn wait_for_sockets(&mut self) -> Result<(), LoopFault> {
         let most = if self.has_more {
             Duration::ZERO
@@ -103,14 +103,14 @@ impl NodeLoop {
         Ok(())
     }
 
-    /// Polls until something is ready, for the time of a turn at most. Then puts a job for each
+    /// Polls until something is ready, for the time of a poll at most. Then puts a job for each
     /// datagram that is not answered at once, and for each connection whose request has come. It
-    /// takes a limited share of each source, and leaves the rest to the next turn.
+    /// takes a limited share of each source, and leaves the rest to the next poll.
     ///
     /// `Io` comes where the system refuses the clock, a poll, a read or an accept, and `NoMemory`
     /// where there is no memory for what was read, which is then lost. The other sources have been
-    /// read all the same, and a later turn reads what is still ready.
-    pub fn turn<Q: QueueName, A: AtOnce, R: Wait + Clock>(
+    /// read all the same, and a later poll reads what is still ready.
+    pub fn poll_once<Q: QueueName, A: AtOnce, R: Wait + Clock>(
         &mut self,
         rt: &R,
         jobs: &Jobs<Q>,

@@ -1,7 +1,7 @@
 //! How a job is put into the queue.
 ghost use Rattle.std.specs.Prelude.{IfSome};
 ghost use Rattle.cluster_jobs.specs.Order.{sight_of};
-ghost use Rattle.cluster_sockets.specs.Turns.{HasCome, HasPut};
+ghost use Rattle.cluster_sockets.specs.Polls.{HasCome, HasPut};
 
 use cluster_jobs::{Job, Jobs, Pass, QueueName};
 use std::sync::Wait;

@@ -1,7 +1,7 @@
 //! From the listener into the job queue.
 ghost use Rattle.std.specs.Prelude.{IfOk, IfSome};
 ghost use Rattle.cluster_jobs.specs.Order.{sight_of};
-ghost use Rattle.cluster_sockets.specs.Turns.{HasCome, HasPut, IsSound};
+ghost use Rattle.cluster_sockets.specs.Polls.{HasCome, HasPut, IsSound};
 
 use crate::fault::LoopFault;
 use crate::heads::{Head, Reading};
@@ -19,8 +19,8 @@ use std::time::Instant;
 /// How many connections wait in the loop at most.
 const MOST_HEADS: usize = 1024;
 
-/// How many connections a turn accepts at most, so that each source gets its share of a turn.
-const MOST_AT_ONCE: usize = 256;
+/// How many connections a poll accepts at most, so that each source gets its share of a poll.
+const MOST_ACCEPTED: usize = 256;
 
 /// How many connections whose five seconds have passed are put at one look, so that the queue keeps
 /// room for others.
@@ -240,7 +240,7 @@ impl Streams {
         if !self.is_ready {
             return (pass, Ok(false));
         }
-        for _ in 0..MOST_AT_ONCE {
+        for _ in 0..MOST_ACCEPTED {
             match self.accept(registry, now) {
                 Ok(Come::Taken(job)) => pass = put(rt, jobs, pass, job),
                 Ok(Come::Nothing) => {

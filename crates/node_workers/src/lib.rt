@@ -1,7 +1,7 @@
 //! A node that runs: its sockets, its threads and its shifts.
 //!
 //! [`Workers::start`] opens a node's sockets and starts the node's thread. That thread starts 2 to
-//! 8 workers and as many fetchers. It then turns the [`NodeLoop`](cluster_sockets::NodeLoop) until the
+//! 8 workers and as many fetchers. It then polls the [`NodeLoop`](cluster_sockets::NodeLoop) until the
 //! node is stopped, and queues a timer for each round of queries that has waited for the roster's
 //! `query_wait`. `cluster_service` says what a worker does with a job, a fetcher with an errand, and
 //! the event loop with a question. Workers leave fetches to fetchers. So they wait for no peer and

@@ -29,7 +29,7 @@ pub(crate) struct Edge<G: Drop> {
     /// What they share with the thread that started the node.
     pub(crate) signals: Signals,
     /// The event loop.
-    pub(crate) turner: NodeLoop,
+    pub(crate) poller: NodeLoop,
     /// What each worker polls its streams with.
     pub(crate) working: Vec<StreamPolls>,
     /// What each fetcher polls its streams with.
@@ -146,7 +146,7 @@ fn run_edge<
         jobs,
         node,
     };
-    run_threads(&shared, kits, &mut edge.turner, pass);
+    run_threads(&shared, kits, &mut edge.poller, pass);
     refuse_all(rt, &edge.station, &mut edge.last);
 }
 

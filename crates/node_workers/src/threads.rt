@@ -17,7 +17,7 @@ use std::sync::{Mutex, Wait};
 use std::thread::{self, Scope, Threads};
 use std::time::Clock;
 
-/// How many timers are queued before one turn of the loop at most.
+/// How many timers are queued before one poll of the loop at most.
 const MOST_TIMERS: u32 = 256;
 
 /// What one worker has of its own.
@@ -219,14 +219,14 @@ fn hold<S: FloorStore + Drop, L: Calls, R: Wait>(rt: &R, halt: &Halt, node: &Mut
     }
 }
 
-/// Turns the event loop until the node is to stop, and holds the node whenever that is wanted.
-fn turn_until_stopped<
+/// Polls the event loop until the node is to stop, and holds the node whenever that is wanted.
+fn poll_until_stopped<
     Q: QueueName,
     S: FloorStore + Drop,
     L: Calls,
     G: Gate + Drop,
     R: Wait + Clock,
->(shared: &Shared<'_, Q, S, L, G, R>, turner: &mut NodeLoop, mut pass: Pass<Q>) {
+>(shared: &Shared<'_, Q, S, L, G, R>, poller: &mut NodeLoop, mut pass: Pass<Q>) {
     let (rt, station, jobs) = (shared.rt, shared.station, shared.jobs);
     let halt = &shared.signals.halt;
     // (the last seat belongs to no worker and no fetcher)
@@ -244,9 +244,9 @@ fn turn_until_stopped<
         if is_due {
             station.bell.ring(rt);
         }
-        let (after, _) = turner.turn(rt, jobs, after, &mut questions);
+        let (after, _) = poller.poll_once(rt, jobs, after, &mut questions);
         pass = after;
-        if turner.had_jobs() {
+        if poller.had_jobs() {
             station.bell.ring(rt);
         }
     }
@@ -260,7 +260,7 @@ pub(crate) fn run_threads<
     L: Calls + Send + Sync,
     G: Gate + Drop + Send + Sync,
     R: Threads + Wait + Clock + Net<Listener = TcpListener, Stream = TcpStream> + Sync,
->(shared: &Shared<'_, Q, S, L, G, R>, kits: Kits<Q>, turner: &mut NodeLoop, pass: Pass<Q>) {
+>(shared: &Shared<'_, Q, S, L, G, R>, kits: Kits<Q>, poller: &mut NodeLoop, pass: Pass<Q>) {
     let (rt, station) = (shared.rt, shared.station);
     let report = &shared.signals.report;
     thread::scope(
@@ -272,7 +272,7 @@ pub(crate) fn run_threads<
             let Kits { workers, fetchers } = kits;
             if start_workers(scope, shared, workers) && start_fetchers(scope, shared, fetchers) {
                 report.tell(rt, Ok(()));
-                turn_until_stopped(shared, turner, pass);
+                poll_until_stopped(shared, poller, pass);
             } else {
                 report.tell(rt, Err(Unready::NoThread));
             }

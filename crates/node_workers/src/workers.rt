@@ -93,9 +93,9 @@ fn sockets<R: Net + Clock>(
     let Some(member) = roster.member(id) else {
         unreachable!();
     };
-    let (mut turner, senders) = NodeLoop::open(rt, alloc, &member.cache)?;
-    turner.set_wait(Duration::from_millis(WAIT));
-    Ok((turner, senders))
+    let (mut poller, senders) = NodeLoop::open(rt, alloc, &member.cache)?;
+    poller.set_wait(Duration::from_millis(WAIT));
+    Ok((poller, senders))
 }
 
 /// What one thread polls its streams with.
@@ -170,7 +170,7 @@ fn edge_of<G: Gate + Drop, R: Net + Clock>(
 ) -> Result<Edge<G>, Unready>
     requires { is_member roster.now id ≡ true }
 {
-    let (turner, senders) = sockets(rt, alloc, roster, id)?;
+    let (poller, senders) = sockets(rt, alloc, roster, id)?;
     let station = station(alloc, roster, id, senders, gate, &signals)?;
     match polls_for(rt, alloc, count) {
         Ok(
@@ -182,7 +182,7 @@ fn edge_of<G: Gate + Drop, R: Net + Clock>(
         ) => Ok(Edge {
             station,
             signals,
-            turner,
+            poller,
             working,
             fetching,
             last,

@@ -10,15 +10,13 @@ ghost use Rattle.purge_master.specs.Store.{IsCalled, witness};
 use crate::news::{News, news_of};
 use htcp_wire::Htcp;
 use purge_rules::{
-    MasterFault, MemberSet, PurgeFault, PurgeStore, Purges, Status, clear, is_acknowledging,
+    LAST_NUMBER, MasterFault, MemberSet, PurgeFault, PurgeStore, Purges, Status, clear,
+    is_acknowledging,
 };
 use std::alloc::{AllocError, Global};
 use std::marker::Model;
 use url_key::Key;
 use values_plain::Listed;
-
-/// The last number that a purge can get.
-const LAST_NUMBER: u32 = 4294967295;
 
 /// A master of purges, over a store of them.
 ///

@@ -51,6 +51,6 @@ pub use calls::{MasterAnswer, MasterCall, Status, is_acknowledging};
 pub use fault::{MasterFault, PurgeFault};
 pub use members::MemberSet;
 pub use memory::MemoryPurges;
-pub use purges::{MOST_PENDING, Purge, Purges};
+pub use purges::{LAST_NUMBER, MOST_PENDING, Purge, Purges};
 pub use sending::clear;
 pub use store::PurgeStore;

@@ -13,6 +13,9 @@ use values_plain::Listed;
 /// The most purges that may be pending at a time.
 pub const MOST_PENDING: usize = 1024;
 
+/// The greatest number that a purge may have, 2^32 - 1.
+pub const LAST_NUMBER: u32 = 4294967295;
+
 /// A pending purge.
 #[derive(Debug, Drop)]
 pub struct Purge {

@@ -6,8 +6,8 @@
 //!   never see the text. Look-ups allocate nothing.
 //! - [`RosterFault`], in the order of the tests, and [`RosterError`]: a fault and its [`Place`],
 //!   which prints as a sentence.
-//! - [`is_foreign`], [`address_by`]: of an id, and of a cache. The types of the tables are those of
-//!   `values_tables`.
+//! - [`LAST_MEMBER`], [`is_foreign`], [`address_by`]: of ids, and of a cache. The types of the
+//!   tables are those of `values_tables`.
 //!
 //! A contract sees a `Roster` as its `Tables`. The invariant `IsRoster` holds of each:
 //!
@@ -42,6 +42,6 @@ mod loops;
 mod roster;
 
 pub use crate::fault::{RosterError, RosterFault};
-pub use crate::roster::{Roster, address_by, is_foreign};
+pub use crate::roster::{LAST_MEMBER, Roster, address_by, is_foreign};
 pub use values_plain::{Address, Listed, Udp};
 pub use values_tables::{Cache, Limits, Member, Origin, Peer, Place, Role, TableKind};

@@ -168,6 +168,9 @@ impl Roster {
     }
 }
 
+/// The greatest id that a member may have.
+pub const LAST_MEMBER: u8 = 16;
+
 /// Whether the id is one of a foreign cache: 101 to 108.
 pub fn is_foreign(id: u8) -> bool
     ensures { result ≡ is_foreign_id id }

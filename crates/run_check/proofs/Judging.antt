@@ -13,7 +13,7 @@ use Rattle.run_rules.specs.declared.verdict.Verdict.{Verdict}
 use Rattle.run_rules.specs.Sent.{Network, IsCallSent, without_waiting}
 use Rattle.run_rules.specs.Board.{Standing, New, Open, Shut, Astray, Board, standing_at, with_standing}
 use Rattle.run_rules.specs.Judging.{Fine, Flawed, standing_in, JudgesOpening, StepsSo, IsHeard, JudgesEntry, judged, JudgesCall, Judges, is_astray}
-use Rattle.run_rules.specs.Verdict.{Listed, HasVerdict, HasVerdictBy}
+use Rattle.run_rules.specs.Verdict.{OrderedNote, HasVerdict, HasVerdictBy}
 use Rattle.run_check.specs.Held.{IsOpened}
 use Rattle.run_check.specs.Boards.{opened_network}
 
@@ -64,6 +64,6 @@ call_unsent roster b e is_closed unsent = inr (inr (unsent, refl))
 -- The verdict
 
 -- if a note may follow, the verdict is that on the rest
-pub goes_on : (roster : Tables) (b : Board) (l : Listed) (ls : List Listed) (next : Board) (v : Verdict) → l.double ≡ None → Judges roster b l.note (Fine next) → HasVerdict roster next ls v →
+pub goes_on : (roster : Tables) (b : Board) (l : OrderedNote) (ls : List OrderedNote) (next : Board) (v : Verdict) → l.double ≡ None → Judges roster b l.note (Fine next) → HasVerdict roster next ls v →
     HasVerdict roster b (l ∷ ls) v
 goes_on roster b l ls next v single judges later = subst (λ p. HasVerdictBy roster b l.note p (λ next. HasVerdict roster next ls v) v) (sym single) (inl (next, judges, later))

@@ -43,13 +43,13 @@ pub fn check_run(
 {
     let mut notes = Notes::new(alloc, records, entries)?;
     let mut board = Board::new(alloc, keys, roster);
-    while let Some(listed) = notes.take() {
-        if let Some(place) = listed.double {
+    while let Some(ordered) = notes.take() {
+        if let Some(place) = ordered.double {
             let cause = Cause::DoublePlace;
             return Ok(Verdict::No { place, cause });
         }
-        if let Some(cause) = board.judge(alloc, roster, listed.note)? {
-            let place = place_of(&listed.note);
+        if let Some(cause) = board.judge(alloc, roster, ordered.note)? {
+            let place = place_of(&ordered.note);
             return Ok(Verdict::No { place, cause });
         }
     }

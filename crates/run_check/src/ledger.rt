@@ -8,14 +8,11 @@ ghost use Rattle.run_check.specs.Held.{master_of, IsAnswered, IsWanting, IsFaili
 
 use purge_master::MasterEntry;
 use purge_rules::{
-    MasterAnswer, MasterCall, MasterFault, MemberSet, Purge, Purges, is_acknowledging,
+    LAST_NUMBER, MasterAnswer, MasterCall, MasterFault, MemberSet, Purge, Purges, is_acknowledging,
 };
 use roster::Roster;
 use std::alloc::{AllocError, Global};
 use url_key::Key;
-
-/// The greatest number that a purge may have, 2^32 - 1.
-const LAST_NUMBER: u32 = 4294967295;
 
 /// What a call of the master returns.
 type Outcome = Result<MasterAnswer, MasterFault>;

@@ -3,7 +3,7 @@
 use Rattle.std.proofs.Common.{◌≡◌, ℕ, zero, suc, ◌+◌, ◌-◌, ◌<◌, List, [], ◌∷◌, ◌++◌, length, take, get_or, Option, Some, None, refl, sym, ◌∙◌, ap, arith}
 use Rattle.std.specs.Prelude.{slice_get, option_map}
 use Rattle.std.proofs.lemmas.List.{take_more}
-use Rattle.run_rules.specs.Notes.{Note, turn_of, turn_by, place_in}
+use Rattle.run_rules.specs.Notes.{Note, rank_of, rank_by, place_in}
 use Rattle.run_notes.specs.declared.note.Note.{Note as Held}
 use Rattle.run_notes.specs.Held.{note_of, onto, track_of}
 
@@ -22,15 +22,15 @@ pushed_is xs ys n is = ap track_of is ∙ pushed xs n
 pub one_more : (xs : List Held) (i : ℕ) (n : Held) → i < length xs → n ≡ get_or xs i n → track_of (take (i + 1) xs) ≡ note_of n ∷ track_of (take i xs)
 one_more xs i n less is = ap track_of (take_more xs i n less) ∙ pushed (take i xs) (get_or xs i n) ∙ ap (λ m. note_of m ∷ track_of (take i xs)) (sym is)
 
--- the turn of a note
-abbrev pub turn_in : Held → ℕ
-turn_in n = turn_by (place_in (note_of n))
+-- the rank of a note
+abbrev pub rank_in : Held → ℕ
+rank_in n = rank_by (place_in (note_of n))
 
-last_onto : (done : List Note) (x : Held) (xs : List Held) → turn_of (onto done (x ∷ xs)) ≡ option_map turn_in (slice_get (x ∷ xs) (length xs))
+last_onto : (done : List Note) (x : Held) (xs : List Held) → rank_of (onto done (x ∷ xs)) ≡ option_map rank_in (slice_get (x ∷ xs) (length xs))
 last_onto done x [] = refl
 last_onto done x (y ∷ ys) = last_onto (note_of x ∷ done) y ys
 
 -- the last note is the next one
-pub last_turn : (xs : List Held) → turn_of (track_of xs) ≡ option_map turn_in (slice_get xs (length xs - 1))
-last_turn [] = refl
-last_turn (x ∷ xs) = last_onto [] x xs ∙ ap (λ n. option_map turn_in (slice_get (x ∷ xs) n)) (omega arith)
+pub last_rank : (xs : List Held) → rank_of (track_of xs) ≡ option_map rank_in (slice_get xs (length xs - 1))
+last_rank [] = refl
+last_rank (x ∷ xs) = last_onto [] x xs ∙ ap (λ n. option_map rank_in (slice_get (x ∷ xs) n)) (omega arith)

@@ -1,11 +1,11 @@
 -- How notes and tracks are held, and the list of notes that are left.
 use Rattle.std.specs.Prelude.{ℕ, suc, Bool, true, false, nat_le, ◌==◌, List, [], ◌∷◌, map, option_map, Option, Some, None, if◌then◌else◌}
 use Rattle.std.specs.Global.{Vec}
-use Rattle.run_rules.specs.Notes.{Note, Opens, Steps, Closes, Calls, lesser, turn_of}
-use Rattle.run_rules.specs.Verdict.{Listed, order_by, count_in}
+use Rattle.run_rules.specs.Notes.{Note, Opens, Steps, Closes, Calls, lesser, rank_of}
+use Rattle.run_rules.specs.Verdict.{OrderedNote, order_by, count_in}
 use Rattle.run_notes.specs.declared.note.Note.{Note as Held}
 use Rattle.run_notes.specs.declared.note.Note.TheVariants as held
-use Rattle.run_notes.specs.declared.order.Listed.{Listed as HeldListed}
+use Rattle.run_notes.specs.declared.order.OrderedNote.{OrderedNote as HeldOrdered}
 use Rattle.run_notes.specs.declared.order.Notes.{Notes}
 
 -- the note that a held note refers to
@@ -16,8 +16,8 @@ note_of (held.Closes node place state) = Closes node place state.now
 note_of (held.Calls entry is_closed) = Calls entry.now is_closed
 
 -- the same for a note that was taken
-abbrev pub listed_of : HeldListed → Listed
-listed_of l = record { note = note_of l.note; double = l.double }
+abbrev pub ordered_of : HeldOrdered → OrderedNote
+ordered_of l = record { note = note_of l.note; double = l.double }
 
 -- these notes from the last to the first, before those that are done
 abbrev pub onto : List Note → List Held → List Note
@@ -33,7 +33,7 @@ abbrev pub tracks_in : List (Vec Held) → List (List Note)
 tracks_in tracks = map (λ track. track_of track.items) tracks
 
 -- the notes that are left, in their order
-abbrev pub order_in : Notes → List Listed
+abbrev pub order_in : Notes → List OrderedNote
 order_in n = order_by (count_in (tracks_in n.tracks.items)) n.fall (tracks_in n.tracks.items)
 
 -- the least fall of a track that begins with a place: by the place after it, and the least fall
@@ -52,12 +52,12 @@ abbrev pub place_in_rest : Bool → Option ℕ → Option ℕ
 place_in_rest true later = Some 0
 place_in_rest false later = option_map suc later
 
--- whether a track's turn is this one
-abbrev pub has_turn : ℕ → Option ℕ → Bool
-has_turn turn None = false
-has_turn turn (Some here) = here == turn
+-- whether a track's rank is this one
+abbrev pub has_rank : ℕ → Option ℕ → Bool
+has_rank rank None = false
+has_rank rank (Some here) = here == rank
 
--- the index of the first track that has this turn, if any
+-- the index of the first track that has this rank, if any
 abbrev pub place_at : ℕ → List (List Note) → Option ℕ
-place_at turn [] = None
-place_at turn (track ∷ tracks) = place_in_rest (has_turn turn (turn_of track)) (place_at turn tracks)
+place_at rank [] = None
+place_at rank (track ∷ tracks) = place_in_rest (has_rank rank (rank_of track)) (place_at rank tracks)

@@ -3,7 +3,7 @@
 //! there); this crate computes them, without copying a record or an entry.
 //!
 //! `Notes::new` makes the tracks from the records of the members and the entries of the master.
-//! `Notes::take` returns the next note as a `Listed`: the `Note`, and the doubled place that is
+//! `Notes::take` returns the next note as an `OrderedNote`: the `Note`, and the doubled place that is
 //! found there, if any. A take looks only at the first note of each track, so its time does not
 //! grow with the number of notes. The crate touches no file, socket, clock or thread.
 //!
@@ -21,4 +21,4 @@ mod order;
 mod tracks;
 
 pub use note::Note;
-pub use order::{Listed, Notes};
+pub use order::{Notes, OrderedNote};

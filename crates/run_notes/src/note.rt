@@ -1,6 +1,6 @@
 //! Notes. A track of notes is held as a list whose last note is the next one.
 ghost use Rattle.std.specs.Prelude.{◌≡◌};
-ghost use Rattle.run_rules.specs.Notes.{place_in, turn_by};
+ghost use Rattle.run_rules.specs.Notes.{place_in, rank_by};
 ghost use Rattle.run_notes.specs.Held.{note_of};
 
 use floor_rules::Floors;
@@ -60,9 +60,9 @@ impl Note<'_> {
         }
     }
 
-    /// Returns the note's turn: 0 (at once) if it has no place, else its place plus 1.
-    pub(crate) fn turn(&self) -> u128
-        ensures { result ≡ turn_by (place_in (note_of self.now)) }
+    /// Returns the note's rank: 0 (at once) if it has no place, else its place plus 1.
+    pub(crate) fn rank(&self) -> u128
+        ensures { result ≡ rank_by (place_in (note_of self.now)) }
     {
         match self.place() {
             None => 0,

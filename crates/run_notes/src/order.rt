@@ -1,9 +1,9 @@
 //! Which note comes next: an opening or a closing at once, else the entry with the least place. If
 //! several tracks have it, the one of the first track.
 ghost use Rattle.std.specs.Prelude.{◌≡◌, ◌≤◌, ◌<◌, ◌∷◌, [], length, nat_le, Some, None, MatchOption, IfSome, IfOk, if◌then◌else◌};
-ghost use Rattle.run_rules.specs.Notes.{turn_of as turn_of_track, turns_of, least, count_of, tracks_of};
+ghost use Rattle.run_rules.specs.Notes.{rank_of as rank_of_track, ranks_of, least, count_of, tracks_of};
 ghost use Rattle.run_rules.specs.Verdict.{double_by, order_of};
-ghost use Rattle.run_notes.specs.Held.{track_of, tracks_in, place_at as place_of_turn, order_in, listed_of};
+ghost use Rattle.run_notes.specs.Held.{track_of, tracks_in, place_at as place_of_rank, order_in, ordered_of};
 
 use crate::Note;
 use crate::falls::least_fall;
@@ -14,7 +14,7 @@ use std::alloc::{AllocError, Global};
 
 /// A note that was taken.
 #[derive(Clone, Copy)]
-pub struct Listed<'a> {
+pub struct OrderedNote<'a> {
     /// The note.
     pub note: Note<'a>,
     /// The doubled place that is found at this note, if any: one that is not greater than the one
@@ -32,42 +32,42 @@ pub struct Notes<'a> {
     fall: Option<u64>,
 }
 
-/// The turn of the next note of a track, if there is one.
-fn turn_of(track: &[Note<'_>]) -> Option<u128>
-    ensures { result ≡ turn_of_track (track_of track.now) }
+/// The rank of the next note of a track, if there is one.
+fn rank_of(track: &[Note<'_>]) -> Option<u128>
+    ensures { result ≡ rank_of_track (track_of track.now) }
 {
     match track.last() {
-        Some(note) => Some(note.turn()),
+        Some(note) => Some(note.rank()),
         None => None,
     }
 }
 
-/// The least turn of all tracks, if there is one.
-fn least_turn(tracks: &[Vec<Note<'_>>]) -> Option<u128>
-    ensures { result ≡ least (turns_of (tracks_in tracks.now)) }
+/// The least rank of all tracks, if there is one.
+fn least_rank(tracks: &[Vec<Note<'_>>]) -> Option<u128>
+    ensures { result ≡ least (ranks_of (tracks_in tracks.now)) }
 {
     match tracks {
         [] => None,
-        [first, rest @ ..] => match (turn_of(first.as_slice()), least_turn(rest)) {
-            (Some(turn), Some(later)) if later < turn => Some(later),
-            (Some(turn), _) => Some(turn),
+        [first, rest @ ..] => match (rank_of(first.as_slice()), least_rank(rest)) {
+            (Some(rank), Some(later)) if later < rank => Some(later),
+            (Some(rank), _) => Some(rank),
             (None, later) => later,
         },
     }
 }
 
-/// The index of the first track that has this turn, if any.
-fn place_at(tracks: &[Vec<Note<'_>>], turn: u128) -> Option<usize>
-    ensures place { result ≡ place_of_turn turn (tracks_in tracks.now) }
+/// The index of the first track that has this rank, if any.
+fn place_at(tracks: &[Vec<Note<'_>>], rank: u128) -> Option<usize>
+    ensures place { result ≡ place_of_rank rank (tracks_in tracks.now) }
     ensures below { IfSome result (λ place. place < length tracks.now) }
 {
     match tracks {
         [] => None,
         [first, rest @ ..] => {
-            if turn_of(first.as_slice()) == Some(turn) {
+            if rank_of(first.as_slice()) == Some(rank) {
                 return Some(0);
             }
-            match place_at(rest, turn) {
+            match place_at(rest, rank) {
                 Some(place) => Some(place + 1),
                 None => None,
             }
@@ -75,16 +75,16 @@ fn place_at(tracks: &[Vec<Note<'_>>], turn: u128) -> Option<usize>
     }
 }
 
-/// How many tracks have this turn.
-fn count_at(tracks: &[Vec<Note<'_>>], turn: u128) -> usize
-    ensures count { result ≡ count_of turn (turns_of (tracks_in tracks.now)) }
+/// How many tracks have this rank.
+fn count_at(tracks: &[Vec<Note<'_>>], rank: u128) -> usize
+    ensures count { result ≡ count_of rank (ranks_of (tracks_in tracks.now)) }
     ensures few { result ≤ length tracks.now }
 {
     match tracks {
         [] => 0,
         [first, rest @ ..] => {
-            let others = count_at(rest, turn);
-            if turn_of(first.as_slice()) == Some(turn) {
+            let others = count_at(rest, rank);
+            if rank_of(first.as_slice()) == Some(rank) {
                 others + 1
             } else {
                 others
@@ -124,14 +124,14 @@ impl<'a> Notes<'a> {
     }
 
     /// Takes the next note; `None` if all are taken. Allocates nothing.
-    pub fn take(&mut self) -> Option<Listed<'a>>
-        ensures { MatchOption result (order_in self.old ≡ []) (λ listed. order_in self.old ≡ listed_of listed ∷ order_in self.new) }
+    pub fn take(&mut self) -> Option<OrderedNote<'a>>
+        ensures { MatchOption result (order_in self.old ≡ []) (λ ordered. order_in self.old ≡ ordered_of ordered ∷ order_in self.new) }
     {
-        let turn = least_turn(self.tracks.as_slice())?;
-        let is_shared = count_at(self.tracks.as_slice(), turn) >= 2;
-        let at = place_at(self.tracks.as_slice(), turn)?;
+        let rank = least_rank(self.tracks.as_slice())?;
+        let is_shared = count_at(self.tracks.as_slice(), rank) >= 2;
+        let at = place_at(self.tracks.as_slice(), rank)?;
         let note = self.tracks[at].pop()?;
         let double = double_at(self.fall, is_shared, note.place());
-        Some(Listed { note, double })
+        Some(OrderedNote { note, double })
     }
 }

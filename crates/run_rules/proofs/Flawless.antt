@@ -17,7 +17,7 @@ use Rattle.run_rules.specs.Notes.{Note, Opens, Steps, Closes, Calls}
 use Rattle.run_rules.specs.Board.{Standing, Astray, Post, Board, new_board, standing_at, with_standing, with_node}
 use Rattle.run_rules.specs.Judging.{Fine, Judges, OpensAs, opened_board, StepsSo, after_entry, after_call, judged}
 use Rattle.run_rules.specs.Judging.{is_astray as is_unknown}
-use Rattle.run_rules.specs.Verdict.{Listed, HasVerdict, HasVerdictBy, is_astray, place_of}
+use Rattle.run_rules.specs.Verdict.{OrderedNote, HasVerdict, HasVerdictBy, is_astray, place_of}
 use Rattle.run_rules.specs.Recorded.{Progress, beginning, AllStand}
 use Rattle.node_rules.specs.declared.state.NodeState.{NodeState}
 use Rattle.node_book.specs.declared.book.NodeEntry.{NodeEntry}
@@ -86,7 +86,7 @@ never_by t b note None Later (who, astray) later (inl (next, judges, rest)) = la
 never_by t b note None Later astray later (inr (cause, judges, v)) = yes_no (place_of note) cause v
 
 -- a run with a node astray has a flaw
-never_yes : (t : Tables) (ls : List Listed) (b : Board) → GoesAstray b → HasVerdict t b ls Yes → ⊥
+never_yes : (t : Tables) (ls : List OrderedNote) (b : Board) → GoesAstray b → HasVerdict t b ls Yes → ⊥
 never_yes t [] b (who, astray) v = yes_no 0 OtherState (v ∙ ap (λ c. cond c (No 0 OtherState) Yes) (any_astray b.posts who astray))
 never_yes t (l ∷ ls) b astray v = never_by t b l.note l.double (λ next. HasVerdict t next ls Yes) astray (λ next. never_yes t ls next) v
 
@@ -99,17 +99,17 @@ note_follows t proper b p m (Steps id entry is_closed kept) next none judges = e
 note_follows t proper b p m (Closes id place state) next none judges = closing_follows t b p m id place state next judges
 note_follows t proper b p m (Calls e is_closed) next none judges = call_follows t b p m e is_closed next judges
 
-abbrev pub note_in : Listed → Note
+abbrev pub note_in : OrderedNote → Note
 note_in l = l.note
 
 -- the notes stand for events of the world, and no place is doubled
-pub record Flawless (t : Tables) (p : Progress) (ls : List Listed) : Type 0 where
+pub record Flawless (t : Tables) (p : Progress) (ls : List OrderedNote) : Type 0 where
   pub steps : List Step
   pub end : Progress
   pub stand : AllStand t p (map note_in ls) steps end
-  pub single : AllByRecursion (λ (l : Listed). l.double ≡ None) ls
+  pub single : AllByRecursion (λ (l : OrderedNote). l.double ≡ None) ls
 
-follow_by : (t : Tables) → IsRoster t → (b : Board) (p : Progress) → Matches t b p → (note : Note) (double : Option ℕ) (ls : List Listed) (Later : Board → Type 0) →
+follow_by : (t : Tables) → IsRoster t → (b : Board) (p : Progress) → Matches t b p → (note : Note) (double : Option ℕ) (ls : List OrderedNote) (Later : Board → Type 0) →
     ((next : Board) → GoesAstray next → Later next → ⊥) → ((next : Board) (q : Progress) → Matches t next q → Later next → Flawless t q ls) → HasVerdictBy t b note double Later Yes →
     Flawless t p (record { note = note; double = double } ∷ ls)
 follow_by t proper b p m note (Some place) ls Later none later v = absurd (yes_no place DoublePlace v)
@@ -124,7 +124,7 @@ follow_by t proper b p m note None ls Later none later (inl (next, judges, rest)
       single = (refl, there.single);
     }
 
-follow_all : (t : Tables) → IsRoster t → (ls : List Listed) (b : Board) (p : Progress) → Matches t b p → HasVerdict t b ls Yes → Flawless t p ls
+follow_all : (t : Tables) → IsRoster t → (ls : List OrderedNote) (b : Board) (p : Progress) → Matches t b p → HasVerdict t b ls Yes → Flawless t p ls
 follow_all t proper [] b p m v = record { steps = []; end = p; stand = (refl, refl); single = tt }
 follow_all t proper (l ∷ ls) b p m v =
     follow_by t proper b p m l.note l.double ls (λ next. HasVerdict t next ls Yes) (λ next. never_yes t ls next) (λ next q. follow_all t proper ls next q) v
@@ -150,5 +150,5 @@ begins t = record {
 }
 
 -- notes without a flaw, from the new world on
-pub flawless : (t : Tables) → IsRoster t → (ls : List Listed) → HasVerdict t new_board ls Yes → Flawless t (beginning t) ls
+pub flawless : (t : Tables) → IsRoster t → (ls : List OrderedNote) → HasVerdict t new_board ls Yes → Flawless t (beginning t) ls
 flawless t proper ls v = follow_all t proper ls new_board (beginning t) (begins t) v

@@ -1,4 +1,4 @@
--- If no place is doubled, the places of all notes in their order rise: the least turn is always
+-- If no place is doubled, the places of all notes in their order rise: the least rank is always
 -- taken, so a place that does not rise is shared by two tracks or does not rise in its own, and
 -- both are found as doubled.
 use Rattle.std.proofs.Common.{◌≡◌, ◌⊎◌, ℕ, zero, suc, ◌+◌, ◌≤◌, ◌<◌, true, false, cond, List, [], ◌∷◌, ◌++◌, length, map, filter, Option, Some, None, refl, sym, ◌∙◌, ap, inl, inr, nat_eq, nat_le, nat_lt, subst, arith}
@@ -6,8 +6,8 @@ use Rattle.std.specs.List.{AllByRecursion, flat_map, filter_map, cons_option}
 use Rattle.std.proofs.lemmas.Bool.Decides.{nat_tests}
 use Rattle.node_rules.proofs.Cases.{branches, test_le, test_lt}
 use Rattle.world_rules.proofs.Seats.{same_id}
-use Rattle.run_rules.specs.Notes.{Note, place_in, turn_by, turn_of, turns_of, places_in, falls, falls_from, lesser, least, least_fall, Taken, next_note, count_of}
-use Rattle.run_rules.specs.Verdict.{Listed, double_of, order_on, order_by, count_in, order_of}
+use Rattle.run_rules.specs.Notes.{Note, place_in, rank_by, rank_of, ranks_of, places_in, falls, falls_from, lesser, least, least_fall, Taken, next_note, count_of}
+use Rattle.run_rules.specs.Verdict.{OrderedNote, double_of, order_on, order_by, count_in, order_of}
 use Rattle.run_rules.specs.Recorded.{Rise, AllRise}
 use Rattle.run_rules.proofs.Lists.{either, same_some}
 use Rattle.run_rules.proofs.Taking.{Took, taken_by, note_of}
@@ -50,43 +50,43 @@ abbrev GoOn : Option ℕ → Option ℕ → List (List Note) → Type 0
 GoOn fall last [] = Unit {0}
 GoOn fall last (track ∷ tracks) = (IsNext fall last (places_in track) × AllLate fall (falls (places_in track))) × GoOn fall last tracks
 
--- no track has a lower turn
+-- no track has a lower rank
 abbrev AreAtLeast : ℕ → List (List Note) → Type 0
-AreAtLeast turn [] = Unit {0}
-AreAtLeast turn (track ∷ tracks) = ((a : ℕ) → turn_of track ≡ Some a → turn ≤ a) × AreAtLeast turn tracks
+AreAtLeast rank [] = Unit {0}
+AreAtLeast rank (track ∷ tracks) = ((a : ℕ) → rank_of track ≡ Some a → rank ≤ a) × AreAtLeast rank tracks
 
-lesser_least : (a : ℕ) (o : Option ℕ) (turn : ℕ) → lesser a o ≡ turn → (turn ≤ a) × ((b : ℕ) → o ≡ Some b → turn ≤ b)
-lesser_least a None turn is = (omega (is, arith), λ b none. cc)
-lesser_least a (Some c) turn is =
-    (branches (λ n. n ≡ turn → (turn ≤ a) × ((b : ℕ) → Some c ≡ Some b → turn ≤ b)) (nat_le a c) a c
+lesser_least : (a : ℕ) (o : Option ℕ) (rank : ℕ) → lesser a o ≡ rank → (rank ≤ a) × ((b : ℕ) → o ≡ Some b → rank ≤ b)
+lesser_least a None rank is = (omega (is, arith), λ b none. cc)
+lesser_least a (Some c) rank is =
+    (branches (λ n. n ≡ rank → (rank ≤ a) × ((b : ℕ) → Some c ≡ Some b → rank ≤ b)) (nat_le a c) a c
     (λ less h. (omega (h, arith), λ b same. omega (h, test_le a c less, same_some c b same, arith)))
     (λ more h. (omega (h, greater a c more, arith), λ b same. omega (h, same_some c b same, arith)))) is
 
-least_least : (tracks : List (List Note)) (o : Option ℕ) → least (turns_of tracks) ≡ o → (turn : ℕ) → ((b : ℕ) → o ≡ Some b → turn ≤ b) → AreAtLeast turn tracks
-least_least [] o is turn below = tt
-least_least ([] ∷ tracks) o is turn below = ((λ a none. cc), least_least tracks o is turn below)
-least_least ((note ∷ notes) ∷ tracks) o is turn below =
-    let first = below (lesser (turn_by (place_in note)) (least (turns_of tracks))) (sym is) in
-    let (here, there) = lesser_least (turn_by (place_in note)) (least (turns_of tracks)) (lesser (turn_by (place_in note)) (least (turns_of tracks))) refl in
-    ((λ a same. omega (first, here, same_some (turn_by (place_in note)) a same, arith)), least_least tracks (least (turns_of tracks)) refl turn (λ b same. omega (first, there b same, arith)))
+least_least : (tracks : List (List Note)) (o : Option ℕ) → least (ranks_of tracks) ≡ o → (rank : ℕ) → ((b : ℕ) → o ≡ Some b → rank ≤ b) → AreAtLeast rank tracks
+least_least [] o is rank below = tt
+least_least ([] ∷ tracks) o is rank below = ((λ a none. cc), least_least tracks o is rank below)
+least_least ((note ∷ notes) ∷ tracks) o is rank below =
+    let first = below (lesser (rank_by (place_in note)) (least (ranks_of tracks))) (sym is) in
+    let (here, there) = lesser_least (rank_by (place_in note)) (least (ranks_of tracks)) (lesser (rank_by (place_in note)) (least (ranks_of tracks))) refl in
+    ((λ a same. omega (first, here, same_some (rank_by (place_in note)) a same, arith)), least_least tracks (least (ranks_of tracks)) refl rank (λ b same. omega (first, there b same, arith)))
 
--- no other track has this turn
+-- no other track has this rank
 abbrev HasNone : ℕ → List (List Note) → Type 0
-HasNone turn [] = Unit {0}
-HasNone turn (track ∷ tracks) = (turn_of track ≡ Some turn → ⊥) × HasNone turn tracks
+HasNone rank [] = Unit {0}
+HasNone rank (track ∷ tracks) = (rank_of track ≡ Some rank → ⊥) × HasNone rank tracks
 
-count_more : (turn : ℕ) (o : Option ℕ) (turns : List ℕ) → count_of turn turns ≤ count_of turn (cons_option o turns)
-count_more turn None turns = omega arith
-count_more turn (Some a) turns = branches (λ (l : List ℕ). count_of turn turns ≤ length l) (nat_eq a turn) (a ∷ filter (λ t. nat_eq t turn) turns) (filter (λ t. nat_eq t turn) turns) (λ _. omega arith) (λ _. omega arith)
+count_more : (rank : ℕ) (o : Option ℕ) (ranks : List ℕ) → count_of rank ranks ≤ count_of rank (cons_option o ranks)
+count_more rank None ranks = omega arith
+count_more rank (Some a) ranks = branches (λ (l : List ℕ). count_of rank ranks ≤ length l) (nat_eq a rank) (a ∷ filter (λ t. nat_eq t rank) ranks) (filter (λ t. nat_eq t rank) ranks) (λ _. omega arith) (λ _. omega arith)
 
-count_here : (turn : ℕ) (turns : List ℕ) → count_of turn (turn ∷ turns) ≡ suc (count_of turn turns)
-count_here turn turns = ap (λ b. length (cond b (turn ∷ filter (λ t. nat_eq t turn) turns) (filter (λ t. nat_eq t turn) turns))) (same_id turn)
+count_here : (rank : ℕ) (ranks : List ℕ) → count_of rank (rank ∷ ranks) ≡ suc (count_of rank ranks)
+count_here rank ranks = ap (λ b. length (cond b (rank ∷ filter (λ t. nat_eq t rank) ranks) (filter (λ t. nat_eq t rank) ranks))) (same_id rank)
 
-none_has : (turn : ℕ) (tracks : List (List Note)) → count_of turn (turns_of tracks) ≡ 0 → HasNone turn tracks
-none_has turn [] none = tt
-none_has turn (track ∷ tracks) none = (
-  (λ has. omega (subst (λ (o : Option ℕ). count_of turn (cons_option o (turns_of tracks)) ≡ 0) has none, count_here turn (turns_of tracks), arith)),
-  none_has turn tracks (omega (count_more turn (turn_of track) (turns_of tracks), none, arith)),
+none_has : (rank : ℕ) (tracks : List (List Note)) → count_of rank (ranks_of tracks) ≡ 0 → HasNone rank tracks
+none_has rank [] none = tt
+none_has rank (track ∷ tracks) none = (
+  (λ has. omega (subst (λ (o : Option ℕ). count_of rank (cons_option o (ranks_of tracks)) ≡ 0) has none, count_here rank (ranks_of tracks), arith)),
+  none_has rank tracks (omega (count_more rank (rank_of track) (ranks_of tracks), none, arith)),
 )
 
 -- A place is taken
@@ -98,9 +98,9 @@ next_of fall p (f ∷ fs) late =
     (branches (λ (l : List ℕ). AllLate fall l → ((p < f) ⊎ IsLate fall f) × AllLate fall (falls_from f fs)) (nat_lt p f) (falls_from f fs) (f ∷ falls_from f fs)
     (λ rises h. (inl (less p f rises), h)) (λ stays h. (inr h.0, h.1))) late
 
-place_up : (fall : Option ℕ) (turn p : ℕ) (o : Option ℕ) (ps : List ℕ) → turn ≡ p + 1 → ((a : ℕ) → turn_by o ≡ a → turn ≤ a) → (turn_by o ≡ turn → ⊥) → IsNext fall (Some p) (cons_option o ps)
-place_up fall turn p None ps is least other = absurd (omega (least 0 refl, is, arith))
-place_up fall turn p (Some f) ps is least other = elim (either (nat_lt p f)) [
+place_up : (fall : Option ℕ) (rank p : ℕ) (o : Option ℕ) (ps : List ℕ) → rank ≡ p + 1 → ((a : ℕ) → rank_by o ≡ a → rank ≤ a) → (rank_by o ≡ rank → ⊥) → IsNext fall (Some p) (cons_option o ps)
+place_up fall rank p None ps is least other = absurd (omega (least 0 refl, is, arith))
+place_up fall rank p (Some f) ps is least other = elim (either (nat_lt p f)) [
   | inl rises ↦ inl (less p f rises)
   | inr stays ↦ absurd (other (omega (least (f + 1) refl, is, test_lt p f stays, arith)))
 ]
@@ -109,16 +109,16 @@ above_by : (fall last : Option ℕ) (q p : ℕ) → q ≡ p → Above last q ⊎
 above_by fall last q p same (inl above) early = subst (Above last) same above
 above_by fall last q p same (inr late) early = absurd (early (subst (IsLate fall) same late))
 
--- a track whose turn is neither this nor an earlier one has a later place
-track_up : (fall : Option ℕ) (turn p : ℕ) (track : List Note) → turn ≡ p + 1 → ((a : ℕ) → turn_of track ≡ Some a → turn ≤ a) → (turn_of track ≡ Some turn → ⊥) → IsNext fall (Some p) (places_in track)
-track_up fall turn p [] is least other = tt
-track_up fall turn p (note ∷ notes) is least other =
-    place_up fall turn p (place_in note) (places_in notes) is (λ a same. least a (ap Some same)) (λ same. other (ap Some same))
+-- a track whose rank is neither this nor an earlier one has a later place
+track_up : (fall : Option ℕ) (rank p : ℕ) (track : List Note) → rank ≡ p + 1 → ((a : ℕ) → rank_of track ≡ Some a → rank ≤ a) → (rank_of track ≡ Some rank → ⊥) → IsNext fall (Some p) (places_in track)
+track_up fall rank p [] is least other = tt
+track_up fall rank p (note ∷ notes) is least other =
+    place_up fall rank p (place_in note) (places_in notes) is (λ a same. least a (ap Some same)) (λ same. other (ap Some same))
 
 -- all other tracks have later places
-others_up : (fall : Option ℕ) (last : Option ℕ) (turn p : ℕ) (tracks : List (List Note)) → turn ≡ p + 1 → GoOn fall last tracks → AreAtLeast turn tracks → HasNone turn tracks → GoOn fall (Some p) tracks
-others_up fall last turn p [] is on least none = tt
-others_up fall last turn p (track ∷ tracks) is on least none = ((track_up fall turn p track is least.0 none.0, on.0.1), others_up fall last turn p tracks is on.1 least.1 none.1)
+others_up : (fall : Option ℕ) (last : Option ℕ) (rank p : ℕ) (tracks : List (List Note)) → rank ≡ p + 1 → GoOn fall last tracks → AreAtLeast rank tracks → HasNone rank tracks → GoOn fall (Some p) tracks
+others_up fall last rank p [] is on least none = tt
+others_up fall last rank p (track ∷ tracks) is on least none = ((track_up fall rank p track is least.0 none.0, on.0.1), others_up fall last rank p tracks is on.1 least.1 none.1)
 
 taken_up : (fall last : Option ℕ) (p : ℕ) (notes : List Note) (o : Option ℕ) → o ≡ Some p → (IsLate fall p → ⊥) → IsNext fall last (cons_option o (places_in notes)) × AllLate fall (falls (cons_option o (places_in notes))) →
     Above last p × (IsNext fall (Some p) (places_in notes) × AllLate fall (falls (places_in notes)))
@@ -127,26 +127,26 @@ taken_up fall last p notes (Some q) is early (first, late) =
     let same : q ≡ p = same_some q p is in
     (above_by fall last q p same first early, subst (λ n. IsNext fall (Some n) (places_in notes) × AllLate fall (falls (places_in notes))) same (next_of fall q (places_in notes) late))
 
-steps_up : (fall last : Option ℕ) (turn p : ℕ) (tracks rest : List (List Note)) (note : Note) → Took turn tracks note rest → place_in note ≡ Some p → turn ≡ p + 1 → GoOn fall last tracks → AreAtLeast turn tracks → count_of turn (turns_of tracks) ≤ 1 → (IsLate fall p → ⊥) →
+steps_up : (fall last : Option ℕ) (rank p : ℕ) (tracks rest : List (List Note)) (note : Note) → Took rank tracks note rest → place_in note ≡ Some p → rank ≡ p + 1 → GoOn fall last tracks → AreAtLeast rank tracks → count_of rank (ranks_of tracks) ≤ 1 → (IsLate fall p → ⊥) →
     Above last p × GoOn fall (Some p) rest
-steps_up fall last turn p [] rest note took place is on least single early = absurd took
-steps_up fall last turn p (track ∷ tracks) rest note (inl (notes, its, left, turns)) place is on least single early =
+steps_up fall last rank p [] rest note took place is on least single early = absurd took
+steps_up fall last rank p (track ∷ tracks) rest note (inl (notes, its, left, ranks)) place is on least single early =
     let (above, here) = taken_up fall last p notes (place_in note) place early (subst (λ (l : List Note). IsNext fall last (places_in l) × AllLate fall (falls (places_in l))) its on.0) in
-    let alone : count_of turn (turns_of tracks) ≡ 0 =
-    omega (subst (λ (l : List Note). count_of turn (turns_of (l ∷ tracks)) ≤ 1) its single, ap (λ n. count_of turn (n ∷ turns_of tracks)) turns, count_here turn (turns_of tracks), arith) in
-    (above, subst (GoOn fall (Some p)) (sym left) (here, others_up fall last turn p tracks is on.1 least.1 (none_has turn tracks alone)))
-steps_up fall last turn p (track ∷ tracks) rest note (inr (others, left, elsewhere, took)) place is on least single early =
-    let (above, there) = steps_up fall last turn p tracks others note took place is on.1 least.1 (omega (count_more turn (turn_of track) (turns_of tracks), single, arith)) early in
-    (above, subst (GoOn fall (Some p)) (sym left) ((track_up fall turn p track is least.0 elsewhere, on.0.1), there))
+    let alone : count_of rank (ranks_of tracks) ≡ 0 =
+    omega (subst (λ (l : List Note). count_of rank (ranks_of (l ∷ tracks)) ≤ 1) its single, ap (λ n. count_of rank (n ∷ ranks_of tracks)) ranks, count_here rank (ranks_of tracks), arith) in
+    (above, subst (GoOn fall (Some p)) (sym left) (here, others_up fall last rank p tracks is on.1 least.1 (none_has rank tracks alone)))
+steps_up fall last rank p (track ∷ tracks) rest note (inr (others, left, elsewhere, took)) place is on least single early =
+    let (above, there) = steps_up fall last rank p tracks others note took place is on.1 least.1 (omega (count_more rank (rank_of track) (ranks_of tracks), single, arith)) early in
+    (above, subst (GoOn fall (Some p)) (sym left) ((track_up fall rank p track is least.0 elsewhere, on.0.1), there))
 
 -- a note without a place is taken
-steps_past : (fall last : Option ℕ) (turn : ℕ) (tracks rest : List (List Note)) (note : Note) → Took turn tracks note rest → place_in note ≡ None → GoOn fall last tracks → GoOn fall last rest
-steps_past fall last turn [] rest note took none on = absurd took
-steps_past fall last turn (track ∷ tracks) rest note (inl (notes, its, left, turns)) none on =
+steps_past : (fall last : Option ℕ) (rank : ℕ) (tracks rest : List (List Note)) (note : Note) → Took rank tracks note rest → place_in note ≡ None → GoOn fall last tracks → GoOn fall last rest
+steps_past fall last rank [] rest note took none on = absurd took
+steps_past fall last rank (track ∷ tracks) rest note (inl (notes, its, left, ranks)) none on =
     let same : places_in track ≡ places_in notes = ap places_in its ∙ ap (λ (o : Option ℕ). cons_option o (places_in notes)) none in
     subst (GoOn fall last) (sym left) (subst (λ (l : List ℕ). IsNext fall last l × AllLate fall (falls l)) same on.0, on.1)
-steps_past fall last turn (track ∷ tracks) rest note (inr (others, left, elsewhere, took)) none on =
-    subst (GoOn fall last) (sym left) (on.0, steps_past fall last turn tracks others note took none on.1)
+steps_past fall last rank (track ∷ tracks) rest note (inr (others, left, elsewhere, took)) none on =
+    subst (GoOn fall last) (sym left) (on.0, steps_past fall last rank tracks others note took none on.1)
 
 -- All places
 
@@ -158,51 +158,51 @@ rise_more : (last : Option ℕ) (p : ℕ) (ps : List ℕ) → Above last p → R
 rise_more None p ps above rise = rise
 rise_more (Some last) p ps above rise = (above, rise)
 
-shared_by : (turns : List ℕ) (p : ℕ) → double_of None turns (Some p) ≡ None → count_of (p + 1) turns ≤ 1
-shared_by turns p is =
-    (branches (λ (o : Option ℕ). o ≡ None → count_of (p + 1) turns ≤ 1) (nat_le 2 (count_of (p + 1) turns)) (Some p) None (λ two h. some_none_place p h) (λ one h. omega (greater 2 (count_of (p + 1) turns) one, arith))) is
+shared_by : (ranks : List ℕ) (p : ℕ) → double_of None ranks (Some p) ≡ None → count_of (p + 1) ranks ≤ 1
+shared_by ranks p is =
+    (branches (λ (o : Option ℕ). o ≡ None → count_of (p + 1) ranks ≤ 1) (nat_le 2 (count_of (p + 1) ranks)) (Some p) None (λ two h. some_none_place p h) (λ one h. omega (greater 2 (count_of (p + 1) ranks) one, arith))) is
 
-single_by : (fall : Option ℕ) (turns : List ℕ) (p : ℕ) → double_of fall turns (Some p) ≡ None → (IsLate fall p → ⊥) × (count_of (p + 1) turns ≤ 1)
-single_by None turns p is = ((λ late. no_fall late.0 late.1), shared_by turns p is)
-single_by (Some d) turns p is =
-    (branches (λ (o : Option ℕ). o ≡ None → (IsLate (Some d) p → ⊥) × (count_of (p + 1) turns ≤ 1)) (nat_le d p) (Some d) (double_of None turns (Some p))
+single_by : (fall : Option ℕ) (ranks : List ℕ) (p : ℕ) → double_of fall ranks (Some p) ≡ None → (IsLate fall p → ⊥) × (count_of (p + 1) ranks ≤ 1)
+single_by None ranks p is = ((λ late. no_fall late.0 late.1), shared_by ranks p is)
+single_by (Some d) ranks p is =
+    (branches (λ (o : Option ℕ). o ≡ None → (IsLate (Some d) p → ⊥) × (count_of (p + 1) ranks ≤ 1)) (nat_le d p) (Some d) (double_of None ranks (Some p))
     (λ late h. some_none_place d h)
-    (λ early h. ((λ late. omega (greater d p early, same_some d late.0 late.1, late.2, arith)), shared_by turns p h))) is
+    (λ early h. ((λ late. omega (greater d p early, same_some d late.0 late.1, late.2, arith)), shared_by ranks p h))) is
 
-abbrev places_of : List Listed → List ℕ
+abbrev places_of : List OrderedNote → List ℕ
 places_of ls = filter_map place_in (map note_of ls)
 
 nothing_rises : (last : Option ℕ) → RiseFrom last []
 nothing_rises None = tt
 nothing_rises (Some last) = tt
 
-took_turn : (turn : ℕ) (tracks rest : List (List Note)) (note : Note) → Took turn tracks note rest → turn_by (place_in note) ≡ turn
-took_turn turn [] rest note took = absurd took
-took_turn turn (track ∷ tracks) rest note (inl (notes, its, left, turns)) = turns
-took_turn turn (track ∷ tracks) rest note (inr (others, left, elsewhere, took)) = took_turn turn tracks others note took
+took_rank : (rank : ℕ) (tracks rest : List (List Note)) (note : Note) → Took rank tracks note rest → rank_by (place_in note) ≡ rank
+took_rank rank [] rest note took = absurd took
+took_rank rank (track ∷ tracks) rest note (inl (notes, its, left, ranks)) = ranks
+took_rank rank (track ∷ tracks) rest note (inr (others, left, elsewhere, took)) = took_rank rank tracks others note took
 
 module _ (fall : Option ℕ) where
   -- a note is taken, and the rest goes on after it
-  taken_rise : (tracks : List (List Note)) (last : Option ℕ) (x : Taken) (turn : ℕ) (later : List (List Note) → List Listed) (place : Option ℕ) → least (turns_of tracks) ≡ Some turn → Took turn tracks x.note x.rest → place_in x.note ≡ place →
-      GoOn fall last tracks → double_of fall (turns_of tracks) (place_in x.note) ≡ None → ((behind : Option ℕ) → GoOn fall behind x.rest → RiseFrom behind (places_of (later x.rest))) →
+  taken_rise : (tracks : List (List Note)) (last : Option ℕ) (x : Taken) (rank : ℕ) (later : List (List Note) → List OrderedNote) (place : Option ℕ) → least (ranks_of tracks) ≡ Some rank → Took rank tracks x.note x.rest → place_in x.note ≡ place →
+      GoOn fall last tracks → double_of fall (ranks_of tracks) (place_in x.note) ≡ None → ((behind : Option ℕ) → GoOn fall behind x.rest → RiseFrom behind (places_of (later x.rest))) →
       RiseFrom last (cons_option (place_in x.note) (places_of (later x.rest)))
-  taken_rise tracks last x turn later None has took is on single rises =
-      subst (λ (o : Option ℕ). RiseFrom last (cons_option o (places_of (later x.rest)))) (sym is) (rises last (steps_past fall last turn tracks x.rest x.note took is on))
-  taken_rise tracks last x turn later (Some p) has took is on single rises =
-      let turn_is : turn ≡ p + 1 = sym (took_turn turn tracks x.rest x.note took) ∙ ap turn_by is in
-      let (early, alone) = single_by fall (turns_of tracks) p (ap (double_of fall (turns_of tracks)) (sym is) ∙ single) in
-      let below = least_least tracks (least (turns_of tracks)) refl turn (λ b same. omega (same_some turn b (sym has ∙ same), arith)) in
-      let (above, on_later) = steps_up fall last turn p tracks x.rest x.note took is turn_is on below (subst (λ n. count_of n (turns_of tracks) ≤ 1) (sym turn_is) alone) early in
+  taken_rise tracks last x rank later None has took is on single rises =
+      subst (λ (o : Option ℕ). RiseFrom last (cons_option o (places_of (later x.rest)))) (sym is) (rises last (steps_past fall last rank tracks x.rest x.note took is on))
+  taken_rise tracks last x rank later (Some p) has took is on single rises =
+      let rank_is : rank ≡ p + 1 = sym (took_rank rank tracks x.rest x.note took) ∙ ap rank_by is in
+      let (early, alone) = single_by fall (ranks_of tracks) p (ap (double_of fall (ranks_of tracks)) (sym is) ∙ single) in
+      let below = least_least tracks (least (ranks_of tracks)) refl rank (λ b same. omega (same_some rank b (sym has ∙ same), arith)) in
+      let (above, on_later) = steps_up fall last rank p tracks x.rest x.note took is rank_is on below (subst (λ n. count_of n (ranks_of tracks) ≤ 1) (sym rank_is) alone) early in
       subst (λ (o : Option ℕ). RiseFrom last (cons_option o (places_of (later x.rest)))) (sym is) (rise_more last p (places_of (later x.rest)) above (rises (Some p) on_later))
 
-  rise_on : (tracks : List (List Note)) (last : Option ℕ) (later : List (List Note) → List Listed) (o : Option Taken) → next_note tracks ≡ o → GoOn fall last tracks → AllByRecursion (λ (l : Listed). l.double ≡ None) (order_on fall tracks later o) →
-      ((rest : List (List Note)) (behind : Option ℕ) → GoOn fall behind rest → AllByRecursion (λ (l : Listed). l.double ≡ None) (later rest) → RiseFrom behind (places_of (later rest))) → RiseFrom last (places_of (order_on fall tracks later o))
+  rise_on : (tracks : List (List Note)) (last : Option ℕ) (later : List (List Note) → List OrderedNote) (o : Option Taken) → next_note tracks ≡ o → GoOn fall last tracks → AllByRecursion (λ (l : OrderedNote). l.double ≡ None) (order_on fall tracks later o) →
+      ((rest : List (List Note)) (behind : Option ℕ) → GoOn fall behind rest → AllByRecursion (λ (l : OrderedNote). l.double ≡ None) (later rest) → RiseFrom behind (places_of (later rest))) → RiseFrom last (places_of (order_on fall tracks later o))
   rise_on tracks last later None is on single rises = nothing_rises last
   rise_on tracks last later (Some x) is on (single, others) rises =
-      let (turn, has, took) = taken_by (least (turns_of tracks)) tracks x is in
-      taken_rise tracks last x turn later (place_in x.note) has took refl on single (λ behind on_later. rises x.rest behind on_later others)
+      let (rank, has, took) = taken_by (least (ranks_of tracks)) tracks x is in
+      taken_rise tracks last x rank later (place_in x.note) has took refl on single (λ behind on_later. rises x.rest behind on_later others)
 
-  rise : (count : ℕ) (tracks : List (List Note)) (last : Option ℕ) → GoOn fall last tracks → AllByRecursion (λ (l : Listed). l.double ≡ None) (order_by count fall tracks) → RiseFrom last (places_of (order_by count fall tracks))
+  rise : (count : ℕ) (tracks : List (List Note)) (last : Option ℕ) → GoOn fall last tracks → AllByRecursion (λ (l : OrderedNote). l.double ≡ None) (order_by count fall tracks) → RiseFrom last (places_of (order_by count fall tracks))
   rise zero tracks last on single = nothing_rises last
   rise (suc count) tracks last on single = rise_on tracks last (λ rest. order_by count fall rest) (next_note tracks) refl on single (λ rest behind on_later others. rise count rest behind on_later others)
 
@@ -236,5 +236,5 @@ begin_on fall (track ∷ tracks) late =
     ((first_next fall (places_in track), here), begin_on fall tracks there)
 
 -- if no place is doubled, all places rise
-pub order_rises : (tracks : List (List Note)) → AllByRecursion (λ (l : Listed). l.double ≡ None) (order_of tracks) → AllRise (filter_map place_in (map note_of (order_of tracks)))
+pub order_rises : (tracks : List (List Note)) → AllByRecursion (λ (l : OrderedNote). l.double ≡ None) (order_of tracks) → AllRise (filter_map place_in (map note_of (order_of tracks)))
 order_rises tracks single = rise (least_fall tracks) (count_in tracks) tracks None (begin_on (least_fall tracks) tracks (all_late (flat_map (λ track. falls (places_in track)) tracks))) single

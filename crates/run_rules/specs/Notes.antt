@@ -149,46 +149,46 @@ least_fall tracks = least (flat_map (λ track. falls (places_in track)) tracks)
 -- Which note comes next: an opening or a closing at once, else the entry with the least place. If
 -- several have it, the one of the first track.
 
--- the turn of a note with this place: 0 is at once
-abbrev pub turn_by : Option ℕ → ℕ
-turn_by None = 0
-turn_by (Some place) = place + 1
+-- the rank of a note with this place in the order of all notes: 0 is at once
+abbrev pub rank_by : Option ℕ → ℕ
+rank_by None = 0
+rank_by (Some place) = place + 1
 
--- the turn of the first note of a track, if there is one
-abbrev pub turn_of : List Note → Option ℕ
-turn_of [] = None
-turn_of (note ∷ notes) = Some (turn_by (place_in note))
+-- the rank of the first note of a track, if there is one
+abbrev pub rank_of : List Note → Option ℕ
+rank_of [] = None
+rank_of (note ∷ notes) = Some (rank_by (place_in note))
 
--- the turns of all tracks
-abbrev pub turns_of : List (List Note) → List ℕ
-turns_of tracks = filter_map turn_of tracks
+-- the ranks of all tracks
+abbrev pub ranks_of : List (List Note) → List ℕ
+ranks_of tracks = filter_map rank_of tracks
 
 -- a note that was taken, and the tracks without it
 pub record Taken : Type 0 where
   pub note : Note
   pub rest : List (List Note)
 
--- the note with this turn: of the first track, or else of the later ones
+-- the note with this rank: of the first track, or else of the later ones
 abbrev pub take_from : ℕ → List Note → List (List Note) → Option Taken → Option Taken
-take_from turn [] tracks later = option_map (λ t. record { note = t.note; rest = [] ∷ t.rest }) later
-take_from turn (note ∷ notes) tracks later =
-    if turn_by (place_in note) == turn then Some record { note = note; rest = notes ∷ tracks }
+take_from rank [] tracks later = option_map (λ t. record { note = t.note; rest = [] ∷ t.rest }) later
+take_from rank (note ∷ notes) tracks later =
+    if rank_by (place_in note) == rank then Some record { note = note; rest = notes ∷ tracks }
     else option_map (λ t. record { note = t.note; rest = (note ∷ notes) ∷ t.rest }) later
 
--- the note with this turn in the first track whose first note has it
+-- the note with this rank in the first track whose first note has it
 abbrev pub take_at : ℕ → List (List Note) → Option Taken
-take_at turn [] = None
-take_at turn (track ∷ tracks) = take_from turn track tracks (take_at turn tracks)
+take_at rank [] = None
+take_at rank (track ∷ tracks) = take_from rank track tracks (take_at rank tracks)
 
--- the same, if there is a turn
+-- the same, if there is a rank
 abbrev pub take_by : List (List Note) → Option ℕ → Option Taken
 take_by tracks None = None
-take_by tracks (Some turn) = take_at turn tracks
+take_by tracks (Some rank) = take_at rank tracks
 
 -- the note that comes next, if there is one [Record 13]
 abbrev pub next_note : List (List Note) → Option Taken
-next_note tracks = take_by tracks (least (turns_of tracks))
+next_note tracks = take_by tracks (least (ranks_of tracks))
 
--- how many tracks have this turn
+-- how many tracks have this rank
 abbrev pub count_of : ℕ → List ℕ → ℕ
-count_of turn turns = length (filter (λ t. t == turn) turns)
+count_of rank ranks = length (filter (λ t. t == rank) ranks)

@@ -9,12 +9,12 @@ use Rattle.run_rules.specs.declared.verdict.Cause.{Cause}
 use Rattle.run_rules.specs.declared.verdict.Cause.TheVariants.{DoublePlace, OtherState}
 use Rattle.run_rules.specs.declared.verdict.Verdict.{Verdict}
 use Rattle.run_rules.specs.declared.verdict.Verdict.TheVariants.{Yes, No}
-use Rattle.run_rules.specs.Notes.{Note, Opens, Steps, Closes, Calls, Taken, tracks_of, place_in, turn_by, turns_of, count_of, least_fall, next_note}
+use Rattle.run_rules.specs.Notes.{Note, Opens, Steps, Closes, Calls, Taken, tracks_of, place_in, rank_by, ranks_of, count_of, least_fall, next_note}
 use Rattle.run_rules.specs.Board.{Post, Board, new_board}
 use Rattle.run_rules.specs.Judging.{Fine, Flawed, Judges, is_astray as is_unknown}
 
--- a note in its turn, with the doubled place that is found there, if any
-pub record Listed : Type 0 where
+-- a note in the order of all notes, with the doubled place that is found there, if any
+pub record OrderedNote : Type 0 where
   pub note : Note
   pub double : Option ℕ
 
@@ -25,21 +25,21 @@ double_by fall is_shared None = None
 double_by None is_shared (Some place) = if is_shared then Some place else None
 double_by (Some fall) is_shared (Some place) = if nat_le fall place then Some fall else (if is_shared then Some place else None)
 
--- the same, by the turns of all tracks [Record 3]
+-- the same, by the ranks of all tracks [Record 3]
 abbrev pub double_of : Option ℕ → List ℕ → Option ℕ → Option ℕ
-double_of fall turns place = double_by fall (nat_le 2 (count_of (turn_by place) turns)) place
+double_of fall ranks place = double_by fall (nat_le 2 (count_of (rank_by place) ranks)) place
 
 -- a note that is taken from these tracks, with the doubled place
-abbrev pub listed : Option ℕ → List (List Note) → Note → Listed
-listed fall tracks note = record { note = note; double = double_of fall (turns_of tracks) (place_in note) }
+abbrev pub ordered : Option ℕ → List (List Note) → Note → OrderedNote
+ordered fall tracks note = record { note = note; double = double_of fall (ranks_of tracks) (place_in note) }
 
 -- the note that was taken, and the order of the rest
-abbrev pub order_on : Option ℕ → List (List Note) → (List (List Note) → List Listed) → Option Taken → List Listed
+abbrev pub order_on : Option ℕ → List (List Note) → (List (List Note) → List OrderedNote) → Option Taken → List OrderedNote
 order_on fall tracks later None = []
-order_on fall tracks later (Some t) = listed fall tracks t.note ∷ later t.rest
+order_on fall tracks later (Some t) = ordered fall tracks t.note ∷ later t.rest
 
 -- the first notes in their order, this many
-abbrev pub order_by : ℕ → Option ℕ → List (List Note) → List Listed
+abbrev pub order_by : ℕ → Option ℕ → List (List Note) → List OrderedNote
 order_by zero fall tracks = []
 order_by (suc count) fall tracks = order_on fall tracks (λ rest. order_by count fall rest) (next_note tracks)
 
@@ -48,7 +48,7 @@ abbrev pub count_in : List (List Note) → ℕ
 count_in tracks = length (flat_map (λ track. track) tracks)
 
 -- all notes in their order [Record 16]
-abbrev pub order_of : List (List Note) → List Listed
+abbrev pub order_of : List (List Note) → List OrderedNote
 order_of tracks = order_by (count_in tracks) (least_fall tracks) tracks
 
 -- the place that names a flaw of a note [Record 16]
@@ -75,7 +75,7 @@ HasVerdictBy roster b note None Later v =
     ⊎ ((cause : Cause) × Judges roster b note (Flawed cause) × (v ≡ No (place_of note) cause))
 
 -- the verdict on these notes, in this state of the run before them
-abbrev pub HasVerdict : Tables → Board → List Listed → Verdict → Type 0
+abbrev pub HasVerdict : Tables → Board → List OrderedNote → Verdict → Type 0
 HasVerdict roster b [] v = v ≡ ending b
 HasVerdict roster b (l ∷ ls) v = HasVerdictBy roster b l.note l.double (λ next. HasVerdict roster next ls v) v
 

@@ -1,6 +1,6 @@
 //! The members of a roster, on sockets of their own, and the master's loop.
 use crate::starts::{roster_at, shared};
-use cluster_master::{History, MasterLoop, MasterSender, SharedMaster};
+use cluster_master::{KeptEntries, MasterLoop, MasterSender, SharedMaster};
 use mio::net::UdpSocket;
 use purge_master::MasterEntry;
 use purge_rules::{MasterAnswer, MasterCall, MasterFault, MemoryPurges, Status};
@@ -35,7 +35,7 @@ struct Members {
 struct Held {
     roster: Roster,
     master: SharedMaster<MemoryPurges>,
-    turner: MasterLoop,
+    poller: MasterLoop,
     sender: MasterSender,
     members: Members,
 }
@@ -52,9 +52,9 @@ fn opened<R: Net + Clock>(
     alloc: Global,
     roster: &Roster,
 ) -> Result<(MasterLoop, MasterSender), Fail> {
-    let turner = MasterLoop::open(rt, alloc, roster)?;
-    let sender = turner.sender()?;
-    Ok((turner, sender))
+    let poller = MasterLoop::open(rt, alloc, roster)?;
+    let sender = poller.sender()?;
+    Ok((poller, sender))
 }
 
 /// A master, its loop and these members.
@@ -64,12 +64,12 @@ fn held_with<R: Net + Clock>(
     roster: Roster,
     members: Members,
 ) -> Result<Held, Fail> {
-    let master = shared(alloc, &roster, History::Dropped)?;
-    let (turner, sender) = opened(rt, alloc, &roster)?;
+    let master = shared(alloc, &roster, KeptEntries::Dropped)?;
+    let (poller, sender) = opened(rt, alloc, &roster)?;
     Ok(Held {
         roster,
         master,
-        turner,
+        poller,
         sender,
         members,
     })
@@ -87,21 +87,21 @@ impl Held {
         self.sender.issue(rt, &self.roster, &self.master, key)
     }
 
-    /// Has turns for so many milliseconds.
-    fn turn_for<R: Wait + Clock>(&mut self, rt: &R, most: u64) -> Result<(), Fail> {
+    /// Polls for so many milliseconds.
+    fn poll_for<R: Wait + Clock>(&mut self, rt: &R, most: u64) -> Result<(), Fail> {
         let begun = Instant::now(rt)?;
         for _ in 0..1000 {
             if begun.elapsed(rt)? >= Duration::from_millis(most) {
                 break;
             }
-            self.turner.turn(rt, &self.roster, &self.master)?;
+            self.poller.poll_once(rt, &self.roster, &self.master)?;
         }
         Ok(())
     }
 
-    /// Has turns for so many milliseconds. How many entries there are since they were last taken, and in how many of these the two members are listed as due.
+    /// Polls for so many milliseconds. How many entries there are since they were last taken, and in how many of these the two members are listed as due.
     fn entered<R: Wait + Clock>(&mut self, rt: &R, most: u64) -> Result<(usize, usize), Fail> {
-        self.turn_for(rt, most)?;
+        self.poll_for(rt, most)?;
         let entries = self.master.take_entries(rt);
         let due = entries.iter().filter(|entry| lists_both(entry)).count();
         Ok((entries.len(), due))
@@ -231,8 +231,8 @@ fn are_spent<R: Wait + Clock>(rt: &R, left: &AtomicU32) -> bool {
     false
 }
 
-/// Whether a thread turns the loop until it is told to stop, also after three turns that were refused the clock, and a purge that is issued after these is done by then.
-fn turned<R: Threads + Net + Wait + Clock + Sync>(
+/// Whether a thread polls the loop until it is told to stop, also after three polls that were refused the clock, and a purge that is issued after these is done by then.
+fn polled<R: Threads + Net + Wait + Clock + Sync>(
     rt: &R,
     alloc: Global,
     port: u16,
@@ -241,7 +241,7 @@ fn turned<R: Threads + Net + Wait + Clock + Sync>(
     let Held {
         roster,
         master,
-        mut turner,
+        mut poller,
         sender,
         members,
     } = held_at(rt, alloc, port)?;
@@ -249,7 +249,7 @@ fn turned<R: Threads + Net + Wait + Clock + Sync>(
     let (roster, master, stop, left) = (&roster, &master, &stop, &left);
     let (_, done) = thread::join(
         rt,
-        move || turner.run_until(&Refusing { rt, left }, roster, master, stop),
+        move || poller.run_until(&Refusing { rt, left }, roster, master, stop),
         move || {
             let spent = are_spent(rt, left);
             let done = commanded(rt, roster, master, &sender, &members, port, key, stop);
@@ -260,7 +260,7 @@ fn turned<R: Threads + Net + Wait + Clock + Sync>(
 }
 
 #[test]
-fn a_thread_turns_until_it_is_told(rt: HostRuntime) -> Result<(), Fail> {
-    assert!(rt; turned(&rt, rt.alloc(), 21450)?);
+fn a_thread_polls_until_it_is_told(rt: HostRuntime) -> Result<(), Fail> {
+    assert!(rt; polled(&rt, rt.alloc(), 21450)?);
     Ok(())
 }

@@ -1,6 +1,6 @@
-//! A page of the book is turned where it is full.
+//! A page of the book is filed where it is full.
 use crate::starts::{roster_at, shared};
-use cluster_master::{History, SharedMaster};
+use cluster_master::{KeptEntries, SharedMaster};
 use purge_master::MasterEntry;
 use purge_rules::{MasterAnswer, MasterCall, MasterFault, MemoryPurges, Status};
 use std::alloc::Global;
@@ -61,30 +61,30 @@ fn filled<R: Wait>(
 fn taken<R: Wait>(
     rt: &R,
     alloc: Global,
-    history: History,
+    to_keep: KeptEntries,
 ) -> Result<(bool, Vec<MasterEntry>), Fail> {
-    let master = shared(alloc, &roster_at(alloc, 21400)?, history)?;
+    let master = shared(alloc, &roster_at(alloc, 21400)?, to_keep)?;
     let told = filled(rt, alloc, &master, 4096)?;
     Ok((told, master.take_entries(rt)))
 }
 
 #[test]
-fn no_entry_is_lost_where_a_page_is_turned(rt: HostRuntime) -> Result<(), Fail> {
-    let (told, entries) = taken(&rt, rt.alloc(), History::UpTo(8192))?;
+fn no_entry_is_lost_where_a_page_is_filed(rt: HostRuntime) -> Result<(), Fail> {
+    let (told, entries) = taken(&rt, rt.alloc(), KeptEntries::UpTo(8192))?;
     assert!(rt; told && are_all(entries.as_slice(), 4096));
     Ok(())
 }
 
 #[test]
-fn a_page_is_dropped_without_a_history(rt: HostRuntime) -> Result<(), Fail> {
-    let (told, entries) = taken(&rt, rt.alloc(), History::Dropped)?;
+fn a_page_is_dropped_where_none_is_kept(rt: HostRuntime) -> Result<(), Fail> {
+    let (told, entries) = taken(&rt, rt.alloc(), KeptEntries::Dropped)?;
     assert!(rt; told && entries.len() == 1);
     Ok(())
 }
 
 /// After 4,097 calls: how many entries the book has that is given back, and how many stand before them.
 fn closed<R: Wait>(rt: &R, alloc: Global) -> Result<(usize, usize), Fail> {
-    let master = shared(alloc, &roster_at(alloc, 21400)?, History::UpTo(8192))?;
+    let master = shared(alloc, &roster_at(alloc, 21400)?, KeptEntries::UpTo(8192))?;
     filled(rt, alloc, &master, 4096)?;
     let (book, kept) = master.close();
     Ok((book.entries().len(), kept.len()))

@@ -1,5 +1,5 @@
 //! What the other tests begin with.
-use cluster_master::{History, SharedMaster};
+use cluster_master::{KeptEntries, SharedMaster};
 use node_seats::Places;
 use purge_master::{Master, MasterBook};
 use purge_rules::MemoryPurges;
@@ -41,12 +41,12 @@ pub(crate) fn roster_at(alloc: Global, port: u16) -> Result<Roster, Fail> {
 pub(crate) fn shared(
     alloc: Global,
     roster: &Roster,
-    history: History,
+    to_keep: KeptEntries,
 ) -> Result<SharedMaster<MemoryPurges>, Fail> {
     let places = Places::new(alloc)?;
     let master = match Master::open(alloc, roster, MemoryPurges::new(alloc)) {
         Ok(master) => master,
         Err(fault) => return Err(fault.name().into()),
     };
-    Ok(SharedMaster::open(alloc, MasterBook::open(master), places, history))
+    Ok(SharedMaster::open(alloc, MasterBook::open(master), places, to_keep))
 }

@@ -1,4 +1,4 @@
-//! Clients connect and send, the loop has its turns, and these jobs are in the queue then.
+//! Clients connect and send, the loop polls, and these jobs are in the queue then.
 ghost use Rattle.std.specs.Prelude.{◌≡◌};
 
 use cluster_jobs::{Job, Jobs, NewJobs, Pass, QueueName};
@@ -27,8 +27,8 @@ enum Act {
     Send(usize, &'static [u8]),
     /// It sends no more.
     End(usize),
-    /// The loop has so many turns.
-    Turns(u32),
+    /// The loop polls so many times.
+    Polls(u32),
 }
 
 /// Addresses of this machine.
@@ -125,7 +125,7 @@ impl Clients {
                 io::Write::write(self.client(number)?, octets)?;
             }
             Act::End(number) => self.client(number)?.shutdown(Shutdown::Write)?,
-            Act::Turns(_) => {}
+            Act::Polls(_) => {}
         }
         Ok(())
     }
@@ -155,7 +155,7 @@ impl Seen {
 /// A loop and its clients.
 #[derive(Drop)]
 struct Held {
-    turner: NodeLoop,
+    poller: NodeLoop,
     senders: Senders,
     clients: Clients,
 }
@@ -168,28 +168,28 @@ fn opened(rt: &HostRuntime, ip: u32, port: u16) -> Result<(NodeLoop, Senders), L
 
 fn held_at(rt: &HostRuntime, ip: u32, port: u16) -> Result<Held, Fail> {
     let clients = Clients::of(rt, port)?;
-    let (mut turner, senders) = opened(rt, ip, port)?;
-    turner.set_wait(Duration::from_millis(5));
+    let (mut poller, senders) = opened(rt, ip, port)?;
+    poller.set_wait(Duration::from_millis(5));
     Ok(Held {
-        turner,
+        poller,
         senders,
         clients,
     })
 }
 
-/// The loop has so many turns.
-fn turn<Q: QueueName, R: Wait + Clock>(
+/// The loop polls so many times.
+fn poll<Q: QueueName, R: Wait + Clock>(
     rt: &R,
-    turner: &mut NodeLoop,
+    poller: &mut NodeLoop,
     jobs: &Jobs<Q>,
     mut pass: Pass<Q>,
     count: u32,
 ) -> (Pass<Q>, Result<(), LoopFault>) {
     let mut ended = Ok(());
     for _ in 0..count {
-        let (after, turned) = turner.turn(rt, jobs, pass, &mut Never);
+        let (after, polled) = poller.poll_once(rt, jobs, pass, &mut Never);
         pass = after;
-        ended = ended.and(turned);
+        ended = ended.and(polled);
     }
     (pass, ended)
 }
@@ -226,10 +226,10 @@ fn played<Q: QueueName, R: Wait + Clock>(
     let (jobs, mut pass) = new.name::<Q>();
     for act in acts {
         match act {
-            Act::Turns(count) => {
-                let (after, turned) = turn(wait, &mut held.turner, &jobs, pass, *count);
+            Act::Polls(count) => {
+                let (after, polled) = poll(wait, &mut held.poller, &jobs, pass, *count);
                 pass = after;
-                turned?;
+                polled?;
             }
             act => held.clients.act(rt, *act)?,
         }
@@ -279,57 +279,57 @@ const COME: [Act; 13] = [
     Act::Datagram(Udp::Htcp, b"defg"),
     Act::Datagram(Udp::Htcp, &LONG),
     Act::Connect(1),
-    Act::Turns(3),
+    Act::Polls(3),
     Act::Send(0, EMPTY),
-    Act::Turns(3),
+    Act::Polls(3),
     Act::Send(0, FRONT),
-    Act::Turns(3),
+    Act::Polls(3),
     Act::Datagram(Udp::Icp, b"ab"),
-    Act::Turns(2),
+    Act::Polls(2),
     Act::Send(0, END),
-    Act::Turns(3),
+    Act::Polls(3),
 ];
 
 /// Of one client the last octet of a head comes alone, by CRLF, and of another one by LF; of a third all of a head by LF.
 const CUT: [Act; 10] = [
     Act::Connect(3),
-    Act::Turns(2),
+    Act::Polls(2),
     Act::Send(0, b"GET / HTTP/1.1\r\nHost: o\r\n\r"),
     Act::Send(1, b"GET / HTTP/1.1\n"),
     Act::Send(2, b"GET / HTTP/1.1\n\n"),
-    Act::Turns(20),
+    Act::Polls(20),
     Act::Send(0, b"\n"),
-    Act::Turns(20),
+    Act::Polls(20),
     Act::Send(1, b"\n"),
-    Act::Turns(20),
+    Act::Polls(20),
 ];
 
 /// Two clients send octet by octet, and 200 send nothing.
 const SLOW: [Act; 11] = [
     Act::Connect(203),
-    Act::Turns(3),
+    Act::Polls(3),
     Act::Send(0, b"G"),
     Act::Send(1, b"G"),
-    Act::Turns(2),
+    Act::Polls(2),
     Act::Send(0, b"E"),
     Act::Send(1, b"E"),
     Act::Datagram(Udp::Icp, b"abc"),
-    Act::Turns(2),
+    Act::Polls(2),
     Act::Send(202, WHOLE),
-    Act::Turns(2),
+    Act::Polls(2),
 ];
 
 /// One client ends in the midst of a head; one before it, who asks nothing; a third sends more than a head has.
 const ENDS: [Act; 9] = [
     Act::Connect(3),
-    Act::Turns(2),
+    Act::Polls(2),
     Act::Send(0, b"GE"),
     Act::End(0),
-    Act::Turns(2),
+    Act::Polls(2),
     Act::End(1),
-    Act::Turns(2),
+    Act::Polls(2),
     Act::Send(2, &LONG),
-    Act::Turns(3),
+    Act::Polls(3),
 ];
 
 /// What clients do at a node, and the jobs that are in its queue then.
@@ -391,13 +391,13 @@ fn what_comes_is_put(rt: HostRuntime) -> Result<(), Fail> {
 /// A client sends a part of a head and then nothing; another one sends nothing at all.
 const EARLY: [Act; 4] = [
     Act::Connect(2),
-    Act::Turns(2),
+    Act::Polls(2),
     Act::Send(0, b"GET"),
-    Act::Turns(500),
+    Act::Polls(500),
 ];
 
 /// More than five seconds are over.
-const LATE: [Act; 1] = [Act::Turns(800)];
+const LATE: [Act; 1] = [Act::Polls(800)];
 
 /// Takes the jobs in the queue early and late: whether none came before its time.
 fn wait_out<R: Wait + Clock>(
@@ -432,15 +432,15 @@ fn a_head_has_five_seconds(rt: HostRuntime) -> Result<(), Fail> {
 /// A client sends an octet of its head now and then: it gains no time by that, so its stream is a job once five seconds are over in all.
 const DRIP: [Act; 10] = [
     Act::Connect(1),
-    Act::Turns(2),
+    Act::Polls(2),
     Act::Send(0, b"G"),
-    Act::Turns(300),
+    Act::Polls(300),
     Act::Send(0, b"E"),
-    Act::Turns(300),
+    Act::Polls(300),
     Act::Send(0, b"T"),
-    Act::Turns(300),
+    Act::Polls(300),
     Act::Send(0, b" "),
-    Act::Turns(350),
+    Act::Polls(350),
 ];
 
 #[test]
@@ -455,15 +455,15 @@ fn octets_that_drip_gain_no_time(rt: HostRuntime) -> Result<(), Fail> {
 /// More datagrams come than the queue has places, and then a client whose request is whole.
 const FLOOD: [Act; 10] = [
     Act::Flood(100),
-    Act::Turns(2),
+    Act::Polls(2),
     Act::Flood(100),
-    Act::Turns(2),
+    Act::Polls(2),
     Act::Flood(100),
-    Act::Turns(2),
+    Act::Polls(2),
     Act::Connect(1),
-    Act::Turns(2),
+    Act::Polls(2),
     Act::Send(0, WHOLE),
-    Act::Turns(3),
+    Act::Polls(3),
 ];
 
 /// The first 256 datagrams of a flood.
@@ -523,7 +523,7 @@ fn addresses_are_told_apart(rt: HostRuntime) -> Result<(), Fail> {
     let mut jobs = Vec::new(rt.alloc());
     let mut held = held_at(&rt, SECOND, 21230)?;
     send_from_third(&rt, address_at(SECOND, 21230, 1))?;
-    run_at(&rt, &rt, &mut held, &[Act::Turns(20)], &mut jobs)?;
+    run_at(&rt, &rt, &mut held, &[Act::Polls(20)], &mut jobs)?;
     assert!(rt; jobs.as_slice() == [Seen::Datagram(Udp::Icp, THIRD, 3)].as_slice());
     Ok(())
 }
@@ -533,7 +533,7 @@ fn addresses_are_told_apart(rt: HostRuntime) -> Result<(), Fail> {
 struct Counting {
     /// How many datagrams it has dealt with.
     dealt: u32,
-    /// How often it was told that a turn has read them.
+    /// How often it was told that a poll has read them.
     finished: u32,
     /// How many it had dealt with when it was told the last time.
     before: u32,
@@ -566,11 +566,11 @@ const MIXED: [Act; 5] = [
     Act::Datagram(Udp::Htcp, b"e"),
 ];
 
-/// What was counted after a turn that datagrams are ready for, and after one more.
+/// What was counted after a poll that datagrams are ready for, and after one more.
 fn counted<Q: QueueName, R: Wait + Clock>(
     rt: &R,
     new: NewJobs,
-    turner: &mut NodeLoop,
+    poller: &mut NodeLoop,
 ) -> ([Counting; 2], Result<(), LoopFault>)
     requires { new ≡ Q.table }
 {
@@ -580,10 +580,10 @@ fn counted<Q: QueueName, R: Wait + Clock>(
         finished: 0,
         before: 0,
     };
-    let (pass, turned) = turner.turn(rt, &jobs, pass, &mut counting);
+    let (pass, polled) = poller.poll_once(rt, &jobs, pass, &mut counting);
     let first = counting;
-    let (_pass, again) = turner.turn(rt, &jobs, pass, &mut counting);
-    ([first, counting], turned.and(again))
+    let (_pass, again) = poller.poll_once(rt, &jobs, pass, &mut counting);
+    ([first, counting], polled.and(again))
 }
 
 /// What was counted, with a queue of its own, where these datagrams are ready.
@@ -596,12 +596,12 @@ fn counted_at<R: Wait + Clock>(
         held.clients.act(rt, *act)?;
     }
     let new = NewJobs::new(rt.alloc())?;
-    let (counted, turned) = counted::<Brand, R>(wait, new, &mut held.turner);
-    turned?;
+    let (counted, polled) = counted::<Brand, R>(wait, new, &mut held.poller);
+    polled?;
     Ok(counted)
 }
 
-/// What is counted where five datagrams were dealt with before each turn was finished.
+/// What is counted where five datagrams were dealt with before each poll was finished.
 const fn after(finished: u32) -> Counting {
     Counting {
         dealt: 5,
@@ -610,9 +610,9 @@ const fn after(finished: u32) -> Counting {
     }
 }
 
-/// A turn deals with all that is ready of both protocols before it says so, and says so once, also where nothing was ready.
+/// A poll deals with all that is ready of both protocols before it says so, and says so once, also where nothing was ready.
 #[test]
-fn a_turn_is_finished_once(rt: HostRuntime) -> Result<(), Fail> {
+fn a_poll_is_finished_once(rt: HostRuntime) -> Result<(), Fail> {
     let mut held = held_at(&rt, FIRST, 21240)?;
     let counted = counted_at(&rt, &rt, &mut held)?;
     assert!(rt; counted == [after(1), after(2)]);

@@ -1,4 +1,4 @@
-use Rattle.cluster_sockets.specs.Turns.{HasPut}
+use Rattle.cluster_sockets.specs.Polls.{HasPut}
 use Rattle.cluster_sockets.proofs.datagrams.Datagrams.put_ready.Given as goal
 
 abbrev pub invariant-loop : goal.invariant-loop

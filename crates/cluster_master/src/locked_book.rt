@@ -1,9 +1,9 @@
-//! What the lock of a shared master holds: its book, and the pages that were turned.
+//! What the lock of a shared master holds: its book, and the pages that were filed.
 ghost use Rattle.std.specs.Prelude.{◌≡◌, ◌≢◌, ◌⊎◌, ◌<◌, ◌++◌, [], length, false, Err, IfOk, IfSome, OnOk, OnErr};
 ghost use Rattle.htcp_wire.specs.Written.{Fits};
 ghost use Rattle.purge_master.specs.Store.{witness};
 ghost use Rattle.purge_rules.specs.declared.fault.MasterFault.TheVariants as faults;
-ghost use Rattle.cluster_master.specs.Desk.{IsCalledAt, IsUnmade, IsTaken, IsNothingDue, is_dropped, keeps, may_be_due_after as may_be_due_by, ready, turned, emptied};
+ghost use Rattle.cluster_master.specs.LockedBook.{IsCalledAt, IsUnmade, IsTaken, IsNothingDue, is_dropped, keeps, may_be_due_after as may_be_due_by, ready, filed, emptied};
 ghost use Rattle.cluster_master.specs.Answers.{IsToldOf, IsClearOf};
 
 use htcp_wire::Htcp;
@@ -14,9 +14,9 @@ use std::alloc::{AllocError, Global};
 use std::marker::Model;
 use std::mem::replace;
 
-/// What becomes of the entries of a page that is turned.
+/// What becomes of the entries of a page that is filed.
 #[derive(Clone, Copy, Debug, PartialEq, Eq)]
-pub enum History {
+pub enum KeptEntries {
     /// They are kept until they are taken, while fewer than this many are kept. Where a page would
     /// come after so many, all of them are dropped, and none is kept from then on.
     UpTo(u32),
@@ -25,12 +25,12 @@ pub enum History {
 }
 
 /// Whether a page is kept behind this many entries.
-fn has_place(history: History, kept: usize) -> bool
-    ensures { result ≡ keeps history kept }
+fn has_place(to_keep: KeptEntries, kept: usize) -> bool
+    ensures { result ≡ keeps to_keep kept }
 {
-    match history {
-        History::UpTo(most) => (kept as u64) < u64::from(most),
-        History::Dropped => false,
+    match to_keep {
+        KeptEntries::UpTo(most) => (kept as u64) < u64::from(most),
+        KeptEntries::Dropped => false,
     }
 }
 
@@ -48,35 +48,35 @@ fn may_be_due_after(answer: &Result<MasterAnswer, MasterFault>, was: bool) -> bo
     }
 }
 
-/// A master's book, the entries of the pages that were turned, and whether a CLR may be due. Where
+/// A master's book, the entries of the pages that were filed, and whether a CLR may be due. Where
 /// none may be due, none is.
 #[derive(Drop)]
-pub(crate) struct Desk<S: PurgeStore> {
+pub(crate) struct LockedBook<S: PurgeStore> {
     pub(crate) alloc: Global,
     /// The master, and the open page of its calls.
     pub(crate) book: MasterBook<S>,
-    /// The entries of the pages that were turned.
+    /// The entries of the pages that were filed.
     pub(crate) kept: Vec<MasterEntry>,
-    /// What becomes of the entries of a page that is turned.
-    pub(crate) history: History,
+    /// What becomes of the entries of a page that is filed.
+    pub(crate) to_keep: KeptEntries,
     /// Whether a CLR may be due.
     pub(crate) may_be_due: bool,
     /// Where each call draws its place.
     pub(crate) places: Places,
 }
 
-impl<S: PurgeStore> Model for Desk<S> {
+impl<S: PurgeStore> Model for LockedBook<S> {
     ghost use Rattle.std.specs.Prelude.{◌≡◌, false};
     ghost use Rattle.std.specs.Coded.{codes};
-    ghost use Rattle.cluster_master.specs.Desk.{DeskView, IsNothingDue};
+    ghost use Rattle.cluster_master.specs.LockedBook.{LockedBookView, IsNothingDue};
 
-    ghost Value = { DeskView S };
+    ghost Value = { LockedBookView S };
 
     ghost coded = { Prim.hlevel (codes) };
 
-    ghost view = { λ desk. record { book = desk.book; kept = desk.kept.items; history = desk.history; may_be_due = desk.may_be_due } };
+    ghost view = { λ locked. record { book = locked.book; kept = locked.kept.items; to_keep = locked.to_keep; may_be_due = locked.may_be_due } };
 
-    ghost invariant = { λ desk. desk.may_be_due ≡ false → IsNothingDue desk.book.master };
+    ghost invariant = { λ locked. locked.may_be_due ≡ false → IsNothingDue locked.book.master };
 }
 
 /// Puts the book's entries behind those that are kept, or leaves both unchanged where there is no
@@ -101,35 +101,35 @@ fn keep<S: PurgeStore>(
     }
 }
 
-impl<S: PurgeStore> Desk<S> {
-    /// Turns the page; or leaves everything unchanged, where there is no memory for what is kept.
-    fn turn_page(&mut self) -> Result<(), AllocError>
-        ensures turned { OnOk result (self.new ≡ turned self.old) }
+impl<S: PurgeStore> LockedBook<S> {
+    /// Files the page; or leaves everything unchanged, where there is no memory for what is kept.
+    fn file_page(&mut self) -> Result<(), AllocError>
+        ensures filed { OnOk result (self.new ≡ filed self.old) }
         ensures refused { OnErr result (self.new ≡ self.old) }
     {
-        if has_place(self.history, self.kept.len()) {
+        if has_place(self.to_keep, self.kept.len()) {
             return keep(&mut self.kept, &mut self.book);
         }
         let _page = self.book.take_entries();
         self.kept.clear();
-        self.history = History::Dropped;
+        self.to_keep = KeptEntries::Dropped;
         Ok(())
     }
 
-    /// Makes room for an entry: a page that is full is turned.
+    /// Makes room for an entry: a page that is full is filed.
     fn make_ready(&mut self) -> Result<(), AllocError>
         ensures ready { OnOk result (self.new ≡ ready self.old) }
         ensures room { OnOk result (length self.new.book.entries < 4096) }
         ensures refused { OnErr result (self.new ≡ self.old) }
     {
         if self.book.entries().len() >= MOST_ENTRIES {
-            return self.turn_page();
+            return self.file_page();
         }
         Ok(())
     }
 
     /// Makes one call of the master, which is entered with its answer; a page that is full is
-    /// turned before it. Where there is no memory for that, or for the entry, the answer is
+    /// filed before it. Where there is no memory for that, or for the entry, the answer is
     /// `NoMemory`, the master is not called, and no entry is lost.
     pub(crate) fn call(&mut self, call: MasterCall) -> Result<MasterAnswer, MasterFault>
         ensures called { IsUnmade self.old self.new result
@@ -174,8 +174,8 @@ impl<S: PurgeStore> Desk<S> {
 
     /// Whether entries are dropped: what is kept does not go back to the first call.
     pub(crate) fn has_forgotten(&self) -> bool
-        ensures { result ≡ is_dropped self.now.history }
+        ensures { result ≡ is_dropped self.now.to_keep }
     {
-        matches!(self.history, History::Dropped)
+        matches!(self.to_keep, KeptEntries::Dropped)
     }
 }

@@ -1,5 +1,5 @@
 use Rattle.cluster_sockets.proofs.Puts.{more_put}
-use Rattle.cluster_sockets.proofs.node_loop.NodeLoop.turn.Goals as goal
+use Rattle.cluster_sockets.proofs.node_loop.NodeLoop.poll_once.Goals as goal
 
 pub returns : goal.returns
 returns g c =

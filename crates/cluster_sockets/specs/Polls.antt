@@ -1,4 +1,4 @@
--- What a turn of the event loop does to the queue of jobs.
+-- What a poll of the event loop does to the queue of jobs.
 use Rattle.std.specs.Prelude.{◌≡◌, List, ◌++◌, map, All, IfSome}
 use Rattle.cluster_jobs.specs.declared.order.Sight.{Sight}
 use Rattle.cluster_jobs.specs.declared.order.Sight.TheVariants as sight

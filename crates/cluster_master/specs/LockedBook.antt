@@ -10,14 +10,14 @@ use Rattle.purge_master.specs.declared.book.MasterEntry.{MasterEntry}
 use Rattle.purge_master.specs.View.{MasterView}
 use Rattle.purge_master.specs.Store.{Witness}
 use Rattle.purge_master.specs.Book.{BookView, IsEntered}
-use Rattle.cluster_master.specs.declared.desk.History.{History}
-use Rattle.cluster_master.specs.declared.desk.History.TheVariants.{UpTo, Dropped}
+use Rattle.cluster_master.specs.declared.locked_book.KeptEntries.{KeptEntries}
+use Rattle.cluster_master.specs.declared.locked_book.KeptEntries.TheVariants.{UpTo, Dropped}
 
--- the book, the entries of the pages that were turned, whether these are kept, and whether a CLR may be due
-pub record DeskView (S : Type 0) : Type 0 where
+-- the book, the entries of the pages that were filed, whether these are kept, and whether a CLR may be due
+pub record LockedBookView (S : Type 0) : Type 0 where
   pub book : BookView S
   pub kept : List MasterEntry
-  pub history : History
+  pub to_keep : KeptEntries
   pub may_be_due : Bool
 
 -- no CLR is due: the master is closed, or no member is missing of a pending purge
@@ -40,50 +40,50 @@ abbrev pub emptied : {S : Type 0} → BookView S → BookView S
 emptied book = record { master = book.master; entries = [] }
 
 -- whether a page is kept behind this many entries
-abbrev pub keeps : History → ℕ → Bool
+abbrev pub keeps : KeptEntries → ℕ → Bool
 keeps (UpTo most) kept = nat_lt kept most
 keeps Dropped kept = false
 
 -- whether entries are dropped
-abbrev pub is_dropped : History → Bool
+abbrev pub is_dropped : KeptEntries → Bool
 is_dropped (UpTo most) = false
 is_dropped Dropped = true
 
 -- the entries of a page stand behind those that are kept; or all are dropped, where the page is not kept
-abbrev pub kept_with : History → List MasterEntry → List MasterEntry → List MasterEntry
-kept_with history kept page = if keeps history (length kept) then kept ++ page else []
+abbrev pub kept_with : KeptEntries → List MasterEntry → List MasterEntry → List MasterEntry
+kept_with to_keep kept page = if keeps to_keep (length kept) then kept ++ page else []
 
 -- once a page is not kept, none is kept from then on
-abbrev pub history_after : History → List MasterEntry → History
-history_after history kept = if keeps history (length kept) then history else Dropped
+abbrev pub to_keep_after : KeptEntries → List MasterEntry → KeptEntries
+to_keep_after to_keep kept = if keeps to_keep (length kept) then to_keep else Dropped
 
--- the page is turned: the book has no entry, and the same master
-abbrev pub turned : {S : Type 0} → DeskView S → DeskView S
-turned desk = record { book = emptied desk.book; kept = kept_with desk.history desk.kept desk.book.entries; history = history_after desk.history desk.kept; may_be_due = desk.may_be_due }
+-- the page is filed: the book has no entry, and the same master
+abbrev pub filed : {S : Type 0} → LockedBookView S → LockedBookView S
+filed locked = record { book = emptied locked.book; kept = kept_with locked.to_keep locked.kept locked.book.entries; to_keep = to_keep_after locked.to_keep locked.kept; may_be_due = locked.may_be_due }
 
--- a page of 4,096 entries is full, and is turned before a call
-abbrev pub ready : {S : Type 0} → DeskView S → DeskView S
-ready desk = if nat_le 4096 (length desk.book.entries) then turned desk else desk
+-- a page of 4,096 entries is full, and is filed before a call
+abbrev pub ready : {S : Type 0} → LockedBookView S → LockedBookView S
+ready locked = if nat_le 4096 (length locked.book.entries) then filed locked else locked
 
 -- the master has answered the call so, at some place, and the call is entered with that answer behind the entries of
 -- the page
-pub record IsCalledAt {S : Type 0} (was now : Witness) (before after : DeskView S) (c : MasterCall) (out : Result MasterAnswer MasterFault) : Type 0 where
+pub record IsCalledAt {S : Type 0} (was now : Witness) (before after : LockedBookView S) (c : MasterCall) (out : Result MasterAnswer MasterFault) : Type 0 where
   pub place : ℕ
   pub entered : IsEntered was now (ready before).book after.book place c out
   pub kept : after.kept ≡ (ready before).kept
-  pub history : after.history ≡ (ready before).history
+  pub to_keep : after.to_keep ≡ (ready before).to_keep
   pub may_be_due : after.may_be_due ≡ may_be_due_after out before.may_be_due
 
--- there was no memory, so the call was not made; the page may have been turned
-abbrev pub IsUnmade : {S : Type 0} → DeskView S → DeskView S → Result MasterAnswer MasterFault → Type 0
+-- there was no memory, so the call was not made; the page may have been filed
+abbrev pub IsUnmade : {S : Type 0} → LockedBookView S → LockedBookView S → Result MasterAnswer MasterFault → Type 0
 IsUnmade before after out = (out ≡ Err NoMemory) × ((after ≡ before) ⊎ (after ≡ ready before))
 
--- a desk with this book, and with no entries kept
-abbrev pub cleared : {S : Type 0} → DeskView S → BookView S → DeskView S
-cleared desk book = record { book = book; kept = []; history = desk.history; may_be_due = desk.may_be_due }
+-- this book under the lock, with no entries kept
+abbrev pub cleared : {S : Type 0} → LockedBookView S → BookView S → LockedBookView S
+cleared locked book = record { book = book; kept = []; to_keep = locked.to_keep; may_be_due = locked.may_be_due }
 
 -- all entries are taken; or those that are kept, where there was no memory to put the open page's behind them
-abbrev pub IsTaken : {S : Type 0} → DeskView S → List MasterEntry → DeskView S → Type 0
+abbrev pub IsTaken : {S : Type 0} → LockedBookView S → List MasterEntry → LockedBookView S → Type 0
 IsTaken before taken after =
     (taken ≡ before.kept ++ before.book.entries) × (after ≡ cleared before (emptied before.book))
     ⊎ (taken ≡ before.kept) × (after ≡ cleared before before.book)
