@@ -10,7 +10,7 @@ use Rattle.values_tables.specs.declared.plain.Peer.{Peer}
 use Rattle.values_plain.specs.declared.address.Udp.{Udp}
 use Rattle.values_plain.specs.declared.address.Udp.TheVariants as udp
 use Rattle.peer_chooser.specs.declared.said.Said.{Said}
-use Rattle.peer_chooser.specs.Round.{RoundText, has_told, answered}
+use Rattle.peer_chooser.specs.Round.{RoundText, has_answered, answered}
 use Rattle.node_rules.specs.declared.state.Pending.{Pending}
 use Rattle.values_tables.specs.declared.plain.Tables.{Tables}
 use Rattle.node_rules.specs.declared.state.NodeState.{NodeState}
@@ -53,21 +53,21 @@ module _ {X : Type 0} (g : Setting) (s : NodeState X) (by : Udp) (from : Address
     unfolding told_by
     no_peer none reply is_reply = told_found ∙ ap (λ o. told_by g s p said now mark o) none ∙ ap (λ r. replies s r) (sym is_reply)
 
-    pub told_again : (peer : Peer) → found ≡ Some peer → true ≡ has_told r.told peer.id → (reply : Reply X) → reply ≡ quiet → told_to g s by from said now mark (Some p) ≡ replies s reply
+    pub told_again : (peer : Peer) → found ≡ Some peer → true ≡ has_answered r.answers peer.id → (reply : Reply X) → reply ≡ quiet → told_to g s by from said now mark (Some p) ≡ replies s reply
     unfolding hears
     told_again peer is again reply is_reply =
         told_round peer is
         ∙ ap (λ b. cond b (replies s quiet) (round_moves g s (with_round p (answered r peer.id (said peer))) now mark)) (sym again)
         ∙ ap (λ r. replies s r) (sym is_reply)
 
-    told_first : (peer : Peer) → found ≡ Some peer → false ≡ has_told r.told peer.id → told_to g s by from said now mark (Some p) ≡ round_moves g s (with_round p (answered r peer.id (said peer))) now mark
+    told_first : (peer : Peer) → found ≡ Some peer → false ≡ has_answered r.answers peer.id → told_to g s by from said now mark (Some p) ≡ round_moves g s (with_round p (answered r peer.id (said peer))) now mark
     unfolding hears
     told_first peer is first =
         told_round peer is
         ∙ ap (λ b. cond b (replies s quiet) (round_moves g s (with_round p (answered r peer.id (said peer))) now mark)) (sym first)
 
     -- a peer's first answer counts
-    pub round_told : (place : ℕ) (asks : List (Pending X)) → asks ≡ s.pending → slice_get asks place ≡ Some p → (peer : Peer) → found ≡ Some peer → false ≡ has_told r.told peer.id → (before after told : RoundText) (word : Said) → before ≡ r → word ≡ said peer → after ≡ answered before peer.id word → told ≡ after → (outcome : Result (Reply X) StepFault) (next : NodeState X) → IfSome (slice_get s.pending place) (λ p. Leads (round_moves g s (with_round p told) now mark) s outcome next) → IfSome (slice_get s.pending place) (λ p. Leads (told_to g s by from said now mark (Some p)) s outcome next)
+    pub round_told : (place : ℕ) (asks : List (Pending X)) → asks ≡ s.pending → slice_get asks place ≡ Some p → (peer : Peer) → found ≡ Some peer → false ≡ has_answered r.answers peer.id → (before after told : RoundText) (word : Said) → before ≡ r → word ≡ said peer → after ≡ answered before peer.id word → told ≡ after → (outcome : Result (Reply X) StepFault) (next : NodeState X) → IfSome (slice_get s.pending place) (λ p. Leads (round_moves g s (with_round p told) now mark) s outcome next) → IfSome (slice_get s.pending place) (λ p. Leads (told_to g s by from said now mark (Some p)) s outcome next)
     round_told place asks same there peer is first before after told word is_before is_word is_after is_told outcome next moved =
         let here : slice_get s.pending place ≡ Some p = ap (λ asks. slice_get asks place) (sym same) ∙ there in
         let moved_here : Leads (round_moves g s (with_round p told) now mark) s outcome next = subst (λ o. IfSome o (λ p. Leads (round_moves g s (with_round p told) now mark) s outcome next)) here moved in

@@ -7,7 +7,7 @@ ghost use Rattle.node_rules.specs.Messages as messages;
 ghost use Rattle.icp_wire.specs.declared.message.IcpOp.TheVariants as ops;
 ghost use Rattle.values_tables.specs.declared.plain.Peer.{Peer as PeerText};
 ghost use Rattle.values_plain.specs.declared.address.Udp.TheVariants as udp;
-ghost use Rattle.peer_chooser.specs.Round.{has_told as has_told_in};
+ghost use Rattle.peer_chooser.specs.Round.{has_answered as has_answered_in};
 ghost use Rattle.node_rules.specs.Known.{is_known as is_known_at};
 ghost use Rattle.values_keys.specs.KeyOf.{GivesKeys};
 ghost use Rattle.node_core.specs.View.{IsSameNode, setting_of, HasKeyOf};
@@ -107,10 +107,10 @@ pub(crate) fn hit_said(headers: &[u8]) -> Heard
 }
 
 /// Whether the peer with this id has answered.
-fn has_told(round: &Round, id: u8) -> bool
-    ensures { result ≡ has_told_in round.now.told id }
+fn has_answered(round: &Round, id: u8) -> bool
+    ensures { result ≡ has_answered_in round.now.answers id }
 {
-    round.told().iter().any(|told| told.peer.id == id)
+    round.answers().iter().any(|answer| answer.peer.id == id)
 }
 
 impl<T: Copy + Drop, S: FloorStore> Node<T, S> {
@@ -251,7 +251,7 @@ impl<T: Copy + Drop, S: FloorStore> Node<T, S> {
             return Ok(quiet(self.alloc));
         };
         match peer_at(&self.roster, by, from, round) {
-            Some(peer) if !has_told(round, peer.id) => {
+            Some(peer) if !has_answered(round, peer.id) => {
                 let mut round = round.copy();
                 round.answer(peer.id, heard.by(peer));
                 self.round_moves(place, round.copy(), now, mark)
