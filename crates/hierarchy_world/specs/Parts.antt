@@ -18,7 +18,7 @@ use Rattle.world_rules.specs.declared.outcome.WorldFault.{WorldFault}
 use Rattle.world_rules.specs.declared.outcome.WorldFault.TheVariants as fault
 use Rattle.node_rules.specs.State.{setting}
 use Rattle.world_rules.specs.World.{Seat, Datagram, PeerAsk, PeerAnswer, Waiting, World, node_at, with_node}
-use Rattle.world_rules.specs.Turn.{Seen, Replied, Issued, NotIssued, Told, Nothing, Turn, Refused, turn}
+use Rattle.world_rules.specs.Turn.{Seen, Replied, Issued, NotIssued, Reported, Nothing, Turn, Refused, turn}
 use Rattle.world_rules.specs.Run.{Takes, IsOfKey}
 use Rattle.hierarchy_world.specs.declared.parts.Parts.{Parts}
 use Rattle.hierarchy_world.specs.declared.seats.Stepped.{Stepped}
@@ -88,7 +88,7 @@ abbrev pub seen_of : SeenHere → Seen
 seen_of (here.Replied node outcome) = Replied node outcome
 seen_of (here.Issued number) = Issued number
 seen_of (here.NotIssued f) = NotIssued f
-seen_of (here.Told number status) = Told number status
+seen_of (here.Reported number status) = Reported number status
 seen_of here.Nothing = Nothing
 
 -- A node has taken this step under this mark. The step lacked no memory, and its store did not

@@ -27,7 +27,7 @@
 //! - `src/seats.rt`: a member's node steps, closes or restarts.
 //! - `src/posting.rt` and `specs/Posted`: what a step sends.
 //! - `src/purging.rt`: the master's calls, and their CLRs.
-//! - `src/telling.rt` and `specs/Told`: the outcome of an event.
+//! - `src/telling.rt` and `specs/Outcomes`: the outcome of an event.
 //! - `src/network.rt`: the items of the network.
 //!
 //! `proofs/Lib` gives the order of reading of the proofs.

@@ -23,7 +23,7 @@ use Rattle.htcp_wire.specs.Clearing.{is_acknowledging}
 use Rattle.purge_rules.specs.Clear.{clear, message_of}
 use Rattle.values_tables.specs.declared.plain.Tables.{Tables}
 use Rattle.world_rules.specs.World.{Seat, World, node_at}
-use Rattle.world_rules.specs.Turn.{Told, with_clock, with_master, with_sent, clear_to, clears_of, clears_due}
+use Rattle.world_rules.specs.Turn.{Reported, with_clock, with_master, with_sent, clear_to, clears_of, clears_due}
 use Rattle.world_rules.specs.Run.{Step, purges, TellsDone}
 use Rattle.world_rules.specs.Lineage.{HasRaised, IsClear, IsMastersRightly, IsObeyed, PurgeHasLineage, AllHaveRaised, HasLineage}
 use Rattle.world_rules.proofs.Seats.{ids_same, and_parts, pending-none_of_marked, pending-none_of_without, pending-found, mark_cases, among_has}
@@ -176,12 +176,12 @@ module _ (h : Tables) (past : List Step) (w : World) (lineage : HasLineage h pas
       branches (λ s. s ≡ status.Done → (1 ≤ number) × (number ≤ w.master.last) × (pending_at w.master number ≡ None)) (nat_eq number 0 || nat_lt w.master.last number) status.Unknown (status_by (members_of h) (pending_at w.master number))
       (λ _ e. cc) (λ known e. (grind (arith, known), grind (arith, known), none_by (pending_at w.master number) e))
 
-  told_by : (number : ℕ) (s : Status) → status_of (members_of h) w.master number ≡ s → (told : ℕ) → TellsDone told (Told number s) → AllHaveRaised h past w.seats told
-  told_by number status.Done is told e =
+  reported_by : (number : ℕ) (s : Status) → status_of (members_of h) w.master number ≡ s → (told : ℕ) → TellsDone told (Reported number s) → AllHaveRaised h past w.seats told
+  reported_by number status.Done is told e =
       let known = status_done number is in
       subst (AllHaveRaised h past w.seats) e (lineage.done number known.0 known.1 known.2)
-  told_by number _ is told e = absurd e
+  reported_by number _ is told e = absurd e
 
   -- if the master reports a purge done, all members have raised their floors
-  pub told_raised : (number told : ℕ) → TellsDone told (Told number (status_of (members_of h) w.master number)) → AllHaveRaised h past w.seats told
-  told_raised number told e = told_by number (status_of (members_of h) w.master number) refl told e
+  pub reported_raised : (number told : ℕ) → TellsDone told (Reported number (status_of (members_of h) w.master number)) → AllHaveRaised h past w.seats told
+  reported_raised number told e = reported_by number (status_of (members_of h) w.master number) refl told e

@@ -39,12 +39,12 @@ use Rattle.world_rules.specs.World.{Datagram, PeerAsk, PeerAnswer, World, item, 
 use Rattle.world_rules.specs.declared.event.WorldEvent.{WorldEvent}
 use Rattle.world_rules.specs.declared.event.WorldEvent.TheVariants as world
 use Rattle.world_rules.specs.declared.outcome.WorldFault.TheVariants.{NoSuchPacket}
-use Rattle.world_rules.specs.Turn.{Seen, Replied, NotIssued, Told, Nothing, Turn, NodeSteps, Ends, Refused, at_member, with_clock, with_master, with_seat, issue_by, told, acknowledged_by, master_hears_htcp, master_hears, delivered_to, delivered, ask_delivered, answer_delivered, origin_by, origin_to, foreign_by, foreign_to, fetching_at, turn}
+use Rattle.world_rules.specs.Turn.{Seen, Replied, NotIssued, Reported, Nothing, Turn, NodeSteps, Ends, Refused, at_member, with_clock, with_master, with_seat, issue_by, reports, acknowledged_by, master_hears_htcp, master_hears, delivered_to, delivered, ask_delivered, answer_delivered, origin_by, origin_to, foreign_by, foreign_to, fetching_at, turn}
 use Rattle.world_rules.specs.Run.{Step, Takes, IsOfKey, Happens, purged_by, TellsDone, ServesCopy}
 use Rattle.world_rules.specs.Lineage.{HasRaised, IsClear, IsMastersRightly, IsObeyed, IsSentAnswer, NodeHasLineage, AllHaveRaised, HasLineage}
 use Rattle.world_rules.proofs.Seats.{same_id, all_item}
 use Rattle.world_rules.proofs.NodeTurns.{ComesRightly, takes_keeps, silent_keeps}
-use Rattle.world_rules.proofs.MasterTurns.{clock_keeps, resend_keeps, acknowledge_keeps, told_raised}
+use Rattle.world_rules.proofs.MasterTurns.{clock_keeps, resend_keeps, acknowledge_keeps, reported_raised}
 use Rattle.world_rules.proofs.Counting.{with_step, as_step, counted, left_number, issue_keeps}
 
 -- what an event's turn leads to: a node's step on what was sent rightly, or a world in which the
@@ -97,13 +97,13 @@ module _ (h : Tables) (proper : IsRoster h) (past : List Step) (w : World) (line
 
   -- The master
 
-  told_right : (event : WorldEvent) (number : ℕ) (new : World) → ((s : Seen) → purged_by event (Told number (status_of (members_of h) new.master number)) ≡ None) → HasLineage h past new → IsRight h past event (told h new number)
-  told_right event number new silent kept = end_right event (Told number (status_of (members_of h) new.master number)) new (silent Nothing) kept (λ n t. told_raised h past new kept number n t) (λ c s. absurd s)
+  reported_right : (event : WorldEvent) (number : ℕ) (new : World) → ((s : Seen) → purged_by event (Reported number (status_of (members_of h) new.master number)) ≡ None) → HasLineage h past new → IsRight h past event (told h new number)
+  reported_right event number new silent kept = end_right event (Reported number (status_of (members_of h) new.master number)) new (silent Nothing) kept (λ n t. reported_raised h past new kept number n t) (λ c s. absurd s)
 
   acknowledged_right : (which : ℕ) (number code : ℕ) (o : Option ℕ) → ((id : ℕ) → o ≡ Some id → is_acknowledging code ≡ true → HasRaised past (node_at w.seats id) number) → IsRight h past (world.Datagram which) (acknowledged_by h w number code o)
   acknowledged_right which number code None raised = quiet_right (world.Datagram which) w refl lineage
   acknowledged_right which number code (Some id) raised =
-      told_right (world.Datagram which) number (with_master w (acknowledged (members_of h) w.master id number code).purges) (λ s. refl) (acknowledge_keeps h past w lineage proper id number code (raised id refl))
+      reported_right (world.Datagram which) number (with_master w (acknowledged (members_of h) w.master id number code).purges) (λ s. refl) (acknowledge_keeps h past w lineage proper id number code (raised id refl))
 
   master_htcp_right : (which : ℕ) (sender : Address) (minor trans : ℕ) (c : Content) → ((number : ℕ) → acknowledged_by_message (message.Htcp record { minor = minor; trans = trans; content = c }) ≡ Some number → (id : ℕ) → member_at h sender udp.Htcp ≡ Some id → HasRaised past (node_at w.seats id) number) → IsRight h past (world.Datagram which) (master_hears_htcp h w sender trans c)
   master_htcp_right which sender minor trans (content.ClrAnswer code) raised =
@@ -186,7 +186,7 @@ module _ (h : Tables) (proper : IsRoster h) (past : List Step) (w : World) (line
   turn_right (world.Restart id) key = at_member_right (world.Restart id) id _ (λ member. quiet_right (world.Restart id) (with_seat w id (opened (node_at w.seats id).floors)) refl (silent_keeps h past w lineage id _ (λ key. omega arith) (opened_right id)))
   turn_right (world.Issue key) is_key = issue_right key is_key (issue_fault w.master) refl
   turn_right world.Resend key = quiet_right world.Resend _ refl (resend_keeps h past w lineage)
-  turn_right (world.Status number) key = told_right (world.Status number) number w (λ s. refl) lineage
+  turn_right (world.Status number) key = reported_right (world.Status number) number w (λ s. refl) lineage
   turn_right world.RestartMaster key = quiet_right world.RestartMaster w refl lineage
   turn_right (world.Strange to sender m) key =
       branches (IsRight h past (world.Strange to sender m)) (is_own h sender) (Refused NoSuchPacket) _ (λ _. tt)

@@ -44,7 +44,7 @@ pub data Seen : Type 0 where
   Issued : (number : ℕ) → Seen
   NotIssued : (fault : MasterFault) → Seen
   -- the master reported the status of a purge
-  Told : (number : ℕ) (status : Status) → Seen
+  Reported : (number : ℕ) (status : Status) → Seen
   Nothing : Seen
 
 -- what an event leads to
@@ -101,14 +101,14 @@ issue_by roster w key None =
     Ends (Issued number) (with_sent (with_master w (with_purge w.master number key)) (clears_of roster number key))
 
 -- the master reports the status of the purge with this number
-abbrev pub told : Tables → World → ℕ → Turn
-told roster w number = Ends (Told number (status_of (members_of roster) w.master number)) w
+abbrev pub reports : Tables → World → ℕ → Turn
+reports roster w number = Ends (Reported number (status_of (members_of roster) w.master number)) w
 
 -- A member's response to a CLR counts for the purge whose number is its TRANS-ID. It is counted,
 -- and the status is reported.
 abbrev pub acknowledged_by : Tables → World → ℕ → ℕ → Option ℕ → Turn
 acknowledged_by roster w number code None = Ends Nothing w
-acknowledged_by roster w number code (Some id) = told roster (with_master w (acknowledged (members_of roster) w.master id number code).purges) number
+acknowledged_by roster w number code (Some id) = reports roster (with_master w (acknowledged (members_of roster) w.master id number code).purges) number
 
 -- the sender of a response to a CLR is known by its HTCP address [Master 5]
 abbrev pub master_hears_htcp : Tables → World → Address → ℕ → Content → Turn
@@ -200,5 +200,5 @@ turn roster w (world.Fault id) = at_member roster id (Ends Nothing (with_seat w 
 turn roster w (world.Restart id) = at_member roster id (Ends Nothing (with_seat w id (opened (node_at w.seats id).floors)))
 turn roster w (world.Issue key) = issue_by roster w key (issue_fault w.master)
 turn roster w world.Resend = Ends Nothing (with_sent w (clears_due roster w.master))
-turn roster w (world.Status number) = told roster w number
+turn roster w (world.Status number) = reports roster w number
 turn roster w world.RestartMaster = Ends Nothing w
