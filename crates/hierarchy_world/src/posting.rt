@@ -9,9 +9,9 @@ ghost use Rattle.world_rules.specs.Turn.{NodeSteps};
 ghost use Rattle.hierarchy_world.specs.Parts.{IsSound, IsPlace, IsTaken, Adds};
 ghost use Rattle.hierarchy_world.specs.Posted.{IsWritten, IsWrittenIn, IsWrittenBy, answered as answered_by, answers_by, waits_by, serial_of};
 
+use crate::members::Stepped;
 use crate::network::{Asked, Datagram, PeerAnswer, PeerAsk, Waiting};
 use crate::parts::Parts;
-use crate::seats::Stepped;
 use crate::telling::Seen;
 use http_messages::{Answer, Body, Field, Fields};
 use node_rules::{Begin, Event, Message, Outgoing, Reply, Sent, Serve, Served, StepFault};

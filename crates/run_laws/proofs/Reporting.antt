@@ -36,7 +36,7 @@ use Rattle.world_rules.specs.Turn.{Seen, Reported, Nothing, Turn, Ends, with_mas
 use Rattle.world_rules.specs.Run.{Step, Run, Takes, Happens, IsItem, purges, IsIssuedAt, IsReportedAt}
 use Rattle.world_rules.specs.Lineage.{PurgeHasLineage, HasLineage}
 use Rattle.world_rules.proofs.Runs.{run_lineage}
-use Rattle.world_rules.proofs.Seats.{pending-found}
+use Rattle.world_rules.proofs.MemberStates.{pending-found}
 use Rattle.run_rules.specs.Notes.{Note, Opens, Steps, Closes, Calls}
 use Rattle.run_rules.specs.Recorded.{Progress, Goes, CallsIn, event_step}
 use Rattle.run_laws.specs.Entries.{Issues, Reports}
@@ -158,7 +158,7 @@ module _ (t : Tables) (proper : IsRoster t) (from : Progress) (reached : IsReach
   pending_given : (number : ℕ) (p : Purge) → pending_at from.world.master number ≡ Some p → (1 ≤ number) × (number ≤ from.world.master.last)
   pending_given number p is =
       let same : p.number ≡ number = pending-found from.world.master.pending number p is in
-      let it : PurgeHasLineage reached.past from.world.seats p = found (PurgeHasLineage reached.past from.world.seats) (is_numbered number) from.world.master.pending p lineage.pending is in
+      let it : PurgeHasLineage reached.past from.world.states p = found (PurgeHasLineage reached.past from.world.states) (is_numbered number) from.world.master.pending p lineage.pending is in
       let within : p.number - 1 < length (purges reached.past) = slice_get_within (purges reached.past) (p.number - 1) p.key it.issued_key.1 in
       (omega (arith, same, it.issued_key.0), omega (arith, same, it.issued_key.0, within, lineage.last))
 

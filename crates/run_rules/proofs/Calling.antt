@@ -27,7 +27,7 @@ use Rattle.purge_master.specs.declared.book.MasterEntry.{MasterEntry}
 use Rattle.world_rules.specs.declared.event.WorldEvent.{WorldEvent}
 use Rattle.world_rules.specs.declared.event.WorldEvent.TheVariants as world
 use Rattle.std.specs.Prelude.{Contains}
-use Rattle.world_rules.specs.World.{World, Datagram, Seat, node_at}
+use Rattle.world_rules.specs.World.{World, Datagram, MemberState, node_at}
 use Rattle.world_rules.proofs.Items.{append_nil}
 use Rattle.node_rules.specs.Messages.{protocol_of as udp_of, clear_answer, clear_answer_in}
 use Rattle.world_rules.specs.Turn.{Seen, Issued, Reported, Nothing, Turn, Ends, turn, with_master, with_sent, clears_of, clears_due, issue_by, master_hears, master_hears_htcp, acknowledged_by, delivered, delivered_to}
@@ -203,9 +203,9 @@ module _ (t : Tables) (b : Board) (p : Progress) (m : Matches t b p) (place : �
     abbrev q : Progress
     q = record { world = after; place = p.place + 1; master = next }
 
-    by_event : MasterCalls (members_of t) p.master c a next → CallsIn t p c a (one ∷ []) → IsEventOfKey happens → turn t w happens ≡ Ends seen after → after.master ≡ next.purges → after.seats ≡ w.seats →
+    by_event : MasterCalls (members_of t) p.master c a next → CallsIn t p c a (one ∷ []) → IsEventOfKey happens → turn t w happens ≡ Ends seen after → after.master ≡ next.purges → after.states ≡ w.states →
         NetworkMatches (with_clears t b.network c a) after → Follows t p (Calls (entry c a) is_closed) (after_call t b (entry c a) next)
-    by_event calls stands keyed turns purges seats network =
+    by_event calls stands keyed turns purges states network =
         let goes : Goes t p (one ∷ []) next q = record {
           run = (after, (keyed, subst (λ (x : Turn). Takes t p.place w x seen after) (sym turns) (refl, refl)), refl);
           place = refl;
@@ -220,7 +220,7 @@ module _ (t : Tables) (b : Board) (p : Progress) (m : Matches t b p) (place : �
             past = m.past ++ one ∷ [];
             at = place_goes t b p (one ∷ []) (p.place + 1) m refl;
             after = after_goes t b p q (one ∷ []) m goes.run;
-            nodes = λ id. subst (λ (s : List Seat). StandsIn t id (standing_at b.posts id) (node_at s id)) (sym seats) (m.nodes id);
+            nodes = λ id. subst (λ (s : List MemberState). StandsIn t id (standing_at b.posts id) (node_at s id)) (sym states) (m.nodes id);
             master = refl;
             purges = purges;
             network = network;

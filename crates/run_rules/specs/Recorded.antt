@@ -66,7 +66,7 @@ pub record Goes (roster : Tables) (p : Progress) (steps : List Step) (m : Master
 
 -- a node in the world so far
 abbrev pub node_in : Progress → ℕ → NodeState ℕ
-node_in p id = node_at p.world.seats id
+node_in p id = node_at p.world.states id
 
 -- the recorded state is the node's; of a closed node only that it is closed, with nothing pending
 abbrev pub IsKept : NodeState (Unit {0}) → NodeState (Unit {0}) → Type 0

@@ -98,7 +98,7 @@ did_step roster w id e serial r = did w (Replied id r.outcome) (after_node roste
 
 -- what a turn leads to if nothing fails
 abbrev pub by_turn : Tables → ℕ → World → Turn → Applied
-by_turn roster place w (NodeSteps id e serial) = did_step roster w id e serial (step (setting roster id) (node_at w.seats id) e place)
+by_turn roster place w (NodeSteps id e serial) = did_step roster w id e serial (step (setting roster id) (node_at w.states id) e place)
 by_turn roster place w (Ends seen new) = did w seen new
 by_turn roster place w (Refused fault) = DidNot fault
 

@@ -22,7 +22,7 @@ use Rattle.world_rules.specs.Turn.{Seen, Replied, Issued, Reported, Turn, NodeSt
 abbrev pub Takes : Tables → ℕ → World → Turn → Seen → World → Type 0
 Takes roster place old (NodeSteps id e serial) seen new =
     (outcome : Result (Reply ℕ) StepFault) × (next : NodeState ℕ)
-    × Steps (setting roster id) (node_at old.seats id) e place outcome next
+    × Steps (setting roster id) (node_at old.states id) e place outcome next
     × (seen ≡ Replied id outcome) × (new ≡ after_node roster old id e serial outcome next)
 Takes roster place old (Ends what world) seen new = (seen ≡ what) × (new ≡ world)
 Takes roster place old (Refused fault) seen new = ⊥

@@ -64,19 +64,19 @@ at_member roster id turn = if is_member roster id then turn else Refused NoSuchP
 
 -- the world at another time
 abbrev pub with_clock : World → ℕ → World
-with_clock w now = record { seats = w.seats; master = w.master; clock = now; datagrams = w.datagrams; asks = w.asks; answers = w.answers; waiting = w.waiting }
+with_clock w now = record { states = w.states; master = w.master; clock = now; datagrams = w.datagrams; asks = w.asks; answers = w.answers; waiting = w.waiting }
 
 -- the world with other purges of the master
 abbrev pub with_master : World → PurgeList → World
-with_master w m = record { seats = w.seats; master = m; clock = w.clock; datagrams = w.datagrams; asks = w.asks; answers = w.answers; waiting = w.waiting }
+with_master w m = record { states = w.states; master = m; clock = w.clock; datagrams = w.datagrams; asks = w.asks; answers = w.answers; waiting = w.waiting }
 
 -- the world after these datagrams were sent
 abbrev pub with_sent : World → List Datagram → World
-with_sent w sent = record { seats = w.seats; master = w.master; clock = w.clock; datagrams = w.datagrams ++ sent; asks = w.asks; answers = w.answers; waiting = w.waiting }
+with_sent w sent = record { states = w.states; master = w.master; clock = w.clock; datagrams = w.datagrams ++ sent; asks = w.asks; answers = w.answers; waiting = w.waiting }
 
 -- the world with another node of the member; the members' requests that waited there are gone
-abbrev pub with_seat : World → ℕ → NodeState ℕ → World
-with_seat w id node = record { seats = with_node w.seats id node; master = w.master; clock = w.clock; datagrams = w.datagrams; asks = w.asks; answers = w.answers; waiting = filter (λ x. not (x.node == id)) w.waiting }
+abbrev pub with_member_state : World → ℕ → NodeState ℕ → World
+with_member_state w id node = record { states = with_node w.states id node; master = w.master; clock = w.clock; datagrams = w.datagrams; asks = w.asks; answers = w.answers; waiting = filter (λ x. not (x.node == id)) w.waiting }
 
 -- The master
 
@@ -180,7 +180,7 @@ foreign_to w id serial answer (Some p) = foreign_by w id serial answer p.ask.key
 
 -- the request that fetches under this serial at a member, if any
 abbrev pub fetching_at : World → ℕ → ℕ → Option (Pending ℕ)
-fetching_at w id serial = find (is_at serial) (node_at w.seats id).pending
+fetching_at w id serial = find (is_at serial) (node_at w.states id).pending
 
 -- All events
 
@@ -196,8 +196,8 @@ turn roster w (world.Foreign id serial answer) = at_member roster id (foreign_to
 turn roster w (world.Strange to sender m) = strange_comes roster w to sender m
 turn roster w (world.Fail id serial) = at_member roster id (NodeSteps id (event.FetchFailed serial w.clock) 0)
 turn roster w (world.Expire id serial) = at_member roster id (NodeSteps id (event.Expired serial w.clock) 0)
-turn roster w (world.Fault id) = at_member roster id (Ends Nothing (with_seat w id (closed_node (node_at w.seats id))))
-turn roster w (world.Restart id) = at_member roster id (Ends Nothing (with_seat w id (opened (node_at w.seats id).floors)))
+turn roster w (world.Fault id) = at_member roster id (Ends Nothing (with_member_state w id (closed_node (node_at w.states id))))
+turn roster w (world.Restart id) = at_member roster id (Ends Nothing (with_member_state w id (opened (node_at w.states id).floors)))
 turn roster w (world.Issue key) = issue_by roster w key (issue_fault w.master)
 turn roster w world.Resend = Ends Nothing (with_sent w (clears_due roster w.master))
 turn roster w (world.Status number) = reports roster w number

@@ -10,7 +10,7 @@ use Rattle.node_rules.proofs.Cases.{branches, same_Some, true_not_false, or_true
 use Rattle.purge_rules.specs.declared.purges.Purge.{Purge}
 use Rattle.purge_rules.specs.Members.{is_among, with_id, are_among}
 use Rattle.purge_rules.specs.Purges.{is_numbered, marked_by}
-use Rattle.world_rules.specs.World.{Seat, item, new_node, node_at, with_node}
+use Rattle.world_rules.specs.World.{MemberState, item, new_node, node_at, with_node}
 
 not_so : (b : Bool) → (b ≡ true → ⊥) → b ≡ false
 not_so true h = absurd (h refl)
@@ -55,27 +55,27 @@ all_item {A} P xs number x all e =
 
 -- Nodes
 
-pub node_at-same : (seats : List Seat) (id : ℕ) (s : NodeState ℕ) → node_at (with_node seats id s) id ≡ s
+pub node_at-same : (states : List MemberState) (id : ℕ) (s : NodeState ℕ) → node_at (with_node states id s) id ≡ s
 node_at-same [] id s = ap (λ b. cond b s new_node) (same_id id)
-node_at-same (seat ∷ seats) id s =
-    branches (λ (xs : List Seat). node_at xs id ≡ s) (nat_eq seat.id id) _ _
-    (λ _. ap (λ b. cond b s (node_at seats id)) (same_id id))
-    (λ no. ap (λ b. cond b seat.node (node_at (with_node seats id s) id)) no ∙ node_at-same seats id s)
+node_at-same (state ∷ states) id s =
+    branches (λ (xs : List MemberState). node_at xs id ≡ s) (nat_eq state.id id) _ _
+    (λ _. ap (λ b. cond b s (node_at states id)) (same_id id))
+    (λ no. ap (λ b. cond b state.node (node_at (with_node states id s) id)) no ∙ node_at-same states id s)
 
-pub node_at-other : (seats : List Seat) (id other : ℕ) (s : NodeState ℕ) → other ≢ id → node_at (with_node seats id s) other ≡ node_at seats other
+pub node_at-other : (states : List MemberState) (id other : ℕ) (s : NodeState ℕ) → other ≢ id → node_at (with_node states id s) other ≡ node_at states other
 node_at-other [] id other s ne = ap (λ b. cond b s new_node) (other_id id other (λ e. ne (sym e)))
-node_at-other (seat ∷ seats) id other s ne =
-    branches (λ (xs : List Seat). node_at xs other ≡ node_at (seat ∷ seats) other) (nat_eq seat.id id) _ _
-    (λ yes. ap (λ b. cond b s (node_at seats other)) (other_id id other (λ e. ne (sym e)))
-    ∙ sym (ap (λ b. cond b seat.node (node_at seats other)) (other_id seat.id other (λ e. ne (sym e ∙ ids_same seat.id id yes)))))
-    (λ _. ap (cond (nat_eq seat.id other) seat.node) (node_at-other seats id other s ne))
+node_at-other (state ∷ states) id other s ne =
+    branches (λ (xs : List MemberState). node_at xs other ≡ node_at (state ∷ states) other) (nat_eq state.id id) _ _
+    (λ yes. ap (λ b. cond b s (node_at states other)) (other_id id other (λ e. ne (sym e)))
+    ∙ sym (ap (λ b. cond b state.node (node_at states other)) (other_id state.id other (λ e. ne (sym e ∙ ids_same state.id id yes)))))
+    (λ _. ap (cond (nat_eq state.id other) state.node) (node_at-other states id other s ne))
 
 -- what holds of the changed node and of all old ones holds of all new ones
-pub each_node : (P : ℕ → NodeState ℕ → Type 0) (seats : List Seat) (id : ℕ) (s : NodeState ℕ) → P id s → ((other : ℕ) → P other (node_at seats other)) → (each : ℕ) → P each (node_at (with_node seats id s) each)
-each_node P seats id s this those each =
+pub each_node : (P : ℕ → NodeState ℕ → Type 0) (states : List MemberState) (id : ℕ) (s : NodeState ℕ) → P id s → ((other : ℕ) → P other (node_at states other)) → (each : ℕ) → P each (node_at (with_node states id s) each)
+each_node P states id s this those each =
     elim (ℕ_discrete each id) [
-      | yes e ↦ subst (λ n. P n (node_at (with_node seats id s) n)) (sym e) (subst (P id) (sym (node_at-same seats id s)) this)
-      | no ne ↦ subst (P each) (sym (node_at-other seats id each s ne)) (those each)
+      | yes e ↦ subst (λ n. P n (node_at (with_node states id s) n)) (sym e) (subst (P id) (sym (node_at-same states id s)) this)
+      | no ne ↦ subst (P each) (sym (node_at-other states id each s ne)) (those each)
     ]
 
 -- Purges

@@ -4,8 +4,8 @@ ghost use Rattle.roster.specs.Lookups.{is_member};
 ghost use Rattle.node_rules.specs.State.{opened, closed_node};
 ghost use Rattle.world_rules.specs.declared.outcome.WorldFault.TheVariants.{NoMemory};
 ghost use Rattle.world_rules.specs.World.{World, node_at};
-ghost use Rattle.world_rules.specs.Turn.{with_seat};
-ghost use Rattle.hierarchy_world.specs.Parts.{IsSound, IsStored, IsStep, HasStepped, IsPlace, place_of as place_of_id, world_of, IsSeatChanged};
+ghost use Rattle.world_rules.specs.Turn.{with_member_state};
+ghost use Rattle.hierarchy_world.specs.Parts.{IsSound, IsStored, IsStep, HasStepped, IsPlace, place_of as place_of_id, world_of, IsMemberChanged};
 
 use crate::parts::Parts;
 use floor_rules::MemoryFloors;
@@ -81,7 +81,7 @@ impl Parts {
 
     /// Drops the members' requests that waited at this node.
     fn forget(&mut self, id: u8)
-        ensures same { IsSeatChanged self.old self.new self.old.nodes.items (filter (λ w. not (w.node == id)) self.old.waiting.items) }
+        ensures same { IsMemberChanged self.old self.new self.old.nodes.items (filter (λ w. not (w.node == id)) self.old.waiting.items) }
     {
         self.waiting.retain(|waiting| waiting.node != id);
     }
@@ -113,7 +113,7 @@ impl Parts {
         ensures sound { IsSound self.new }
         ensures roster { self.new.roster ≡ self.old.roster }
         ensures place { self.new.place ≡ self.old.place }
-        ensures world { world_of self.new ≡ with_seat (world_of self.old) id (closed_node (node_at (world_of self.old).seats id)) }
+        ensures world { world_of self.new ≡ with_member_state (world_of self.old) id (closed_node (node_at (world_of self.old).states id)) }
     {
         self.nodes[place].close();
         self.forget(id);
@@ -127,7 +127,7 @@ impl Parts {
         ensures sound { OnOk result (IsSound self.new) }
         ensures roster { OnOk result (self.new.roster ≡ self.old.roster) }
         ensures place { OnOk result (self.new.place ≡ self.old.place) }
-        ensures world { OnOk result (world_of self.new ≡ with_seat (world_of self.old) id (opened (node_at (world_of self.old).seats id).floors)) }
+        ensures world { OnOk result (world_of self.new ≡ with_member_state (world_of self.old) id (opened (node_at (world_of self.old).states id).floors)) }
     {
         let roster = self.roster.copy(self.alloc)?;
         let store = self.nodes.remove(place).into_floors();

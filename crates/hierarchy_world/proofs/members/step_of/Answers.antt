@@ -2,8 +2,8 @@ use Rattle.std.proofs.Common.{rules}
 use Rattle.std.specs.Prelude.{◌≢◌, Err}
 use Rattle.node_rules.specs.declared.reply.StepFault.TheVariants as fault
 use Rattle.hierarchy_world.proofs.Steps.{is_step}
-use Rattle.hierarchy_world.proofs.seats.step_of.Goals as goal
-use Rattle.hierarchy_world.proofs.seats.step_of.Goals.{in-Err+in-Closed-1, in-Ok-1}
+use Rattle.hierarchy_world.proofs.members.step_of.Goals as goal
+use Rattle.hierarchy_world.proofs.members.step_of.Goals.{in-Err+in-Closed-1, in-Ok-1}
 
 pub returns-clause-stepped : goal.returns-clause-stepped
 returns-clause-stepped c =

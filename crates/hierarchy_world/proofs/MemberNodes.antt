@@ -9,9 +9,9 @@ use Rattle.values_tables.specs.declared.plain.Tables.{Tables}
 use Rattle.values_plain.specs.declared.address.Address.{Address}
 use Rattle.values_plain.specs.declared.address.Udp.{Udp}
 use Rattle.roster.specs.Lookups.{is_member, member_at, same_address, address_by}
-use Rattle.world_rules.proofs.Seats.{ids_same, same_id}
+use Rattle.world_rules.proofs.MemberStates.{ids_same, same_id}
 use Rattle.hierarchy_world.specs.declared.parts.Parts.{Parts}
-use Rattle.hierarchy_world.specs.Parts.{MemberNode, IsSeated, IsSound, place_of, IsPlace}
+use Rattle.hierarchy_world.specs.Parts.{MemberNode, IsMemberNode, IsSound, place_of, IsPlace}
 
 placed_by : (b : Bool) (k : Option ℕ) (m : Member) (r : Option Member) → is_some k ≡ is_some r → is_some (cond b (Some 0) (option_map suc k)) ≡ is_some (cond b (Some m) r)
 placed_by true k m r e = refl
@@ -32,10 +32,10 @@ member_place p id sound = by_place (place_of id (map (λ n. n.id) p.nodes.items)
 
 -- A node that replaces another at its index
 
-pub seated_put : (roster : Tables) (nodes : List MemberNode) (place : ℕ) (n : MemberNode) → AllByRecursion (IsSeated roster) nodes → IsSeated roster n → AllByRecursion (IsSeated roster) (set nodes place n)
-seated_put roster [] place n all is = tt
-seated_put roster (m ∷ nodes) zero n all is = (is, all.1)
-seated_put roster (m ∷ nodes) (suc place) n all is = (all.0, seated_put roster nodes place n all.1 is)
+pub member_node_put : (roster : Tables) (nodes : List MemberNode) (place : ℕ) (n : MemberNode) → AllByRecursion (IsMemberNode roster) nodes → IsMemberNode roster n → AllByRecursion (IsMemberNode roster) (set nodes place n)
+member_node_put roster [] place n all is = tt
+member_node_put roster (m ∷ nodes) zero n all is = (is, all.1)
+member_node_put roster (m ∷ nodes) (suc place) n all is = (all.0, member_node_put roster nodes place n all.1 is)
 
 ids_by : (b : Bool) (m n : MemberNode) (nodes : List MemberNode) (k : Option ℕ) (place : ℕ) → (b ≡ true → m.id ≡ n.id) → cond b (Some 0) (option_map suc k) ≡ Some place →
     ((p : ℕ) → k ≡ Some p → map (λ n. n.id) (set nodes p n) ≡ map (λ n. n.id) nodes) → map (λ n. n.id) (set (m ∷ nodes) place n) ≡ map (λ n. n.id) (m ∷ nodes)
