@@ -9,7 +9,7 @@ use url_key::Key;
 
 /// Where a response comes from.
 #[derive(Clone, Copy, Debug, PartialEq, Eq)]
-pub enum Source {
+pub enum ResponseSource {
     /// The member of this id, 1 to 16.
     Member(u8),
     /// The foreign cache of this id, 101 to 108.
@@ -27,19 +27,25 @@ fn is_gateway_fault(status: u16) -> bool
 }
 
 /// Whether the node gets the response, and not a failure.
-fn is_told(source: Source, answer: &Answer) -> bool
+fn is_told(source: ResponseSource, answer: &Answer) -> bool
     ensures { result ≡ may_be_told source answer.now }
 {
     match source {
-        Source::Member(_) => !is_gateway_fault(answer.status()) && answer.stamp().is_some(),
-        Source::Foreign(_) => !is_gateway_fault(answer.status()),
-        Source::Origin => true,
+        ResponseSource::Member(_) => !is_gateway_fault(answer.status()) && answer.stamp().is_some(),
+        ResponseSource::Foreign(_) => !is_gateway_fault(answer.status()),
+        ResponseSource::Origin => true,
     }
 }
 
 /// The event of a fetch with this serial and key that ended at this moment, in seconds, with a
 /// response or without one.
-pub fn fetched(source: Source, serial: u32, key: Key, answer: Option<Answer>, now: u64) -> Event<()>
+pub fn fetched(
+    source: ResponseSource,
+    serial: u32,
+    key: Key,
+    answer: Option<Answer>,
+    now: u64,
+) -> Event<()>
     ensures { result ≡ event_of_fetch source serial key answer now }
 {
     match answer {
@@ -49,11 +55,11 @@ pub fn fetched(source: Source, serial: u32, key: Key, answer: Option<Answer>, no
 }
 
 /// The event of a response that the node gets.
-fn came(source: Source, serial: u32, key: Key, answer: Answer, now: u64) -> Event<()>
+fn came(source: ResponseSource, serial: u32, key: Key, answer: Answer, now: u64) -> Event<()>
     ensures { result ≡ event_of_answer source serial key answer now }
 {
     match source {
-        Source::Member(peer) => Event::PeerAnswer {
+        ResponseSource::Member(peer) => Event::PeerAnswer {
             serial,
             peer,
             key,
@@ -61,7 +67,7 @@ fn came(source: Source, serial: u32, key: Key, answer: Answer, now: u64) -> Even
             tag: (),
             now,
         },
-        Source::Foreign(peer) => Event::ForeignAnswer {
+        ResponseSource::Foreign(peer) => Event::ForeignAnswer {
             serial,
             peer,
             key,
@@ -69,7 +75,7 @@ fn came(source: Source, serial: u32, key: Key, answer: Answer, now: u64) -> Even
             tag: (),
             now,
         },
-        Source::Origin => Event::OriginAnswer {
+        ResponseSource::Origin => Event::OriginAnswer {
             serial,
             key,
             answer,
