@@ -21,8 +21,8 @@ use Rattle.node_rules.specs.State.{Setting, replies, quiet, round_serial}
 use Rattle.node_rules.specs.Datagrams.{peer_at, hears, told_by, told_to, is_key, icp_said, icp_told}
 use Rattle.node_rules.specs.Arrivals.{with_round, round_moves}
 use Rattle.node_waiting.specs.Found.{if_passes}
-use Rattle.node_core.specs.declared.questions.Heard.{Heard}
-use Rattle.node_core.specs.Heard.{said_by}
+use Rattle.node_core.specs.declared.questions.SaidWithStamp.{SaidWithStamp}
+use Rattle.node_core.specs.SaidWithStamp.{said_by}
 use Rattle.node_core.specs.Leads.{Leads}
 use Rattle.node_core.proofs.Hearing.{leads_as}
 
@@ -106,7 +106,7 @@ module _ {X : Type 0} (g : Setting) (s : NodeState X) (by : Udp) (from : Address
 -- An answer by ICP
 
 -- an ICP answer says the same whoever sent it
-pub same_said : (h : Heard) (word : Said) → h ≡ record { member = word; foreign = word } → said_by h ≡ (λ p. word)
+pub same_said : (h : SaidWithStamp) (word : Said) → h ≡ record { member = word; foreign = word } → said_by h ≡ (λ p. word)
 same_said h word is =
     let each : (p : Peer) → said_by h p ≡ word = λ p.
     ap (λ h. said_by h p) is ∙ elim (is_foreign_id p.id) as (λ b. cond b word word ≡ word) [ true ↦ refl | false ↦ refl ] in
@@ -138,7 +138,7 @@ module _ {X : Type 0} (g : Setting) (s : NodeState X) (from : Address) (m : Icp)
     icp_tells_no_other other reply is_reply =
         tells_nobody g s udp.Icp from (λ p. icp_said m.op) now mark its_ask (passes_as false other) reply is_reply
 
-    pub icp_tells_ask : at < length asks → has ≡ true → (h : Heard) (word : Said) → word ≡ icp_said m.op → h ≡ record { member = word; foreign = word } → (outcome : Result (Reply X) StepFault) (next : NodeState X) → IfSome (slice_get s.pending at) (λ p. Leads (told_to g s udp.Icp from (said_by h) now mark (Some p)) s outcome next) → Leads (icp_told g s from m now mark) s outcome next
+    pub icp_tells_ask : at < length asks → has ≡ true → (h : SaidWithStamp) (word : Said) → word ≡ icp_said m.op → h ≡ record { member = word; foreign = word } → (outcome : Result (Reply X) StepFault) (next : NodeState X) → IfSome (slice_get s.pending at) (λ p. Leads (told_to g s udp.Icp from (said_by h) now mark (Some p)) s outcome next) → Leads (icp_told g s from m now mark) s outcome next
     unfolding icp_told
     icp_tells_ask below key h word is_word is_h outcome next told =
         let heard : said_by h ≡ (λ p. icp_said m.op) = same_said h word is_h ∙ ap (λ w. λ p. w) is_word in

@@ -12,7 +12,7 @@ ghost use Rattle.node_core.specs.Closing.{KeepsStore, FailsWithCause};
 ghost use Rattle.node_core.specs.Leads.{Leads, MayClose};
 
 use crate::Node;
-use crate::questions::{Heard, hit_said};
+use crate::questions::{SaidWithStamp, hit_said};
 use crate::replies::{quiet, sends_if};
 use floor_rules::FloorStore;
 use htcp_wire::Content;
@@ -98,7 +98,7 @@ impl<T: Copy + Drop, S: FloorStore> Node<T, S> {
                 self.htcp_told(from, trans, heard, now, mark)
             }
             Content::TstMiss { .. } => {
-                self.htcp_told(from, trans, Heard::of(Said::Miss), now, mark)
+                self.htcp_told(from, trans, SaidWithStamp::of(Said::Miss), now, mark)
             }
             Content::ClrAsk { desired, spec, .. } => self.htcp_clr(from, trans, desired, &spec),
             Content::Other { opcode, desired } => {
@@ -128,7 +128,7 @@ impl<T: Copy + Drop, S: FloorStore> Node<T, S> {
             Leads (datagrams.tst_refused (setting_of self.old key_of) self.old.state from trans opcode now mark) self.old.state result self.new.state }
     {
         if opcode == TST {
-            self.htcp_told(from, trans, Heard::of(Said::NoFetch), now, mark)
+            self.htcp_told(from, trans, SaidWithStamp::of(Said::NoFetch), now, mark)
         } else {
             Ok(quiet(self.alloc))
         }

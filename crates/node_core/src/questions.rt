@@ -11,7 +11,7 @@ ghost use Rattle.peer_chooser.specs.Round.{has_answered as has_answered_in};
 ghost use Rattle.node_rules.specs.Known.{is_known as is_known_at};
 ghost use Rattle.values_keys.specs.KeyOf.{GivesKeys};
 ghost use Rattle.node_core.specs.View.{IsSameNode, setting_of, HasKeyOf};
-ghost use Rattle.node_core.specs.Heard.{said_by};
+ghost use Rattle.node_core.specs.SaidWithStamp.{said_by};
 ghost use Rattle.node_core.specs.Leads.{Leads};
 
 use crate::Node;
@@ -28,22 +28,22 @@ use url_key::{Key, KeyFault};
 
 /// What an answer to a round says. It may differ by who sent it.
 #[derive(Clone, Copy)]
-pub(crate) struct Heard {
+pub(crate) struct SaidWithStamp {
     /// If a member sent it.
     pub(crate) member: Said,
     /// If a foreign cache sent it.
     pub(crate) foreign: Said,
 }
 
-impl Heard {
+impl SaidWithStamp {
     /// The same, whoever sent it.
-    pub(crate) fn of(said: Said) -> Heard
+    pub(crate) fn of(said: Said) -> SaidWithStamp
         ensures { result ≡ record {
           member = said;
           foreign = said;
         } }
     {
-        Heard {
+        SaidWithStamp {
             member: said,
             foreign: said,
         }
@@ -96,11 +96,11 @@ fn icp_said(op: IcpOp) -> Said
 
 /// What a TST hit with these CACHE-HDRS says. Only a member's stamp is trusted, and a bad line
 /// tells none.
-pub(crate) fn hit_said(headers: &[u8]) -> Heard
+pub(crate) fn hit_said(headers: &[u8]) -> SaidWithStamp
     ensures { (p : PeerText) → said_by result p ≡ datagrams.tst_hit_said headers.now p }
 {
     let stamp = number_in(headers, HeaderKind::PurgeStamp).unwrap_or(None);
-    Heard {
+    SaidWithStamp {
         member: Said::Hit(stamp),
         foreign: Said::Hit(None),
     }
@@ -205,7 +205,7 @@ impl<T: Copy + Drop, S: FloorStore> Node<T, S> {
         let key = &self.pending.ask(place).ask.key;
         let is_of_key = has_key(self.alloc, message.url.as_slice(), key)?;
         if is_of_key {
-            let heard = Heard::of(icp_said(message.op));
+            let heard = SaidWithStamp::of(icp_said(message.op));
             self.told(place, Udp::Icp, from, heard, now, mark)
         } else {
             Ok(quiet(self.alloc))
@@ -217,7 +217,7 @@ impl<T: Copy + Drop, S: FloorStore> Node<T, S> {
         &mut self,
         from: Address,
         trans: u32,
-        heard: Heard,
+        heard: SaidWithStamp,
         now: u64,
         mark: T,
     ) -> Result<Reply<T>, StepFault>
@@ -238,7 +238,7 @@ impl<T: Copy + Drop, S: FloorStore> Node<T, S> {
         place: usize,
         by: Udp,
         from: Address,
-        heard: Heard,
+        heard: SaidWithStamp,
         now: u64,
         mark: T,
     ) -> Result<Reply<T>, StepFault>

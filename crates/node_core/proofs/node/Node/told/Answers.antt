@@ -1,7 +1,7 @@
 -- An answer to the round of a request: no round, no peer of it or not its first answer, or an
 -- answer that counts (proofs/HearingRounds).
 use Rattle.std.proofs.Common.{Ok, ap}
-use Rattle.node_core.specs.Heard.{said_by}
+use Rattle.node_core.specs.SaidWithStamp.{said_by}
 use Rattle.node_core.specs.View.{NodeText, setting_of}
 use Rattle.node_core.proofs.HearingRounds.{tells_at, no_round, no_peer, told_again, round_told}
 use Rattle.node_core.proofs.node.Node.told.Goals.{in_default-peer_at-via-in-Some-peer_at+else-not-has_answered, in_default-peer_at-via-in_default-peer_at}
