@@ -8,7 +8,7 @@ ghost use Rattle.world_rules.specs.World.{item as item_of, node_at};
 ghost use Rattle.world_rules.specs.Turn as turns;
 ghost use Rattle.hierarchy_world.specs.Parts.{IsSound, IsTaken, world_of};
 
-use crate::network::Asked;
+use crate::network::Arrived;
 use crate::parts::{Parts, item};
 use crate::posting::copy_of_message;
 use crate::telling::Seen;
@@ -97,7 +97,7 @@ impl Parts {
         let Some(place) = self.place_of(id) else {
             return Err(WorldFault::NoSuchPacket);
         };
-        let asked = Asked {
+        let asked = Arrived {
             serial: sent.serial,
             key: sent.ask.key.copy(self.alloc)?,
         };
