@@ -19,7 +19,7 @@ use floor_rules::{FloorFault, FloorStore};
 use htcp_wire::{HeaderKind, Specifier, number_in};
 use node_messages::{clr_answer, is_known, overall_answer};
 use node_rules::{Reply, StepFault};
-use node_waiting::Waiting;
+use node_waiting::PendingList;
 use roster::{Address, Udp};
 use std::alloc::{AllocError, Global};
 use url_key::Key;
@@ -180,7 +180,7 @@ impl<T: Copy + Drop, S: FloorStore> Node<T, S> {
             }
             Err(fault) => {
                 self.closed = true;
-                self.pending = Waiting::new(self.alloc);
+                self.pending = PendingList::new(self.alloc);
                 Err(step_fault_of(fault))
             }
         }

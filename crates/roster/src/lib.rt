@@ -4,8 +4,8 @@
 //! - [`Roster`]: `Roster::read` reads the tables of a text with `values_tables` and judges whether
 //!   they fit together. Crates above look up members, peers, origins and the master in it, and
 //!   never see the text. Look-ups allocate nothing.
-//! - [`RosterFault`], in the order of the tests, and [`RosterError`]: a fault and its [`TextPlace`],
-//!   which prints as a sentence.
+//! - [`RosterFault`], in the order of the tests, and [`RosterError`]: a fault and its
+//!   [`TextPlace`], which prints as a sentence.
 //! - [`is_foreign`], [`address_by`]: of an id, and of a cache. The types of the tables are those of
 //!   `values_tables`.
 //!

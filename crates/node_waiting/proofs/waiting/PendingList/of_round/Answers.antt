@@ -1,7 +1,7 @@
 -- Finding by the serial of a round: the serial is the first one of the block, or it is not, or no
 -- request has the block.
 use Rattle.node_waiting.proofs.Finding.{round_found, round_absent, round_where, no_round}
-use Rattle.node_waiting.proofs.waiting.Waiting.of_round.Goals as goal
+use Rattle.node_waiting.proofs.waiting.PendingList.of_round.Goals as goal
 
 pub returns-in_err-place-clause-found : goal.returns-in_err-place-clause-found
 returns-in_err-place-clause-found g c =

@@ -2,7 +2,7 @@
 -- not, or no request has the block.
 use Rattle.std.proofs.Common.{◌≡◌, ◌≢◌, ◌%◌, get_or, arith}
 use Rattle.node_waiting.proofs.Finding.{fetch_found, fetch_other, fetch_absent, fetch_where}
-use Rattle.node_waiting.proofs.waiting.Waiting.of_fetch.Goals as goal
+use Rattle.node_waiting.proofs.waiting.PendingList.of_fetch.Goals as goal
 
 pub returns-in_err-place-clause-found : goal.returns-in_err-place-clause-found
 returns-in_err-place-clause-found g c =

@@ -1,7 +1,7 @@
 use Rattle.std.proofs.Common.{rules}
 use Rattle.std.proofs.lemmas.List.Sorted.{answers_always}
 use Rattle.node_waiting.proofs.Finding.{place_found, none_found}
-use Rattle.node_waiting.proofs.waiting.Waiting.of_block.Goals as goal
+use Rattle.node_waiting.proofs.waiting.PendingList.of_block.Goals as goal
 
 pub returns-in-Ok-clause-place : goal.returns-in-Ok-clause-place
 returns-in-Ok-clause-place g c =

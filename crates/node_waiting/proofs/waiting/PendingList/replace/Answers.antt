@@ -4,7 +4,7 @@ use Rattle.std.proofs.lemmas.Option.{slice_get_read}
 use Rattle.node_waiting.specs.CanGoOn.{CanGoOn}
 use Rattle.node_waiting.specs.Changed.{with_progress}
 use Rattle.node_waiting.proofs.Changing.{set_changed, set_there, order_changed}
-use Rattle.node_waiting.proofs.waiting.Waiting.replace.Goals as goal
+use Rattle.node_waiting.proofs.waiting.PendingList.replace.Goals as goal
 
 pub invariant_of-self : goal.invariant_of-self
 invariant_of-self g c =

@@ -4,7 +4,7 @@ use Rattle.std.specs.List.{remove}
 use Rattle.std.proofs.lemmas.Option.{slice_get_read}
 use Rattle.node_rules.specs.State.{ended}
 use Rattle.node_waiting.proofs.Changing.{removed, order_ended}
-use Rattle.node_waiting.proofs.waiting.Waiting.end.Goals as goal
+use Rattle.node_waiting.proofs.waiting.PendingList.end.Goals as goal
 
 pub invariant_of-self : goal.invariant_of-self
 invariant_of-self g c =

@@ -1,6 +1,6 @@
 use Rattle.std.proofs.Common.{◌<◌, All}
 use Rattle.node_waiting.proofs.Changing.{added}
-use Rattle.node_waiting.proofs.waiting.Waiting.add.Goals as goal
+use Rattle.node_waiting.proofs.waiting.PendingList.add.Goals as goal
 
 pub invariant_of-self-2 : goal.invariant_of-self-2
 invariant_of-self-2 g c =
