@@ -6,7 +6,7 @@ ghost use Rattle.cluster_service.specs.Addresses.{peer_source};
 use crate::gate::Gate;
 use cluster_fetch::ResponseSource;
 use cluster_sockets::Senders;
-use cluster_waiting::{Bell, Errands, Tables};
+use cluster_waiting::{Bell, Errands, WaitTables};
 use mio::net::TcpStream;
 use node_bytes::{Packet, Turn};
 use node_rules::Serve;
@@ -20,7 +20,7 @@ use std::time::Clock;
 #[derive(Drop)]
 pub struct Station<G: Drop> {
     /// The clients that wait, the answers that came before their clients, and the rounds that wait.
-    pub tables: Tables<TcpStream, Serve<()>>,
+    pub tables: WaitTables<TcpStream, Serve<()>>,
     /// Where workers wait for jobs.
     pub bell: Bell,
     /// What is left to the fetchers.
@@ -92,7 +92,7 @@ impl<G: Gate + Drop> Station<G> {
         requires { is_member roster id ≡ true }
     {
         Station {
-            tables: Tables::new(alloc),
+            tables: WaitTables::new(alloc),
             bell: Bell::new(),
             errands: Errands::new(alloc),
             alloc,

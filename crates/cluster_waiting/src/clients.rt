@@ -1,8 +1,8 @@
 //! Clients that wait for their answers, and answers that came before their clients.
 ghost use Rattle.std.specs.Prelude.{◌≡◌, ◌≤◌, [], length, MatchOption, MatchResult};
-ghost use Rattle.cluster_waiting.specs.Waiting.{Answers, IsPut, IsRefused, Leaves, TakesClient};
+ghost use Rattle.cluster_waiting.specs.Waiting.{Answers, IsPut, IsHandedBack, Leaves, TakesClient};
 
-use crate::fault::{Refused, TableFault};
+use crate::fault::{HandedBack, TableFault};
 use std::alloc::Global;
 use std::collections::BTreeMap;
 use std::marker::Model;
@@ -16,29 +16,29 @@ pub const MOST_WAITING: usize = 1056;
 ///
 /// A contract sees both in the order of their blocks, at most 1,056 of each.
 #[derive(Drop)]
-pub struct Waiters<C, A> {
+pub struct WaitingClients<C, A> {
     clients: BTreeMap<u32, C>,
     answers: BTreeMap<u32, A>,
 }
 
-impl<C, A> Model for Waiters<C, A> {
+impl<C, A> Model for WaitingClients<C, A> {
     ghost use Rattle.std.specs.Prelude.{◌≤◌, length};
-    ghost use Rattle.cluster_waiting.specs.Waiting.{WaitersView};
+    ghost use Rattle.cluster_waiting.specs.Waiting.{WaitingClientsView};
 
-    ghost Value = { WaitersView C A };
+    ghost Value = { WaitingClientsView C A };
 
     ghost view = { λ w. record { clients = w.clients.entries; answers = w.answers.entries } };
 
     ghost invariant = { λ w. (length w.clients.entries ≤ 1056) × (length w.answers.entries ≤ 1056) };
 }
 
-impl<C: Drop, A: Drop> Waiters<C, A> {
+impl<C: Drop, A: Drop> WaitingClients<C, A> {
     /// Nobody waits. It takes no memory.
-    pub fn new(alloc: Global) -> Waiters<C, A>
+    pub fn new(alloc: Global) -> WaitingClients<C, A>
         ensures clients { result.clients ≡ [] }
         ensures answers { result.answers ≡ [] }
     {
-        Waiters {
+        WaitingClients {
             clients: BTreeMap::new(alloc),
             answers: BTreeMap::new(alloc),
         }
@@ -55,7 +55,7 @@ impl<C: Drop, A: Drop> Waiters<C, A> {
     /// back both. Else the client is handed back with the first of these faults that holds, and
     /// nothing changes: `Taken` where a client waits under this block, `Full` where 1,056 wait,
     /// `NoMemory`.
-    pub fn leave(&mut self, block: u32, client: C) -> Result<Option<(C, A)>, Refused<C>>
+    pub fn leave(&mut self, block: u32, client: C) -> Result<Option<(C, A)>, HandedBack<C>>
         ensures { Leaves block client self.old result self.new }
     {
         if let Some(answer) = self.answers.remove(&block) {
@@ -63,7 +63,7 @@ impl<C: Drop, A: Drop> Waiters<C, A> {
         }
         match put(&mut self.clients, block, client) {
             Ok(()) => Ok(None),
-            Err(refused) => Err(refused),
+            Err(handed_back) => Err(handed_back),
         }
     }
 
@@ -71,7 +71,7 @@ impl<C: Drop, A: Drop> Waiters<C, A> {
     /// both. Else the answer is handed back with the first of these faults that holds, and nothing
     /// changes: `Taken` where an answer is kept under this block, `Full` where 1,056 are kept,
     /// `NoMemory`.
-    pub fn answer(&mut self, block: u32, answer: A) -> Result<Option<(C, A)>, Refused<A>>
+    pub fn answer(&mut self, block: u32, answer: A) -> Result<Option<(C, A)>, HandedBack<A>>
         ensures { Answers block answer self.old result self.new }
     {
         if let Some(client) = self.clients.remove(&block) {
@@ -79,7 +79,7 @@ impl<C: Drop, A: Drop> Waiters<C, A> {
         }
         match put(&mut self.answers, block, answer) {
             Ok(()) => Ok(None),
-            Err(refused) => Err(refused),
+            Err(handed_back) => Err(handed_back),
         }
     }
 
@@ -95,25 +95,25 @@ impl<C: Drop, A: Drop> Waiters<C, A> {
 }
 
 /// Puts one item under a block that has none.
-fn put<T: Drop>(row: &mut BTreeMap<u32, T>, block: u32, one: T) -> Result<(), Refused<T>>
-    ensures put { MatchResult result (λ _. IsPut row.old.entries block one row.new.entries) (IsRefused row.old.entries block one row.new.entries) }
+fn put<T: Drop>(row: &mut BTreeMap<u32, T>, block: u32, one: T) -> Result<(), HandedBack<T>>
+    ensures put { MatchResult result (λ _. IsPut row.old.entries block one row.new.entries) (IsHandedBack row.old.entries block one row.new.entries) }
     ensures most { length row.old.entries ≤ 1056 → length row.new.entries ≤ 1056 }
 {
     if row.contains_key(&block) {
-        return Err(Refused {
+        return Err(HandedBack {
             back: one,
             fault: TableFault::Taken,
         });
     }
     if row.len() >= MOST_WAITING {
-        return Err(Refused {
+        return Err(HandedBack {
             back: one,
             fault: TableFault::Full,
         });
     }
     match row.insert(block, one) {
         Ok(_) => Ok(()),
-        Err(failed) => Err(Refused {
+        Err(failed) => Err(HandedBack {
             back: failed.value.1,
             fault: TableFault::NoMemory,
         }),

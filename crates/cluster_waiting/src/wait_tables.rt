@@ -1,55 +1,55 @@
 //! The two tables that the threads of a node share, each under its lock.
-use crate::fault::Refused;
+use crate::clients::WaitingClients;
+use crate::fault::HandedBack;
 use crate::rounds::Rounds;
-use crate::waiters::Waiters;
 use std::alloc::{AllocError, Global};
 use std::sync::{Mutex, Wait};
 
 /// The waiting clients with the early answers, and the waiting rounds, each under a lock of its
 /// own. Each function holds one lock for one call.
 #[derive(Drop)]
-pub struct Tables<C: Drop, A: Drop> {
-    waiters: Mutex<Waiters<C, A>>,
+pub struct WaitTables<C: Drop, A: Drop> {
+    clients: Mutex<WaitingClients<C, A>>,
     rounds: Mutex<Rounds>,
 }
 
-impl<C: Drop, A: Drop> Tables<C, A> {
+impl<C: Drop, A: Drop> WaitTables<C, A> {
     /// Empty tables. It takes no memory.
-    pub fn new(alloc: Global) -> Tables<C, A> {
-        Tables {
-            waiters: Mutex::new(Waiters::new(alloc)),
+    pub fn new(alloc: Global) -> WaitTables<C, A> {
+        WaitTables {
+            clients: Mutex::new(WaitingClients::new(alloc)),
             rounds: Mutex::new(Rounds::new(alloc)),
         }
     }
 
-    /// [`Waiters::clients`] under the lock.
+    /// [`WaitingClients::clients`] under the lock.
     pub fn clients<R: Wait>(&self, rt: &R) -> usize {
-        self.waiters.lock(rt).clients()
+        self.clients.lock(rt).clients()
     }
 
-    /// [`Waiters::leave`] under the lock.
+    /// [`WaitingClients::leave`] under the lock.
     pub fn leave<R: Wait>(
         &self,
         rt: &R,
         block: u32,
         client: C,
-    ) -> Result<Option<(C, A)>, Refused<C>> {
-        self.waiters.lock(rt).leave(block, client)
+    ) -> Result<Option<(C, A)>, HandedBack<C>> {
+        self.clients.lock(rt).leave(block, client)
     }
 
-    /// [`Waiters::answer`] under the lock.
+    /// [`WaitingClients::answer`] under the lock.
     pub fn answer<R: Wait>(
         &self,
         rt: &R,
         block: u32,
         answer: A,
-    ) -> Result<Option<(C, A)>, Refused<A>> {
-        self.waiters.lock(rt).answer(block, answer)
+    ) -> Result<Option<(C, A)>, HandedBack<A>> {
+        self.clients.lock(rt).answer(block, answer)
     }
 
-    /// [`Waiters::take_first`] under the lock.
+    /// [`WaitingClients::take_first`] under the lock.
     pub fn take_first<R: Wait>(&self, rt: &R) -> Option<C> {
-        self.waiters.lock(rt).take_first()
+        self.clients.lock(rt).take_first()
     }
 
     /// [`Rounds::begin`] under the lock.
