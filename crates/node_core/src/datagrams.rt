@@ -15,18 +15,12 @@ use crate::Node;
 use crate::questions::{SaidWithStamp, hit_said};
 use crate::replies::{quiet, sends_if};
 use floor_rules::FloorStore;
-use htcp_wire::Content;
+use htcp_wire::{Content, NOT_IMPLEMENTED, TST};
 use icp_wire::{Icp, IcpOp};
 use node_messages::{nop_answer, overall_answer};
 use node_rules::{Message, Received, Reply, StepFault};
 use peer_chooser::Said;
 use roster::Address;
-
-/// HTCP's opcode of TST.
-const TST: u8 = 1;
-
-/// HTCP's overall response to an opcode that is not implemented.
-const NOT_IMPLEMENTED: u8 = 2;
 
 impl<T: Copy + Drop, S: FloorStore> Node<T, S> {
     /// A datagram arrives.

@@ -17,7 +17,7 @@ ghost use Rattle.node_core.specs.Leads.{Leads};
 use crate::Node;
 use crate::replies::{quiet, sends, sends_if};
 use floor_rules::FloorStore;
-use htcp_wire::{HeaderKind, Specifier, number_in};
+use htcp_wire::{HeaderKind, NOT_ALLOWED, Specifier, TST, number_in};
 use icp_wire::{Icp, IcpOp};
 use node_messages::{icp_answer, is_known, overall_answer, peer_at, tst_answer};
 use node_rules::{Reply, StepFault};
@@ -180,7 +180,7 @@ impl<T: Copy + Drop, S: FloorStore> Node<T, S> {
             return Ok(quiet(self.alloc));
         }
         if !is_known(&self.roster, self.id, Udp::Htcp, from) {
-            return Ok(sends(self.alloc, overall_answer(from, trans, 1, 5))?);
+            return Ok(sends(self.alloc, overall_answer(from, trans, TST, NOT_ALLOWED))?);
         }
         let stamp = self.stamp_meant(spec, now)?;
         Ok(sends(self.alloc, tst_answer(self.alloc, from, trans, stamp)?)?)

@@ -70,4 +70,4 @@ mod state;
 pub use event::Event;
 pub use message::{Message, Outgoing, Received, Sent, can_be_answered, fits};
 pub use reply::{Begin, Reply, Serve, Served, StepFault};
-pub use state::{Fetch, NodeState, Pending};
+pub use state::{Fetch, NodeState, Pending, SERIALS};
