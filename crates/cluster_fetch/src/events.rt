@@ -1,10 +1,9 @@
 //! The event that a node gets at the end of a fetch.
 ghost use Rattle.std.specs.Prelude.{◌≡◌};
 ghost use Rattle.cluster_fetch.specs.Fetched.{event_of_answer, event_of_fetch, is_told as may_be_told};
-ghost use Rattle.node_rules.specs.Arrivals.{is_gateway_fault as is_gateways};
 
 use http_messages::Answer;
-use node_rules::Event;
+use node_rules::{Event, is_gateway_fault};
 use url_key::Key;
 
 /// Where a response comes from.
@@ -16,14 +15,6 @@ pub enum ResponseSource {
     Foreign(u8),
     /// The origin.
     Origin,
-}
-
-/// Whether a status says that the fetch of the peer itself failed: 502, 503 or 504 (RFC 9110,
-/// sections 15.6.3 to 15.6.5).
-fn is_gateway_fault(status: u16) -> bool
-    ensures { result ≡ is_gateways status }
-{
-    [502, 503, 504].contains(&status)
 }
 
 /// Whether the node gets the response, and not a failure.
