@@ -1,15 +1,14 @@
 //! The event that a node gets at the end of a fetch.
 ghost use Rattle.std.specs.Prelude.{◌≡◌};
 ghost use Rattle.cluster_fetch.specs.Fetched.{event_of_answer, event_of_fetch, is_told as may_be_told};
-ghost use Rattle.node_rules.specs.Arrivals.{is_gateway_fault as is_gateways};
 
 use http_messages::Answer;
-use node_rules::Event;
+use node_rules::{Event, is_gateway_fault};
 use url_key::Key;
 
 /// Where a response comes from.
 #[derive(Clone, Copy, Debug, PartialEq, Eq)]
-pub enum Source {
+pub enum ResponseSource {
     /// The member of this id, 1 to 16.
     Member(u8),
     /// The foreign cache of this id, 101 to 108.
@@ -18,28 +17,26 @@ pub enum Source {
     Origin,
 }
 
-/// Whether a status says that the fetch of the peer itself failed: 502, 503 or 504 (RFC 9110,
-/// sections 15.6.3 to 15.6.5).
-fn is_gateway_fault(status: u16) -> bool
-    ensures { result ≡ is_gateways status }
-{
-    [502, 503, 504].contains(&status)
-}
-
 /// Whether the node gets the response, and not a failure.
-fn is_told(source: Source, answer: &Answer) -> bool
+fn is_told(source: ResponseSource, answer: &Answer) -> bool
     ensures { result ≡ may_be_told source answer.now }
 {
     match source {
-        Source::Member(_) => !is_gateway_fault(answer.status()) && answer.stamp().is_some(),
-        Source::Foreign(_) => !is_gateway_fault(answer.status()),
-        Source::Origin => true,
+        ResponseSource::Member(_) => !is_gateway_fault(answer.status()) && answer.stamp().is_some(),
+        ResponseSource::Foreign(_) => !is_gateway_fault(answer.status()),
+        ResponseSource::Origin => true,
     }
 }
 
 /// The event of a fetch with this serial and key that ended at this moment, in seconds, with a
 /// response or without one.
-pub fn fetched(source: Source, serial: u32, key: Key, answer: Option<Answer>, now: u64) -> Event<()>
+pub fn fetched(
+    source: ResponseSource,
+    serial: u32,
+    key: Key,
+    answer: Option<Answer>,
+    now: u64,
+) -> Event<()>
     ensures { result ≡ event_of_fetch source serial key answer now }
 {
     match answer {
@@ -49,11 +46,11 @@ pub fn fetched(source: Source, serial: u32, key: Key, answer: Option<Answer>, no
 }
 
 /// The event of a response that the node gets.
-fn came(source: Source, serial: u32, key: Key, answer: Answer, now: u64) -> Event<()>
+fn came(source: ResponseSource, serial: u32, key: Key, answer: Answer, now: u64) -> Event<()>
     ensures { result ≡ event_of_answer source serial key answer now }
 {
     match source {
-        Source::Member(peer) => Event::PeerAnswer {
+        ResponseSource::Member(peer) => Event::PeerAnswer {
             serial,
             peer,
             key,
@@ -61,7 +58,7 @@ fn came(source: Source, serial: u32, key: Key, answer: Answer, now: u64) -> Even
             tag: (),
             now,
         },
-        Source::Foreign(peer) => Event::ForeignAnswer {
+        ResponseSource::Foreign(peer) => Event::ForeignAnswer {
             serial,
             peer,
             key,
@@ -69,7 +66,7 @@ fn came(source: Source, serial: u32, key: Key, answer: Answer, now: u64) -> Even
             tag: (),
             now,
         },
-        Source::Origin => Event::OriginAnswer {
+        ResponseSource::Origin => Event::OriginAnswer {
             serial,
             key,
             answer,

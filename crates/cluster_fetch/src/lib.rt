@@ -19,4 +19,4 @@ mod asking;
 mod events;
 
 pub use asking::exchange;
-pub use events::{Source, fetched};
+pub use events::{ResponseSource, fetched};

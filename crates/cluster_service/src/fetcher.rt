@@ -2,7 +2,7 @@
 use crate::gate::Gate;
 use crate::seated::{MOST_FURTHER_STEPS, Seated};
 use crate::station::{seconds, source_of};
-use cluster_fetch::{Source, exchange, fetched};
+use cluster_fetch::{ResponseSource, exchange, fetched};
 use http_messages::Ask;
 use http_writing::AskForm;
 use node_bytes::{Stepper, Turn};
@@ -56,7 +56,7 @@ impl<N: Stepper + Drop, G: Gate + Drop, R: Net + Wait + Clock> Fetcher<'_, N, G,
         let station = self.seated.station;
         station.gate.before_read(self.seated.rt, serial);
         match station.roster.origin(ask.key.host(), ask.key.port()) {
-            Some(at) => self.fetch(Source::Origin, serial, at, ask, AskForm::Origin),
+            Some(at) => self.fetch(ResponseSource::Origin, serial, at, ask, AskForm::Origin),
             None => self.seated.fail(serial),
         }
     }
@@ -64,7 +64,7 @@ impl<N: Stepper + Drop, G: Gate + Drop, R: Net + Wait + Clock> Fetcher<'_, N, G,
     /// Asks whoever is at this address, and takes the step at the end of the fetch.
     fn fetch(
         &mut self,
-        source: Source,
+        source: ResponseSource,
         serial: u32,
         at: Address,
         ask: Ask,

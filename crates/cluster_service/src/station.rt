@@ -4,9 +4,9 @@ ghost use Rattle.roster.specs.Lookups.{is_member};
 ghost use Rattle.cluster_service.specs.Addresses.{peer_source};
 
 use crate::gate::Gate;
-use cluster_fetch::Source;
+use cluster_fetch::ResponseSource;
 use cluster_sockets::Senders;
-use cluster_waiting::{Bell, Errands, Tables};
+use cluster_waiting::{Bell, Errands, WaitTables};
 use mio::net::TcpStream;
 use node_bytes::{Packet, Turn};
 use node_rules::Serve;
@@ -20,7 +20,7 @@ use std::time::Clock;
 #[derive(Drop)]
 pub struct Station<G: Drop> {
     /// The clients that wait, the answers that came before their clients, and the rounds that wait.
-    pub tables: Tables<TcpStream, Serve<()>>,
+    pub tables: WaitTables<TcpStream, Serve<()>>,
     /// Where workers wait for jobs.
     pub bell: Bell,
     /// What is left to the fetchers.
@@ -66,13 +66,13 @@ fn cache_in(caches: &[Cache], id: u8) -> Option<&Cache>
 }
 
 /// What a peer is, a member or a foreign cache, and where it serves HTTP.
-pub(crate) fn source_of(roster: &Roster, peer: u8) -> Option<(Source, Address)>
+pub(crate) fn source_of(roster: &Roster, peer: u8) -> Option<(ResponseSource, Address)>
     ensures { result ≡ peer_source roster.now peer }
 {
     match roster.member(peer) {
-        Some(member) => Some((Source::Member(peer), member.cache.http)),
+        Some(member) => Some((ResponseSource::Member(peer), member.cache.http)),
         None => match cache_in(roster.foreign(), peer) {
-            Some(cache) => Some((Source::Foreign(peer), cache.http)),
+            Some(cache) => Some((ResponseSource::Foreign(peer), cache.http)),
             None => None,
         },
     }
@@ -92,7 +92,7 @@ impl<G: Gate + Drop> Station<G> {
         requires { is_member roster id ≡ true }
     {
         Station {
-            tables: Tables::new(alloc),
+            tables: WaitTables::new(alloc),
             bell: Bell::new(),
             errands: Errands::new(alloc),
             alloc,

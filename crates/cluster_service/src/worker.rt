@@ -162,7 +162,7 @@ impl<N: Stepper + Drop, G: Gate + Drop, R: Wait + Clock> Worker<'_, N, G, R> {
                     self.seated.refuse_all();
                 }
             }
-            Err(refused) => self.seated.tell(refused.back, &unavailable()),
+            Err(handed_back) => self.seated.tell(handed_back.back, &unavailable()),
         }
     }
 

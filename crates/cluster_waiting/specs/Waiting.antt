@@ -5,14 +5,14 @@ use Rattle.std.specs.Map.{lookup, remove_entry}
 use Rattle.std.specs.BTreeMap.{is_at, insert_entry}
 use Rattle.cluster_waiting.specs.declared.fault.TableFault.{TableFault}
 use Rattle.cluster_waiting.specs.declared.fault.TableFault.TheVariants.{Taken, Full, NoMemory}
-use Rattle.cluster_waiting.specs.declared.fault.Refused.{Refused}
+use Rattle.cluster_waiting.specs.declared.fault.HandedBack.{HandedBack}
 use Rattle.cluster_waiting.specs.declared.rounds.WaitingRound.{WaitingRound}
-use Rattle.cluster_waiting.specs.declared.bell.Moves.{Moves}
+use Rattle.cluster_waiting.specs.declared.bell.Rings.{Rings}
 
 -- Clients and answers
 
 -- the clients and the answers, each in the order of their blocks
-pub record WaitersView (C A : Type 0) : Type 0 where
+pub record WaitingClientsView (C A : Type 0) : Type 0 where
   pub clients : List (ℕ × C)
   pub answers : List (ℕ × A)
 
@@ -41,37 +41,37 @@ IsCause row block Full = (found_at row block ≡ None) × (1056 ≤ length row)
 IsCause row block NoMemory = (found_at row block ≡ None) × (length row < 1056)
 
 -- an item is handed back with its cause, and nothing changes
-pub record IsRefused {T : Type 0} (row : List (ℕ × T)) (block : ℕ) (one : T) (new : List (ℕ × T)) (refused : Refused T) : Type 0 where
-  pub back : refused.back ≡ one
-  pub cause : IsCause row block refused.fault
+pub record IsHandedBack {T : Type 0} (row : List (ℕ × T)) (block : ℕ) (one : T) (new : List (ℕ × T)) (handed_back : HandedBack T) : Type 0 where
+  pub back : handed_back.back ≡ one
+  pub cause : IsCause row block handed_back.fault
   pub same : new ≡ row
 
 -- a client comes, by the answer that is kept under its block: it gets that answer, or waits, or is refused
-abbrev pub LeavesAt : {C A : Type 0} → Option A → ℕ → C → WaitersView C A → Result (Option (C × A)) (Refused C) → WaitersView C A → Type 0
+abbrev pub LeavesAt : {C A : Type 0} → Option A → ℕ → C → WaitingClientsView C A → Result (Option (C × A)) (HandedBack C) → WaitingClientsView C A → Type 0
 LeavesAt (Some answer) block client old result new =
     (result ≡ Ok (Some (client, answer))) × (new.clients ≡ old.clients) × (new.answers ≡ without old.answers block)
 LeavesAt None block client old result new =
     (new.answers ≡ old.answers)
-    × MatchResult result (λ met. (met ≡ None) × IsPut old.clients block client new.clients) (IsRefused old.clients block client new.clients)
+    × MatchResult result (λ met. (met ≡ None) × IsPut old.clients block client new.clients) (IsHandedBack old.clients block client new.clients)
 
 -- a client comes
-abbrev pub Leaves : {C A : Type 0} → ℕ → C → WaitersView C A → Result (Option (C × A)) (Refused C) → WaitersView C A → Type 0
+abbrev pub Leaves : {C A : Type 0} → ℕ → C → WaitingClientsView C A → Result (Option (C × A)) (HandedBack C) → WaitingClientsView C A → Type 0
 Leaves block client old result new = LeavesAt (found_at old.answers block) block client old result new
 
 -- an answer comes, by the client that waits under its block: that client gets it, or it is kept, or is refused
-abbrev pub AnswersAt : {C A : Type 0} → Option C → ℕ → A → WaitersView C A → Result (Option (C × A)) (Refused A) → WaitersView C A → Type 0
+abbrev pub AnswersAt : {C A : Type 0} → Option C → ℕ → A → WaitingClientsView C A → Result (Option (C × A)) (HandedBack A) → WaitingClientsView C A → Type 0
 AnswersAt (Some client) block answer old result new =
     (result ≡ Ok (Some (client, answer))) × (new.answers ≡ old.answers) × (new.clients ≡ without old.clients block)
 AnswersAt None block answer old result new =
     (new.clients ≡ old.clients)
-    × MatchResult result (λ met. (met ≡ None) × IsPut old.answers block answer new.answers) (IsRefused old.answers block answer new.answers)
+    × MatchResult result (λ met. (met ≡ None) × IsPut old.answers block answer new.answers) (IsHandedBack old.answers block answer new.answers)
 
 -- an answer comes
-abbrev pub Answers : {C A : Type 0} → ℕ → A → WaitersView C A → Result (Option (C × A)) (Refused A) → WaitersView C A → Type 0
+abbrev pub Answers : {C A : Type 0} → ℕ → A → WaitingClientsView C A → Result (Option (C × A)) (HandedBack A) → WaitingClientsView C A → Type 0
 Answers block answer old result new = AnswersAt (found_at old.clients block) block answer old result new
 
 -- the client with the least block is taken out
-abbrev pub TakesClient : {C A : Type 0} → WaitersView C A → WaitersView C A → C → Type 0
+abbrev pub TakesClient : {C A : Type 0} → WaitingClientsView C A → WaitingClientsView C A → C → Type 0
 TakesClient old new client = (block : ℕ) × (old.clients ≡ (block, client) ∷ new.clients) × (new.answers ≡ old.answers)
 
 -- Rounds
@@ -107,26 +107,26 @@ NoneIsDue now old new = (new ≡ old) × All (λ w. now < w.until) old.rounds
 
 -- Errands
 
--- the items that wait, and whether the row is ended
-pub record RowView (T : Type 0) : Type 0 where
+-- the items that wait, and whether the queue is ended
+pub record QueueView (T : Type 0) : Type 0 where
   pub items : List T
   pub over : Bool
 
--- the row with one item more at its end
-abbrev pub with_last : {T : Type 0} → RowView T → T → RowView T
-with_last row item = record { items = row.items ++ item ∷ []; over = row.over }
+-- the queue with one item more at its end
+abbrev pub with_last : {T : Type 0} → QueueView T → T → QueueView T
+with_last queue item = record { items = queue.items ++ item ∷ []; over = queue.over }
 
--- the row, ended
-abbrev pub ended : {T : Type 0} → RowView T → RowView T
-ended row = record { items = row.items; over = true }
+-- the queue, ended
+abbrev pub ended : {T : Type 0} → QueueView T → QueueView T
+ended queue = record { items = queue.items; over = true }
 
--- the item that has waited longest is taken out; or none, where none waits or the row is ended
-abbrev pub Takes : {T : Type 0} → RowView T → Option T → RowView T → Type 0
+-- the item that has waited longest is taken out; or none, where none waits or the queue is ended
+abbrev pub Takes : {T : Type 0} → QueueView T → Option T → QueueView T → Type 0
 Takes old None new = (new ≡ old) × ((old.over ≡ true) ⊎ (old.items ≡ []))
 Takes old (Some item) new = (old.over ≡ false) × (old.items ≡ item ∷ new.items) × (new.over ≡ false)
 
 -- Rings
 
 -- the count is no longer this one, or no job comes any more
-abbrev pub HasMovedPast : Moves → ℕ → Type 0
-HasMovedPast moves seen = (moves.count ≢ seen) ⊎ (moves.is_over ≡ true)
+abbrev pub HasMovedPast : Rings → ℕ → Type 0
+HasMovedPast rings seen = (rings.count ≢ seen) ⊎ (rings.is_over ≡ true)

@@ -6,14 +6,14 @@ use std::sync::{Condvar, Mutex, Wait};
 
 /// How often a bell was rung, and whether its threads are to end.
 #[derive(Clone, Copy, Debug, PartialEq, Eq)]
-pub struct Moves {
+pub struct Rings {
     /// Rings so far; after 2^64 - 1 comes 0.
     pub count: u64,
     /// No job comes any more.
     pub is_over: bool,
 }
 
-impl Moves {
+impl Rings {
     /// Counts one ring more.
     fn ring(&mut self)
         ensures count { self.new.count ≢ self.old.count }
@@ -35,7 +35,7 @@ impl Moves {
 /// look.
 #[derive(Drop)]
 pub struct Bell {
-    moves: Mutex<Moves>,
+    rings: Mutex<Rings>,
     has_moved: Condvar,
 }
 
@@ -43,7 +43,7 @@ impl Bell {
     /// A bell that was never rung.
     pub fn new() -> Bell {
         Bell {
-            moves: Mutex::new(Moves {
+            rings: Mutex::new(Rings {
                 count: 0,
                 is_over: false,
             }),
@@ -52,28 +52,28 @@ impl Bell {
     }
 
     /// The count of rings, which a thread remembers before it looks for a job.
-    pub fn look<R: Wait>(&self, rt: &R) -> Moves {
-        *self.moves.lock(rt)
+    pub fn look<R: Wait>(&self, rt: &R) -> Rings {
+        *self.rings.lock(rt)
     }
 
     /// Says that there may be jobs, and wakes all threads that wait.
     pub fn ring<R: Wait>(&self, rt: &R) {
-        self.moves.lock(rt).ring();
+        self.rings.lock(rt).ring();
         self.has_moved.notify_all();
     }
 
     /// Says that no job comes any more, and wakes all threads that wait.
     pub fn end<R: Wait>(&self, rt: &R) {
-        self.moves.lock(rt).is_over = true;
+        self.rings.lock(rt).is_over = true;
         self.has_moved.notify_all();
     }
 
     /// Waits until the bell has been rung since this count, or no job comes any more.
     pub fn wait_past<R: Wait>(&self, rt: &R, seen: u64) {
-        let _moves = self.has_moved.wait_while(
+        let _rings = self.has_moved.wait_while(
             rt,
-            self.moves.lock(rt),
-            |moves| !moves.has_moved_past(seen),
+            self.rings.lock(rt),
+            |rings| !rings.has_moved_past(seen),
         );
     }
 }

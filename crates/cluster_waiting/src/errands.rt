@@ -10,25 +10,25 @@ use std::sync::{Condvar, Mutex, Wait};
 /// A queue of what is to be done, first in, first out, until it is ended. A contract sees the list
 /// of what waits, and whether it is ended.
 #[derive(Drop)]
-pub struct Row<T> {
+pub struct Queue<T> {
     items: VecDeque<T>,
     is_over: bool,
 }
 
-impl<T> Model for Row<T> {
-    ghost use Rattle.cluster_waiting.specs.Waiting.{RowView};
+impl<T> Model for Queue<T> {
+    ghost use Rattle.cluster_waiting.specs.Waiting.{QueueView};
 
-    ghost Value = { RowView T };
+    ghost Value = { QueueView T };
 
     ghost view = { λ r. record { items = r.items.items; over = r.is_over } };
 }
 
-impl<T: Drop> Row<T> {
-    /// An empty row. It takes no memory.
-    pub fn new(alloc: Global) -> Row<T>
+impl<T: Drop> Queue<T> {
+    /// An empty queue. It takes no memory.
+    pub fn new(alloc: Global) -> Queue<T>
         ensures { result ≡ record { items = []; over = false } }
     {
-        Row {
+        Queue {
             items: VecDeque::new(alloc),
             is_over: false,
         }
@@ -45,7 +45,7 @@ impl<T: Drop> Row<T> {
     }
 
     /// Takes out the item that has waited longest. There is none where nothing waits, or where the
-    /// row is ended.
+    /// queue is ended.
     pub fn take(&mut self) -> Option<T>
         ensures { Takes self.old result self.new }
     {
@@ -55,14 +55,14 @@ impl<T: Drop> Row<T> {
         self.items.pop_front()
     }
 
-    /// Ends the row: what still waits is never taken.
+    /// Ends the queue: what still waits is never taken.
     pub fn end(&mut self)
         ensures { self.new ≡ ended self.old }
     {
         self.is_over = true;
     }
 
-    /// Whether a thread that takes has to wait: the row is empty, and not ended.
+    /// Whether a thread that takes has to wait: the queue is empty, and not ended.
     pub fn waits(&self) -> bool
         ensures { IsTrue result ↔ ((self.now.items ≡ []) × (self.now.over ≡ false)) }
     {
@@ -70,10 +70,10 @@ impl<T: Drop> Row<T> {
     }
 }
 
-/// A [`Row`] under a lock, with a condition variable where threads wait for items.
+/// A [`Queue`] under a lock, with a condition variable where threads wait for items.
 #[derive(Drop)]
 pub struct Errands<T: Drop> {
-    row: Mutex<Row<T>>,
+    queue: Mutex<Queue<T>>,
     has_moved: Condvar,
 }
 
@@ -81,29 +81,29 @@ impl<T: Drop> Errands<T> {
     /// No errands yet. It takes no memory.
     pub fn new(alloc: Global) -> Errands<T> {
         Errands {
-            row: Mutex::new(Row::new(alloc)),
+            queue: Mutex::new(Queue::new(alloc)),
             has_moved: Condvar::new(),
         }
     }
 
-    /// [`Row::put`] under the lock. Wakes one thread that waits.
+    /// [`Queue::put`] under the lock. Wakes one thread that waits.
     pub fn put<R: Wait>(&self, rt: &R, item: T) -> Result<(), AllocError> {
-        self.row.lock(rt).put(item)?;
+        self.queue.lock(rt).put(item)?;
         self.has_moved.notify_one();
         Ok(())
     }
 
-    /// Waits until there is an item or the row is ended, and then does [`Row::take`] under the
+    /// Waits until there is an item or the queue is ended, and then does [`Queue::take`] under the
     /// lock.
     pub fn take<R: Wait>(&self, rt: &R) -> Option<T> {
         self.has_moved
-            .wait_while(rt, self.row.lock(rt), |row| row.waits())
+            .wait_while(rt, self.queue.lock(rt), |queue| queue.waits())
             .take()
     }
 
-    /// [`Row::end`] under the lock. Wakes all threads that wait.
+    /// [`Queue::end`] under the lock. Wakes all threads that wait.
     pub fn end<R: Wait>(&self, rt: &R) {
-        self.row.lock(rt).end();
+        self.queue.lock(rt).end();
         self.has_moved.notify_all();
     }
 }

@@ -4,7 +4,7 @@ ghost use Rattle.cluster_waiting.specs.Names.{table_fault_name};
 
 use thiserror::Error;
 
-/// Why a client or an answer is not kept in [`Waiters`](crate::Waiters).
+/// Why a client or an answer is not kept in [`WaitingClients`](crate::WaitingClients).
 #[derive(Clone, Copy, Debug, PartialEq, Eq, Error)]
 pub enum TableFault {
     /// Another client, or another answer, is kept under this block.
@@ -33,7 +33,7 @@ impl TableFault {
 
 /// A client or an answer that is handed back, with the reason.
 #[derive(Debug, Drop)]
-pub struct Refused<T> {
+pub struct HandedBack<T> {
     /// The client or the answer.
     pub back: T,
     /// Why it is not kept.

@@ -27,7 +27,7 @@ no_memory_told (here.Replied node (Ok reply)) had is = cc
 no_memory_told (here.Replied node (Err f)) had is = had.0 (cc)
 no_memory_told (here.Issued number) had is = cc
 no_memory_told (here.NotIssued f) had is = cc
-no_memory_told (here.Told number status) had is = cc
+no_memory_told (here.Reported number status) had is = cc
 no_memory_told here.Nothing had is = cc
 
 -- if the step met no failing store, its outcome tells of no store fault
@@ -36,7 +36,7 @@ no_store_told (here.Replied node (Ok reply)) had is = cc
 no_store_told (here.Replied node (Err f)) had is = had.1 (cc)
 no_store_told (here.Issued number) had is = cc
 no_store_told (here.NotIssued f) had is = cc
-no_store_told (here.Told number status) had is = cc
+no_store_told (here.Reported number status) had is = cc
 no_store_told here.Nothing had is = cc
 
 tells_no_lack : (seen : SeenHere) (outcome : Outcome) → LackedNothing seen → outcome.fault ≡ fault_of (seen_of seen) → TellsNoLack outcome

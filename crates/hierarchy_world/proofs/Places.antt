@@ -4,9 +4,9 @@ use Rattle.std.proofs.Common.{◌≡◌, ℕ, suc, Bool, true, false, cond, List
 use Rattle.std.proofs.lemmas.Option.{none-some}
 use Rattle.node_rules.specs.declared.state.NodeState.{NodeState}
 use Rattle.node_rules.proofs.Cases.{same_Some}
-use Rattle.world_rules.specs.World.{Seat, node_at, with_node}
-use Rattle.world_rules.proofs.Seats.{ids_same}
-use Rattle.hierarchy_world.specs.Parts.{MemberNode, seat_of, seats_of, place_of, IsPlace}
+use Rattle.world_rules.specs.World.{MemberState, node_at, with_node}
+use Rattle.world_rules.proofs.MemberStates.{ids_same}
+use Rattle.hierarchy_world.specs.Parts.{MemberNode, member_state, member_states, place_of, IsPlace}
 
 -- the node at the index has the id
 id_by : (b : Bool) (m n : MemberNode) (nodes : List MemberNode) (id : ℕ) (k : Option ℕ) (place : ℕ) → (b ≡ true → m.id ≡ id) → cond b (Some 0) (option_map suc k) ≡ Some place → slice_get (m ∷ nodes) place ≡ Some n →
@@ -26,17 +26,17 @@ state_by true m n nodes rest k place is e later = ap (λ (x : MemberNode). x.sta
 state_by false m n nodes rest None place is e later = absurd (none-some place is)
 state_by false m n nodes rest (Some p) place is e later = later p refl (subst (λ q. slice_get (m ∷ nodes) q ≡ Some n) (sym (same_Some (suc p) place is)) e)
 
-pub place_state : (nodes : List MemberNode) (id place : ℕ) (n : MemberNode) → IsPlace nodes id place → slice_get nodes place ≡ Some n → node_at (seats_of nodes) id ≡ n.state
+pub place_state : (nodes : List MemberNode) (id place : ℕ) (n : MemberNode) → IsPlace nodes id place → slice_get nodes place ≡ Some n → node_at (member_states nodes) id ≡ n.state
 place_state [] id place n is e = absurd (none-some place is)
-place_state (m ∷ nodes) id place n is e = state_by (nat_eq m.id id) m n nodes (node_at (seats_of nodes) id) (place_of id (map (λ n. n.id) nodes)) place is e (λ p q r. place_state nodes id p n q r)
+place_state (m ∷ nodes) id place n is e = state_by (nat_eq m.id id) m n nodes (node_at (member_states nodes) id) (place_of id (map (λ n. n.id) nodes)) place is e (λ p q r. place_state nodes id p n q r)
 
 -- replacing it is what the model's with_node does
-put_by : (b : Bool) (m n : MemberNode) (nodes : List MemberNode) (rest : List Seat) (k : Option ℕ) (place : ℕ) → cond b (Some 0) (option_map suc k) ≡ Some place →
-    ((p : ℕ) → k ≡ Some p → rest ≡ seats_of (set nodes p n)) → cond b (seat_of n ∷ seats_of nodes) (seat_of m ∷ rest) ≡ seats_of (set (m ∷ nodes) place n)
-put_by true m n nodes rest k place is later = ap (λ p. seats_of (set (m ∷ nodes) p n)) (same_Some 0 place is)
+put_by : (b : Bool) (m n : MemberNode) (nodes : List MemberNode) (rest : List MemberState) (k : Option ℕ) (place : ℕ) → cond b (Some 0) (option_map suc k) ≡ Some place →
+    ((p : ℕ) → k ≡ Some p → rest ≡ member_states (set nodes p n)) → cond b (member_state n ∷ member_states nodes) (member_state m ∷ rest) ≡ member_states (set (m ∷ nodes) place n)
+put_by true m n nodes rest k place is later = ap (λ p. member_states (set (m ∷ nodes) p n)) (same_Some 0 place is)
 put_by false m n nodes rest None place is later = absurd (none-some place is)
-put_by false m n nodes rest (Some p) place is later = ap (λ l. seat_of m ∷ l) (later p refl) ∙ ap (λ q. seats_of (set (m ∷ nodes) q n)) (same_Some (suc p) place is)
+put_by false m n nodes rest (Some p) place is later = ap (λ l. member_state m ∷ l) (later p refl) ∙ ap (λ q. member_states (set (m ∷ nodes) q n)) (same_Some (suc p) place is)
 
-pub place_put : (nodes : List MemberNode) (place : ℕ) (n : MemberNode) → IsPlace nodes n.id place → with_node (seats_of nodes) n.id n.state ≡ seats_of (set nodes place n)
+pub place_put : (nodes : List MemberNode) (place : ℕ) (n : MemberNode) → IsPlace nodes n.id place → with_node (member_states nodes) n.id n.state ≡ member_states (set nodes place n)
 place_put [] place n is = absurd (none-some place is)
-place_put (m ∷ nodes) place n is = put_by (nat_eq m.id n.id) m n nodes (with_node (seats_of nodes) n.id n.state) (place_of n.id (map (λ n. n.id) nodes)) place is (λ p q. place_put nodes p n q)
+place_put (m ∷ nodes) place n is = put_by (nat_eq m.id n.id) m n nodes (with_node (member_states nodes) n.id n.state) (place_of n.id (map (λ n. n.id) nodes)) place is (λ p q. place_put nodes p n q)

@@ -30,7 +30,7 @@ use Rattle.hierarchy_world.specs.declared.telling.Seen.{Seen as SeenHere}
 use Rattle.hierarchy_world.specs.declared.telling.Seen.TheVariants as here
 use Rattle.hierarchy_world.specs.Parts.{MemberNode, IsSound, IsPlace, IsTaken, world_of}
 use Rattle.hierarchy_world.specs.Posted.{heard_by}
-use Rattle.hierarchy_world.proofs.Seating.{was_state}
+use Rattle.hierarchy_world.proofs.Changing.{was_state}
 
 -- a turn at an id that is a member's
 pub member_taken : (old new : Parts) (id : ℕ) (t : Turn) (result : Result SeenHere WorldFault) → is_member old.roster id ≡ true → IsTaken old t result new → IsTaken old (at_member old.roster id t) result new

@@ -11,10 +11,10 @@ use Rattle.node_rules.specs.State.{opened}
 use Rattle.purge_rules.specs.Members.{members_of}
 use Rattle.purge_rules.specs.Purges.{no_purges}
 use Rattle.purge_rules.specs.Calls.{MasterState, opened as opened_master}
-use Rattle.world_rules.specs.World.{Seat, new_node, new_world}
+use Rattle.world_rules.specs.World.{MemberState, new_node, new_world}
 use Rattle.hierarchy_world.specs.declared.parts.Parts.{Parts}
-use Rattle.hierarchy_world.specs.Parts.{MemberNode, seats_of, IsSeated, IsSound, world_of}
-use Rattle.hierarchy_world.proofs.Seating.{same_world}
+use Rattle.hierarchy_world.specs.Parts.{MemberNode, member_states, IsMemberNode, IsSound, world_of}
+use Rattle.hierarchy_world.proofs.Changing.{same_world}
 
 abbrev node_by : Tables → ℕ → NodeState ℕ → FloorMap → MemberNode
 node_by t id state store = record { roster = t; id = id; state = state; store = store }
@@ -33,21 +33,21 @@ node_is n t id roster same_id state store =
 abbrev pub nodes_of : Tables → List Member → List MemberNode
 nodes_of t members = map (λ m. node_of t m.cache.id) members
 
-all_seated : (t : Tables) (members : List Member) → AllByRecursion (IsSeated t) (nodes_of t members)
-all_seated t [] = tt
-all_seated t (m ∷ members) = (record { roster = refl; stored = refl }, all_seated t members)
+all_member_nodes : (t : Tables) (members : List Member) → AllByRecursion (IsMemberNode t) (nodes_of t members)
+all_member_nodes t [] = tt
+all_member_nodes t (m ∷ members) = (record { roster = refl; stored = refl }, all_member_nodes t members)
 
 all_ids : (t : Tables) (members : List Member) → map (λ (n : MemberNode). n.id) (nodes_of t members) ≡ map (λ (m : Member). m.cache.id) members
 all_ids t [] = refl
 all_ids t (m ∷ members) = ap (λ (l : List ℕ). m.cache.id ∷ l) (all_ids t members)
 
-all_seats : (t : Tables) (members : List Member) → seats_of (nodes_of t members) ≡ map (λ (m : Member). record { id = m.cache.id; node = new_node }) members
-all_seats t [] = refl
-all_seats t (m ∷ members) = ap (λ (l : List Seat). record { id = m.cache.id; node = new_node } ∷ l) (all_seats t members)
+all_member_states : (t : Tables) (members : List Member) → member_states (nodes_of t members) ≡ map (λ (m : Member). record { id = m.cache.id; node = new_node }) members
+all_member_states t [] = refl
+all_member_states t (m ∷ members) = ap (λ (l : List MemberState). record { id = m.cache.id; node = new_node } ∷ l) (all_member_states t members)
 
 pub new_sound : (p : Parts) (t : Tables) → p.roster ≡ t → p.nodes.items ≡ nodes_of t t.members → p.master.members ≡ members_of t → p.master.state ≡ opened_master no_purges → IsSound p
 new_sound p t roster nodes members state = record {
-  nodes = subst (λ (l : List MemberNode). AllByRecursion (IsSeated p.roster) l) (sym nodes) (subst (λ (r : Tables). AllByRecursion (IsSeated r) (nodes_of t t.members)) (sym roster) (all_seated t t.members));
+  nodes = subst (λ (l : List MemberNode). AllByRecursion (IsMemberNode p.roster) l) (sym nodes) (subst (λ (r : Tables). AllByRecursion (IsMemberNode r) (nodes_of t t.members)) (sym roster) (all_member_nodes t t.members));
   ids = ap (λ (l : List MemberNode). map (λ (n : MemberNode). n.id) l) nodes ∙ all_ids t t.members ∙ ap (λ (r : Tables). map (λ (m : Member). m.cache.id) r.members) (sym roster);
   master = record {
     members = members ∙ ap (λ (r : Tables). members_of r) (sym roster);
@@ -58,4 +58,4 @@ new_sound p t roster nodes members state = record {
 pub new_is : (p : Parts) (t : Tables) → p.nodes.items ≡ nodes_of t t.members → p.master.state ≡ opened_master no_purges → p.clock ≡ 0 → p.datagrams.items ≡ [] → p.asks.items ≡ [] → p.answers.items ≡ [] → p.waiting.items ≡ [] →
     world_of p ≡ new_world t
 new_is p t nodes state clock datagrams asks answers waiting =
-    same_world (world_of p) (new_world t) (ap seats_of nodes ∙ all_seats t t.members) (ap (λ (s : MasterState). s.purges) state) clock datagrams asks answers waiting
+    same_world (world_of p) (new_world t) (ap member_states nodes ∙ all_member_states t t.members) (ap (λ (s : MasterState). s.purges) state) clock datagrams asks answers waiting

@@ -16,7 +16,7 @@ use Rattle.node_core.specs.Closing.{KeepsStore, FailsWithCause}
 use Rattle.node_core.specs.View.{IsSameMember, IsTied, setting_of}
 use Rattle.values_keys.specs.KeyOf.{GivesKeys, key_of}
 use Rattle.values_keys.proofs.Outcomes.{gives_keys}
-use Rattle.hierarchy_world.specs.declared.seats.Stepped.{Stepped as SteppedHere}
+use Rattle.hierarchy_world.specs.declared.members.Stepped.{Stepped as SteppedHere}
 use Rattle.hierarchy_world.specs.Parts.{MemberNode, IsStored, IsStep}
 
 closed_step : {X : Type 0} (g : Setting) (s : NodeState X) (e : Event X) (mark : X) → s.closed ≡ true → step g s e mark ≡ refuses s fault.Closed

@@ -12,26 +12,26 @@ use Rattle.world_rules.specs.World.{Datagram, PeerAsk, PeerAnswer, Waiting, Answ
 use Rattle.world_rules.specs.Turn.{NodeSteps}
 use Rattle.world_rules.proofs.Items.{append_nil}
 use Rattle.hierarchy_world.specs.declared.parts.Parts.{Parts}
-use Rattle.hierarchy_world.specs.declared.seats.Stepped.{Stepped}
+use Rattle.hierarchy_world.specs.declared.members.Stepped.{Stepped}
 use Rattle.hierarchy_world.specs.declared.telling.Seen.TheVariants as here
-use Rattle.hierarchy_world.specs.Parts.{MemberNode, seats_of, world_of, IsSeated, IsSound, IsPlace, IsStep, HasStepped, with_state, Adds, IsSeatChanged, HasTaken}
+use Rattle.hierarchy_world.specs.Parts.{MemberNode, member_states, world_of, IsMemberNode, IsSound, IsPlace, IsStep, HasStepped, with_state, Adds, IsMemberChanged, HasTaken}
 use Rattle.hierarchy_world.specs.Posted.{answered, answers_by, waits_by, serial_of}
-use Rattle.hierarchy_world.proofs.Seating.{same_world, was_id, was_seated, was_state, still_sound, seats_are}
+use Rattle.hierarchy_world.proofs.Changing.{same_world, was_id, was_member_node, was_state, still_sound, states_are}
 use Rattle.hierarchy_world.proofs.Serving.{waits_here}
 
 -- A node's step at its index
 module _ (old new : Parts) (before n : MemberNode) (id place : ℕ) (e : Event ℕ) (s : Stepped) (sound : IsSound old) (is_place : IsPlace old.nodes.items id place)
-    (at : slice_get old.nodes.items place ≡ Some before) (changed : IsSeatChanged old new (set old.nodes.items place n) old.waiting.items) (is : IsStep before old.place e s n) where
-  is_state : node_at (seats_of old.nodes.items) id ≡ before.state
+    (at : slice_get old.nodes.items place ≡ Some before) (changed : IsMemberChanged old new (set old.nodes.items place n) old.waiting.items) (is : IsStep before old.place e s n) where
+  is_state : node_at (member_states old.nodes.items) id ≡ before.state
   is_state = was_state old before id place sound is_place at
 
-  steps_here : Steps (setting old.roster id) (node_at (seats_of old.nodes.items) id) e old.place s.outcome n.state
+  steps_here : Steps (setting old.roster id) (node_at (member_states old.nodes.items) id) e old.place s.outcome n.state
   steps_here =
       subst (λ x. Steps (setting old.roster id) x e old.place s.outcome n.state) (sym is_state)
       (subst (λ i. Steps (setting old.roster i) before.state e old.place s.outcome n.state)
       (was_id old before id place sound is_place at)
       (subst (λ r. Steps (setting r before.id) before.state e old.place s.outcome n.state)
-      (was_seated old before id place sound is_place at).roster is.steps))
+      (was_member_node old before id place sound is_place at).roster is.steps))
 
   pub has_stepped : HasStepped old id e s new
   has_stepped = record {
@@ -45,7 +45,7 @@ module _ (old new : Parts) (before n : MemberNode) (id place : ℕ) (e : Event �
     next_before = is.next_before ∙ ap (λ x. x.next) (sym is_state);
     next_after = is.next_after;
     world = same_world (world_of new) (with_state (world_of old) id n.state)
-        (seats_are old new before n id place sound is_place at changed.roster changed.master changed.nodes is.id is.roster is.stored)
+        (states_are old new before n id place sound is_place at changed.roster changed.master changed.nodes is.id is.roster is.stored)
         (ap (λ m. m.state.purges) changed.master) changed.clock changed.datagrams changed.asks changed.answers changed.waiting;
   }
 
@@ -53,7 +53,7 @@ module _ (old new : Parts) (before n : MemberNode) (id place : ℕ) (e : Event �
 pub adds_sound : (a b : Parts) (datagrams : List Datagram) (asks : List PeerAsk) (answers : List PeerAnswer) (waiting : List Waiting) →
     Adds a b datagrams asks answers waiting → IsSound a → IsSound b
 adds_sound a b datagrams asks answers waiting adds sound = record {
-  nodes = subst (λ l. AllByRecursion (IsSeated b.roster) l) (sym adds.nodes) (subst (λ r. AllByRecursion (IsSeated r) a.nodes.items) (sym adds.roster) sound.nodes);
+  nodes = subst (λ l. AllByRecursion (IsMemberNode b.roster) l) (sym adds.nodes) (subst (λ r. AllByRecursion (IsMemberNode r) a.nodes.items) (sym adds.roster) sound.nodes);
   ids = ap (map (λ n. n.id)) adds.nodes ∙ sound.ids ∙ ap (λ r. map (λ m. m.cache.id) r.members) (sym adds.roster);
   master = record {
     members = ap (λ m. m.members) adds.master ∙ sound.master.members ∙ ap members_of (sym adds.roster);
@@ -95,14 +95,14 @@ module _ (old mid sent new : Parts) (id : ℕ) (e : Event ℕ) (asked : Option A
       ∙ ap (λ l. old.answers.items ++ answers_by l id asked (reply_in s.outcome).serve) waiting_was
       ∙ ap (λ l. old.answers.items ++ l) (answers_here old.waiting.items id e (serial_of asked) asked (reply_in s.outcome).serve is)
 
-  waits_are : waits_by id asked s.before s.after ≡ waits_now id e (serial_of asked) (node_at (seats_of old.nodes.items) id) h.next
+  waits_are : waits_by id asked s.before s.after ≡ waits_now id e (serial_of asked) (node_at (member_states old.nodes.items) id) h.next
   waits_are =
       ap (λ a. waits_by id a s.before s.after) is
       ∙ ap (λ b. waits_by id (asked_now e (serial_of asked)) b s.after) h.next_before
-      ∙ ap (λ b. waits_by id (asked_now e (serial_of asked)) (node_at (seats_of old.nodes.items) id).next b) h.next_after
-      ∙ sym (waits_here e id (serial_of asked) (node_at (seats_of old.nodes.items) id) h.next)
+      ∙ ap (λ b. waits_by id (asked_now e (serial_of asked)) (node_at (member_states old.nodes.items) id).next b) h.next_after
+      ∙ sym (waits_here e id (serial_of asked) (node_at (member_states old.nodes.items) id) h.next)
 
-  waiting_is : new.waiting.items ≡ old.waiting.items ++ waits_now id e (serial_of asked) (node_at (seats_of old.nodes.items) id) h.next
+  waiting_is : new.waiting.items ≡ old.waiting.items ++ waits_now id e (serial_of asked) (node_at (member_states old.nodes.items) id) h.next
   waiting_is =
       last.waiting ∙ ap (λ l. l ++ waits_by id asked s.before s.after) (first.waiting ∙ append_nil mid.waiting.items ∙ waiting_was)
       ∙ ap (λ l. old.waiting.items ++ l) waits_are
@@ -119,7 +119,7 @@ module _ (old mid sent new : Parts) (id : ℕ) (e : Event ℕ) (asked : Option A
       h.steps,
       refl,
       same_world (world_of new) (after_node old.roster (world_of old) id e (serial_of asked) s.outcome h.next)
-          (ap seats_of (last.nodes ∙ first.nodes) ∙ ap (λ w. w.seats) h.world)
+          (ap member_states (last.nodes ∙ first.nodes) ∙ ap (λ w. w.states) h.world)
           (ap (λ m. m.state.purges) (last.master ∙ first.master) ∙ ap (λ w. w.master) h.world)
           (last.clock ∙ first.clock ∙ ap (λ w. w.clock) h.world)
           datagrams_are asks_are answers_are waiting_is,

@@ -7,7 +7,7 @@ use Rattle.http_messages.specs.Answer.{AnswerText, is_writable, is_body_of}
 use Rattle.node_rules.specs.Arrivals.{is_gateway_fault}
 use Rattle.node_rules.proofs.Cases.{true_not_false, same_Some}
 use Rattle.world_rules.specs.World.{answer_of_status}
-use Rattle.world_rules.proofs.Seats.{ids_same}
+use Rattle.world_rules.proofs.MemberStates.{ids_same}
 
 -- one passed test of several may be replaced by another that is passed
 exchanged : (p x y e : Bool) → (p && x && e) ≡ true → y ≡ true → (p && y && e) ≡ true

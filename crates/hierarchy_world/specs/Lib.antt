@@ -2,5 +2,5 @@
 pub mod View
 pub mod Parts
 pub mod Posted
-pub mod Told
+pub mod Outcomes
 pub mod Runs

@@ -17,11 +17,11 @@ use Rattle.world_rules.specs.declared.outcome.Outcome.{Outcome}
 use Rattle.world_rules.specs.declared.outcome.WorldFault.{WorldFault}
 use Rattle.world_rules.specs.declared.outcome.WorldFault.TheVariants as fault
 use Rattle.node_rules.specs.State.{setting}
-use Rattle.world_rules.specs.World.{Seat, Datagram, PeerAsk, PeerAnswer, Waiting, World, node_at, with_node}
-use Rattle.world_rules.specs.Turn.{Seen, Replied, Issued, NotIssued, Told, Nothing, Turn, Refused, turn}
+use Rattle.world_rules.specs.World.{MemberState, Datagram, PeerAsk, PeerAnswer, Waiting, World, node_at, with_node}
+use Rattle.world_rules.specs.Turn.{Seen, Replied, Issued, NotIssued, Reported, Nothing, Turn, Refused, turn}
 use Rattle.world_rules.specs.Run.{Takes, IsOfKey}
 use Rattle.hierarchy_world.specs.declared.parts.Parts.{Parts}
-use Rattle.hierarchy_world.specs.declared.seats.Stepped.{Stepped}
+use Rattle.hierarchy_world.specs.declared.members.Stepped.{Stepped}
 use Rattle.hierarchy_world.specs.declared.telling.Seen.{Seen as SeenHere}
 use Rattle.hierarchy_world.specs.declared.telling.Seen.TheVariants as here
 use Rattle.hierarchy_world.specs.View.{WorldView, TellsNoLack, HasHappened}
@@ -31,17 +31,17 @@ abbrev pub MemberNode : Type 0
 MemberNode = NodeText ℕ FloorMap
 
 -- the node as the model has it: its id and its state
-abbrev pub seat_of : MemberNode → Seat
-seat_of n = record { id = n.id; node = n.state }
+abbrev pub member_state : MemberNode → MemberState
+member_state n = record { id = n.id; node = n.state }
 
 -- the nodes as the model has them
-abbrev pub seats_of : List MemberNode → List Seat
-seats_of nodes = map seat_of nodes
+abbrev pub member_states : List MemberNode → List MemberState
+member_states nodes = map member_state nodes
 
 -- the world that they are
 abbrev pub world_of : Parts → World
 world_of p = record {
-  seats = seats_of p.nodes.items;
+  states = member_states p.nodes.items;
   master = p.master.state.purges;
   clock = p.clock;
   datagrams = p.datagrams.items;
@@ -59,7 +59,7 @@ abbrev pub IsStored : MemberNode → Type 0
 IsStored n = n.store ≡ n.state.floors
 
 -- the node has this roster, and its store has its floors
-pub record IsSeated (tables : Tables) (n : MemberNode) : Type 0 where
+pub record IsMemberNode (tables : Tables) (n : MemberNode) : Type 0 where
   pub roster : n.roster ≡ tables
   pub stored : IsStored n
 
@@ -70,7 +70,7 @@ pub record IsInOffice (roster : Tables) (m : MasterView PurgeList) : Type 0 wher
 
 -- the invariant: each member has its node, in the roster's order, and the master is open
 pub record IsSound (p : Parts) : Type 0 where
-  pub nodes : AllByRecursion (IsSeated p.roster) p.nodes.items
+  pub nodes : AllByRecursion (IsMemberNode p.roster) p.nodes.items
   pub ids : map (λ n. n.id) p.nodes.items ≡ map (λ m. m.cache.id) p.roster.members
   pub master : IsInOffice p.roster p.master
 
@@ -88,7 +88,7 @@ abbrev pub seen_of : SeenHere → Seen
 seen_of (here.Replied node outcome) = Replied node outcome
 seen_of (here.Issued number) = Issued number
 seen_of (here.NotIssued f) = NotIssued f
-seen_of (here.Told number status) = Told number status
+seen_of (here.Reported number status) = Reported number status
 seen_of here.Nothing = Nothing
 
 -- A node has taken this step under this mark. The step lacked no memory, and its store did not
@@ -105,7 +105,7 @@ pub record IsStep (before : MemberNode) (mark : ℕ) (e : Event ℕ) (s : Steppe
 
 -- the world in which the member's node has this state, and all else is the same
 abbrev pub with_state : World → ℕ → NodeState ℕ → World
-with_state w id next = record { seats = with_node w.seats id next; master = w.master; clock = w.clock; datagrams = w.datagrams; asks = w.asks; answers = w.answers; waiting = w.waiting }
+with_state w id next = record { states = with_node w.states id next; master = w.master; clock = w.clock; datagrams = w.datagrams; asks = w.asks; answers = w.answers; waiting = w.waiting }
 
 -- the member's node has taken this step at the run's place, and nothing is sent yet
 pub record HasStepped (old : Parts) (id : ℕ) (e : Event ℕ) (s : Stepped) (new : Parts) : Type 0 where
@@ -113,10 +113,10 @@ pub record HasStepped (old : Parts) (id : ℕ) (e : Event ℕ) (s : Stepped) (ne
   pub roster : new.roster ≡ old.roster
   pub place : new.place ≡ old.place
   pub next : NodeState ℕ
-  pub steps : Steps (setting old.roster id) (node_at (world_of old).seats id) e old.place s.outcome next
+  pub steps : Steps (setting old.roster id) (node_at (world_of old).states id) e old.place s.outcome next
   pub memory : s.outcome ≢ Err step_fault.NoMemory
   pub store : s.outcome ≢ Err step_fault.StoreFault
-  pub next_before : s.before ≡ (node_at (world_of old).seats id).next
+  pub next_before : s.before ≡ (node_at (world_of old).states id).next
   pub next_after : s.after ≡ next.next
   pub world : world_of new ≡ with_state (world_of old) id next
 
@@ -152,7 +152,7 @@ pub record Adds (old new : Parts) (more_datagrams : List Datagram) (more_asks : 
   pub waiting : new.waiting.items ≡ old.waiting.items ++ more_waiting
 
 -- only the nodes and what waits have changed, to these
-pub record IsSeatChanged (old new : Parts) (nodes_now : List MemberNode) (waiting_now : List Waiting) : Type 0 where
+pub record IsMemberChanged (old new : Parts) (nodes_now : List MemberNode) (waiting_now : List Waiting) : Type 0 where
   pub roster : new.roster ≡ old.roster
   pub nodes : new.nodes.items ≡ nodes_now
   pub master : new.master ≡ old.master

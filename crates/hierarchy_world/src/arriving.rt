@@ -8,7 +8,7 @@ ghost use Rattle.world_rules.specs.World.{item as item_of, node_at};
 ghost use Rattle.world_rules.specs.Turn as turns;
 ghost use Rattle.hierarchy_world.specs.Parts.{IsSound, IsTaken, world_of};
 
-use crate::network::Asked;
+use crate::network::Arrived;
 use crate::parts::{Parts, item};
 use crate::posting::copy_of_message;
 use crate::telling::Seen;
@@ -97,7 +97,7 @@ impl Parts {
         let Some(place) = self.place_of(id) else {
             return Err(WorldFault::NoSuchPacket);
         };
-        let asked = Asked {
+        let asked = Arrived {
             serial: sent.serial,
             key: sent.ask.key.copy(self.alloc)?,
         };
@@ -222,7 +222,7 @@ impl Parts {
     /// A member's floor store fails, and the member closes.
     pub(crate) fn fault(&mut self, id: u8) -> Result<Seen, WorldFault>
         requires { IsSound self.old }
-        ensures { IsTaken self.old (turns.at_member self.old.roster id (turns.Ends turns.Nothing (turns.with_seat (world_of self.old) id (closed_node (node_at (world_of self.old).seats id))))) result self.new }
+        ensures { IsTaken self.old (turns.at_member self.old.roster id (turns.Ends turns.Nothing (turns.with_member_state (world_of self.old) id (closed_node (node_at (world_of self.old).states id))))) result self.new }
     {
         let Some(place) = self.place_of(id) else {
             return Err(WorldFault::NoSuchPacket);
@@ -234,7 +234,7 @@ impl Parts {
     /// A member restarts, with its floors and nothing else.
     pub(crate) fn restart(&mut self, id: u8) -> Result<Seen, WorldFault>
         requires { IsSound self.old }
-        ensures { IsTaken self.old (turns.at_member self.old.roster id (turns.Ends turns.Nothing (turns.with_seat (world_of self.old) id (opened (node_at (world_of self.old).seats id).floors)))) result self.new }
+        ensures { IsTaken self.old (turns.at_member self.old.roster id (turns.Ends turns.Nothing (turns.with_member_state (world_of self.old) id (opened (node_at (world_of self.old).states id).floors)))) result self.new }
     {
         let Some(place) = self.place_of(id) else {
             return Err(WorldFault::NoSuchPacket);

@@ -24,22 +24,22 @@
 //!   what holds of them and what a turn does.
 //! - `src/turning.rt`: one event, and which function below takes it.
 //! - `src/arriving.rt`: what arrives at a member or at the master; faults and restarts.
-//! - `src/seats.rt`: a member's node steps, closes or restarts.
+//! - `src/members.rt`: a member's node steps, closes or restarts.
 //! - `src/posting.rt` and `specs/Posted`: what a step sends.
 //! - `src/purging.rt`: the master's calls, and their CLRs.
-//! - `src/telling.rt` and `specs/Told`: the outcome of an event.
+//! - `src/telling.rt` and `specs/Outcomes`: the outcome of an event.
 //! - `src/network.rt`: the items of the network.
 //!
 //! `proofs/Lib` gives the order of reading of the proofs.
 #![tactic(auto)]
 
 mod arriving;
+mod members;
 mod network;
 mod parts;
 mod playing;
 mod posting;
 mod purging;
-mod seats;
 mod telling;
 mod turning;
 

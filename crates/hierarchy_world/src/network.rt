@@ -95,16 +95,16 @@ impl Model for Waiting {
     ghost view = { λ w. record { node = w.node; block = w.block; serial = w.serial; key = w.key } };
 }
 
-/// Which request is answered: its serial at its sender, and its key.
+/// A request that arrived and is answered: its serial at its sender, and its key.
 #[derive(Drop)]
-pub(crate) struct Asked {
+pub(crate) struct Arrived {
     /// The serial.
     pub serial: u32,
     /// The key.
     pub key: Key,
 }
 
-impl Model for Asked {
+impl Model for Arrived {
     ghost use Rattle.world_rules.specs.World.{Answered};
 
     ghost Value = { Answered };

@@ -9,9 +9,9 @@ ghost use Rattle.world_rules.specs.Turn.{NodeSteps};
 ghost use Rattle.hierarchy_world.specs.Parts.{IsSound, IsPlace, IsTaken, Adds};
 ghost use Rattle.hierarchy_world.specs.Posted.{IsWritten, IsWrittenIn, IsWrittenBy, answered as answered_by, answers_by, waits_by, serial_of};
 
-use crate::network::{Asked, Datagram, PeerAnswer, PeerAsk, Waiting};
+use crate::members::Stepped;
+use crate::network::{Arrived, Datagram, PeerAnswer, PeerAsk, Waiting};
 use crate::parts::Parts;
-use crate::seats::Stepped;
 use crate::telling::Seen;
 use http_messages::{Answer, Body, Field, Fields};
 use node_rules::{Begin, Event, Message, Outgoing, Reply, Sent, Serve, Served, StepFault};
@@ -124,14 +124,14 @@ fn asked_before(
     waiting: &[Waiting],
     id: u8,
     block: u32,
-) -> Result<Option<Asked>, AllocError>
+) -> Result<Option<Arrived>, AllocError>
     ensures { IfOk result (λ asked. asked ≡ world.asked_before waiting.now id block) }
 {
     match waiting
         .iter()
         .find(|waiting| waiting.node == id && waiting.block == block)
     {
-        Some(waiting) => Ok(Some(Asked {
+        Some(waiting) => Ok(Some(Arrived {
             serial: waiting.serial,
             key: waiting.key.copy(alloc)?,
         })),
@@ -139,12 +139,12 @@ fn asked_before(
     }
 }
 
-/// A copy of which request is answered.
-fn copy_of_asked(alloc: Global, asked: &Option<Asked>) -> Result<Option<Asked>, AllocError>
+/// A copy of the request that arrived.
+fn copy_of_arrived(alloc: Global, asked: &Option<Arrived>) -> Result<Option<Arrived>, AllocError>
     ensures { IfOk result (λ copy. copy ≡ asked.now) }
 {
     match asked {
-        Some(asked) => Ok(Some(Asked {
+        Some(asked) => Ok(Some(Arrived {
             serial: asked.serial,
             key: asked.key.copy(alloc)?,
         })),
@@ -157,7 +157,7 @@ fn answer_to(
     alloc: Global,
     id: u8,
     serve: &Serve<u64>,
-    asked: Option<Asked>,
+    asked: Option<Arrived>,
 ) -> Result<Option<PeerAnswer>, AllocError>
     requires { IsWritten serve.now.served }
     ensures { IfOk result (λ answer. world.answer_to id serve.now.asker serve.now.served asked ≡ cons_option answer []) }
@@ -201,14 +201,14 @@ impl Parts {
     fn answered(
         &self,
         id: u8,
-        asked: &Option<Asked>,
+        asked: &Option<Arrived>,
         waiter: Option<u32>,
-    ) -> Result<Option<Asked>, AllocError>
+    ) -> Result<Option<Arrived>, AllocError>
         ensures { IfOk result (λ found. found ≡ answered_by self.now.waiting.items id asked.now waiter) }
     {
         match waiter {
             Some(block) => asked_before(self.alloc, self.waiting.as_slice(), id, block),
-            None => copy_of_asked(self.alloc, asked),
+            None => copy_of_arrived(self.alloc, asked),
         }
     }
 
@@ -237,7 +237,7 @@ impl Parts {
     fn answer(
         &mut self,
         id: u8,
-        asked: &Option<Asked>,
+        asked: &Option<Arrived>,
         serve: &Option<Serve<u64>>,
     ) -> Result<(), AllocError>
         requires { IsWrittenIn serve.now }
@@ -254,7 +254,12 @@ impl Parts {
     }
 
     /// Sends all that a reply sends.
-    fn post(&mut self, id: u8, asked: &Option<Asked>, reply: &Reply<u64>) -> Result<(), AllocError>
+    fn post(
+        &mut self,
+        id: u8,
+        asked: &Option<Arrived>,
+        reply: &Reply<u64>,
+    ) -> Result<(), AllocError>
         requires { IsWrittenIn reply.now.serve }
         ensures { OnOk result (Adds self.old self.new (world.datagrams_from (member_by_id self.old.roster id) reply.now.send) (world.asks_in id reply.now.begin) (answers_by self.old.waiting.items id asked.now reply.now.serve) []) }
     {
@@ -267,7 +272,7 @@ impl Parts {
     fn post_outcome(
         &mut self,
         id: u8,
-        asked: &Option<Asked>,
+        asked: &Option<Arrived>,
         outcome: &Result<Reply<u64>, StepFault>,
     ) -> Result<(), AllocError>
         requires { IsWrittenBy outcome.now }
@@ -284,7 +289,7 @@ impl Parts {
     fn wait(
         &mut self,
         id: u8,
-        asked: Option<Asked>,
+        asked: Option<Arrived>,
         before: u32,
         after: u32,
     ) -> Result<(), AllocError>
@@ -311,7 +316,7 @@ impl Parts {
         place: usize,
         id: u8,
         event: Event<u64>,
-        asked: Option<Asked>,
+        asked: Option<Arrived>,
     ) -> Result<Seen, WorldFault>
         requires sound { IsSound self.old }
         requires place { IsPlace self.old.nodes.items id place }

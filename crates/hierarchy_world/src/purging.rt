@@ -165,9 +165,9 @@ impl Parts {
     /// The master reports the status of a purge.
     pub(crate) fn status(&self, number: u32) -> Seen
         requires { IsSound self.now }
-        ensures { IsTaken self.now (turns.told self.now.roster (world_of self.now) number) (Ok result) self.now }
+        ensures { IsTaken self.now (turns.reports self.now.roster (world_of self.now) number) (Ok result) self.now }
     {
-        Seen::Told(number, self.master.status(number))
+        Seen::Reported(number, self.master.status(number))
     }
 
     /// The master counts a member's response to the CLR with this number, with this response code,

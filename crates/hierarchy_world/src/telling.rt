@@ -3,7 +3,7 @@ ghost use Rattle.std.specs.Prelude.{◌≡◌, ◌-◌, IfOk};
 ghost use Rattle.world_rules.specs.Turn as turns;
 ghost use Rattle.world_rules.specs.Apply as applies;
 ghost use Rattle.hierarchy_world.specs.Parts.{seen_of};
-ghost use Rattle.hierarchy_world.specs.Told.{outcome_by};
+ghost use Rattle.hierarchy_world.specs.Outcomes.{outcome_by};
 
 use node_rules::{Begin, Reply, StepFault};
 use purge_rules::{MasterFault, Status};
@@ -24,7 +24,7 @@ pub(crate) enum Seen {
     /// The master refused to issue a purge.
     NotIssued(MasterFault),
     /// The master reported the status of the purge with this number.
-    Told(u32, Status),
+    Reported(u32, Status),
     /// Nothing visible.
     Nothing,
 }
@@ -118,7 +118,7 @@ pub(crate) fn tell(
         } => outcome.fault = Some(ActorFault::Step(fault)),
         Seen::Issued(number) => outcome.purge = Some(number),
         Seen::NotIssued(fault) => outcome.fault = Some(ActorFault::Master(fault)),
-        Seen::Told(number, status) => outcome.status = Some((number, status)),
+        Seen::Reported(number, status) => outcome.status = Some((number, status)),
         Seen::Nothing => {}
     }
     Ok(outcome)

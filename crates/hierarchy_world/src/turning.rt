@@ -2,7 +2,7 @@
 ghost use Rattle.std.specs.Prelude.{◌≡◌, ◌<◌, ◌-◌, ◌^◌};
 ghost use Rattle.world_rules.specs.Turn.{turn as turn_of};
 ghost use Rattle.hierarchy_world.specs.Parts.{IsSound, IsTaken, world_of, IsKeyed, IsMade};
-ghost use Rattle.hierarchy_world.specs.Told.{AreCounts};
+ghost use Rattle.hierarchy_world.specs.Outcomes.{AreCounts};
 
 use crate::parts::Parts;
 use crate::telling::{Counts, Seen, tell};

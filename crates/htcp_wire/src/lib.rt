@@ -45,7 +45,9 @@ mod writing;
 
 pub use fault::HtcpFault;
 pub use laws::{grammar_is_exact, lines_are_exact, written_is_spelled};
-pub use message::{Content, Detail, Htcp, LONGEST_WRITTEN, Specifier};
+pub use message::{
+    CLR, Content, Detail, Htcp, LONGEST_WRITTEN, NOT_ALLOWED, NOT_IMPLEMENTED, Specifier, TST,
+};
 pub use numbers::{HeaderKind, number_in};
 pub use reading::decode;
 pub use writing::{encode, fits};

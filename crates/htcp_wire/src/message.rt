@@ -7,14 +7,22 @@ use values_plain::Octets;
 /// The greatest length of a written message, in octets. One that is read may have 65,535.
 pub const LONGEST_WRITTEN: usize = 16_384;
 
-/// The opcode of NOP.
+/// The opcode of NOP (RFC 2756, "NOP").
 pub(crate) const NOP: u8 = 0;
 
-/// The opcode of TST.
-pub(crate) const TST: u8 = 1;
+/// The opcode of TST (RFC 2756, "TST").
+pub const TST: u8 = 1;
 
-/// The opcode of CLR.
-pub(crate) const CLR: u8 = 4;
+/// The opcode of CLR (RFC 2756, "CLR").
+pub const CLR: u8 = 4;
+
+/// The code of a response to the message as a whole whose opcode is not implemented (RFC 2756,
+/// "RESPONSE" where MO is 1).
+pub const NOT_IMPLEMENTED: u8 = 2;
+
+/// The code of a response to the message as a whole that is not allowed here (RFC 2756, "RESPONSE"
+/// where MO is 1).
+pub const NOT_ALLOWED: u8 = 5;
 
 /// Which entity a request is about (RFC 2756, "SPECIFIER").
 #[derive(Debug, PartialEq, Eq, Drop)]

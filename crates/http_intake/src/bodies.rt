@@ -7,12 +7,9 @@ ghost use Rattle.http_intake.specs.Reading.{IsReadFault};
 use crate::Intake;
 use crate::fill::fill;
 use crate::piece::read_piece;
-use http_messages::FetchFault;
+use http_messages::{FetchFault, LONGEST_BODY};
 use std::alloc::{AllocError, Global};
 use std::io::Read;
-
-/// The most octets that a body may have.
-pub(crate) const LONGEST_BODY: usize = 65536;
 
 impl Intake {
     /// Reads the body of `len` octets that begins at `start`, after a head that gave its length.

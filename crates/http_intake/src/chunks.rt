@@ -6,8 +6,7 @@ ghost use Rattle.http_messages.specs.Answer.{longest_body};
 ghost use Rattle.http_intake.specs.Chunks.{longest_line, HasLine, HasBadLine, IsOpenLine, IsStep, RefusesStep, HoldsChunks, StopsInChunks};
 
 use crate::Intake;
-use crate::bodies::LONGEST_BODY;
-use http_messages::FetchFault;
+use http_messages::{FetchFault, LONGEST_BODY};
 use httparse::{Status, parse_chunk_size};
 use std::alloc::Global;
 use std::io::Read;

@@ -8,14 +8,11 @@ ghost use Rattle.http_intake.specs.Trailer.{HoldsTrailer, IsOpenTrailer, Refuses
 
 use crate::Intake;
 use crate::head_watch::{HeadWatch, LONGEST_HEAD};
-use http_messages::FetchFault;
+use http_messages::{FetchFault, MOST_FIELDS};
 use httparse::spans::{EMPTY_HEADER_SPAN, parse_headers};
 use httparse::{Error, Status};
 use std::alloc::Global;
 use std::io::Read;
-
-/// The most fields that a trailer may have.
-const MOST_FIELDS: usize = 64;
 
 impl Intake {
     /// Reads the chunked body that begins at `start`. Gives its octets, and the place where its

@@ -8,7 +8,7 @@ use std::alloc::AllocError;
 use std::marker::Model;
 
 /// The most fields that a response keeps.
-const MOST_FIELDS: usize = 56;
+pub const MOST_KEPT_FIELDS: usize = 56;
 
 /// The most octets that the lines of a response's fields have together.
 const MOST_LINES: usize = 16_000;
@@ -17,7 +17,7 @@ const MOST_LINES: usize = 16_000;
 const GREATEST_AGE: u32 = 2_147_483_648;
 
 /// The most octets that a body has.
-const LONGEST_BODY: usize = 65_536;
+pub const LONGEST_BODY: usize = 65_536;
 
 /// A final response that can be written and read back as the same response.
 ///
@@ -223,7 +223,7 @@ fn is_dropped_name(name: &str) -> bool
 }
 
 /// Whether no space or tab stands at an end of the value.
-fn is_trimmed(value: &[u8]) -> bool
+pub fn is_trimmed(value: &[u8]) -> bool
     ensures { result ≡ has_no_blank_end value.now }
 {
     let first = value.first().copied().unwrap_or(0);
@@ -235,7 +235,7 @@ fn is_trimmed(value: &[u8]) -> bool
 fn are_few_fields(fields: &[Field]) -> bool
     ensures { result ≡ have_room (map field_text fields.now) }
 {
-    fields.len() <= MOST_FIELDS && have_short_lines(fields)
+    fields.len() <= MOST_KEPT_FIELDS && have_short_lines(fields)
 }
 
 /// Whether the lines of the fields have at most 16,000 octets together.

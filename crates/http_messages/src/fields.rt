@@ -6,6 +6,9 @@ use std::alloc::{AllocError, AllocFailed, Global};
 use std::marker::Model;
 use std::sync::Arc;
 
+/// The most fields that a head or a trailer has.
+pub const MOST_FIELDS: usize = 64;
+
 /// A header field of a response (RFC 9110, section 5).
 #[derive(Debug, Drop, PartialEq, Eq)]
 pub struct Field {

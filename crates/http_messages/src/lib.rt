@@ -8,6 +8,7 @@
 //! - [`Field`] and [`Fields`]: one header field, and the list of those that a response keeps.
 //! - [`Body`]: the octets of a response's content.
 //! - [`FetchFault`]: why a message was not read or written.
+//! - [`MOST_FIELDS`] of a head, [`MOST_KEPT_FIELDS`] of a response and [`LONGEST_BODY`]: limits.
 //!
 //! Copies of a response share its body and its fields, in stores, in replies and in recorded runs:
 //! a copy raises two counts of owners and copies no octet. Contracts promise only that a copy is
@@ -31,8 +32,8 @@ mod body;
 mod fault;
 mod fields;
 
-pub use answer::Answer;
+pub use answer::{Answer, LONGEST_BODY, MOST_KEPT_FIELDS, is_trimmed};
 pub use ask::Ask;
 pub use body::Body;
 pub use fault::FetchFault;
-pub use fields::{Field, Fields};
+pub use fields::{Field, Fields, MOST_FIELDS};

@@ -7,11 +7,10 @@ ghost use Rattle.http_reading.specs.AnswerHead as head_rules;
 ghost use Rattle.http_reading.specs.AnswerHead.{told_text, is_fit};
 ghost use Rattle.http_reading.specs.Answers.{PassesInterim, ReadsAnswer, ReadsOn, ReadsRest, answer_of as answer_text_of};
 
-use crate::ask::MOST_FIELDS;
 use crate::body::read_body;
 use crate::told::{Told, is_interim, tell};
 use http_intake::Intake;
-use http_messages::{Answer, Body, FetchFault, Fields};
+use http_messages::{Answer, Body, FetchFault, Fields, MOST_FIELDS};
 use httparse::spans::{EMPTY_HEADER_SPAN, HeaderSpan, ResponseSpans};
 use std::alloc::Global;
 use std::io::Read;

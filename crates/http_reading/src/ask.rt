@@ -8,14 +8,11 @@ ghost use Rattle.http_reading.specs.Asks.{ReadsAsk};
 
 use crate::{Host, ask_has_body, has_credentials, host_of, is_no_cache, is_only_if_cached, member};
 use http_intake::Intake;
-use http_messages::{Ask, FetchFault};
+use http_messages::{Ask, FetchFault, MOST_FIELDS};
 use httparse::spans::{EMPTY_HEADER_SPAN, HeaderSpan, RequestSpans};
 use std::alloc::{AllocError, Global};
 use std::io::Read;
 use url_key::{Key, KeyFault};
-
-/// The most fields that a head has.
-pub(crate) const MOST_FIELDS: usize = 64;
 
 /// Reads a request (RFC 9112, section 3): a head, and no body. Octets after the head may be taken
 /// from the reader too, and are lost; at most 20,480 octets are taken in all.

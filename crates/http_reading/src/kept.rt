@@ -14,12 +14,9 @@ ghost use Rattle.http_reading.specs.Kept as spec;
 use crate::fields::{all_named, octets_at};
 use http_header::{HeaderName, HeaderNameError, HeaderValue, HeaderValueError};
 use http_lists::trim;
-use http_messages::{FetchFault, Field};
+use http_messages::{FetchFault, Field, MOST_KEPT_FIELDS, is_trimmed};
 use httparse::spans::HeaderSpan;
 use std::alloc::{AllocError, Global};
-
-/// The most fields that are kept.
-const MOST_FIELDS: usize = 56;
 
 /// The most octets that the lines of the kept fields have together.
 const MOST_OCTETS: usize = 16_000;
@@ -76,7 +73,7 @@ fn are_few_kept(window: &[u8], headers: &[HeaderSpan]) -> bool
     ensures { result ≡ are_few_fields (spec.kept (fields_of window.now headers.now)) }
 {
     let mut room = Room {
-        fields: MOST_FIELDS,
+        fields: MOST_KEPT_FIELDS,
         octets: MOST_OCTETS,
     };
     for header in headers {
@@ -225,13 +222,4 @@ fn value_of(alloc: Global, octets: &[u8]) -> Result<HeaderValue, FetchFault>
         Err(HeaderValueError::Invalid) => Err(FetchFault::BadHead),
         Err(HeaderValueError::OutOfMemory) => Err(FetchFault::NoMemory),
     }
-}
-
-/// Whether no space or tab stands at an end.
-fn is_trimmed(octets: &[u8]) -> bool
-    ensures { result ≡ has_no_blank_end octets.now }
-{
-    let first = octets.first().copied().unwrap_or(0);
-    let last = octets.last().copied().unwrap_or(0);
-    !matches!(first, b' ' | b'\t') && !matches!(last, b' ' | b'\t')
 }

@@ -98,5 +98,5 @@ pub peer_can_go_on : {X : Type 0} (p : Pending X) (floor peer now : ℕ) (cached
 peer_can_go_on p floor peer now cached go idle e =
     let by = chosen_by p.round floor p.tried peer cached e in
     let follows = each_choice_follows by.round floor p.tried peer cached by.chosen in
-    let less = one_less p by.round follows.told peer now floor by.is idle follows.answered follows.peer follows.untried in
+    let less = one_less p by.round follows.answer peer now floor by.is idle follows.answered follows.peer follows.untried in
     record { few_reads = go.few_reads; few_answers = go.few_answers; serials = omega (arith, less, go.serials) }

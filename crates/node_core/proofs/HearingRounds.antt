@@ -10,7 +10,7 @@ use Rattle.values_tables.specs.declared.plain.Peer.{Peer}
 use Rattle.values_plain.specs.declared.address.Udp.{Udp}
 use Rattle.values_plain.specs.declared.address.Udp.TheVariants as udp
 use Rattle.peer_chooser.specs.declared.said.Said.{Said}
-use Rattle.peer_chooser.specs.Round.{RoundText, has_told, answered}
+use Rattle.peer_chooser.specs.Round.{RoundText, has_answered, answered}
 use Rattle.node_rules.specs.declared.state.Pending.{Pending}
 use Rattle.values_tables.specs.declared.plain.Tables.{Tables}
 use Rattle.node_rules.specs.declared.state.NodeState.{NodeState}
@@ -21,8 +21,8 @@ use Rattle.node_rules.specs.State.{Setting, replies, quiet, round_serial}
 use Rattle.node_rules.specs.Datagrams.{peer_at, hears, told_by, told_to, is_key, icp_said, icp_told}
 use Rattle.node_rules.specs.Arrivals.{with_round, round_moves}
 use Rattle.node_waiting.specs.Found.{if_passes}
-use Rattle.node_core.specs.declared.questions.Heard.{Heard}
-use Rattle.node_core.specs.Heard.{said_by}
+use Rattle.node_core.specs.declared.questions.SaidWithStamp.{SaidWithStamp}
+use Rattle.node_core.specs.SaidWithStamp.{said_by}
 use Rattle.node_core.specs.Leads.{Leads}
 use Rattle.node_core.proofs.Hearing.{leads_as}
 
@@ -53,21 +53,21 @@ module _ {X : Type 0} (g : Setting) (s : NodeState X) (by : Udp) (from : Address
     unfolding told_by
     no_peer none reply is_reply = told_found ∙ ap (λ o. told_by g s p said now mark o) none ∙ ap (λ r. replies s r) (sym is_reply)
 
-    pub told_again : (peer : Peer) → found ≡ Some peer → true ≡ has_told r.told peer.id → (reply : Reply X) → reply ≡ quiet → told_to g s by from said now mark (Some p) ≡ replies s reply
+    pub told_again : (peer : Peer) → found ≡ Some peer → true ≡ has_answered r.answers peer.id → (reply : Reply X) → reply ≡ quiet → told_to g s by from said now mark (Some p) ≡ replies s reply
     unfolding hears
     told_again peer is again reply is_reply =
         told_round peer is
         ∙ ap (λ b. cond b (replies s quiet) (round_moves g s (with_round p (answered r peer.id (said peer))) now mark)) (sym again)
         ∙ ap (λ r. replies s r) (sym is_reply)
 
-    told_first : (peer : Peer) → found ≡ Some peer → false ≡ has_told r.told peer.id → told_to g s by from said now mark (Some p) ≡ round_moves g s (with_round p (answered r peer.id (said peer))) now mark
+    told_first : (peer : Peer) → found ≡ Some peer → false ≡ has_answered r.answers peer.id → told_to g s by from said now mark (Some p) ≡ round_moves g s (with_round p (answered r peer.id (said peer))) now mark
     unfolding hears
     told_first peer is first =
         told_round peer is
         ∙ ap (λ b. cond b (replies s quiet) (round_moves g s (with_round p (answered r peer.id (said peer))) now mark)) (sym first)
 
     -- a peer's first answer counts
-    pub round_told : (place : ℕ) (asks : List (Pending X)) → asks ≡ s.pending → slice_get asks place ≡ Some p → (peer : Peer) → found ≡ Some peer → false ≡ has_told r.told peer.id → (before after told : RoundText) (word : Said) → before ≡ r → word ≡ said peer → after ≡ answered before peer.id word → told ≡ after → (outcome : Result (Reply X) StepFault) (next : NodeState X) → IfSome (slice_get s.pending place) (λ p. Leads (round_moves g s (with_round p told) now mark) s outcome next) → IfSome (slice_get s.pending place) (λ p. Leads (told_to g s by from said now mark (Some p)) s outcome next)
+    pub round_told : (place : ℕ) (asks : List (Pending X)) → asks ≡ s.pending → slice_get asks place ≡ Some p → (peer : Peer) → found ≡ Some peer → false ≡ has_answered r.answers peer.id → (before after told : RoundText) (word : Said) → before ≡ r → word ≡ said peer → after ≡ answered before peer.id word → told ≡ after → (outcome : Result (Reply X) StepFault) (next : NodeState X) → IfSome (slice_get s.pending place) (λ p. Leads (round_moves g s (with_round p told) now mark) s outcome next) → IfSome (slice_get s.pending place) (λ p. Leads (told_to g s by from said now mark (Some p)) s outcome next)
     round_told place asks same there peer is first before after told word is_before is_word is_after is_told outcome next moved =
         let here : slice_get s.pending place ≡ Some p = ap (λ asks. slice_get asks place) (sym same) ∙ there in
         let moved_here : Leads (round_moves g s (with_round p told) now mark) s outcome next = subst (λ o. IfSome o (λ p. Leads (round_moves g s (with_round p told) now mark) s outcome next)) here moved in
@@ -106,7 +106,7 @@ module _ {X : Type 0} (g : Setting) (s : NodeState X) (by : Udp) (from : Address
 -- An answer by ICP
 
 -- an ICP answer says the same whoever sent it
-pub same_said : (h : Heard) (word : Said) → h ≡ record { member = word; foreign = word } → said_by h ≡ (λ p. word)
+pub same_said : (h : SaidWithStamp) (word : Said) → h ≡ record { member = word; foreign = word } → said_by h ≡ (λ p. word)
 same_said h word is =
     let each : (p : Peer) → said_by h p ≡ word = λ p.
     ap (λ h. said_by h p) is ∙ elim (is_foreign_id p.id) as (λ b. cond b word word ≡ word) [ true ↦ refl | false ↦ refl ] in
@@ -138,7 +138,7 @@ module _ {X : Type 0} (g : Setting) (s : NodeState X) (from : Address) (m : Icp)
     icp_tells_no_other other reply is_reply =
         tells_nobody g s udp.Icp from (λ p. icp_said m.op) now mark its_ask (passes_as false other) reply is_reply
 
-    pub icp_tells_ask : at < length asks → has ≡ true → (h : Heard) (word : Said) → word ≡ icp_said m.op → h ≡ record { member = word; foreign = word } → (outcome : Result (Reply X) StepFault) (next : NodeState X) → IfSome (slice_get s.pending at) (λ p. Leads (told_to g s udp.Icp from (said_by h) now mark (Some p)) s outcome next) → Leads (icp_told g s from m now mark) s outcome next
+    pub icp_tells_ask : at < length asks → has ≡ true → (h : SaidWithStamp) (word : Said) → word ≡ icp_said m.op → h ≡ record { member = word; foreign = word } → (outcome : Result (Reply X) StepFault) (next : NodeState X) → IfSome (slice_get s.pending at) (λ p. Leads (told_to g s udp.Icp from (said_by h) now mark (Some p)) s outcome next) → Leads (icp_told g s from m now mark) s outcome next
     unfolding icp_told
     icp_tells_ask below key h word is_word is_h outcome next told =
         let heard : said_by h ≡ (λ p. icp_said m.op) = same_said h word is_h ∙ ap (λ w. λ p. w) is_word in

@@ -1,5 +1,5 @@
--- The rule takes what an answer says as a function of the peer, the code as a pair (`Heard`). If
--- both say the same of each peer, the rule leads to the same.
+-- The rule takes what an answer says as a function of the peer, the code as a pair
+-- (`SaidWithStamp`). If both say the same of each peer, the rule leads to the same.
 use Rattle.std.proofs.Common.{◌≡◌, ℕ, Bool, true, false, cond, List, Option, Some, None, Result, refl, sym, ap, subst, ◌∙◌, ◌==◌}
 use Rattle.htcp_wire.specs.declared.message.Detail.{Detail}
 use Rattle.htcp_wire.specs.declared.message.Content.TheVariants as content
@@ -17,8 +17,8 @@ use Rattle.node_rules.specs.declared.reply.StepFault.{StepFault}
 use Rattle.node_rules.specs.State.{Setting}
 use Rattle.node_rules.specs.Relation.{purge_in_content}
 use Rattle.node_rules.specs.Datagrams.{peer_at, hears, told_by, told_to, htcp_told, htcp_comes, tst_refused, tst_hit_said}
-use Rattle.node_core.specs.declared.questions.Heard.{Heard}
-use Rattle.node_core.specs.Heard.{said_by}
+use Rattle.node_core.specs.declared.questions.SaidWithStamp.{SaidWithStamp}
+use Rattle.node_core.specs.SaidWithStamp.{said_by}
 use Rattle.node_core.specs.Leads.{Leads, MayClose}
 use Rattle.node_core.proofs.Outcomes.{leads_may_close}
 
@@ -27,7 +27,7 @@ either true word = refl
 either false word = refl
 
 -- an answer that says the same whoever sent it
-pub of_both : (word : Said) (heard : Heard) → heard ≡ record { member = word; foreign = word } → (p : Peer) → said_by heard p ≡ word
+pub of_both : (word : Said) (heard : SaidWithStamp) → heard ≡ record { member = word; foreign = word } → (p : Peer) → said_by heard p ≡ word
 of_both word heard is p = ap (λ h. said_by h p) is ∙ either (is_foreign_id p.id) word
 
 module _ {X : Type 0} (g : Setting) (s : NodeState X) (from : Address) (trans now : ℕ) (mark : X) (one other : Peer → Said) (same : (p : Peer) → one p ≡ other p) where
@@ -45,7 +45,7 @@ module _ {X : Type 0} (g : Setting) (s : NodeState X) (from : Address) (trans no
   unfolding htcp_told
   told_alike = to_ask udp.Htcp _
 
-module _ {X : Type 0} (g : Setting) (s : NodeState X) (from : Address) (trans now : ℕ) (mark : X) (heard : Heard) (out : Result (Reply X) StepFault) (next : NodeState X) where
+module _ {X : Type 0} (g : Setting) (s : NodeState X) (from : Address) (trans now : ℕ) (mark : X) (heard : SaidWithStamp) (out : Result (Reply X) StepFault) (next : NodeState X) where
   alike : (other : Peer → Said) → ((p : Peer) → said_by heard p ≡ other p) → Leads (htcp_told g s from trans (said_by heard) now mark) s out next → Leads (htcp_told g s from trans other now mark) s out next
   alike other same h = subst (λ to. Leads to s out next) (told_alike g s from trans now mark (said_by heard) other same) h
 

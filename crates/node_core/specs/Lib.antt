@@ -1,6 +1,6 @@
 pub mod View
 pub mod Leads
 pub mod Closing
-pub mod Heard
+pub mod SaidWithStamp
 pub mod Names
 pub mod Placed

@@ -15,7 +15,7 @@ use crate::copies::served_age;
 use crate::replies::{quiet, serves};
 use floor_rules::FloorStore;
 use http_messages::Answer;
-use node_rules::{Fetch, Pending, Reply, Served, StepFault};
+use node_rules::{Fetch, Pending, Reply, Served, StepFault, is_gateway_fault};
 use node_waiting::Progress;
 use object_store::WebCopy;
 use peer_chooser::Round;
@@ -23,13 +23,6 @@ use reuse_rules::lifetime;
 use roster::{Listed, is_foreign};
 use std::alloc::{AllocError, Global};
 use url_key::Key;
-
-/// Whether a status is a gateway's: 502, 503 or 504 (RFC 9110, sections 15.6.3 to 15.6.5).
-fn is_gateway_fault(status: u16) -> bool
-    ensures { result ≡ arrivals.is_gateway_fault status }
-{
-    status == 502 || status == 503 || status == 504
-}
 
 /// Whether no fetch runs.
 fn is_idle<T>(fetch: &Fetch<T>) -> bool

@@ -173,7 +173,7 @@ impl<T: Copy + Drop, S: FloorStore> Node<T, S> {
     ) -> Result<Reply<T>, StepFault>
         requires open { self.old.state.closed ≡ false }
         requires block { self.old.state.next ≤ 134217727 }
-        requires told { round.told ≡ [] }
+        requires answers { round.answers ≡ [] }
         ensures same { IsSameNode self.old self.new }
         ensures leads { (key_of : List ℕ → Option (List ℕ)) →
             Leads (asks.begin_round (setting_of self.old key_of) (asks.takes_block self.old.state) asker ask self.old.state.next round) self.old.state result self.new.state }

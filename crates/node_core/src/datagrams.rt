@@ -12,21 +12,15 @@ ghost use Rattle.node_core.specs.Closing.{KeepsStore, FailsWithCause};
 ghost use Rattle.node_core.specs.Leads.{Leads, MayClose};
 
 use crate::Node;
-use crate::questions::{Heard, hit_said};
+use crate::questions::{SaidWithStamp, hit_said};
 use crate::replies::{quiet, sends_if};
 use floor_rules::FloorStore;
-use htcp_wire::Content;
+use htcp_wire::{Content, NOT_IMPLEMENTED, TST};
 use icp_wire::{Icp, IcpOp};
 use node_messages::{nop_answer, overall_answer};
 use node_rules::{Message, Received, Reply, StepFault};
 use peer_chooser::Said;
 use roster::Address;
-
-/// HTCP's opcode of TST.
-const TST: u8 = 1;
-
-/// HTCP's overall response to an opcode that is not implemented.
-const NOT_IMPLEMENTED: u8 = 2;
 
 impl<T: Copy + Drop, S: FloorStore> Node<T, S> {
     /// A datagram arrives.
@@ -98,7 +92,7 @@ impl<T: Copy + Drop, S: FloorStore> Node<T, S> {
                 self.htcp_told(from, trans, heard, now, mark)
             }
             Content::TstMiss { .. } => {
-                self.htcp_told(from, trans, Heard::of(Said::Miss), now, mark)
+                self.htcp_told(from, trans, SaidWithStamp::of(Said::Miss), now, mark)
             }
             Content::ClrAsk { desired, spec, .. } => self.htcp_clr(from, trans, desired, &spec),
             Content::Other { opcode, desired } => {
@@ -128,7 +122,7 @@ impl<T: Copy + Drop, S: FloorStore> Node<T, S> {
             Leads (datagrams.tst_refused (setting_of self.old key_of) self.old.state from trans opcode now mark) self.old.state result self.new.state }
     {
         if opcode == TST {
-            self.htcp_told(from, trans, Heard::of(Said::NoFetch), now, mark)
+            self.htcp_told(from, trans, SaidWithStamp::of(Said::NoFetch), now, mark)
         } else {
             Ok(quiet(self.alloc))
         }

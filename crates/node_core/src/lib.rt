@@ -52,8 +52,8 @@
 //!   the keys of texts
 //!
 //! Each method that carries out a rule says so by `Leads` or `MayClose` of `specs/Leads`.
-//! `specs/Heard`, `specs/Names` and `specs/Placed` have the words for answers to a round, names of
-//! faults, and copies by hand. `proofs/Lib` gives an order for the proofs.
+//! `specs/SaidWithStamp`, `specs/Names` and `specs/Placed` have the words for answers to a round,
+//! names of faults, and copies by hand. `proofs/Lib` gives an order for the proofs.
 //!
 //! # What it touches, and does not promise
 //!

@@ -4,7 +4,7 @@ ghost use Rattle.node_core.specs.View.{IsSameNode, IsTied};
 
 use floor_rules::{FloorStore, Floors};
 use node_rules::Pending;
-use node_waiting::Waiting;
+use node_waiting::PendingList;
 use object_store::Store;
 use roster::Roster;
 use std::alloc::Global;
@@ -21,7 +21,7 @@ pub struct Node<T, S: FloorStore> {
     pub(crate) store: S,
     pub(crate) floors: Floors,
     pub(crate) copies: Store<T>,
-    pub(crate) pending: Waiting<T>,
+    pub(crate) pending: PendingList<T>,
     pub(crate) next: u32,
     pub(crate) closed: bool,
 }
@@ -95,6 +95,6 @@ impl<T: Drop, S: FloorStore> Node<T, S> {
         ensures state { self.new.state ≡ closed_node self.old.state }
     {
         self.closed = true;
-        self.pending = Waiting::new(self.alloc);
+        self.pending = PendingList::new(self.alloc);
     }
 }

@@ -6,7 +6,7 @@ ghost use Rattle.node_core.specs.Names.{open_fault_name};
 
 use crate::Node;
 use floor_rules::{FloorFault, FloorStore};
-use node_waiting::Waiting;
+use node_waiting::PendingList;
 use object_store::Store;
 use roster::{Limits, Roster};
 use std::alloc::{AllocError, Global};
@@ -148,7 +148,7 @@ impl<T, S: FloorStore + Drop> Node<T, S> {
             store,
             floors,
             copies,
-            pending: Waiting::new(alloc),
+            pending: PendingList::new(alloc),
             next: 1,
             closed: false,
         })

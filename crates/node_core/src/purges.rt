@@ -16,19 +16,13 @@ use crate::Node;
 use crate::questions::key_of_text;
 use crate::replies::sends_if;
 use floor_rules::{FloorFault, FloorStore};
-use htcp_wire::{HeaderKind, Specifier, number_in};
+use htcp_wire::{CLR, HeaderKind, NOT_ALLOWED, Specifier, number_in};
 use node_messages::{clr_answer, is_known, overall_answer};
 use node_rules::{Reply, StepFault};
-use node_waiting::Waiting;
+use node_waiting::PendingList;
 use roster::{Address, Udp};
 use std::alloc::{AllocError, Global};
 use url_key::Key;
-
-/// The opcode of CLR.
-const CLR: u8 = 4;
-
-/// HTCP's overall response to what is not allowed here.
-const NOT_ALLOWED: u8 = 5;
 
 /// The response to a CLR that is not allowed.
 fn refused<T: Drop>(
@@ -180,7 +174,7 @@ impl<T: Copy + Drop, S: FloorStore> Node<T, S> {
             }
             Err(fault) => {
                 self.closed = true;
-                self.pending = Waiting::new(self.alloc);
+                self.pending = PendingList::new(self.alloc);
                 Err(step_fault_of(fault))
             }
         }

@@ -7,17 +7,17 @@ ghost use Rattle.node_rules.specs.Messages as messages;
 ghost use Rattle.icp_wire.specs.declared.message.IcpOp.TheVariants as ops;
 ghost use Rattle.values_tables.specs.declared.plain.Peer.{Peer as PeerText};
 ghost use Rattle.values_plain.specs.declared.address.Udp.TheVariants as udp;
-ghost use Rattle.peer_chooser.specs.Round.{has_told as has_told_in};
+ghost use Rattle.peer_chooser.specs.Round.{has_answered as has_answered_in};
 ghost use Rattle.node_rules.specs.Known.{is_known as is_known_at};
 ghost use Rattle.values_keys.specs.KeyOf.{GivesKeys};
 ghost use Rattle.node_core.specs.View.{IsSameNode, setting_of, HasKeyOf};
-ghost use Rattle.node_core.specs.Heard.{said_by};
+ghost use Rattle.node_core.specs.SaidWithStamp.{said_by};
 ghost use Rattle.node_core.specs.Leads.{Leads};
 
 use crate::Node;
 use crate::replies::{quiet, sends, sends_if};
 use floor_rules::FloorStore;
-use htcp_wire::{HeaderKind, Specifier, number_in};
+use htcp_wire::{HeaderKind, NOT_ALLOWED, Specifier, TST, number_in};
 use icp_wire::{Icp, IcpOp};
 use node_messages::{icp_answer, is_known, overall_answer, peer_at, tst_answer};
 use node_rules::{Reply, StepFault};
@@ -28,22 +28,22 @@ use url_key::{Key, KeyFault};
 
 /// What an answer to a round says. It may differ by who sent it.
 #[derive(Clone, Copy)]
-pub(crate) struct Heard {
+pub(crate) struct SaidWithStamp {
     /// If a member sent it.
     pub(crate) member: Said,
     /// If a foreign cache sent it.
     pub(crate) foreign: Said,
 }
 
-impl Heard {
+impl SaidWithStamp {
     /// The same, whoever sent it.
-    pub(crate) fn of(said: Said) -> Heard
+    pub(crate) fn of(said: Said) -> SaidWithStamp
         ensures { result ≡ record {
           member = said;
           foreign = said;
         } }
     {
-        Heard {
+        SaidWithStamp {
             member: said,
             foreign: said,
         }
@@ -96,21 +96,21 @@ fn icp_said(op: IcpOp) -> Said
 
 /// What a TST hit with these CACHE-HDRS says. Only a member's stamp is trusted, and a bad line
 /// tells none.
-pub(crate) fn hit_said(headers: &[u8]) -> Heard
+pub(crate) fn hit_said(headers: &[u8]) -> SaidWithStamp
     ensures { (p : PeerText) → said_by result p ≡ datagrams.tst_hit_said headers.now p }
 {
     let stamp = number_in(headers, HeaderKind::PurgeStamp).unwrap_or(None);
-    Heard {
+    SaidWithStamp {
         member: Said::Hit(stamp),
         foreign: Said::Hit(None),
     }
 }
 
 /// Whether the peer with this id has answered.
-fn has_told(round: &Round, id: u8) -> bool
-    ensures { result ≡ has_told_in round.now.told id }
+fn has_answered(round: &Round, id: u8) -> bool
+    ensures { result ≡ has_answered_in round.now.answers id }
 {
-    round.told().iter().any(|told| told.peer.id == id)
+    round.answers().iter().any(|answer| answer.peer.id == id)
 }
 
 impl<T: Copy + Drop, S: FloorStore> Node<T, S> {
@@ -180,7 +180,7 @@ impl<T: Copy + Drop, S: FloorStore> Node<T, S> {
             return Ok(quiet(self.alloc));
         }
         if !is_known(&self.roster, self.id, Udp::Htcp, from) {
-            return Ok(sends(self.alloc, overall_answer(from, trans, 1, 5))?);
+            return Ok(sends(self.alloc, overall_answer(from, trans, TST, NOT_ALLOWED))?);
         }
         let stamp = self.stamp_meant(spec, now)?;
         Ok(sends(self.alloc, tst_answer(self.alloc, from, trans, stamp)?)?)
@@ -205,7 +205,7 @@ impl<T: Copy + Drop, S: FloorStore> Node<T, S> {
         let key = &self.pending.ask(place).ask.key;
         let is_of_key = has_key(self.alloc, message.url.as_slice(), key)?;
         if is_of_key {
-            let heard = Heard::of(icp_said(message.op));
+            let heard = SaidWithStamp::of(icp_said(message.op));
             self.told(place, Udp::Icp, from, heard, now, mark)
         } else {
             Ok(quiet(self.alloc))
@@ -217,7 +217,7 @@ impl<T: Copy + Drop, S: FloorStore> Node<T, S> {
         &mut self,
         from: Address,
         trans: u32,
-        heard: Heard,
+        heard: SaidWithStamp,
         now: u64,
         mark: T,
     ) -> Result<Reply<T>, StepFault>
@@ -238,7 +238,7 @@ impl<T: Copy + Drop, S: FloorStore> Node<T, S> {
         place: usize,
         by: Udp,
         from: Address,
-        heard: Heard,
+        heard: SaidWithStamp,
         now: u64,
         mark: T,
     ) -> Result<Reply<T>, StepFault>
@@ -251,7 +251,7 @@ impl<T: Copy + Drop, S: FloorStore> Node<T, S> {
             return Ok(quiet(self.alloc));
         };
         match peer_at(&self.roster, by, from, round) {
-            Some(peer) if !has_told(round, peer.id) => {
+            Some(peer) if !has_answered(round, peer.id) => {
                 let mut round = round.copy();
                 round.answer(peer.id, heard.by(peer));
                 self.round_moves(place, round.copy(), now, mark)

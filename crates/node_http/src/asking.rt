@@ -11,13 +11,10 @@ use crate::{ServeFault, finish};
 use http_messages::Ask;
 use http_reading::read_ask;
 use node_bytes::{Stepper, Turn};
-use node_rules::{Begin, Event, Reply, StepFault};
+use node_rules::{Begin, Event, Reply, SERIALS, StepFault};
 use roster::Roster;
 use std::alloc::Global;
 use std::io::{Read, Write};
-
-/// How many serials a block has.
-const SERIALS: u32 = 32;
 
 /// What became of a request.
 #[derive(Drop)]

@@ -15,9 +15,6 @@ use roster::Address;
 use std::alloc::{AllocError, Global};
 use values_plain::Octets;
 
-/// The opcode of TST.
-const TST: u8 = 1;
-
 /// Makes the response to a QUERY: this opcode, with the query's number and URL (RFC 2186, "ICP
 /// Opcodes").
 ///

@@ -37,7 +37,7 @@ use Rattle.node_rules.specs.Relation.{purge_in, purge_in_content, purge_in_messa
 use Rattle.values_tables.specs.Ranges.{is_foreign_id}
 use Rattle.roster.specs.Lookups.{is_master, address_by}
 use Rattle.node_rules.specs.Known.{has_origin, is_known, cache_of}
-use Rattle.peer_chooser.specs.Round.{has_told, answered, ended}
+use Rattle.peer_chooser.specs.Round.{has_answered, answered, ended}
 use Rattle.object_store.specs.Listed.{copy_of}
 use Rattle.reuse_rules.specs.Lifetime.{lifetime}
 use Rattle.htcp_wire.specs.declared.fault.HtcpFault.{HtcpFault}
@@ -299,7 +299,7 @@ module _ {X : Type 0} (g : Setting) (s : NodeState X) (e : Event X) (mark : X) w
   unfolding hears
   hears_does p h peer said now None = silent
   hears_does p h peer said now (Some r) =
-      branches Does (has_told r.told peer.id) _ _ (λ _. silent)
+      branches Does (has_answered r.answers peer.id) _ _ (λ _. silent)
       (λ _. round_moves_does (with_round p (answered r peer.id said)) (other_round p (answered r peer.id said) h) now)
 
   told_by_does : (p : Pending X) → IsUnderWay s p → (said : Peer → Said) (now : ℕ) (o : Option Peer) → Does (told_by g s p said now mark o)

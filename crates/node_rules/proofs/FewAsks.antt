@@ -21,7 +21,7 @@ use Rattle.roster.specs.Lookups.{is_master}
 use Rattle.peer_chooser.specs.declared.said.Said.{Said}
 use Rattle.peer_chooser.specs.declared.said.Source.{Source}
 use Rattle.peer_chooser.specs.declared.said.Source.TheVariants as source
-use Rattle.peer_chooser.specs.Round.{RoundText, has_told, answered, ended}
+use Rattle.peer_chooser.specs.Round.{RoundText, has_answered, answered, ended}
 use Rattle.node_rules.specs.declared.message.Message.{Message}
 use Rattle.node_rules.specs.declared.message.Message.TheVariants as message
 use Rattle.node_rules.specs.declared.state.Fetch.{Fetch}
@@ -187,7 +187,7 @@ module _ {X : Type 0} (g : Setting) (s : NodeState X) (mark : X) (few : FewWait 
   unfolding hears
   hears_few p peer said now None = few
   hears_few p peer said now (Some r) =
-      branches Few (has_told r.told peer.id) _ _ (λ _. few) (λ _. round_moves_few (with_round p (answered r peer.id said)) now)
+      branches Few (has_answered r.answers peer.id) _ _ (λ _. few) (λ _. round_moves_few (with_round p (answered r peer.id said)) now)
 
   told_by_few : (p : Pending X) (said : Peer → Said) (now : ℕ) (o : Option Peer) → Few (told_by g s p said now mark o)
   unfolding told_by

@@ -31,7 +31,7 @@ use Rattle.floor_rules.specs.Floors.{floor, seen, raised}
 use Rattle.values_tables.specs.Ranges.{is_foreign_id}
 use Rattle.roster.specs.Lookups.{is_master}
 use Rattle.node_rules.specs.Known.{has_origin, is_known}
-use Rattle.peer_chooser.specs.Round.{has_told, answered, ended, started}
+use Rattle.peer_chooser.specs.Round.{has_answered, answered, ended, started}
 use Rattle.object_store.specs.Listed.{copy_of}
 use Rattle.object_store.specs.Held.{is_older_than}
 use Rattle.reuse_rules.specs.Lifetime.{lifetime}
@@ -271,7 +271,7 @@ module _ {X Y : Type 0} (f : X → Y) (g : Setting) where
   unfolding hears
   hears-retag s p peer said now mark None = refl
   hears-retag s p peer said now mark (Some r) =
-      both_ways (retag_stepped f) (has_told r.told peer.id) _ _ _ _ refl (round_moves-retag s (with_round p (answered r peer.id said)) now mark)
+      both_ways (retag_stepped f) (has_answered r.answers peer.id) _ _ _ _ refl (round_moves-retag s (with_round p (answered r peer.id said)) now mark)
 
   told_by-retag : (s : NodeState X) (p : Pending X) (said : Peer → Said) (now : ℕ) (mark : X) (o : Option Peer) → told_by g (retag_state f s) (retag_pending f p) said now (f mark) o ≡ to (told_by g s p said now mark o)
   unfolding told_by

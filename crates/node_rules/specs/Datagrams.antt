@@ -22,7 +22,7 @@ use Rattle.values_tables.specs.declared.plain.Peer.{Peer}
 use Rattle.roster.specs.Lookups.{is_master}
 use Rattle.peer_chooser.specs.declared.said.Said.{Said}
 use Rattle.peer_chooser.specs.declared.said.Said.TheVariants as said
-use Rattle.peer_chooser.specs.Round.{RoundText, has_told, answered}
+use Rattle.peer_chooser.specs.Round.{RoundText, has_answered, answered}
 use Rattle.node_rules.specs.declared.message.Message.{Message}
 use Rattle.node_rules.specs.declared.message.Message.TheVariants as message
 use Rattle.node_rules.specs.declared.state.Pending.{Pending}
@@ -95,7 +95,7 @@ peer_at g by from (Some r) = find (is_peer_at g.roster by from) r.asked
 unfoldable pub hears : {X : Type 0} → Setting → NodeState X → Pending X → Peer → Said → ℕ → X → Option RoundText → Stepped X
 hears g s p peer said now mark None = replies s quiet
 hears g s p peer said now mark (Some r) =
-    if has_told r.told peer.id
+    if has_answered r.answers peer.id
     then replies s quiet
     else round_moves g s (with_round p (answered r peer.id said)) now mark
 

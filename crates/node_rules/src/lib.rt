@@ -55,6 +55,7 @@
 //!
 //! - `src/event.rt`, `src/state.rt`, `src/reply.rt`: the types
 //! - `src/message.rt`: messages, with [`can_be_answered`] and [`fits`]
+//! - `src/gateway.rt`: [`is_gateway_fault`], of a response's status
 //! - `src/laws.rt`: the laws as contracts; start here to see what is proved of the definition
 //! - `proofs/Lib` gives an order for the proofs
 //!
@@ -62,12 +63,14 @@
 #![tactic(auto)]
 
 mod event;
+mod gateway;
 pub mod laws;
 mod message;
 mod reply;
 mod state;
 
 pub use event::Event;
+pub use gateway::is_gateway_fault;
 pub use message::{Message, Outgoing, Received, Sent, can_be_answered, fits};
 pub use reply::{Begin, Reply, Serve, Served, StepFault};
-pub use state::{Fetch, NodeState, Pending};
+pub use state::{Fetch, NodeState, Pending, SERIALS};

@@ -4,6 +4,9 @@ use object_store::WebCopy;
 use peer_chooser::Round;
 use roster::Listed;
 
+/// How many serials a block has.
+pub const SERIALS: u32 = 32;
+
 /// Where the response to a pending request is fetched from at present.
 #[derive(Debug, Drop)]
 pub enum Fetch<T> {

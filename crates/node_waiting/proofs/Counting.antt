@@ -4,7 +4,7 @@ use Rattle.std.proofs.Common.{◌≡◌, ℕ, zero, suc, ◌+◌, ◌≤◌, Boo
 use Rattle.std.specs.List.{Contains}
 use Rattle.std.proofs.lemmas.Bool.Decides.{nat_tests}
 use Rattle.std.proofs.lemmas.List.Sums.{sum_by-cons}
-use Rattle.peer_chooser.specs.declared.said.Told.{Told}
+use Rattle.peer_chooser.specs.declared.said.FirstAnswer.{FirstAnswer}
 use Rattle.peer_chooser.specs.Round.{RoundText}
 use Rattle.peer_chooser.specs.Choice.{is_open}
 use Rattle.node_rules.specs.declared.state.Fetch.{Fetch}
@@ -12,7 +12,7 @@ use Rattle.node_rules.specs.declared.state.Fetch.TheVariants.{Nowhere, AtPeer, A
 use Rattle.node_rules.specs.declared.state.Pending.{Pending}
 use Rattle.node_rules.specs.State.{is_idle}
 use Rattle.node_rules.specs.Fetching.{fetching}
-use Rattle.node_waiting.specs.CanGoOn.{told_of, is_asked_now, is_untried, untried_count}
+use Rattle.node_waiting.specs.CanGoOn.{answers_of, is_asked_now, is_untried, untried_count}
 
 pub count_le : {X : Type 0} (p q : X → Bool) (xs : List X) → ((x : X) → q x ≡ true → p x ≡ true) → count_by q xs ≤ count_by p xs
 count_le p q [] weaker = omega arith
@@ -43,13 +43,13 @@ not_asked id (AtPeer peer asked) idle = cc
 not_asked id (AtOrigin stamp asked mark) idle = cc
 
 -- a request that goes to the peer of an answer has one answer less to follow
-pub one_less : {X : Type 0} (p : Pending X) (r : RoundText) (t : Told) (peer now floor : ℕ) → p.round ≡ Some r → is_idle p.fetch ≡ true → Contains r.told t → t.peer.id ≡ peer → is_open floor p.tried t.peer ≡ true → untried_count (fetching p p.reads (AtPeer peer now)) + 1 ≤ untried_count p
+pub one_less : {X : Type 0} (p : Pending X) (r : RoundText) (t : FirstAnswer) (peer now floor : ℕ) → p.round ≡ Some r → is_idle p.fetch ≡ true → Contains r.answers t → t.peer.id ≡ peer → is_open floor p.tried t.peer ≡ true → untried_count (fetching p p.reads (AtPeer peer now)) + 1 ≤ untried_count p
 one_less {X} p r t peer now floor round idle answered same free_to_ask =
-    let told : told_of p.round ≡ r.told = ap told_of round in
+    let answers : answers_of p.round ≡ r.answers = ap answers_of round in
     let after : Fetch X = AtPeer peer now in
-    let weaker : (x : Told) → is_untried p.tried after x ≡ true → is_untried p.tried p.fetch x ≡ true = λ x h.
+    let weaker : (x : FirstAnswer) → is_untried p.tried after x ≡ true → is_untried p.tried p.fetch x ≡ true = λ x h.
     let free = not_asked x.peer.id p.fetch idle in
     grind arith in
     let holds : is_untried p.tried p.fetch t ≡ true = let free = not_asked t.peer.id p.fetch idle in grind arith in
     let fails : is_untried p.tried after t ≡ false = grind (arith, nat_tests) in
-    rw told (count_falls (is_untried p.tried p.fetch) (is_untried p.tried after) r.told t weaker answered holds fails)
+    rw answers (count_falls (is_untried p.tried p.fetch) (is_untried p.tried after) r.answers t weaker answered holds fails)

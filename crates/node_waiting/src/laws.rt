@@ -55,7 +55,7 @@ pub fn asks_can_go_on_after_a_fetch<T>()
 /// its round has expired.
 pub fn asks_can_go_on_with_their_rounds<T>()
     ensures answered { (p : Pending T) (r : RoundText) (id : ℕ) (said : Said) →
-        CanGoOn p → p.round ≡ Some r → length (answered r id said).told ≤ 23 → CanGoOn (with_round p (answered r id said)) }
+        CanGoOn p → p.round ≡ Some r → length (answered r id said).answers ≤ 23 → CanGoOn (with_round p (answered r id said)) }
     ensures ended { (p : Pending T) (r : RoundText) →
         CanGoOn p → p.round ≡ Some r → CanGoOn (with_round p (ended r)) }
 {}

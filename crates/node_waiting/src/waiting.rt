@@ -14,11 +14,11 @@ use std::mem::replace;
 /// A contract sees the list of them. Their blocks ascend, from 1 to 134,217,727, and each request
 /// can go on.
 #[derive(Drop)]
-pub struct Waiting<T> {
+pub struct PendingList<T> {
     asks: Vec<Pending<T>>,
 }
 
-impl<T> Model for Waiting<T> {
+impl<T> Model for PendingList<T> {
     ghost use Rattle.std.specs.Prelude.{List};
     ghost use Rattle.node_rules.specs.declared.state.Pending.{Pending};
     ghost use Rattle.node_waiting.specs.InOrder.{AreInOrder};
@@ -30,17 +30,17 @@ impl<T> Model for Waiting<T> {
     ghost invariant = { λ w. AreInOrder w.asks.items };
 }
 
-impl<T> Waiting<T> {
+impl<T> PendingList<T> {
     ghost use Rattle.node_waiting.specs.CanGoOn.{CanGoOn};
     ghost use Rattle.node_waiting.specs.InOrder.{IsBlock, AreInOrder};
     ghost use Rattle.node_waiting.specs.Changed.{progress_of, with_progress};
     ghost use Rattle.node_waiting.specs.Found.{IsPlaceOf, IsAbsent, if_passes};
 
     /// An empty list. Allocates nothing.
-    pub fn new(alloc: Global) -> Waiting<T>
+    pub fn new(alloc: Global) -> PendingList<T>
         ensures { result ≡ [] }
     {
-        Waiting {
+        PendingList {
             asks: Vec::new(alloc),
         }
     }
@@ -159,7 +159,7 @@ impl<T> Waiting<T> {
     }
 }
 
-impl<T: Drop> Waiting<T> {
+impl<T: Drop> PendingList<T> {
     ghost use Rattle.node_waiting.specs.CanGoOn.{CanGoOn};
     ghost use Rattle.node_waiting.specs.Changed.{with_progress};
 

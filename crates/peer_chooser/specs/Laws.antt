@@ -1,7 +1,7 @@
 -- What holds of every choice.
 use Rattle.std.specs.Prelude.{◌≡◌, ◌≢◌, ◌⊎◌, ℕ, Bool, true, List, Contains}
 use Rattle.values_tables.specs.Roles.{is_sibling, is_parent}
-use Rattle.peer_chooser.specs.declared.said.Told.{Told}
+use Rattle.peer_chooser.specs.declared.said.FirstAnswer.{FirstAnswer}
 use Rattle.peer_chooser.specs.declared.said.Source.TheVariants as source
 use Rattle.peer_chooser.specs.Round.{RoundText, ended}
 use Rattle.peer_chooser.specs.Choice.{choice, is_open, is_hit, is_miss}
@@ -10,12 +10,12 @@ use Rattle.peer_chooser.specs.Choice.{choice, is_open, is_hit, is_miss}
 -- has a copy that may be new enough, or it is a parent without a copy. The request bears
 -- `only-if-cached` exactly if the peer is a sibling.
 pub record FollowsAnswer (r : RoundText) (floor : ℕ) (tried : List ℕ) (id : ℕ) (only_if_cached : Bool) : Type 0 where
-  pub told : Told
-  pub answered : Contains r.told told
-  pub peer : told.peer.id ≡ id
-  pub sibling : is_sibling told.peer.role ≡ only_if_cached
-  pub untried : is_open floor tried told.peer ≡ true
-  pub useful : (is_hit floor told.said ≡ true) ⊎ ((is_parent told.peer.role ≡ true) × (is_miss told.said ≡ true))
+  pub answer : FirstAnswer
+  pub answered : Contains r.answers answer
+  pub peer : answer.peer.id ≡ id
+  pub sibling : is_sibling answer.peer.role ≡ only_if_cached
+  pub untried : is_open floor tried answer.peer ≡ true
+  pub useful : (is_hit floor answer.said ≡ true) ⊎ ((is_parent answer.peer.role ≡ true) × (is_miss answer.said ≡ true))
 
 -- Every choice of a peer follows its answer.
 abbrev pub EachChoiceFollows : Type 0

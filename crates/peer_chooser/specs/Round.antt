@@ -5,13 +5,13 @@ use Rattle.std.specs.List.{list_any}
 use Rattle.values_tables.specs.Ranges.{is_foreign_id}
 use Rattle.values_tables.specs.declared.plain.Peer.{Peer}
 use Rattle.peer_chooser.specs.declared.said.Said.{Said}
-use Rattle.peer_chooser.specs.declared.said.Told.{Told}
+use Rattle.peer_chooser.specs.declared.said.FirstAnswer.{FirstAnswer}
 
 -- What contracts see of a round: the peers asked, their first answers in order of arrival, and
 -- whether the time for answers is over.
 pub record RoundText : Type 0 where
   pub asked : List Peer
-  pub told : List Told
+  pub answers : List FirstAnswer
   pub expired : Bool
 
 -- A peer may be asked at this floor. A foreign cache takes part in no purge, so it is asked only
@@ -21,20 +21,20 @@ may_ask floor p = (floor == 0) || not (is_foreign_id p.id)
 
 -- A round starts: it asks those of these peers that may be asked, and nobody has answered.
 abbrev pub started : List Peer → ℕ → RoundText
-started peers floor = record { asked = filter (may_ask floor) peers; told = []; expired = false }
+started peers floor = record { asked = filter (may_ask floor) peers; answers = []; expired = false }
 
 -- The peer of this id has answered.
-abbrev pub has_told : List Told → ℕ → Bool
-has_told told id = list_any (λ t. t.peer.id == id) told
+abbrev pub has_answered : List FirstAnswer → ℕ → Bool
+has_answered answers id = list_any (λ t. t.peer.id == id) answers
 
 -- The peer of this id, if it was asked and has not answered.
 abbrev pub awaited : RoundText → ℕ → Option Peer
-awaited r id = if has_told r.told id then None else find (λ p. p.id == id) r.asked
+awaited r id = if has_answered r.answers id then None else find (λ p. p.id == id) r.asked
 
 -- The round with an answer behind the others, if there is a peer that gave it.
 abbrev pub with_answer : RoundText → Said → Option Peer → RoundText
 with_answer r said None = r
-with_answer r said (Some p) = record { asked = r.asked; told = r.told ++ record { peer = p; said = said } ∷ []; expired = r.expired }
+with_answer r said (Some p) = record { asked = r.asked; answers = r.answers ++ record { peer = p; said = said } ∷ []; expired = r.expired }
 
 -- A peer's first answer counts, even if it comes late. No other answer changes anything. [Round 2]
 abbrev pub answered : RoundText → ℕ → Said → RoundText
@@ -42,4 +42,4 @@ answered r id said = with_answer r said (awaited r id)
 
 -- The time for answers is over.
 abbrev pub ended : RoundText → RoundText
-ended r = record { asked = r.asked; told = r.told; expired = true }
+ended r = record { asked = r.asked; answers = r.answers; expired = true }

@@ -2,10 +2,10 @@
 
 ghost use Rattle.std.specs.Prelude.{◌≡◌, ◌==◌, find, option_map};
 ghost use Rattle.std.specs.List.{list_all, list_any};
-ghost use Rattle.peer_chooser.specs.Round.{RoundText, may_ask as may_be_asked, has_told as has_answered};
+ghost use Rattle.peer_chooser.specs.Round.{RoundText, may_ask as may_be_asked, has_answered as has_answered_in};
 ghost use Rattle.peer_chooser.specs.Choice as spec;
 
-use crate::{Said, Source, Told};
+use crate::{FirstAnswer, Said, Source};
 use roster::{Peer, is_foreign};
 
 /// Whether a peer may be asked at this floor: a foreign cache only where nothing was purged.
@@ -52,45 +52,45 @@ fn is_miss(said: Said) -> bool
 }
 
 /// Whether this is a hit that may be followed.
-fn is_good_hit(floor: u32, tried: &[u8], told: Told) -> bool
-    ensures { result ≡ spec.is_good_hit floor tried.now told }
+fn is_good_hit(floor: u32, tried: &[u8], answer: FirstAnswer) -> bool
+    ensures { result ≡ spec.is_good_hit floor tried.now answer }
 {
-    is_open(floor, tried, told.peer) && is_hit(floor, told.said)
+    is_open(floor, tried, answer.peer) && is_hit(floor, answer.said)
 }
 
 /// Whether this is a parent's miss that may be followed.
-fn is_parent_miss(floor: u32, tried: &[u8], told: Told) -> bool
-    ensures { result ≡ spec.is_parent_miss floor tried.now told }
+fn is_parent_miss(floor: u32, tried: &[u8], answer: FirstAnswer) -> bool
+    ensures { result ≡ spec.is_parent_miss floor tried.now answer }
 {
-    is_open(floor, tried, told.peer) && (told.peer.role.is_parent() && is_miss(told.said))
+    is_open(floor, tried, answer.peer) && (answer.peer.role.is_parent() && is_miss(answer.said))
 }
 
 /// Whether the peer with this id has answered.
-pub(crate) fn has_told(told: &[Told], id: u8) -> bool
-    ensures { result ≡ has_answered told.now id }
+pub(crate) fn has_answered(answers: &[FirstAnswer], id: u8) -> bool
+    ensures { result ≡ has_answered_in answers.now id }
 {
-    told.iter().any(|t| t.peer.id == id)
+    answers.iter().any(|t| t.peer.id == id)
 }
 
 /// Whether every peer that was asked has answered.
-fn have_all_told(asked: &[Peer], told: &[Told]) -> bool
-    ensures { result ≡ list_all (λ p. has_answered told.now p.id) asked.now }
+fn have_all_answered(asked: &[Peer], answers: &[FirstAnswer]) -> bool
+    ensures { result ≡ list_all (λ p. has_answered_in answers.now p.id) asked.now }
 {
-    asked.iter().all(|peer| has_told(told, peer.id))
+    asked.iter().all(|peer| has_answered(answers, peer.id))
 }
 
 /// The first hit to arrive that may be followed.
-fn good_hit<'a>(told: &'a [Told], floor: u32, tried: &[u8]) -> Option<&'a Told>
-    ensures { option_map (λ t. t.now) result ≡ find (spec.is_good_hit floor tried.now) told.now }
+fn good_hit<'a>(answers: &'a [FirstAnswer], floor: u32, tried: &[u8]) -> Option<&'a FirstAnswer>
+    ensures { option_map (λ t. t.now) result ≡ find (spec.is_good_hit floor tried.now) answers.now }
 {
-    told.iter().find(|t| is_good_hit(floor, tried, **t))
+    answers.iter().find(|t| is_good_hit(floor, tried, **t))
 }
 
 /// The first parent's miss to arrive that may be followed.
-fn parent_miss<'a>(told: &'a [Told], floor: u32, tried: &[u8]) -> Option<&'a Told>
-    ensures { option_map (λ t. t.now) result ≡ find (spec.is_parent_miss floor tried.now) told.now }
+fn parent_miss<'a>(answers: &'a [FirstAnswer], floor: u32, tried: &[u8]) -> Option<&'a FirstAnswer>
+    ensures { option_map (λ t. t.now) result ≡ find (spec.is_parent_miss floor tried.now) answers.now }
 {
-    told.iter().find(|t| is_parent_miss(floor, tried, **t))
+    answers.iter().find(|t| is_parent_miss(floor, tried, **t))
 }
 
 /// A request to this peer, with `only-if-cached` if it is a sibling.
@@ -104,10 +104,10 @@ fn source_from(peer: Peer) -> Source
 }
 
 /// Where a request goes once nobody's answer is waited for and no hit is left.
-fn parent_or_origin(told: &[Told], floor: u32, tried: &[u8]) -> Source
-    ensures { result ≡ spec.from_parent (find (spec.is_parent_miss floor tried.now) told.now) }
+fn parent_or_origin(answers: &[FirstAnswer], floor: u32, tried: &[u8]) -> Source
+    ensures { result ≡ spec.from_parent (find (spec.is_parent_miss floor tried.now) answers.now) }
 {
-    match parent_miss(told, floor, tried) {
+    match parent_miss(answers, floor, tried) {
         Some(miss) => source_from(miss.peer),
         None => Source::Origin,
     }
@@ -117,21 +117,21 @@ fn parent_or_origin(told: &[Told], floor: u32, tried: &[u8]) -> Source
 #[tactic(auto, unfolding(crate::specs::Choice::choice))]
 pub(crate) fn choose(
     asked: &[Peer],
-    told: &[Told],
+    answers: &[FirstAnswer],
     has_expired: bool,
     floor: u32,
     tried: &[u8],
 ) -> Source
     ensures { let round : RoundText = record {
       asked = asked.now;
-      told = told.now;
+      answers = answers.now;
       expired = has_expired;
     } in result ≡ spec.choice round floor tried.now }
 {
-    match good_hit(told, floor, tried) {
+    match good_hit(answers, floor, tried) {
         Some(hit) => source_from(hit.peer),
-        None if has_expired || have_all_told(asked, told) => {
-            parent_or_origin(told, floor, tried)
+        None if has_expired || have_all_answered(asked, answers) => {
+            parent_or_origin(answers, floor, tried)
         }
         None => Source::Wait,
     }

@@ -36,4 +36,4 @@ mod said;
 
 pub use laws::choices_follow_answers;
 pub use round::Round;
-pub use said::{Said, Source, Told};
+pub use said::{FirstAnswer, Said, Source};

@@ -1,10 +1,10 @@
 ghost use Rattle.std.specs.Prelude.{◌≡◌, ◌≤◌, ◌==◌, true, length, find, option_map, Some, None, if◌then◌else◌};
 ghost use Rattle.roster.specs.Lookups.{is_member, peers_of as peers_of_member};
-ghost use Rattle.peer_chooser.specs.Round.{RoundText, started, answered, ended, has_told as has_answered};
+ghost use Rattle.peer_chooser.specs.Round.{RoundText, started, answered, ended, has_answered as has_answered_in};
 ghost use Rattle.peer_chooser.specs.Choice.{choice};
 
-use crate::choosing::{choose, has_told, may_ask};
-use crate::{Said, Source, Told};
+use crate::choosing::{choose, has_answered, may_ask};
+use crate::{FirstAnswer, Said, Source};
 use roster::{Peer, Role, Roster, Udp};
 use std::marker::Model;
 
@@ -18,8 +18,8 @@ const NOBODY: Peer = Peer {
     by: Udp::Icp,
 };
 
-/// Fills the unused places of `told`.
-const NOTHING: Told = Told {
+/// Fills the unused places of `answers`.
+const NOTHING: FirstAnswer = FirstAnswer {
     peer: NOBODY,
     said: Said::Miss,
 };
@@ -32,8 +32,8 @@ const NOTHING: Told = Told {
 pub struct Round {
     asked: [Peer; MOST_PEERS],
     asked_count: usize,
-    told: [Told; MOST_PEERS],
-    told_count: usize,
+    answers: [FirstAnswer; MOST_PEERS],
+    answer_count: usize,
     has_expired: bool,
 }
 
@@ -46,11 +46,11 @@ impl Model for Round {
 
     ghost view = { λ r. record {
       asked = take r.asked_count r.asked;
-      told = take r.told_count r.told;
+      answers = take r.answer_count r.answers;
       expired = r.has_expired;
     } };
 
-    ghost invariant = { λ r. HasRoom r.asked r.asked_count r.told r.told_count };
+    ghost invariant = { λ r. HasRoom r.asked r.asked_count r.answers r.answer_count };
 }
 
 impl Round {
@@ -82,8 +82,8 @@ impl Round {
         Round {
             asked,
             asked_count,
-            told: [NOTHING; MOST_PEERS],
-            told_count: 0,
+            answers: [NOTHING; MOST_PEERS],
+            answer_count: 0,
             has_expired: false,
         }
     }
@@ -91,13 +91,13 @@ impl Round {
     /// Copies the round, which has at most 23 answers. Allocates nothing.
     pub fn copy(&self) -> Round
         ensures value { result ≡ self.now }
-        ensures few { length self.now.told ≤ 23 }
+        ensures few { length self.now.answers ≤ 23 }
     {
         Round {
             asked: self.asked,
             asked_count: self.asked_count,
-            told: self.told,
-            told_count: self.told_count,
+            answers: self.answers,
+            answer_count: self.answer_count,
             has_expired: self.has_expired,
         }
     }
@@ -110,10 +110,10 @@ impl Round {
     }
 
     /// The first answers, in order of arrival. Allocates nothing.
-    pub fn told(&self) -> &[Told]
-        ensures { result.now ≡ self.now.told }
+    pub fn answers(&self) -> &[FirstAnswer]
+        ensures { result.now ≡ self.now.answers }
     {
-        &self.told[..self.told_count]
+        &self.answers[..self.answer_count]
     }
 
     /// Whether the time for answers is over.
@@ -131,9 +131,9 @@ impl Round {
     pub fn answer(&mut self, peer: u8, said: Said)
         ensures { self.new ≡ answered self.old peer said }
     {
-        if let Some(peer) = awaited(self.asked(), self.told(), peer) {
-            self.told[self.told_count] = Told { peer, said };
-            self.told_count += 1;
+        if let Some(peer) = awaited(self.asked(), self.answers(), peer) {
+            self.answers[self.answer_count] = FirstAnswer { peer, said };
+            self.answer_count += 1;
         }
     }
 
@@ -158,7 +158,7 @@ impl Round {
     pub fn next(&self, floor: u32, tried: &[u8]) -> Source
         ensures { result ≡ choice self.now floor tried.now }
     {
-        choose(self.asked(), self.told(), self.has_expired, floor, tried)
+        choose(self.asked(), self.answers(), self.has_expired, floor, tried)
     }
 }
 
@@ -172,10 +172,10 @@ fn peers_of(roster: &Roster, id: u8) -> &[Peer]
 }
 
 /// The peer with this id, if it was asked and has not answered.
-fn awaited(asked: &[Peer], told: &[Told], id: u8) -> Option<Peer>
-    ensures { result ≡ (if has_answered told.now id then None else find (λ p. p.id == id) asked.now) }
+fn awaited(asked: &[Peer], answers: &[FirstAnswer], id: u8) -> Option<Peer>
+    ensures { result ≡ (if has_answered_in answers.now id then None else find (λ p. p.id == id) asked.now) }
 {
-    if has_told(told, id) {
+    if has_answered(answers, id) {
         None
     } else {
         peer_of(asked, id).copied()

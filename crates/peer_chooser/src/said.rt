@@ -13,7 +13,7 @@ pub enum Said {
 
 /// A peer's first answer to a round.
 #[derive(Clone, Copy, Debug, PartialEq, Eq)]
-pub struct Told {
+pub struct FirstAnswer {
     /// Who answered.
     pub peer: Peer,
     /// What it answered.

@@ -1,7 +1,7 @@
 ghost use Rattle.std.specs.Prelude.{◌≡◌};
 ghost use Rattle.roster.specs.Faults.{fault_name};
 
-use crate::{Place, TableKind};
+use crate::{TableKind, TextPlace};
 use std::alloc::AllocError;
 use std::error::Error;
 use std::fmt;
@@ -47,7 +47,7 @@ impl RosterFault {
 
 impl RosterFault {
     /// This fault at a place.
-    pub(crate) fn at(self, place: Place) -> RosterError
+    pub(crate) fn at(self, place: TextPlace) -> RosterError
         ensures { result.fault ≡ self }
     {
         RosterError { fault: self, place }
@@ -79,8 +79,8 @@ impl From<TablesFault> for RosterError {
 }
 
 /// A place by its table, the number of its entry and its key.
-pub(crate) fn place(table: TableKind, entry: usize, key: &'static str) -> Place {
-    Place {
+pub(crate) fn place(table: TableKind, entry: usize, key: &'static str) -> TextPlace {
+    TextPlace {
         table,
         entry,
         peer: 0,
@@ -95,7 +95,7 @@ pub struct RosterError {
     /// The fault.
     pub fault: RosterFault,
     /// Where it is; without meaning if there was no memory.
-    pub place: Place,
+    pub place: TextPlace,
 }
 
 impl fmt::Display for RosterError {
@@ -117,7 +117,7 @@ impl fmt::Display for RosterError {
 impl Error for RosterError {}
 
 /// Writes where a fault is: the table, its number, the key and the line.
-fn write_table<W: fmt::Write>(f: &mut fmt::Formatter<W>, place: Place) -> fmt::Result {
+fn write_table<W: fmt::Write>(f: &mut fmt::Formatter<W>, place: TextPlace) -> fmt::Result {
     f.write_str(match place.table {
         TableKind::Top => "roster",
         TableKind::Master => "[master]",

@@ -8,7 +8,7 @@ ghost use Rattle.roster.specs.Lookups.{same_address};
 use crate::doubles::first_double;
 use crate::fault::{RosterError, RosterFault, place};
 use crate::loops::parent_loop;
-use crate::{Address, Cache, Member, Peer, Place, TableKind};
+use crate::{Address, Cache, Member, Peer, TableKind, TextPlace};
 use std::alloc::{AllocError, Global};
 use values_tables::Tables;
 
@@ -27,7 +27,7 @@ fn caches(alloc: Global, tables: &Tables) -> Result<Vec<&Cache>, AllocError>
 }
 
 /// Where there are too many tables, if there are.
-fn too_many(tables: &Tables) -> Option<Place>
+fn too_many(tables: &Tables) -> Option<TextPlace>
     ensures { is_some result ≡ has_too_many tables.now }
 {
     if tables.members.as_slice().len() > 16 {
@@ -85,7 +85,7 @@ fn double_address(
     alloc: Global,
     tables: &Tables,
     caches: &[&Cache],
-) -> Result<Option<Place>, AllocError>
+) -> Result<Option<TextPlace>, AllocError>
     requires { map (λ c. c.now) caches.now ≡ caches_of tables.now }
     ensures { IfOk result (λ place. is_some place ≡ has_double_address tables.now) }
 {
@@ -103,7 +103,7 @@ fn double_address(
 }
 
 /// The place of the cache of this index in `caches`.
-fn cache_place(tables: &Tables, index: usize, key: &'static str) -> Place {
+fn cache_place(tables: &Tables, index: usize, key: &'static str) -> TextPlace {
     let members = tables.members.as_slice().len();
     if index < members {
         place(TableKind::Node, index.saturating_add(1), key)
@@ -113,7 +113,7 @@ fn cache_place(tables: &Tables, index: usize, key: &'static str) -> Place {
 }
 
 /// The place of the address of this index in `udp_addresses`.
-fn udp_place(tables: &Tables, index: usize) -> Place {
+fn udp_place(tables: &Tables, index: usize) -> TextPlace {
     if index == 0 {
         place(TableKind::Master, 0, "htcp")
     } else if index % 2 == 1 {
@@ -174,13 +174,13 @@ fn bad_peer(caches: &[&Cache], member: &Member) -> Option<usize>
 }
 
 /// Where one of the members names an unknown peer, itself, or one peer twice.
-fn unknown_peer_of(caches: &[&Cache], members: &[Member]) -> Option<Place>
+fn unknown_peer_of(caches: &[&Cache], members: &[Member]) -> Option<TextPlace>
     ensures { is_some result ≡ list_any (names_unknown (map (λ c. c.now) caches.now)) members.now }
 {
     for index in 0..members.len() {
         let member = &members[index];
         if let Some(peer) = bad_peer(caches, member) {
-            return Some(Place {
+            return Some(TextPlace {
                 peer: peer.saturating_add(1),
                 ..place(TableKind::Peer, index + 1, "id")
             });
@@ -190,7 +190,7 @@ fn unknown_peer_of(caches: &[&Cache], members: &[Member]) -> Option<Place>
 }
 
 /// The same of all members of the tables.
-fn unknown_peer(tables: &Tables, caches: &[&Cache]) -> Option<Place>
+fn unknown_peer(tables: &Tables, caches: &[&Cache]) -> Option<TextPlace>
     requires { map (λ c. c.now) caches.now ≡ caches_of tables.now }
     ensures { is_some result ≡ has_unknown_peer tables.now }
 {
@@ -198,7 +198,7 @@ fn unknown_peer(tables: &Tables, caches: &[&Cache]) -> Option<Place>
 }
 
 /// The place of the member with this id.
-fn member_place(members: &[Member], id: u8) -> Place {
+fn member_place(members: &[Member], id: u8) -> TextPlace {
     let index = members.iter().position(|member| member.cache.id == id);
     place(
         TableKind::Node,

@@ -4,8 +4,8 @@
 //! - [`Roster`]: `Roster::read` reads the tables of a text with `values_tables` and judges whether
 //!   they fit together. Crates above look up members, peers, origins and the master in it, and
 //!   never see the text. Look-ups allocate nothing.
-//! - [`RosterFault`], in the order of the tests, and [`RosterError`]: a fault and its [`Place`],
-//!   which prints as a sentence.
+//! - [`RosterFault`], in the order of the tests, and [`RosterError`]: a fault and its
+//!   [`TextPlace`], which prints as a sentence.
 //! - [`LAST_MEMBER`], [`is_foreign`], [`address_by`]: of ids, and of a cache. The types of the
 //!   tables are those of `values_tables`.
 //!
@@ -44,4 +44,4 @@ mod roster;
 pub use crate::fault::{RosterError, RosterFault};
 pub use crate::roster::{LAST_MEMBER, Roster, address_by, is_foreign};
 pub use values_plain::{Address, Listed, Udp};
-pub use values_tables::{Cache, Limits, Member, Origin, Peer, Place, Role, TableKind};
+pub use values_tables::{Cache, Limits, Member, Origin, Peer, Role, TableKind, TextPlace};

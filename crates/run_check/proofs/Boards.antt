@@ -16,20 +16,20 @@ use Rattle.run_check.specs.declared.standing.Standing.{Standing as HeldStanding}
 use Rattle.run_check.specs.declared.board.Posts.{Posts}
 use Rattle.run_check.specs.declared.board.Board.{Board as Held}
 use Rattle.run_check.specs.Held.{standing_of, master_of, IsOpened}
-use Rattle.run_check.specs.Boards.{posts_of, board_of, AreSeated, IsBoard, IsJudged, opened_network}
+use Rattle.run_check.specs.Boards.{posts_of, board_of, AreMemberNodes, IsBoard, IsJudged, opened_network}
 use Rattle.run_check.proofs.Judging.{opening_judged, entry_judged}
 
 module _ (roster : Tables) (old : Held) (taken : Posts) (id : ℕ) (before : HeldStanding) (sent : Network) (board : IsBoard roster old sent)
     (stood : standing_of before ≡ standing_at (posts_of old.posts) id) (others : (s : Standing) → with_standing (posts_of taken) id s ≡ with_standing (posts_of old.posts) id s) where
   -- the state in which the node's standing has changed, and all else is the same
-  module _ (now : Held) (after : HeldStanding) (posts : posts_of now.posts ≡ with_standing (posts_of taken) id (standing_of after)) (seated : AreSeated roster now.posts) (ledger : now.ledger ≡ old.ledger) where
+  module _ (now : Held) (after : HeldStanding) (posts : posts_of now.posts ≡ with_standing (posts_of taken) id (standing_of after)) (nodes : AreMemberNodes roster now.posts) (ledger : now.ledger ≡ old.ledger) where
     same_board : (n : Network) → record { posts = with_standing (posts_of old.posts) id (standing_of after); master = master_of old.ledger; network = n } ≡ board_of now n
     same_board n =
         ap (λ (p : List Post). record { posts = p; master = master_of old.ledger; network = n }) (sym (posts ∙ others (standing_of after)))
         ∙ ap (λ l. record { posts = posts_of now.posts; master = master_of l; network = n }) (sym ledger)
 
     is_board : (n : Network) → Holds roster now.network n → IsBoard roster now n
-    is_board n holds = record { seated = seated; members = ap (λ l. l.members) ledger ∙ board.members; network = holds }
+    is_board n holds = record { nodes = nodes; members = ap (λ l. l.members) ledger ∙ board.members; network = holds }
 
     pub has_opened : (state : NodeState (Unit {0})) → Holds roster now.network (opened_network sent id state.next (standing_of after)) → IsOpened roster id (standing_of before) state (standing_of after) →
         IsJudged roster (board_of old sent) (Opens id state) now None

@@ -96,8 +96,8 @@ abbrev held : ℕ → HeldStanding → HeldPost
 held id s = record { id = id; standing = s }
 
 -- the invariant holds of all of these
-abbrev pub AllSeated : Tables → List HeldPost → Type 0
-AllSeated roster posts = All (λ q. IsSound roster q.id q.standing) posts
+abbrev pub AllMemberNodes : Tables → List HeldPost → Type 0
+AllMemberNodes roster posts = All (λ q. IsSound roster q.id q.standing) posts
 
 module _ (posts : List HeldPost) (id at : ℕ) (p : HeldPost) (place : place_of id (map post_of posts) ≡ Some at) (below : at < length posts) (read : p ≡ get_or posts at p) where
   pub held_at : IsAt (map post_of posts) id at (post_of p)
@@ -113,21 +113,21 @@ module _ (posts : List HeldPost) (id at : ℕ) (p : HeldPost) (place : place_of 
   pub put_twice : (s : HeldStanding) (later : Standing) → with_standing (map post_of (set posts at (record { id = p.id; standing = s }))) id later ≡ with_standing (map post_of posts) id later
   put_twice s later = ap (λ l. with_standing l id later) (put_there s) ∙ put_over (map post_of posts) id (standing_of s) later
 
-  pub sound_there : (roster : Tables) → AllSeated roster posts → IsSound roster id p.standing
-  sound_there roster seated =
-      subst (λ n. IsSound roster n p.standing) held_at.named (subst (λ (q : HeldPost). IsSound roster q.id q.standing) (sym read) (seated at p below))
+  pub sound_there : (roster : Tables) → AllMemberNodes roster posts → IsSound roster id p.standing
+  sound_there roster nodes =
+      subst (λ n. IsSound roster n p.standing) held_at.named (subst (λ (q : HeldPost). IsSound roster q.id q.standing) (sym read) (nodes at p below))
 
-  pub seated_there : (roster : Tables) (s : HeldStanding) → AllSeated roster posts → IsSound roster id s → AllSeated roster (set posts at (record { id = p.id; standing = s }))
-  seated_there roster s seated sound =
-      All-set (λ (q : HeldPost). IsSound roster q.id q.standing) posts at (held p.id s) (subst (λ n. IsSound roster n s) (sym held_at.named) sound) seated
+  pub nodes_there : (roster : Tables) (s : HeldStanding) → AllMemberNodes roster posts → IsSound roster id s → AllMemberNodes roster (set posts at (record { id = p.id; standing = s }))
+  nodes_there roster s nodes sound =
+      All-set (λ (q : HeldPost). IsSound roster q.id q.standing) posts at (held p.id s) (subst (λ n. IsSound roster n s) (sym held_at.named) sound) nodes
 
 module _ (posts : List HeldPost) (id : ℕ) (s : HeldStanding) (none : place_of id (map post_of posts) ≡ None) where
   pub put_last : map post_of (posts ++ record { id = id; standing = s } ∷ []) ≡ with_standing (map post_of posts) id (standing_of s)
   put_last = map-append post_of posts (held id s ∷ []) ∙ comes_last (map post_of posts) id (standing_of s) none
 
-  pub seated_last : (roster : Tables) → AllSeated roster posts → IsSound roster id s → AllSeated roster (posts ++ record { id = id; standing = s } ∷ [])
-  seated_last roster seated sound = All-push (λ (q : HeldPost). IsSound roster q.id q.standing) posts (held id s) seated sound
+  pub nodes_last : (roster : Tables) → AllMemberNodes roster posts → IsSound roster id s → AllMemberNodes roster (posts ++ record { id = id; standing = s } ∷ [])
+  nodes_last roster nodes sound = All-push (λ (q : HeldPost). IsSound roster q.id q.standing) posts (held id s) nodes sound
 
-pub none_seated : (roster : Tables) (posts : List HeldPost) → map post_of posts ≡ [] → AllSeated roster posts
-none_seated roster [] is = λ k d h. absurd (omega arith)
-none_seated roster (p ∷ posts) is = absurd (cc)
+pub no_member_nodes : (roster : Tables) (posts : List HeldPost) → map post_of posts ≡ [] → AllMemberNodes roster posts
+no_member_nodes roster [] is = λ k d h. absurd (omega arith)
+no_member_nodes roster (p ∷ posts) is = absurd (cc)

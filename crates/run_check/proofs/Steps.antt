@@ -21,7 +21,7 @@ use Rattle.node_core.specs.View.{NodeText, IsSameMember, IsTied, setting_of}
 use Rattle.run_rules.specs.declared.verdict.Cause.TheVariants as cause
 use Rattle.run_rules.specs.Board.{Open}
 use Rattle.run_rules.specs.Judging.{StepsBy}
-use Rattle.run_check.specs.Held.{IsSeated}
+use Rattle.run_check.specs.Held.{IsMemberNode}
 
 abbrev NodeHere : Type 0
 NodeHere = NodeText (Unit {0}) FloorMap
@@ -43,33 +43,33 @@ by_function g s e mark (Err fault.Busy) next memory store steps = steps
 never_fails : (outcome : Outcome) → FailsWithCause (Unit {0}) (HaveRisen 0 0) outcome → outcome ≢ Err fault.StoreFault
 never_fails outcome cause is = elim (cause is tt) [ inl less ↦ absurd (omega arith) | inr most ↦ absurd (omega arith) ]
 
-same_setting : (roster : Tables) (id : ℕ) (n : NodeHere) → IsSeated roster id n → setting_of n key_of ≡ setting roster id
-same_setting roster id n seated =
-    ap (λ t. setting t n.id) seated.roster ∙ ap (λ i. setting roster i) seated.id
+same_setting : (roster : Tables) (id : ℕ) (n : NodeHere) → IsMemberNode roster id n → setting_of n key_of ≡ setting roster id
+same_setting roster id n of_member =
+    ap (λ t. setting t n.id) of_member.roster ∙ ap (λ i. setting roster i) of_member.id
 
 -- the node has taken the step that is defined
-stepped : (roster : Tables) (id : ℕ) (before after : NodeHere) (e : Event (Unit {0})) (outcome : Outcome) → IsSeated roster id before → FailsWithCause (Unit {0}) (HaveRisen 0 0) outcome →
+stepped : (roster : Tables) (id : ℕ) (before after : NodeHere) (e : Event (Unit {0})) (outcome : Outcome) → IsMemberNode roster id before → FailsWithCause (Unit {0}) (HaveRisen 0 0) outcome →
     ((key_of : List ℕ → Option (List ℕ)) → GivesKeys key_of → Steps (setting_of before key_of) before.state e tt outcome after.state) → outcome ≢ Err fault.NoMemory →
     step (setting roster id) before.state e tt ≡ record { state = after.state; outcome = outcome }
-stepped roster id before after e outcome seated cause steps memory =
-    ap (λ g. step g before.state e tt) (sym (same_setting roster id before seated))
+stepped roster id before after e outcome of_member cause steps memory =
+    ap (λ g. step g before.state e tt) (sym (same_setting roster id before of_member))
     ∙ by_function (setting_of before key_of) before.state e tt outcome after.state memory (never_fails outcome cause) (steps key_of gives_keys)
 
 -- also if the event that it took is a copy
-pub copy_stepped : (roster : Tables) (id : ℕ) (before after : NodeHere) (e copy : Event (Unit {0})) (outcome : Outcome) → copy ≡ e → IsSeated roster id before → FailsWithCause (Unit {0}) (HaveRisen 0 0) outcome →
+pub copy_stepped : (roster : Tables) (id : ℕ) (before after : NodeHere) (e copy : Event (Unit {0})) (outcome : Outcome) → copy ≡ e → IsMemberNode roster id before → FailsWithCause (Unit {0}) (HaveRisen 0 0) outcome →
     ((key_of : List ℕ → Option (List ℕ)) → GivesKeys key_of → Steps (setting_of before key_of) before.state copy tt outcome after.state) → outcome ≢ Err fault.NoMemory →
     step (setting roster id) before.state e tt ≡ record { state = after.state; outcome = outcome }
-copy_stepped roster id before after e copy outcome same seated cause steps memory =
-    ap (λ x. step (setting roster id) before.state x tt) (sym same) ∙ stepped roster id before after copy outcome seated cause steps memory
+copy_stepped roster id before after e copy outcome same of_member cause steps memory =
+    ap (λ x. step (setting roster id) before.state x tt) (sym same) ∙ stepped roster id before after copy outcome of_member cause steps memory
 
 -- the node is open after it, and its store has its floors
-pub seated_after : (roster : Tables) (id : ℕ) (before after : NodeHere) (e : Event (Unit {0})) (outcome : Outcome) → IsSeated roster id before → IsSameMember before after →
-    step (setting roster id) before.state e tt ≡ record { state = after.state; outcome = outcome } → IsTied after.state.closed after.state.floors true (Unit {0}) after.store → IsSeated roster id after
-seated_after roster id before after e outcome seated same is tied =
-    let still : after.state.closed ≡ false = sym (ap (λ r. r.state.closed) is) ∙ the_function_closes_no_node (setting roster id) before.state e tt ∙ seated.is_open in
+pub member_node_after : (roster : Tables) (id : ℕ) (before after : NodeHere) (e : Event (Unit {0})) (outcome : Outcome) → IsMemberNode roster id before → IsSameMember before after →
+    step (setting roster id) before.state e tt ≡ record { state = after.state; outcome = outcome } → IsTied after.state.closed after.state.floors true (Unit {0}) after.store → IsMemberNode roster id after
+member_node_after roster id before after e outcome of_member same is tied =
+    let still : after.state.closed ≡ false = sym (ap (λ r. r.state.closed) is) ∙ the_function_closes_no_node (setting roster id) before.state e tt ∙ of_member.is_open in
     record {
-      roster = same.roster ∙ seated.roster;
-      id = same.id ∙ seated.id;
+      roster = same.roster ∙ of_member.roster;
+      id = same.id ∙ of_member.id;
       is_open = still;
       stored = (tied still).1 tt;
     }

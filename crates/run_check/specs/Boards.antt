@@ -28,8 +28,8 @@ place_of id [] = None
 place_of id (p ∷ ps) = place_in_rest (p.id == id) (place_of id ps)
 
 -- each open node is the member's with its id, and its store has its floors
-abbrev pub AreSeated : Tables → Posts → Type 0
-AreSeated roster p = All (λ q. IsSound roster q.id q.standing) p.posts.items
+abbrev pub AreMemberNodes : Tables → Posts → Type 0
+AreMemberNodes roster p = All (λ q. IsSound roster q.id q.standing) p.posts.items
 
 -- the state of the run, with this network
 abbrev pub board_of : Held → Network → Board
@@ -42,7 +42,7 @@ opened_network sent id next after = if (next == 1) && not (is_astray after) then
 
 -- the invariant: the nodes and the members are right, and this network is held
 pub record IsBoard (roster : Tables) (b : Held) (sent : Network) : Type 0 where
-  pub seated : AreSeated roster b.posts
+  pub nodes : AreMemberNodes roster b.posts
   pub members : b.ledger.members ≡ members_of roster
   pub network : Holds roster b.network sent
 

@@ -28,7 +28,7 @@ standing_of (held.Shut floors) = Shut floors
 standing_of held.Astray = Astray
 
 -- the node is this member's, is open, and its store has its floors
-pub record IsSeated (tables : Tables) (member : ℕ) (n : NodeText (Unit {0}) FloorMap) : Type 0 where
+pub record IsMemberNode (tables : Tables) (member : ℕ) (n : NodeText (Unit {0}) FloorMap) : Type 0 where
   pub roster : n.roster ≡ tables
   pub id : n.id ≡ member
   pub is_open : n.state.closed ≡ false
@@ -36,7 +36,7 @@ pub record IsSeated (tables : Tables) (member : ℕ) (n : NodeText (Unit {0}) Fl
 
 -- the invariant of a standing: an open node is this member's
 abbrev pub IsSound : Tables → ℕ → Held → Type 0
-IsSound roster id (held.Open node) = IsSeated roster id node
+IsSound roster id (held.Open node) = IsMemberNode roster id node
 IsSound roster id _ = Unit {0}
 
 -- the same for the standing after a step without a flaw

@@ -11,7 +11,7 @@ ghost use Rattle.run_rules.specs.Verdict.{is_astray as is_astray_post, ending as
 ghost use Rattle.run_network.specs.Held.{Holds};
 ghost use Rattle.run_notes.specs.Held.{note_of};
 ghost use Rattle.run_check.specs.Held.{standing_of, IsSound};
-ghost use Rattle.run_check.specs.Boards.{post_of, posts_of, place_of as place_in_posts, board_of, AreSeated, IsBoard, IsJudged, opened_network};
+ghost use Rattle.run_check.specs.Boards.{post_of, posts_of, place_of as place_in_posts, board_of, AreMemberNodes, IsBoard, IsJudged, opened_network};
 
 use crate::ledger::Ledger;
 use crate::opening::{may_close, opens};
@@ -113,8 +113,8 @@ impl Posts {
     fn take(&mut self, id: u8) -> Standing
         ensures standing { standing_of result ≡ standing_at (posts_of self.old) id }
         ensures others { (standing : AStanding) → with_standing (posts_of self.new) id standing ≡ with_standing (posts_of self.old) id standing }
-        ensures sound { (roster : Tables) → AreSeated roster self.old → IsSound roster id result }
-        ensures seated { (roster : Tables) → AreSeated roster self.old → AreSeated roster self.new }
+        ensures sound { (roster : Tables) → AreMemberNodes roster self.old → IsSound roster id result }
+        ensures nodes { (roster : Tables) → AreMemberNodes roster self.old → AreMemberNodes roster self.new }
     {
         match place_of(self.posts.as_slice(), id) {
             Some(place) => replace(&mut self.posts[place].standing, Standing::Astray),
@@ -125,7 +125,7 @@ impl Posts {
     /// Puts the standing of the node with this id.
     fn put(&mut self, id: u8, standing: Standing) -> Result<(), AllocError>
         ensures posts { OnOk result (posts_of self.new ≡ with_standing (posts_of self.old) id (standing_of standing)) }
-        ensures seated { OnOk result ((roster : Tables) → AreSeated roster self.old → IsSound roster id standing → AreSeated roster self.new) }
+        ensures nodes { OnOk result ((roster : Tables) → AreMemberNodes roster self.old → IsSound roster id standing → AreMemberNodes roster self.new) }
     {
         match place_of(self.posts.as_slice(), id) {
             Some(place) => self.posts[place].standing = standing,

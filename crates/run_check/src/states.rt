@@ -6,7 +6,7 @@ use floor_rules::Floors;
 use node_copies::{same_ask, same_copy};
 use node_rules::{Fetch, NodeState, Pending};
 use object_store::WebCopy;
-use peer_chooser::{Round, Told};
+use peer_chooser::{FirstAnswer, Round};
 use roster::Peer;
 
 /// Whether the same peers are listed, in the same order.
@@ -16,8 +16,8 @@ fn same_peers(one: &[Peer], other: &[Peer]) -> bool
     one == other
 }
 
-/// Whether the same was told, in the same order.
-fn same_told(one: &[Told], other: &[Told]) -> bool
+/// Whether the answers are the same, in the same order.
+fn same_answers(one: &[FirstAnswer], other: &[FirstAnswer]) -> bool
     ensures { IsTrue result ↔ (one.now ≡ other.now) }
 {
     one == other
@@ -29,7 +29,7 @@ fn same_round(one: &Round, other: &Round) -> bool
 {
     one.has_expired() == other.has_expired()
         && same_peers(one.asked(), other.asked())
-        && same_told(one.told(), other.told())
+        && same_answers(one.answers(), other.answers())
 }
 
 /// Whether two pending requests have the same round, or none.

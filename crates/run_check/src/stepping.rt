@@ -5,7 +5,7 @@ ghost use Rattle.node_rules.specs.Relation.{purge_in as purge_of_event};
 ghost use Rattle.node_rules.specs.State.{setting};
 ghost use Rattle.run_rules.specs.Board.{Shut};
 ghost use Rattle.run_rules.specs.Judging.{StepsSo, StepsBy, OpenStepsBy, wanting, failing, shut_by, stored_by};
-ghost use Rattle.run_check.specs.Held.{standing_of, stepped_of, IsSound, IsSeated, AreSound};
+ghost use Rattle.run_check.specs.Held.{standing_of, stepped_of, IsSound, IsMemberNode, AreSound};
 
 use crate::purging::{purge_in, stored};
 use crate::reaching::reaches;
@@ -36,8 +36,8 @@ fn play(
     mut node: Node<(), MemoryFloors>,
     entry: &NodeEntry,
 ) -> Result<Result<Standing, Cause>, AllocError>
-    ensures stepped { IsSeated roster.now id node → IfOk result (λ stepped. StepsBy (setting roster.now id) node.state entry.now (stepped_of stepped)) }
-    ensures sound { IsSeated roster.now id node → IfOk result (AreSound roster.now id) }
+    ensures stepped { IsMemberNode roster.now id node → IfOk result (λ stepped. StepsBy (setting roster.now id) node.state entry.now (stepped_of stepped)) }
+    ensures sound { IsMemberNode roster.now id node → IfOk result (AreSound roster.now id) }
 {
     let outcome = node.step(copy_of_event(alloc, &entry.event)?, ());
     let _closed = node.is_closed();
@@ -61,7 +61,7 @@ fn closed_by(
     kept: &Floors,
 ) -> Result<Standing, AllocError>
     requires { 1 ≤ purge.now.1 }
-    ensures { IsSeated roster.now id node → IfOk result (λ standing. standing_of standing ≡ Shut (stored_by node.state.floors purge.now.0 purge.now.1 kept.now)) }
+    ensures { IsMemberNode roster.now id node → IfOk result (λ standing. standing_of standing ≡ Shut (stored_by node.state.floors purge.now.0 purge.now.1 kept.now)) }
 {
     let floors = stored(alloc, node.into_floors(), &purge.0, purge.1, kept)?;
     Ok(Standing::Shut(floors))
@@ -78,8 +78,8 @@ fn wants_memory(
     is_closed: bool,
     kept: &Floors,
 ) -> Result<Standing, AllocError>
-    ensures standing { IsSeated roster.now id node → IfOk result (λ standing. standing_of standing ≡ wanting node.state (purge_of_event (setting roster.now id) event.now) is_closed kept.now) }
-    ensures sound { IsSeated roster.now id node → IfOk result (IsSound roster.now id) }
+    ensures standing { IsMemberNode roster.now id node → IfOk result (λ standing. standing_of standing ≡ wanting node.state (purge_of_event (setting roster.now id) event.now) is_closed kept.now) }
+    ensures sound { IsMemberNode roster.now id node → IfOk result (IsSound roster.now id) }
 {
     match purge_in(alloc, roster, event)? {
         Some(purge) if is_closed => closed_by(alloc, roster, id, node, &purge, kept),
@@ -97,8 +97,8 @@ fn fails(
     event: &Event<()>,
     kept: &Floors,
 ) -> Result<Result<Standing, Cause>, AllocError>
-    ensures stepped { IsSeated roster.now id node → IfOk result (λ stepped. stepped_of stepped ≡ failing node.state (purge_of_event (setting roster.now id) event.now) kept.now) }
-    ensures sound { IsSeated roster.now id node → IfOk result (AreSound roster.now id) }
+    ensures stepped { IsMemberNode roster.now id node → IfOk result (λ stepped. stepped_of stepped ≡ failing node.state (purge_of_event (setting roster.now id) event.now) kept.now) }
+    ensures sound { IsMemberNode roster.now id node → IfOk result (AreSound roster.now id) }
 {
     match purge_in(alloc, roster, event)? {
         Some(purge) => Ok(Ok(closed_by(alloc, roster, id, node, &purge, kept)?)),
@@ -116,8 +116,8 @@ fn open_steps(
     is_closed: bool,
     kept: &Floors,
 ) -> Result<Result<Standing, Cause>, AllocError>
-    ensures stepped { IsSeated roster.now id node → IfOk result (λ stepped. OpenStepsBy (setting roster.now id) node.state entry.now is_closed kept.now entry.now.outcome (stepped_of stepped)) }
-    ensures sound { IsSeated roster.now id node → IfOk result (AreSound roster.now id) }
+    ensures stepped { IsMemberNode roster.now id node → IfOk result (λ stepped. OpenStepsBy (setting roster.now id) node.state entry.now is_closed kept.now entry.now.outcome (stepped_of stepped)) }
+    ensures sound { IsMemberNode roster.now id node → IfOk result (AreSound roster.now id) }
 {
     match &entry.outcome {
         Err(StepFault::NoMemory) => {

@@ -32,11 +32,11 @@ use Rattle.world_rules.specs.declared.event.WorldEvent.{WorldEvent}
 use Rattle.world_rules.specs.declared.event.WorldEvent.TheVariants as world
 use Rattle.node_rules.specs.Messages.{protocol_of as udp_of}
 use Rattle.world_rules.specs.World.{World, Datagram, item}
-use Rattle.world_rules.specs.Turn.{Seen, Told, Nothing, Turn, Ends, with_master, told, acknowledged_by, master_hears_htcp, master_hears, delivered_to, delivered}
+use Rattle.world_rules.specs.Turn.{Seen, Reported, Nothing, Turn, Ends, with_master, reports, acknowledged_by, master_hears_htcp, master_hears, delivered_to, delivered}
 use Rattle.world_rules.specs.Run.{Step, Run, Takes, Happens, IsItem, purges, IsIssuedAt, IsReportedAt}
 use Rattle.world_rules.specs.Lineage.{PurgeHasLineage, HasLineage}
 use Rattle.world_rules.proofs.Runs.{run_lineage}
-use Rattle.world_rules.proofs.Seats.{pending-found}
+use Rattle.world_rules.proofs.MemberStates.{pending-found}
 use Rattle.run_rules.specs.Notes.{Note, Opens, Steps, Closes, Calls}
 use Rattle.run_rules.specs.Recorded.{Progress, Goes, CallsIn, event_step}
 use Rattle.run_laws.specs.Entries.{Issues, Reports}
@@ -44,23 +44,23 @@ use Rattle.run_laws.proofs.Placing.{IsReached, Placed}
 
 -- A datagram that makes the master report a purge's status
 
-abbrev told_number : Seen → ℕ
-told_number (Told number s) = number
-told_number _ = 0
+abbrev reported_number : Seen → ℕ
+reported_number (Reported number s) = number
+reported_number _ = 0
 
-abbrev told_status : Seen → Status
-told_status (Told number s) = s
-told_status _ = status.Unknown
+abbrev reported_status : Seen → Status
+reported_status (Reported number s) = s
+reported_status _ = status.Unknown
 
 module _ (t : Tables) (place : ℕ) (w : World) (number : ℕ) (s : Status) (new : World) where
   -- a turn that is seen so reports the status in the world that it leaves
   abbrev TellsRight : Turn → Type 0
-  TellsRight turn = Takes t place w turn (Told number s) new → s ≡ status_of (members_of t) new.master number
+  TellsRight turn = Takes t place w turn (Reported number s) new → s ≡ status_of (members_of t) new.master number
 
-  told_right : (which : ℕ) (left : World) → TellsRight (told t left which)
-  told_right which left (is_seen, is_new) =
-      ap told_status is_seen
-      ∙ ap (λ n. status_of (members_of t) left.master n) (sym (ap told_number is_seen))
+  reported_right : (which : ℕ) (left : World) → TellsRight (reports t left which)
+  reported_right which left (is_seen, is_new) =
+      ap reported_status is_seen
+      ∙ ap (λ n. status_of (members_of t) left.master n) (sym (ap reported_number is_seen))
       ∙ ap (λ (x : World). status_of (members_of t) x.master number) (sym is_new)
 
   quiet_right : (left : World) → TellsRight (Ends Nothing left)
@@ -68,7 +68,7 @@ module _ (t : Tables) (place : ℕ) (w : World) (number : ℕ) (s : Status) (new
 
   acknowledged_right : (trans code : ℕ) (o : Option ℕ) → TellsRight (acknowledged_by t w trans code o)
   acknowledged_right trans code None takes = quiet_right w takes
-  acknowledged_right trans code (Some id) takes = told_right trans (with_master w (acknowledged (members_of t) w.master id trans code).purges) takes
+  acknowledged_right trans code (Some id) takes = reported_right trans (with_master w (acknowledged (members_of t) w.master id trans code).purges) takes
 
   htcp_right : (sender : Address) (trans : ℕ) (c : Content) → TellsRight (master_hears_htcp t w sender trans c)
   htcp_right sender trans (content.ClrAnswer code) takes = acknowledged_right trans code (member_at t sender udp.Htcp) takes
@@ -88,7 +88,7 @@ module _ (t : Tables) (place : ℕ) (w : World) (number : ℕ) (s : Status) (new
       branches TellsRight (is_master t d.receiver) (master_hears t w d.sender d.message) (delivered_to w d.sender d.message (member_at t d.receiver (udp_of d.message)))
       (λ _. hears_right d.sender d.message) (λ _. member_right d.sender d.message (member_at t d.receiver (udp_of d.message)))
 
-  datagram_tells : (which : ℕ) → Happens t place w (world.Datagram which) (Told number s) new → s ≡ status_of (members_of t) new.master number
+  datagram_tells : (which : ℕ) → Happens t place w (world.Datagram which) (Reported number s) new → s ≡ status_of (members_of t) new.master number
   datagram_tells which (key, takes) = delivered_right (item w.datagrams which) takes
 
 -- The acknowledgement that makes a purge done
@@ -158,7 +158,7 @@ module _ (t : Tables) (proper : IsRoster t) (from : Progress) (reached : IsReach
   pending_given : (number : ℕ) (p : Purge) → pending_at from.world.master number ≡ Some p → (1 ≤ number) × (number ≤ from.world.master.last)
   pending_given number p is =
       let same : p.number ≡ number = pending-found from.world.master.pending number p is in
-      let it : PurgeHasLineage reached.past from.world.seats p = found (PurgeHasLineage reached.past from.world.seats) (is_numbered number) from.world.master.pending p lineage.pending is in
+      let it : PurgeHasLineage reached.past from.world.states p = found (PurgeHasLineage reached.past from.world.states) (is_numbered number) from.world.master.pending p lineage.pending is in
       let within : p.number - 1 < length (purges reached.past) = slice_get_within (purges reached.past) (p.number - 1) p.key it.issued_key.1 in
       (omega (arith, same, it.issued_key.0), omega (arith, same, it.issued_key.0, within, lineage.last))
 
@@ -171,13 +171,13 @@ module _ (t : Tables) (proper : IsRoster t) (from : Progress) (reached : IsReach
   -- the event that an entry stands for reports the purge done
   record IsDoneBy (here : List Step) (number : ℕ) : Type 0 where
     happens : WorldEvent
-    is : here ≡ event_step happens (Told number status.Done) ∷ []
+    is : here ≡ event_step happens (Reported number status.Done) ∷ []
 
   acknowledgement_reports : (to : Progress) (here : List Step) (id trans code number : ℕ) (next : MasterState) →
       MasterCalls (members_of t) from.master (call.Acknowledge id trans code) (Ok (answer.Acknowledge (Some number))) next → CallsIn t from (call.Acknowledge id trans code) (Ok (answer.Acknowledge (Some number))) here → Goes t from here next to → IsDoneBy here number
   acknowledgement_reports to here id trans code number next calls (which, d, tells, there, its, these) goes =
       let ends : Finishes from.master.purges next.purges trans number = call_ends (members_of t) from.master next id trans code number calls in
-      let (middle, happens, same) : Run t from.place from.world (event_step (world.Datagram which) (Told trans tells) ∷ []) to.world = subst (λ (s : List Step). Run t from.place from.world s to.world) these goes.run in
+      let (middle, happens, same) : Run t from.place from.world (event_step (world.Datagram which) (Reported trans tells) ∷ []) to.world = subst (λ (s : List Step). Run t from.place from.world s to.world) these goes.run in
       let left : middle.master ≡ next.purges = ap (λ (w : World). w.master) (sym same) ∙ goes.purges ∙ ap (λ (m : MasterState). m.purges) goes.master in
       let is_done : tells ≡ status.Done =
       datagram_tells t from.place from.world trans tells middle which happens
@@ -185,7 +185,7 @@ module _ (t : Tables) (proper : IsRoster t) (from : Progress) (reached : IsReach
       ∙ finished_status next.purges trans number ends in
       record {
         happens = world.Datagram which;
-        is = these ∙ ap (λ s. event_step (world.Datagram which) (Told trans s) ∷ []) is_done ∙ ap (λ n. event_step (world.Datagram which) (Told n status.Done) ∷ []) (sym ends.same);
+        is = these ∙ ap (λ s. event_step (world.Datagram which) (Reported trans s) ∷ []) is_done ∙ ap (λ n. event_step (world.Datagram which) (Reported n status.Done) ∷ []) (sym ends.same);
       }
 
   acknowledge_reports : (to : Progress) (here : List Step) (c : MasterCall) (number : ℕ) (next : MasterState) →
@@ -198,15 +198,15 @@ module _ (t : Tables) (proper : IsRoster t) (from : Progress) (reached : IsReach
 first_is : (here : List Step) (step : Step) → here ≡ step ∷ [] → IsItem here 1 step
 first_is here step is = subst (λ (s : List Step). IsItem s 1 step) (sym is) (omega arith, refl)
 
-abbrev Reported : (t : Tables) (steps : List Step) (note : Note) → Placed t steps note → ℕ → Type 0
-Reported t steps note it number = IsReportedAt steps (it.offset + 1) number × (1 ≤ length it.here)
+abbrev DoneReported : (t : Tables) (steps : List Step) (note : Note) → Placed t steps note → ℕ → Type 0
+DoneReported t steps note it number = IsReportedAt steps (it.offset + 1) number × (1 ≤ length it.here)
 
-is_reported : (t : Tables) (steps : List Step) (note : Note) (it : Placed t steps note) (happens : WorldEvent) (number : ℕ) → it.here ≡ event_step happens (Told number status.Done) ∷ [] → Reported t steps note it number
+is_reported : (t : Tables) (steps : List Step) (note : Note) (it : Placed t steps note) (happens : WorldEvent) (number : ℕ) → it.here ≡ event_step happens (Reported number status.Done) ∷ [] → DoneReported t steps note it number
 is_reported t steps note it happens number is =
-    let step : Step = event_step happens (Told number status.Done) in
+    let step : Step = event_step happens (Reported number status.Done) in
     ((step, it.at 1 step (first_is it.here step is), refl), subst (λ (s : List Step). 1 ≤ length s) (sym is) (omega arith))
 
-pub reports_done : (t : Tables) → IsRoster t → (steps : List Step) (note : Note) (it : Placed t steps note) (number : ℕ) → Reports note number → Reported t steps note it number
+pub reports_done : (t : Tables) → IsRoster t → (steps : List Step) (note : Note) (it : Placed t steps note) (number : ℕ) → Reports note number → DoneReported t steps note it number
 reports_done t proper steps (Calls e is_closed) it number (inl acknowledges) =
     let (next, calls, these, goes) = it.stands in
     let by = acknowledge_reports t proper it.from it.reached it.to it.here e.call number next
@@ -215,11 +215,11 @@ reports_done t proper steps (Calls e is_closed) it number (inl acknowledges) =
     is_reported t steps (Calls e is_closed) it by.happens number by.is
 reports_done t proper steps (Calls e is_closed) it number (inr (asks, tells)) =
     let (next, calls, these, goes) = it.stands in
-    let is : it.here ≡ event_step (world.Status number) (Told number status.Done) ∷ [] = subst (λ a. CallsIn t it.from (call.Status number) a it.here) tells (subst (λ c. CallsIn t it.from c e.answer it.here) asks these) in
+    let is : it.here ≡ event_step (world.Status number) (Reported number status.Done) ∷ [] = subst (λ a. CallsIn t it.from (call.Status number) a it.here) tells (subst (λ c. CallsIn t it.from c e.answer it.here) asks these) in
     is_reported t steps (Calls e is_closed) it (world.Status number) number is
-reports_done t proper steps (Opens id state) it number reports = absurd reports
-reports_done t proper steps (Steps id e is_closed kept) it number reports = absurd reports
-reports_done t proper steps (Closes id place state) it number reports = absurd reports
+reports_done t proper steps (Opens id state) it number gives = absurd gives
+reports_done t proper steps (Steps id e is_closed kept) it number gives = absurd gives
+reports_done t proper steps (Closes id place state) it number gives = absurd gives
 
 pub issues_purge : (t : Tables) (steps : List Step) (note : Note) (it : Placed t steps note) (number : ℕ) (key : List ℕ) → Issues note number key → IsIssuedAt steps (it.offset + 1) number key
 issues_purge t steps (Calls e is_closed) it number key (issues, gives) =

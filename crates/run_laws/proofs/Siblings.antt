@@ -60,14 +60,14 @@ back_same (event.Expired serial now) messages back = back
 takes_nothing : (t : Tables) (place id : ℕ) (w new : World) (met : Event ℕ) (serial : ℕ) (outcome : Result (Reply ℕ) StepFault) →
     is_from_sibling (setting t id) met ≡ true → Takes t place w (NodeSteps id met serial) (Replied id outcome) new → begun outcome ≡ None
 takes_nothing t place id w new met serial outcome asks (result, next, steps, is_seen, is_new) =
-    ap (λ (s : Seen). begun (seen_outcome s outcome)) is_seen ∙ ((steps_are_lawful (setting t id) (node_at w.seats id) met place result next steps).siblings asks).begun_none
+    ap (λ (s : Seen). begun (seen_outcome s outcome)) is_seen ∙ ((steps_are_lawful (setting t id) (node_at w.states id) met place result next steps).siblings asks).begun_none
 
 -- what such a step sends goes back to its source
 takes_back : (t : Tables) (place id : ℕ) (w new : World) (met : Event ℕ) (serial : ℕ) (outcome : Result (Reply ℕ) StepFault) →
     is_from_sibling (setting t id) met ≡ true → Takes t place w (NodeSteps id met serial) (Replied id outcome) new → SendsBack met (sent outcome)
 takes_back t place id w new met serial outcome asks (result, next, steps, is_seen, is_new) =
     subst (λ (r : Result (Reply ℕ) StepFault). SendsBack met (sent r)) (ap (λ (s : Seen). seen_outcome s outcome) (sym is_seen))
-    (sibling_sends_back (setting t id) (node_at w.seats id) met place result next asks steps)
+    (sibling_sends_back (setting t id) (node_at w.states id) met place result next asks steps)
 
 taken_begins_nothing : (t : Tables) (from to : Progress) (id : ℕ) (e : Event (Unit {0})) (outcome : Result (Reply ℕ) StepFault) (here : List Step) →
     is_from_sibling (setting t id) e ≡ true → IsTaken t from id e outcome here to → (begun outcome ≡ None) × SendsBack e (sent outcome)

@@ -9,15 +9,12 @@ use crate::answers::Answers;
 use crate::asks::Asks;
 use crate::letters::Letters;
 use crate::waits::Waits;
-use node_rules::{Begin, Event, Reply, Serve};
+use node_rules::{Begin, Event, Reply, SERIALS, Serve};
 use purge_rules::{MasterAnswer, MasterCall, MasterFault};
 use roster::Roster;
 use std::alloc::{AllocError, Global};
 use std::hash::RandomState;
 use url_key::Key;
-
-/// How many serials a block has.
-const SERIALS: u32 = 32;
 
 /// All that was sent in a run so far, and the members' requests that wait.
 ///

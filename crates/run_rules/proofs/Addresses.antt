@@ -12,7 +12,7 @@ use Rattle.values_plain.specs.declared.address.Udp.TheVariants as udp
 use Rattle.roster.specs.Lookups.{same_address, address_by, member_of, member_at, is_member}
 use Rattle.roster.specs.Judged.{clashes, caches_of, udp_of, udp_addresses, has_doubles, IsRoster}
 use Rattle.node_rules.proofs.Cases.{true_not_false}
-use Rattle.world_rules.proofs.Seats.{same_id, ids_same, and_parts}
+use Rattle.world_rules.proofs.MemberStates.{same_id, ids_same, and_parts}
 use Rattle.run_rules.proofs.Lists.{either, same_some}
 
 same_itself : (a : Address) → same_address a a ≡ true

@@ -27,10 +27,10 @@ use Rattle.purge_master.specs.declared.book.MasterEntry.{MasterEntry}
 use Rattle.world_rules.specs.declared.event.WorldEvent.{WorldEvent}
 use Rattle.world_rules.specs.declared.event.WorldEvent.TheVariants as world
 use Rattle.std.specs.Prelude.{Contains}
-use Rattle.world_rules.specs.World.{World, Datagram, Seat, node_at}
+use Rattle.world_rules.specs.World.{World, Datagram, MemberState, node_at}
 use Rattle.world_rules.proofs.Items.{append_nil}
 use Rattle.node_rules.specs.Messages.{protocol_of as udp_of, clear_answer, clear_answer_in}
-use Rattle.world_rules.specs.Turn.{Seen, Issued, Told, Nothing, Turn, Ends, turn, with_master, with_sent, clears_of, clears_due, issue_by, master_hears, master_hears_htcp, acknowledged_by, delivered, delivered_to}
+use Rattle.world_rules.specs.Turn.{Seen, Issued, Reported, Nothing, Turn, Ends, turn, with_master, with_sent, clears_of, clears_due, issue_by, master_hears, master_hears_htcp, acknowledged_by, delivered, delivered_to}
 use Rattle.world_rules.specs.Run.{Step, Takes}
 use Rattle.world_rules.specs.Run.{IsOfKey as IsEventOfKey}
 use Rattle.run_rules.specs.Notes.{Calls}
@@ -203,9 +203,9 @@ module _ (t : Tables) (b : Board) (p : Progress) (m : Matches t b p) (place : �
     abbrev q : Progress
     q = record { world = after; place = p.place + 1; master = next }
 
-    by_event : MasterCalls (members_of t) p.master c a next → CallsIn t p c a (one ∷ []) → IsEventOfKey happens → turn t w happens ≡ Ends seen after → after.master ≡ next.purges → after.seats ≡ w.seats →
+    by_event : MasterCalls (members_of t) p.master c a next → CallsIn t p c a (one ∷ []) → IsEventOfKey happens → turn t w happens ≡ Ends seen after → after.master ≡ next.purges → after.states ≡ w.states →
         NetworkMatches (with_clears t b.network c a) after → Follows t p (Calls (entry c a) is_closed) (after_call t b (entry c a) next)
-    by_event calls stands keyed turns purges seats network =
+    by_event calls stands keyed turns purges states network =
         let goes : Goes t p (one ∷ []) next q = record {
           run = (after, (keyed, subst (λ (x : Turn). Takes t p.place w x seen after) (sym turns) (refl, refl)), refl);
           place = refl;
@@ -220,7 +220,7 @@ module _ (t : Tables) (b : Board) (p : Progress) (m : Matches t b p) (place : �
             past = m.past ++ one ∷ [];
             at = place_goes t b p (one ∷ []) (p.place + 1) m refl;
             after = after_goes t b p q (one ∷ []) m goes.run;
-            nodes = λ id. subst (λ (s : List Seat). StandsIn t id (standing_at b.posts id) (node_at s id)) (sym seats) (m.nodes id);
+            nodes = λ id. subst (λ (s : List MemberState). StandsIn t id (standing_at b.posts id) (node_at s id)) (sym states) (m.nodes id);
             master = refl;
             purges = purges;
             network = network;
@@ -269,7 +269,7 @@ module _ (t : Tables) (b : Board) (p : Progress) (m : Matches t b p) (place : �
       let purges : PurgeList = (acknowledged (members_of t) w.master id trans code).purges in
       let status : Status = status_of (members_of t) purges trans in
       let left : next ≡ opened purges = acknowledge_called (members_of t) w.master b.master.closed id trans code next (answer.Acknowledge finished) (in_world (call.Acknowledge id trans code) _ is) in
-      by_event (call.Acknowledge id trans code) (Ok (answer.Acknowledge finished)) next (world.Datagram number) (Told trans status) (with_master w purges) (in_run (call.Acknowledge id trans code) _ is) (number, d, status, there, its, refl) tt
+      by_event (call.Acknowledge id trans code) (Ok (answer.Acknowledge finished)) next (world.Datagram number) (Reported trans status) (with_master w purges) (in_run (call.Acknowledge id trans code) _ is) (number, d, status, there, its, refl) tt
       (ap (delivered t w) there
       ∙ ap (λ c. cond c (master_hears t w d.sender d.message) (delivered_to w d.sender d.message (member_at t d.receiver (udp_of d.message)))) its.receiver
       ∙ hears_clear t w d.sender d.message trans code its.says
@@ -287,8 +287,8 @@ module _ (t : Tables) (b : Board) (p : Progress) (m : Matches t b p) (place : �
       Follows t p (Calls (entry (call.Status number) (Ok (answer.Status status))) is_closed) (after_call t b (entry (call.Status number) (Ok (answer.Status status))) next)
   tells_status number status next is =
       let (same, told) = status_called (members_of t) w.master b.master.closed number next status (in_world (call.Status number) _ is) in
-      by_event (call.Status number) (Ok (answer.Status status)) next (world.Status number) (Told number status) w (in_run (call.Status number) _ is) refl tt
-      (ap (λ (x : Status). Ends (Told number x) w) (sym (ap (status_in status) told))) (sym same) refl (nothing_sent b.network w m.network)
+      by_event (call.Status number) (Ok (answer.Status status)) next (world.Status number) (Reported number status) w (in_run (call.Status number) _ is) refl tt
+      (ap (λ (x : Status). Ends (Reported number x) w) (sym (ap (status_in status) told))) (sym same) refl (nothing_sent b.network w m.network)
 
   misfit : (c : MasterCall) (a : MasterAnswer) (next : MasterState) → called (members_of t) b.master c ≡ record { state = next; outcome = Ok a } → fits_call c a ≡ false → ⊥
   misfit c a next is other = true_not_false (sym (fits (members_of t) w.master b.master.closed c next a (in_world c _ is)) ∙ other)

@@ -29,7 +29,7 @@ use Rattle.node_book.specs.declared.book.NodeEntry.{NodeEntry}
 use Rattle.world_rules.specs.declared.event.WorldEvent.TheVariants as world
 use Rattle.world_rules.specs.World.{World, reply_in, after_node, is_waiting_as}
 use Rattle.world_rules.specs.declared.outcome.WorldFault.TheVariants.{NoSuchPacket}
-use Rattle.world_rules.specs.Turn.{Replied, Nothing, Turn, Ends, Refused as TurnRefused, turn, with_clock, with_seat}
+use Rattle.world_rules.specs.Turn.{Replied, Nothing, Turn, Ends, Refused as TurnRefused, turn, with_clock, with_member_state}
 use Rattle.world_rules.specs.Run.{Step, Run, Takes}
 use Rattle.world_rules.specs.Asked.{moment}
 use Rattle.run_rules.specs.Sent.{Network, with_reply, without_waiting, IsSent}
@@ -40,7 +40,7 @@ use Rattle.run_rules.specs.Judging.{Fine, Flawed, Reaches, IsStep, StepsBy, Open
 use Rattle.run_rules.specs.Recorded.{Progress, Goes, IsTaken, ChangesNothing, event_step, unmarked, unmarked_event, unmarked_outcome, node_in}
 use Rattle.run_rules.specs.Recorded.{Stands}
 use Rattle.run_rules.specs.Notes.{Note, Steps}
-use Rattle.world_rules.proofs.Seats.{node_at-same, node_at-other}
+use Rattle.world_rules.proofs.MemberStates.{node_at-same, node_at-other}
 use Rattle.run_rules.proofs.Running.{runs_join}
 use Rattle.run_rules.proofs.Lists.{either, found_still}
 use Rattle.run_rules.proofs.Asking.{ok_same}
@@ -74,7 +74,7 @@ network_kept t n w id e serial o next h = record {
   waiting = λ i block x is. let (y, found, same) = h.waiting i block x is in (y, found_still (is_waiting_as i block) w.waiting _ y found, same);
 }
 
-pub network_closed : (n : Network) (w : World) (id : ℕ) (next : NodeState ℕ) → NetworkMatches n w → NetworkMatches (without_waiting n id) (with_seat w id next)
+pub network_closed : (n : Network) (w : World) (id : ℕ) (next : NodeState ℕ) → NetworkMatches n w → NetworkMatches (without_waiting n id) (with_member_state w id next)
 network_closed n w id next h = record { datagrams = h.datagrams; asks = h.asks; answers = h.answers; waiting = waits_dropped n.waiting w.waiting id h.waiting }
 
 purge_unmarked : (g : Setting) (e : Event ℕ) → purge_in g (unmarked_event e) ≡ purge_in g e
@@ -200,7 +200,7 @@ module _ (t : Tables) (b : Board) (p : Progress) (m : Matches t b p) (id : ℕ) 
     past = m.past;
     at = m.at;
     after = m.after;
-    nodes = each_post t b.posts p.world.seats id st stands m.nodes;
+    nodes = each_post t b.posts p.world.states id st stands m.nodes;
     master = m.master;
     purges = m.purges;
     network = network;
@@ -224,7 +224,7 @@ module _ (t : Tables) (b : Board) (p : Progress) (m : Matches t b p) (id : ℕ) 
             past = m.past ++ these is_open entry.event how;
             at = place_goes t b p (these is_open entry.event how) (p.place + 2) m refl;
             after = after_goes t b p (q is_open entry.event how) (these is_open entry.event how) m (runs is_open entry.event how);
-            nodes = each_place t b.posts p.world.seats id (Open next) (r is_open entry.event how).state (member, open_after is_open entry.event how, state) (λ i _. m.nodes i);
+            nodes = each_place t b.posts p.world.states id (Open next) (r is_open entry.event how).state (member, open_after is_open entry.event how, state) (λ i _. m.nodes i);
             master = m.master;
             purges = m.purges;
             network =
@@ -301,7 +301,7 @@ module _ (t : Tables) (b : Board) (p : Progress) (m : Matches t b p) (id : ℕ) 
       fault_step = event_step (world.Fault id) Nothing
 
       abbrev faulted : Progress → Progress
-      faulted x = record { world = with_seat x.world id (closed_node (node_in x id)); place = x.place + 1; master = x.master }
+      faulted x = record { world = with_member_state x.world id (closed_node (node_in x id)); place = x.place + 1; master = x.master }
 
       fault_goes : (x : Progress) → x.world.master ≡ x.master.purges → Goes t x (fault_step ∷ []) x.master (faulted x)
       fault_goes x purges_same = record {
@@ -323,7 +323,7 @@ module _ (t : Tables) (b : Board) (p : Progress) (m : Matches t b p) (id : ℕ) 
               past = m.past ++ fault_step ∷ [];
               at = place_goes t b p (fault_step ∷ []) (p.place + 1) m refl;
               after = after_goes t b p (faulted p) (fault_step ∷ []) m goes.run;
-              nodes = each_place t b.posts p.world.seats id (Shut left) (closed_node node) (member, refl, sym (ap (λ c. cond c (raised node.floors key n) node.floors) not_made)) (λ i _. m.nodes i);
+              nodes = each_place t b.posts p.world.states id (Shut left) (closed_node node) (member, refl, sym (ap (λ c. cond c (raised node.floors key n) node.floors) not_made)) (λ i _. m.nodes i);
               master = m.master;
               purges = m.purges;
               network = network_closed b.network p.world id (closed_node node) m.network;
@@ -343,7 +343,7 @@ module _ (t : Tables) (b : Board) (p : Progress) (m : Matches t b p) (id : ℕ) 
           let all : Run t p.place p.world (these is_open entry.event how ++ fault_step ∷ []) (faulted (q is_open entry.event how)).world =
           runs_join t p.place (p.place + 2) p.world (q is_open entry.event how).world (faulted (q is_open entry.event how)).world (these is_open entry.event how) (fault_step ∷ []) refl (runs is_open entry.event how) goes.run in
           let floors : (node_in (q is_open entry.event how) id).floors ≡ left =
-          ap (λ (x : NodeState ℕ). x.floors) (node_at-same p.world.seats id (r is_open entry.event how).state) ∙ purged.floors ∙ sym (ap (λ c. cond c (raised node.floors key n) node.floors) made) in
+          ap (λ (x : NodeState ℕ). x.floors) (node_at-same p.world.states id (r is_open entry.event how).state) ∙ purged.floors ∙ sym (ap (λ c. cond c (raised node.floors key n) node.floors) made) in
           record {
             steps = these is_open entry.event how ++ fault_step ∷ [];
             to = faulted (q is_open entry.event how);
@@ -352,7 +352,7 @@ module _ (t : Tables) (b : Board) (p : Progress) (m : Matches t b p) (id : ℕ) 
               past = m.past ++ (these is_open entry.event how ++ fault_step ∷ []);
               at = place_goes t b p (these is_open entry.event how ++ fault_step ∷ []) (p.place + 2 + 1) m (omega arith);
               after = after_goes t b p (faulted (q is_open entry.event how)) (these is_open entry.event how ++ fault_step ∷ []) m all;
-              nodes = each_place t b.posts (q is_open entry.event how).world.seats id (Shut left) (closed_node (node_in (q is_open entry.event how) id)) (member, refl, floors) (λ i ne. subst (StandsIn t i (standing_at b.posts i)) (sym (node_at-other p.world.seats id i (r is_open entry.event how).state ne)) (m.nodes i));
+              nodes = each_place t b.posts (q is_open entry.event how).world.states id (Shut left) (closed_node (node_in (q is_open entry.event how) id)) (member, refl, floors) (λ i ne. subst (StandsIn t i (standing_at b.posts i)) (sym (node_at-other p.world.states id i (r is_open entry.event how).state ne)) (m.nodes i));
               master = m.master;
               purges = m.purges;
               network = network_closed b.network (q is_open entry.event how).world id _ (network_kept t b.network (now is_open entry.event how) id how.met how.serial (r is_open entry.event how).outcome (r is_open entry.event how).state (network_now m.network));

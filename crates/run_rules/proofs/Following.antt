@@ -16,9 +16,9 @@ use Rattle.node_rules.specs.State.{Setting, quiet}
 use Rattle.node_rules.specs.Step.{step}
 use Rattle.node_rules.specs.Tags.{retag_reply}
 use Rattle.node_rules.proofs.Cases.{branches}
-use Rattle.world_rules.specs.World.{World, Datagram, Seat, new_node, node_at, with_node, datagrams_from, after_node}
+use Rattle.world_rules.specs.World.{World, Datagram, MemberState, new_node, node_at, with_node, datagrams_from, after_node}
 use Rattle.world_rules.specs.Run.{Step, Run}
-use Rattle.world_rules.proofs.Seats.{same_id, ids_same, other_id, node_at-same, node_at-other}
+use Rattle.world_rules.proofs.MemberStates.{same_id, ids_same, other_id, node_at-same, node_at-other}
 use Rattle.world_rules.proofs.Items.{append_nil}
 use Rattle.world_rules.proofs.Runs.{next_place}
 use Rattle.world_rules.proofs.SourceRuns.{IsAfter, after_one}
@@ -53,25 +53,25 @@ standing_at-other (p ∷ ps) id other st ne =
     (λ _. ap (cond (nat_eq p.id other) p.standing) (standing_at-other ps id other st ne))
 
 -- a node and its standing have changed, and all others not
-pub each_place : (t : Tables) (posts : List Post) (seats : List Seat) (id : ℕ) (st : Standing) (node : NodeState ℕ) → StandsIn t id st node → ((i : ℕ) → i ≢ id → StandsIn t i (standing_at posts i) (node_at seats i)) →
-    (i : ℕ) → StandsIn t i (standing_at (with_standing posts id st) i) (node_at (with_node seats id node) i)
-each_place t posts seats id st node this those i =
+pub each_place : (t : Tables) (posts : List Post) (states : List MemberState) (id : ℕ) (st : Standing) (node : NodeState ℕ) → StandsIn t id st node → ((i : ℕ) → i ≢ id → StandsIn t i (standing_at posts i) (node_at states i)) →
+    (i : ℕ) → StandsIn t i (standing_at (with_standing posts id st) i) (node_at (with_node states id node) i)
+each_place t posts states id st node this those i =
     elim (ℕ_discrete i id) [
       | yes e ↦
-          subst (λ n. StandsIn t n (standing_at (with_standing posts id st) n) (node_at (with_node seats id node) n)) (sym e)
-          (subst (λ x. StandsIn t id x (node_at (with_node seats id node) id)) (sym (standing_at-same posts id st)) (subst (StandsIn t id st) (sym (node_at-same seats id node)) this))
+          subst (λ n. StandsIn t n (standing_at (with_standing posts id st) n) (node_at (with_node states id node) n)) (sym e)
+          (subst (λ x. StandsIn t id x (node_at (with_node states id node) id)) (sym (standing_at-same posts id st)) (subst (StandsIn t id st) (sym (node_at-same states id node)) this))
       | no ne ↦
-          subst (λ x. StandsIn t i x (node_at (with_node seats id node) i)) (sym (standing_at-other posts id i st ne))
-          (subst (StandsIn t i (standing_at posts i)) (sym (node_at-other seats id i node ne)) (those i ne))
+          subst (λ x. StandsIn t i x (node_at (with_node states id node) i)) (sym (standing_at-other posts id i st ne))
+          (subst (StandsIn t i (standing_at posts i)) (sym (node_at-other states id i node ne)) (those i ne))
     ]
 
 -- a node's standing has changed, and the world not
-pub each_post : (t : Tables) (posts : List Post) (seats : List Seat) (id : ℕ) (st : Standing) → StandsIn t id st (node_at seats id) → ((i : ℕ) → StandsIn t i (standing_at posts i) (node_at seats i)) →
-    (i : ℕ) → StandsIn t i (standing_at (with_standing posts id st) i) (node_at seats i)
-each_post t posts seats id st this those i =
+pub each_post : (t : Tables) (posts : List Post) (states : List MemberState) (id : ℕ) (st : Standing) → StandsIn t id st (node_at states id) → ((i : ℕ) → StandsIn t i (standing_at posts i) (node_at states i)) →
+    (i : ℕ) → StandsIn t i (standing_at (with_standing posts id st) i) (node_at states i)
+each_post t posts states id st this those i =
     elim (ℕ_discrete i id) [
-      | yes e ↦ subst (λ n. StandsIn t n (standing_at (with_standing posts id st) n) (node_at seats n)) (sym e) (subst (λ x. StandsIn t id x (node_at seats id)) (sym (standing_at-same posts id st)) this)
-      | no ne ↦ subst (λ x. StandsIn t i x (node_at seats i)) (sym (standing_at-other posts id i st ne)) (those i)
+      | yes e ↦ subst (λ n. StandsIn t n (standing_at (with_standing posts id st) n) (node_at states n)) (sym e) (subst (λ x. StandsIn t id x (node_at states id)) (sym (standing_at-same posts id st)) this)
+      | no ne ↦ subst (λ x. StandsIn t i x (node_at states i)) (sym (standing_at-other posts id i st ne)) (those i)
     ]
 
 -- The state of the run and the world
@@ -119,13 +119,13 @@ begins_next g s mark (event.Expired serial now) reply b is begins = tt
 
 -- what a node's reply sends is sent in the world
 pub network_replied : (t : Tables) (n : Network) (w : World) (id : ℕ) (e : Event ℕ) (serial : ℕ) (reply : Reply ℕ) (next : NodeState ℕ) → NetworkMatches n w →
-    AllByRecursion (λ x. x.node ≡ id → x.block < (node_at w.seats id).next) w.waiting → BeginsNext e reply.begin (node_at w.seats id) next →
+    AllByRecursion (λ x. x.node ≡ id → x.block < (node_at w.states id).next) w.waiting → BeginsNext e reply.begin (node_at w.states id) next →
     NetworkMatches (with_reply t n id (unmarked_event e) (retag_reply (λ _. tt) reply)) (after_node t w id e serial (Ok reply) next)
 network_replied t n w id e serial reply next matches taken begins = record {
   datagrams = datagrams_grow n.datagrams (datagrams_from (member_of t id) reply.send) w.datagrams (datagrams_from (member_of t id) reply.send) matches.datagrams (λ d has. has);
   asks = asks_grow n.asks _ w.asks _ matches.asks (asks_same id reply.begin);
   answers = answers_grow n.answers _ w.answers _ matches.answers (answers_same n.waiting w.waiting id e serial reply.serve matches.waiting);
-  waiting = waits_by_event n.waiting w.waiting id e serial reply.begin (node_at w.seats id) next matches.waiting taken begins;
+  waiting = waits_by_event n.waiting w.waiting id e serial reply.begin (node_at w.states id) next matches.waiting taken begins;
 }
 
 waits_nothing : (id : ℕ) (e : Event (Unit {0})) → waits_by id e None ≡ []

@@ -4,7 +4,7 @@ use Rattle.std.specs.Prelude.{find, slice_get, Contains}
 use Rattle.std.specs.List.{slice_index_or}
 use Rattle.node_rules.proofs.Cases.{branches, true_not_false}
 use Rattle.world_rules.specs.World.{item}
-use Rattle.world_rules.proofs.Seats.{other_id}
+use Rattle.world_rules.proofs.MemberStates.{other_id}
 
 pub same_some : {A : Type 0} (x y : A) → Some x ≡ Some y → x ≡ y
 same_some x y e = cc

@@ -19,7 +19,7 @@ use Rattle.node_rules.specs.Tags.{retag_served, retag_serve}
 use Rattle.node_rules.proofs.Cases.{true_not_false}
 use Rattle.world_rules.specs.World.{World, Datagram, PeerAsk, PeerAnswer, Waiting, Answered, asks_in, answer_of, answers_in, answer_to, asked_now, asked_by, is_waiting_as, waits_now}
 use Rattle.world_rules.specs.Sources.{IsTaken}
-use Rattle.world_rules.proofs.Seats.{same_id, ids_same, other_id, and_parts}
+use Rattle.world_rules.proofs.MemberStates.{same_id, ids_same, other_id, and_parts}
 use Rattle.run_rules.specs.Sent.{SentAsk, SentAnswer, Waits, Network, asks_by, answers_by, answer_for, key_by, key_now, text_of, is_waiting, waits_by}
 use Rattle.run_rules.specs.Recorded.{unmarked_event}
 use Rattle.run_rules.proofs.Lists.{either, same_some, contains_none, contains_one, one_contains, found_still, found_later, found_where, found_kept, found_gone}

@@ -28,7 +28,7 @@ use Rattle.world_rules.specs.World.{World, Datagram, item, node_at}
 use Rattle.world_rules.specs.Turn.{Turn, NodeSteps, Refused, turn, at_member, with_clock, delivered, delivered_to, master_hears, ask_delivered, answer_delivered, origin_to, origin_by, foreign_to, foreign_by, fetching_at}
 use Rattle.world_rules.specs.Run.{IsOfKey}
 use Rattle.world_rules.specs.Asked.{moment}
-use Rattle.world_rules.proofs.Seats.{ids_same, and_parts}
+use Rattle.world_rules.proofs.MemberStates.{ids_same, and_parts}
 use Rattle.run_rules.specs.Sent.{Network, IsSent, IsDatagramSent}
 use Rattle.run_rules.specs.Judging.{IsPending, Reaches, is_read, is_foreign_fetch}
 use Rattle.run_rules.specs.Recorded.{unmarked, unmarked_event}
@@ -134,14 +134,14 @@ module _ (t : Tables) (proper : IsRoster t) (w : World) (id : ℕ) (member : is_
   fetching_of None key is_such h = absurd h
   fetching_of (Some p) key is_such h = (p, refl, h.0, h.1)
 
-  fetching : (s : NodeState (Unit {0})) → unmarked (node_at w.seats id) ≡ s → (serial : ℕ) (key : List ℕ) (is_such : Fetch (Unit {0}) → Bool) → IsPending s serial key is_such → IsFetching (fetching_at w id serial) key is_such
+  fetching : (s : NodeState (Unit {0})) → unmarked (node_at w.states id) ≡ s → (serial : ℕ) (key : List ℕ) (is_such : Fetch (Unit {0}) → Bool) → IsPending s serial key is_such → IsFetching (fetching_at w id serial) key is_such
   fetching s same serial key is_such h =
       fetching_of (fetching_at w id serial) key is_such
       (subst (λ (o : Option (Pending (Unit {0}))). MatchOption o ⊥ (λ p. (p.ask.key ≡ key) × (is_such p.fetch ≡ true)))
-      (find_of_map (retag_pending (λ _. tt)) (λ p. nat_eq (fetch_serial p) serial) (node_at w.seats id).pending)
+      (find_of_map (retag_pending (λ _. tt)) (λ p. nat_eq (fetch_serial p) serial) (node_at w.states id).pending)
       (subst (λ (x : NodeState (Unit {0})). IsPending x serial key is_such) (sym same) h))
 
-  pub meets : (n : Network) → NetworkMatches n w → (s : NodeState (Unit {0})) → unmarked (node_at w.seats id) ≡ s → (e : Event (Unit {0})) → IsSent t n id e → Reaches s e → Meets t w id e
+  pub meets : (n : Network) → NetworkMatches n w → (s : NodeState (Unit {0})) → unmarked (node_at w.states id) ≡ s → (e : Event (Unit {0})) → IsSent t n id e → Reaches s e → Meets t w id e
   meets n matches s same (event.Client ask now) sent reaches = record { happens = world.Client id ask; met = event.Client ask now; serial = 0; keyed = tt; turns = comes _; event = refl }
   meets n matches s same (event.Datagram from m now) sent reaches = elim (either (is_own t from)) [
     | inl own ↦ own_meets n matches from m now (sent own)

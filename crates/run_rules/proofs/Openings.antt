@@ -9,7 +9,7 @@ use Rattle.node_rules.specs.State.{opened}
 use Rattle.world_rules.specs.declared.event.WorldEvent.TheVariants as world
 use Rattle.world_rules.specs.declared.outcome.WorldFault.TheVariants.{NoSuchPacket}
 use Rattle.world_rules.specs.World.{World}
-use Rattle.world_rules.specs.Turn.{Nothing, Turn, Ends, Refused, with_seat}
+use Rattle.world_rules.specs.Turn.{Nothing, Turn, Ends, Refused, with_member_state}
 use Rattle.world_rules.specs.Run.{Step, Takes}
 use Rattle.run_rules.specs.declared.verdict.Cause.TheVariants.{OtherState}
 use Rattle.run_rules.specs.Notes.{Opens, Closes}
@@ -43,7 +43,7 @@ module _ (t : Tables) (b : Board) (p : Progress) (m : Matches t b p) (id : ℕ) 
       past = m.past;
       at = m.at;
       after = m.after;
-      nodes = each_post t b.posts p.world.seats id st stands m.nodes;
+      nodes = each_post t b.posts p.world.states id st stands m.nodes;
       master = m.master;
       purges = m.purges;
       network = opened_network b.network p.world id (nat_eq state.next 1) m.network;
@@ -51,7 +51,7 @@ module _ (t : Tables) (b : Board) (p : Progress) (m : Matches t b p) (id : ℕ) 
   }
 
   abbrev again : Progress
-  again = record { world = with_seat p.world id (opened node.floors); place = p.place + 1; master = p.master }
+  again = record { world = with_member_state p.world id (opened node.floors); place = p.place + 1; master = p.master }
 
   abbrev restart : Step
   restart = event_step (world.Restart id) Nothing
@@ -77,7 +77,7 @@ module _ (t : Tables) (b : Board) (p : Progress) (m : Matches t b p) (id : ℕ) 
           past = m.past ++ restart ∷ [];
           at = place_goes t b p (restart ∷ []) (p.place + 1) m refl;
           after = after_goes t b p again (restart ∷ []) m goes.run;
-          nodes = each_place t b.posts p.world.seats id (Open state) (opened node.floors) (member, refl, sym fresh) (λ i _. m.nodes i);
+          nodes = each_place t b.posts p.world.states id (Open state) (opened node.floors) (member, refl, sym fresh) (λ i _. m.nodes i);
           master = m.master;
           purges = m.purges;
           network =

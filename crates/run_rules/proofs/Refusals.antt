@@ -20,7 +20,7 @@ use Rattle.floor_rules.specs.Floors.{floor}
 use Rattle.peer_chooser.specs.declared.said.Said.{Said}
 use Rattle.peer_chooser.specs.declared.said.Source.{Source}
 use Rattle.peer_chooser.specs.declared.said.Source.TheVariants as source
-use Rattle.peer_chooser.specs.Round.{RoundText, has_told}
+use Rattle.peer_chooser.specs.Round.{RoundText, has_answered}
 use Rattle.node_rules.specs.declared.message.Message.{Message}
 use Rattle.node_rules.specs.declared.message.Message.TheVariants as message
 use Rattle.node_rules.specs.declared.state.Fetch.{Fetch}
@@ -162,7 +162,7 @@ module _ {X : Type 0} (g : Setting) (s : NodeState X) (mark : X) where
   hears_fair : (p : Pending X) (peer : Peer) (said : Said) (now : ℕ) (o : Option RoundText) → Fair (hears g s p peer said now mark o)
   unfolding hears
   hears_fair p peer said now None = replied _ _
-  hears_fair p peer said now (Some r) = branches Fair (has_told r.told peer.id) _ _ (λ _. replied _ _) (λ _. round_moves_fair _ now)
+  hears_fair p peer said now (Some r) = branches Fair (has_answered r.answers peer.id) _ _ (λ _. replied _ _) (λ _. round_moves_fair _ now)
 
   told_by_fair : (p : Pending X) (said : Peer → Said) (now : ℕ) (o : Option Peer) → Fair (told_by g s p said now mark o)
   unfolding told_by

@@ -5,7 +5,7 @@ use Rattle.std.proofs.Common.{◌≡◌, ◌⊎◌, ℕ, zero, suc, ◌+◌, ◌
 use Rattle.std.specs.List.{AllByRecursion, flat_map, filter_map, cons_option}
 use Rattle.std.proofs.lemmas.Bool.Decides.{nat_tests}
 use Rattle.node_rules.proofs.Cases.{branches, test_le, test_lt}
-use Rattle.world_rules.proofs.Seats.{same_id}
+use Rattle.world_rules.proofs.MemberStates.{same_id}
 use Rattle.run_rules.specs.Notes.{Note, place_in, rank_by, rank_of, ranks_of, places_in, falls, falls_from, lesser, least, least_fall, Taken, next_note, count_of}
 use Rattle.run_rules.specs.Verdict.{OrderedNote, double_of, order_on, order_by, count_in, order_of}
 use Rattle.run_rules.specs.Recorded.{Rise, AllRise}

@@ -4,7 +4,7 @@ use Rattle.std.proofs.Common.{◌≡◌, ◌⊎◌, ℕ, zero, suc, ◌+◌, Boo
 use Rattle.std.specs.Prelude.{option_map}
 use Rattle.std.specs.List.{flat_map}
 use Rattle.node_rules.proofs.Cases.{branches, true_not_false}
-use Rattle.world_rules.proofs.Seats.{same_id, ids_same}
+use Rattle.world_rules.proofs.MemberStates.{same_id, ids_same}
 use Rattle.run_rules.specs.Notes.{Note, place_in, rank_by, rank_of, ranks_of, Taken, take_from, take_at, take_by, next_note, lesser, least}
 use Rattle.run_rules.specs.Verdict.{OrderedNote, order_on, order_by, count_in}
 use Rattle.run_rules.proofs.Lists.{either, same_some}

@@ -27,7 +27,7 @@ use Rattle.purge_master.specs.declared.book.MasterEntry.{MasterEntry}
 use Rattle.world_rules.specs.declared.event.WorldEvent.{WorldEvent}
 use Rattle.world_rules.specs.declared.event.WorldEvent.TheVariants as world
 use Rattle.world_rules.specs.World.{World, Datagram, new_world, item, node_at}
-use Rattle.world_rules.specs.Turn.{Seen, Replied, Issued, Told, Nothing, NodeSteps as TurnSteps, turn, with_clock}
+use Rattle.world_rules.specs.Turn.{Seen, Replied, Issued, Reported, Nothing, NodeSteps as TurnSteps, turn, with_clock}
 use Rattle.world_rules.specs.Run.{Step, Run}
 use Rattle.world_rules.specs.Asked.{moment}
 use Rattle.run_rules.specs.Notes.{Note, Opens, Steps, Closes, Calls, notes_of_all, calls_of, is_of, place_in}
@@ -66,7 +66,7 @@ pub record Goes (roster : Tables) (p : Progress) (steps : List Step) (m : Master
 
 -- a node in the world so far
 abbrev pub node_in : Progress → ℕ → NodeState ℕ
-node_in p id = node_at p.world.seats id
+node_in p id = node_at p.world.states id
 
 -- the recorded state is the node's; of a closed node only that it is closed, with nothing pending
 abbrev pub IsKept : NodeState (Unit {0}) → NodeState (Unit {0}) → Type 0
@@ -126,9 +126,9 @@ abbrev pub AnswersSo : Tables → Progress → MasterCall → MasterAnswer → L
 AnswersSo roster p (call.Issue key) (answer.Issue number) steps = steps ≡ event_step (world.Issue key) (Issued number) ∷ []
 AnswersSo roster p (call.Acknowledge id trans code) (answer.Acknowledge finished) steps =
     (number : ℕ) × (d : Datagram) × (status : Status) × (item p.world.datagrams number ≡ Some d) × IsAnswerOf roster id trans code d
-    × (steps ≡ event_step (world.Datagram number) (Told trans status) ∷ [])
+    × (steps ≡ event_step (world.Datagram number) (Reported trans status) ∷ [])
 AnswersSo roster p call.Due (answer.Due pairs) steps = steps ≡ event_step world.Resend Nothing ∷ []
-AnswersSo roster p (call.Status number) (answer.Status status) steps = steps ≡ event_step (world.Status number) (Told number status) ∷ []
+AnswersSo roster p (call.Status number) (answer.Status status) steps = steps ≡ event_step (world.Status number) (Reported number status) ∷ []
 AnswersSo roster p c a steps = ⊥
 
 -- the same for each call; one that failed stands for no event

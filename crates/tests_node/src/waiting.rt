@@ -5,7 +5,7 @@ ghost use Rattle.node_waiting.specs.InOrder.{IsBlock};
 
 use http_messages::Ask;
 use node_rules::{Fetch, Pending};
-use node_waiting::{Progress, Waiting, laws};
+use node_waiting::{PendingList, Progress, laws};
 use roster::Listed;
 use std::process::Abort;
 use std::test::Fail;
@@ -34,7 +34,7 @@ fn ask_of(rt: &HostRuntime, block: u32) -> Result<Pending<u64>, Fail>
     })
 }
 
-fn add(waiting: &mut Waiting<u64>, ask: Pending<u64>) -> Result<(), Fail>
+fn add(waiting: &mut PendingList<u64>, ask: Pending<u64>) -> Result<(), Fail>
     requires block { IsBlock ask.block }
     requires above { All (λ q. q.block < ask.block) waiting.old }
     requires can_go_on { CanGoOn ask }
@@ -47,11 +47,11 @@ fn add(waiting: &mut Waiting<u64>, ask: Pending<u64>) -> Result<(), Fail>
 }
 
 /// So many asks, of the blocks 2, 4, 6 and so on.
-fn filled(rt: &HostRuntime, count: u32) -> Result<Waiting<u64>, Fail>
+fn filled(rt: &HostRuntime, count: u32) -> Result<PendingList<u64>, Fail>
     requires { count ≤ 1024 }
     ensures { IfOk result (λ waiting. All (λ q. q.block < 2 * count + 2) waiting) }
 {
-    let mut waiting = Waiting::new(rt.alloc());
+    let mut waiting = PendingList::new(rt.alloc());
     for number in 0..count {
         add(&mut waiting, ask_of(rt, 2 * number + 2)?)?;
     }
@@ -77,7 +77,7 @@ fn reading(rt: &HostRuntime) -> Progress<u64>
 /// The places of rounds and of last fetches by these serials.
 fn check_places(
     rt: &impl Abort,
-    waiting: &Waiting<u64>,
+    waiting: &PendingList<u64>,
     rows: &[(u32, Option<usize>, Option<usize>)],
 ) {
     for (serial, round, fetch) in rows {
@@ -121,7 +121,7 @@ fn asks_are_found_by_their_serials(rt: HostRuntime) -> Result<(), Fail> {
 
 #[test]
 fn no_ask_is_found_among_none(rt: HostRuntime) {
-    let waiting: Waiting<u64> = Waiting::new(rt.alloc());
+    let waiting: PendingList<u64> = PendingList::new(rt.alloc());
     assert_eq!(rt; waiting.len(), 0);
     assert!(rt; waiting.is_empty());
     check_places(
@@ -137,7 +137,7 @@ fn no_ask_is_found_among_none(rt: HostRuntime) {
 }
 
 /// The ask whose round is 128 reads now, and has the block 4.
-fn read_of_round_128(rt: &HostRuntime, waiting: &mut Waiting<u64>) -> bool {
+fn read_of_round_128(rt: &HostRuntime, waiting: &mut PendingList<u64>) -> bool {
     let Some(place) = waiting.of_round(128) else {
         return false;
     };
@@ -158,7 +158,7 @@ fn is_reading(ask: &Pending<u64>) -> bool {
 }
 
 /// The ask whose fetch is 129 has done nothing yet, and had begun one fetch, a read.
-fn begin_anew_from_129(rt: &HostRuntime, waiting: &mut Waiting<u64>) -> bool {
+fn begin_anew_from_129(rt: &HostRuntime, waiting: &mut PendingList<u64>) -> bool {
     let Some(place) = waiting.of_fetch(129) else {
         return false;
     };
@@ -188,7 +188,7 @@ fn one_ask_changes_in_its_place(rt: HostRuntime) -> Result<(), Fail> {
 }
 
 /// The ask whose round is 128 ends: its block.
-fn end_of_round_128(waiting: &mut Waiting<u64>) -> Option<u32> {
+fn end_of_round_128(waiting: &mut PendingList<u64>) -> Option<u32> {
     let place = waiting.of_round(128)?;
     Some(waiting.end(place).block)
 }

@@ -64,14 +64,14 @@ enum Step {
     /// A cache answers.
     Says(u8, Said),
     /// So many answers count.
-    Told(usize),
+    Counted(usize),
     /// The time for answers is over.
     Ends,
     /// Where the ask goes, at a floor, once some peers were tried.
     Goes(u32, &'static [u8], Source),
 }
 
-use Step::{Asked, Ends, Goes, Says, Told};
+use Step::{Asked, Counted, Ends, Goes, Says};
 
 /// The rounds of a member, begun at a floor.
 type Row = (&'static str, u8, u32, &'static [Step]);
@@ -234,7 +234,7 @@ const ROWS: &[Row] = &[
             Says(100, HIT),
             Says(102, HIT),
             Says(255, HIT),
-            Told(1),
+            Counted(1),
             Goes(0, &[], Source::Wait),
             Ends,
             Goes(0, &[], Source::Origin),
@@ -243,7 +243,7 @@ const ROWS: &[Row] = &[
             Says(4, Said::Hit(Some(9))),
             Goes(9, &[], peer!(4, parent)),
             Goes(10, &[], peer!(3, parent)),
-            Told(3),
+            Counted(3),
         ],
     ),
     ("foreign caches are asked at floor 0", 2, 0, &[Asked(3)]),
@@ -271,7 +271,7 @@ const ROWS: &[Row] = &[
 fn holds(round: &mut Round, step: Step) -> bool {
     match step {
         Asked(count) => return round.asked().len() == count,
-        Told(count) => return round.told().len() == count,
+        Counted(count) => return round.answers().len() == count,
         Goes(floor, tried, source) => return round.next(floor, tried) == source,
         Says(peer, said) => round.answer(peer, said),
         Ends => round.expire(),
@@ -348,8 +348,8 @@ fn flaw_of_copy(roster: &Roster) -> Option<&'static str> {
     first_wrong(&[
         ("the round waits", waits),
         ("its copy does not", goes_on),
-        ("two answers to the round", round.told().len() == 2),
-        ("one to its copy", copy.told().len() == 1),
+        ("two answers to the round", round.answers().len() == 2),
+        ("one to its copy", copy.answers().len() == 1),
     ])
 }
 
@@ -370,7 +370,7 @@ fn flaw_of_largest(roster: &Roster) -> Option<&'static str> {
         round.answer(id, HIT);
     }
     first_wrong(&[
-        ("23 answers", round.told().len() == 23),
+        ("23 answers", round.answers().len() == 23),
         ("the first parent", round.next(0, &[]) == peer!(101, parent)),
         (
             "no foreign cache above floor 0",

@@ -1,7 +1,7 @@
 use crate::first_wrong;
 use std::process::Abort;
 use values_plain::Address;
-use values_tables::{Member, Origin, Place, TableKind, Tables, TablesFault};
+use values_tables::{Member, Origin, TableKind, Tables, TablesFault, TextPlace};
 
 /// The tables of one node and one origin.
 const ONE: &str = "default_lifetime = 60
@@ -79,7 +79,7 @@ const FAULTS: [(&str, &str, TablesFault); 2] = [
     (
         "\"htcp\"",
         "\"http\"",
-        TablesFault::BadField(Place {
+        TablesFault::BadField(TextPlace {
             table: TableKind::Peer,
             entry: 1,
             peer: 1,
@@ -90,7 +90,7 @@ const FAULTS: [(&str, &str, TablesFault); 2] = [
     (
         "copies = 1000",
         "x =",
-        TablesFault::BadToml(Place {
+        TablesFault::BadToml(TextPlace {
             table: TableKind::Top,
             entry: 0,
             peer: 0,

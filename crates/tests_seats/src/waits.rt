@@ -1,23 +1,23 @@
 //! What is left to others, and the bell. A wait that would not end fails its test by the time that a test has.
-use cluster_waiting::{Bell, Errands, Row};
+use cluster_waiting::{Bell, Errands, Queue};
 use std::alloc::Global;
 use std::sync::Wait;
 use std::test::Fail;
 
 #[test]
 fn what_is_put_first_is_taken_first(rt: HostRuntime) -> Result<(), Fail> {
-    let mut row: Row<u8> = Row::new(rt.alloc());
-    assert!(rt; row.waits());
-    assert_eq!(rt; row.take(), None);
-    row.put(10)?;
-    row.put(11)?;
-    assert!(rt; !row.waits());
-    assert_eq!(rt; row.take(), Some(10));
-    row.put(12)?;
-    assert_eq!(rt; row.take(), Some(11));
-    row.end();
-    assert!(rt; !row.waits());
-    assert_eq!(rt; row.take(), None);
+    let mut queue: Queue<u8> = Queue::new(rt.alloc());
+    assert!(rt; queue.waits());
+    assert_eq!(rt; queue.take(), None);
+    queue.put(10)?;
+    queue.put(11)?;
+    assert!(rt; !queue.waits());
+    assert_eq!(rt; queue.take(), Some(10));
+    queue.put(12)?;
+    assert_eq!(rt; queue.take(), Some(11));
+    queue.end();
+    assert!(rt; !queue.waits());
+    assert_eq!(rt; queue.take(), None);
     Ok(())
 }
 
@@ -53,8 +53,8 @@ fn no_ring_is_slept_through(rt: HostRuntime) -> Result<(), Fail> {
     assert_eq!(rt; count_after_a_ring(&rt, &bell), 1);
     assert!(rt; !bell.look(&rt).is_over);
     bell.end(&rt);
-    let moves = bell.look(&rt);
-    assert!(rt; moves.is_over);
-    bell.wait_past(&rt, moves.count);
+    let rings = bell.look(&rt);
+    assert!(rt; rings.is_over);
+    bell.wait_past(&rt, rings.count);
     Ok(())
 }

@@ -10,7 +10,7 @@ ghost use Rattle.values_tables.specs.Ranges.{is_peer, is_peer_id as may_be_peer,
 ghost use Rattle.values_tables.specs.Reading.{table_in, peer_of, cache_of, foreign_of, member_of, origin_of, list_in, all_of, number as number_within, checked};
 
 use crate::fields::{host, ip, name, number, port, role, udp, value_at};
-use crate::{Cache, Member, Origin, Peer, Place, TableKind, TablesFault};
+use crate::{Cache, Member, Origin, Peer, TableKind, TablesFault, TextPlace};
 use std::alloc::Global;
 use toml::{Table, Value};
 use values_plain::{Address, Listed};
@@ -27,7 +27,7 @@ pub(crate) trait Entry: Sized + Drop {
     ghost is_sound: { Self → Bool };
 
     /// What a value says. `place` is where it is in the text.
-    fn read(alloc: Global, value: &Value, place: Place) -> Result<Self, TablesFault>
+    fn read(alloc: Global, value: &Value, place: TextPlace) -> Result<Self, TablesFault>
         ensures { MatchResult result
             (λ x. (reads (view value.now) ≡ Some x) × (is_sound x ≡ true))
             (λ fault. IsFieldFault fault (reads (view value.now) ≡ None)) };
@@ -88,7 +88,7 @@ fn has_only(kind: TableKind, table: &Table) -> bool
 pub(crate) fn known_table(
     kind: TableKind,
     table: &Table,
-    place: Place,
+    place: TextPlace,
 ) -> Result<&Table, TablesFault>
     ensures { MatchResult result
         (λ t. checked (has_only_keys (keys_of kind)) (table_view table.now) ≡ Some (table_view t.now))
@@ -106,7 +106,7 @@ pub(crate) fn known_table(
 pub(crate) fn table_of(
     kind: TableKind,
     value: Option<&Value>,
-    place: Place,
+    place: TextPlace,
 ) -> Result<&Table, TablesFault>
     ensures { MatchResult result
         (λ t. table_in kind (option_map (λ v. view v.now) value.entry) ≡ Some (table_view t.now))
@@ -123,7 +123,7 @@ impl Entry for Peer {
 
     ghost is_sound = { is_peer };
 
-    fn read(_alloc: Global, value: &Value, place: Place) -> Result<Peer, TablesFault> {
+    fn read(_alloc: Global, value: &Value, place: TextPlace) -> Result<Peer, TablesFault> {
         let table = table_of(TableKind::Peer, Some(value), place)?;
         let id = peer_id(table, place)?;
         let role = role(table, place)?;
@@ -133,7 +133,7 @@ impl Entry for Peer {
 }
 
 /// The id of a peer: 1 to 16 or 101 to 108.
-fn peer_id(table: &Table, place: Place) -> Result<u8, TablesFault>
+fn peer_id(table: &Table, place: TextPlace) -> Result<u8, TablesFault>
     ensures { MatchResult result
         (λ id. (option_and_then (checked may_be_peer) (number_within 1 108 (codes "id") (table_view table.now)) ≡ Some id)
         × (may_be_peer id ≡ true))
@@ -154,7 +154,7 @@ fn read_cache(
     table: &Table,
     low: u64,
     high: u64,
-    place: Place,
+    place: TextPlace,
 ) -> Result<Cache, TablesFault>
     requires { high < 256 }
     ensures { MatchResult result
@@ -181,7 +181,7 @@ impl Entry for Cache {
 
     ghost is_sound = { is_foreign };
 
-    fn read(alloc: Global, value: &Value, place: Place) -> Result<Cache, TablesFault> {
+    fn read(alloc: Global, value: &Value, place: TextPlace) -> Result<Cache, TablesFault> {
         let table = table_of(TableKind::Foreign, Some(value), place)?;
         read_cache(alloc, table, 101, 108, place)
     }
@@ -192,7 +192,7 @@ impl Entry for Origin {
 
     ghost is_sound = { is_origin };
 
-    fn read(alloc: Global, value: &Value, place: Place) -> Result<Origin, TablesFault> {
+    fn read(alloc: Global, value: &Value, place: TextPlace) -> Result<Origin, TablesFault> {
         let table = table_of(TableKind::Origin, Some(value), place)?;
         let named = port(table, "port", place)?;
         let ip = ip(table, place)?;
@@ -211,7 +211,7 @@ impl Entry for Member {
 
     ghost is_sound = { is_member };
 
-    fn read(alloc: Global, value: &Value, place: Place) -> Result<Member, TablesFault> {
+    fn read(alloc: Global, value: &Value, place: TextPlace) -> Result<Member, TablesFault> {
         let table = table_of(TableKind::Node, Some(value), place)?;
         let cache = read_cache(alloc, table, 1, 16, place)?;
         let peers = read_list(alloc, table, "peer", place.peers())?;
@@ -224,7 +224,7 @@ pub(crate) fn read_list<T: Entry>(
     alloc: Global,
     table: &Table,
     key: &'static str,
-    place: Place,
+    place: TextPlace,
 ) -> Result<Listed<T>, TablesFault>
     ensures { MatchResult result
         (λ xs. (list_in T.reads (get_member key.now (table_view table.now)) ≡ Some xs) × (list_all T.is_sound xs ≡ true))
@@ -241,7 +241,7 @@ pub(crate) fn read_list<T: Entry>(
 fn read_all<T: Entry>(
     alloc: Global,
     values: &[Value],
-    place: Place,
+    place: TextPlace,
 ) -> Result<Listed<T>, TablesFault>
     ensures { MatchResult result
         (λ xs. (all_of T.reads (items_view values.now) ≡ Some xs) × (list_all T.is_sound xs ≡ true))

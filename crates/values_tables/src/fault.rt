@@ -1,16 +1,16 @@
 ghost use Rattle.std.specs.Prelude.{◌≡◌};
 
-use crate::Place;
+use crate::TextPlace;
 use std::alloc::AllocError;
 
 /// Why a text has no tables of a roster. `NoMemory` may replace either of the others.
 #[derive(Clone, Copy, Debug, PartialEq, Eq)]
 pub enum TablesFault {
     /// The text is no TOML document.
-    BadToml(Place),
+    BadToml(TextPlace),
     /// A key is missing, unknown, of another type or out of its range, or there is no node. If
     /// several fields are bad, any one of them may be named.
-    BadField(Place),
+    BadField(TextPlace),
     /// An allocation failed.
     NoMemory,
 }

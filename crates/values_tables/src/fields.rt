@@ -8,7 +8,7 @@ ghost use Rattle.values_tables.specs.Keys.{keys_of, has_only as has_only_keys, i
 ghost use Rattle.values_tables.specs.Ranges.{is_between, is_port, is_name_letter as is_letter_of_name, is_host_letter as is_letter_of_host, is_name as is_name_text, is_host as is_host_text};
 ghost use Rattle.values_tables.specs.Reading.{natural_in, natural_of, text_in, ip_value, port as port_at, role_of, udp_of, number as number_within, ip_of as ip_of_text, ip as ip_in, text as text_where, table_in};
 
-use crate::{Place, Role, TablesFault};
+use crate::{Role, TablesFault, TextPlace};
 use std::alloc::Global;
 use std::net::Ipv4Addr;
 use toml::{Table, Value};
@@ -58,7 +58,7 @@ pub(crate) fn number(
     key: &'static str,
     low: u64,
     high: u64,
-    place: Place,
+    place: TextPlace,
 ) -> Result<u64, TablesFault>
     ensures { MatchResult result
         (λ n. (number_within low high key.now (table_view table.now) ≡ Some n) × (is_between low high n ≡ true))
@@ -71,7 +71,7 @@ pub(crate) fn number(
 }
 
 /// The port at a key, from 1 to 65535.
-pub(crate) fn port(table: &Table, key: &'static str, place: Place) -> Result<u16, TablesFault>
+pub(crate) fn port(table: &Table, key: &'static str, place: TextPlace) -> Result<u16, TablesFault>
     ensures { MatchResult result
         (λ n. (port_at key.now (table_view table.now) ≡ Some n) × (is_port n ≡ true))
         (λ fault. IsFieldFault fault (port_at key.now (table_view table.now) ≡ None)) }
@@ -99,7 +99,7 @@ fn ip_of(text: &[u8]) -> Option<u32>
 }
 
 /// The IPv4 address of the key `address`.
-pub(crate) fn ip(table: &Table, place: Place) -> Result<u32, TablesFault>
+pub(crate) fn ip(table: &Table, place: TextPlace) -> Result<u32, TablesFault>
     ensures { MatchResult result
         (λ n. ip_in (table_view table.now) ≡ Some n)
         (λ fault. IsFieldFault fault (ip_in (table_view table.now) ≡ None)) }
@@ -161,7 +161,11 @@ fn is_host_letter(octet: u8) -> bool
 }
 
 /// The name at the key `name`.
-pub(crate) fn name(alloc: Global, table: &Table, place: Place) -> Result<Listed<u8>, TablesFault>
+pub(crate) fn name(
+    alloc: Global,
+    table: &Table,
+    place: TextPlace,
+) -> Result<Listed<u8>, TablesFault>
     ensures { MatchResult result
         (λ name. (text_where is_name_text (codes "name") (table_view table.now) ≡ Some name) × (is_name_text name ≡ true))
         (λ fault. IsFieldFault fault (text_where is_name_text (codes "name") (table_view table.now) ≡ None)) }
@@ -173,7 +177,11 @@ pub(crate) fn name(alloc: Global, table: &Table, place: Place) -> Result<Listed<
 }
 
 /// The host at the key `host`.
-pub(crate) fn host(alloc: Global, table: &Table, place: Place) -> Result<Listed<u8>, TablesFault>
+pub(crate) fn host(
+    alloc: Global,
+    table: &Table,
+    place: TextPlace,
+) -> Result<Listed<u8>, TablesFault>
     ensures { MatchResult result
         (λ host. (text_where is_host_text (codes "host") (table_view table.now) ≡ Some host) × (is_host_text host ≡ true))
         (λ fault. IsFieldFault fault (text_where is_host_text (codes "host") (table_view table.now) ≡ None)) }
@@ -185,7 +193,7 @@ pub(crate) fn host(alloc: Global, table: &Table, place: Place) -> Result<Listed<
 }
 
 /// The role at the key `role`.
-pub(crate) fn role(table: &Table, place: Place) -> Result<Role, TablesFault>
+pub(crate) fn role(table: &Table, place: TextPlace) -> Result<Role, TablesFault>
     ensures { MatchResult result
         (λ role. option_and_then role_of (text_in (get_member (codes "role") (table_view table.now))) ≡ Some role)
         (λ fault. IsFieldFault fault
@@ -199,7 +207,7 @@ pub(crate) fn role(table: &Table, place: Place) -> Result<Role, TablesFault>
 }
 
 /// The protocol at the key `by`.
-pub(crate) fn udp(table: &Table, place: Place) -> Result<Udp, TablesFault>
+pub(crate) fn udp(table: &Table, place: TextPlace) -> Result<Udp, TablesFault>
     ensures { MatchResult result
         (λ by. option_and_then udp_of (text_in (get_member (codes "by") (table_view table.now))) ≡ Some by)
         (λ fault. IsFieldFault fault

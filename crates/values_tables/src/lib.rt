@@ -5,7 +5,7 @@
 //! - [`Tables`]: the whole text, read by `Tables::read`: [`Limits`], the master's address, and
 //!   lists of [`Member`], [`Cache`] (foreign caches) and [`Origin`]. A member has [`Peer`]s, each
 //!   with a [`Role`] and a protocol. A contract sees each type field by field.
-//! - [`TablesFault`]: why a text has no tables; [`Place`] and [`TableKind`]: where it is wrong.
+//! - [`TablesFault`]: why a text has no tables; [`TextPlace`] and [`TableKind`]: where it is wrong.
 //!
 //! To read, in this order:
 //!
@@ -30,5 +30,5 @@ mod plain;
 mod read;
 
 pub use fault::TablesFault;
-pub use place::{Place, TableKind};
+pub use place::{TableKind, TextPlace};
 pub use plain::{Cache, Limits, Member, Origin, Peer, Role, Tables};

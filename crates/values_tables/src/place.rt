@@ -21,7 +21,7 @@ pub enum TableKind {
 
 /// Where the text of a roster is wrong, for the person who has to correct it.
 #[derive(Clone, Copy, Debug, PartialEq, Eq)]
-pub struct Place {
+pub struct TextPlace {
     /// The kind of the table.
     pub table: TableKind,
     /// Which table of its kind, from 1; for a peer, which node. 0 if there is only one such table,
@@ -35,10 +35,10 @@ pub struct Place {
     pub line: Option<usize>,
 }
 
-impl Place {
+impl TextPlace {
     /// All tables of this kind.
-    pub(crate) fn of(table: TableKind) -> Place {
-        Place {
+    pub(crate) fn of(table: TableKind) -> TextPlace {
+        TextPlace {
             table,
             entry: 0,
             peer: 0,
@@ -48,22 +48,22 @@ impl Place {
     }
 
     /// The peers of the node at this place.
-    pub(crate) fn peers(self) -> Place {
-        Place {
+    pub(crate) fn peers(self) -> TextPlace {
+        TextPlace {
             table: TableKind::Peer,
             ..self
         }
     }
 
     /// The table of this index, from 0, of the kind at this place.
-    pub(crate) fn item(self, index: usize) -> Place {
+    pub(crate) fn item(self, index: usize) -> TextPlace {
         let count = index.saturating_add(1);
         match self.table {
-            TableKind::Peer => Place {
+            TableKind::Peer => TextPlace {
                 peer: count,
                 ..self
             },
-            _ => Place {
+            _ => TextPlace {
                 entry: count,
                 ..self
             },
@@ -74,6 +74,6 @@ impl Place {
     pub(crate) fn fault_at(self, key: &'static str) -> TablesFault
         ensures { IsBadField result }
     {
-        TablesFault::BadField(Place { key, ..self })
+        TablesFault::BadField(TextPlace { key, ..self })
     }
 }

@@ -10,7 +10,7 @@ ghost use Rattle.values_tables.specs.Reading.{tables_of as tables_in_document, t
 
 use crate::entries::{known_table, read_list, table_of};
 use crate::fields::{ip, number, port, value_at};
-use crate::{Limits, Member, Place, TableKind, Tables, TablesFault};
+use crate::{Limits, Member, TableKind, Tables, TablesFault, TextPlace};
 use std::alloc::Global;
 use toml::Table;
 use values_plain::{Address, Listed};
@@ -41,9 +41,9 @@ fn bad_toml(text: &[u8], start: usize) -> TablesFault
 {
     let before = &text[..start.min(text.len())];
     let ends = before.iter().filter(|octet| **octet == b'\n').count();
-    TablesFault::BadToml(Place {
+    TablesFault::BadToml(TextPlace {
         line: Some(ends.saturating_add(1)),
-        ..Place::of(TableKind::Top)
+        ..TextPlace::of(TableKind::Top)
     })
 }
 
@@ -53,13 +53,13 @@ fn tables_of(alloc: Global, document: &Table) -> Result<Tables, TablesFault>
         (λ tables. (tables_in_document (table_view document.now) ≡ Some tables) × (are_tables tables ≡ true))
         (λ fault. IsFieldFault fault (tables_in_document (table_view document.now) ≡ None)) }
 {
-    let place = Place::of(TableKind::Top);
+    let place = TextPlace::of(TableKind::Top);
     let table = known_table(TableKind::Top, document, place)?;
     let limits = limits(table, place)?;
     let master = master(table)?;
     let members = members(alloc, table)?;
-    let foreign = read_list(alloc, table, "foreign", Place::of(TableKind::Foreign))?;
-    let origins = read_list(alloc, table, "origin", Place::of(TableKind::Origin))?;
+    let foreign = read_list(alloc, table, "foreign", TextPlace::of(TableKind::Foreign))?;
+    let origins = read_list(alloc, table, "origin", TextPlace::of(TableKind::Origin))?;
     Ok(Tables {
         limits,
         master,
@@ -70,7 +70,7 @@ fn tables_of(alloc: Global, document: &Table) -> Result<Tables, TablesFault>
 }
 
 /// The limits of each node.
-fn limits(table: &Table, place: Place) -> Result<Limits, TablesFault>
+fn limits(table: &Table, place: TextPlace) -> Result<Limits, TablesFault>
     ensures { MatchResult result
         (λ limits. (limits_of (table_view table.now) ≡ Some limits) × (are_limits limits ≡ true))
         (λ fault. IsFieldFault fault (limits_of (table_view table.now) ≡ None)) }
@@ -93,7 +93,7 @@ fn master(table: &Table) -> Result<Address, TablesFault>
         (λ a. (master_of (get_member (codes "master") (table_view table.now)) ≡ Some a) × (is_port a.port ≡ true))
         (λ fault. IsFieldFault fault (master_of (get_member (codes "master") (table_view table.now)) ≡ None)) }
 {
-    let place = Place::of(TableKind::Master);
+    let place = TextPlace::of(TableKind::Master);
     let master = table_of(TableKind::Master, value_at(table, "master"), place)?;
     let ip = ip(master, place)?;
     let port = port(master, "htcp", place)?;
@@ -106,7 +106,7 @@ fn members(alloc: Global, table: &Table) -> Result<Listed<Member>, TablesFault>
         (λ ms. (members_of (table_view table.now) ≡ Some ms) × (nat_le 1 (length ms) ≡ true) × (list_all is_member ms ≡ true))
         (λ fault. IsFieldFault fault (members_of (table_view table.now) ≡ None)) }
 {
-    let place = Place::of(TableKind::Node);
+    let place = TextPlace::of(TableKind::Node);
     let members: Listed<Member> = read_list(alloc, table, "node", place)?;
     if members.as_slice().is_empty() {
         Err(place.fault_at(""))

@@ -15,10 +15,10 @@ use Rattle.world_rules.specs.Apply.{Applied, Did, DidNot, by_turn, apply, IsDone
 module _ (h : Tables) (place : ℕ) (w : World) (event : WorldEvent) (key : IsOfKey event) where
   turn_done : (t : Turn) → turn h w event ≡ t → IsDone h place w event (by_turn h place w t)
   turn_done (NodeSteps id e serial) is =
-      let r = step (setting h id) (node_at w.seats id) e place in
+      let r = step (setting h id) (node_at w.states id) e place in
       let seen : Seen = Replied id r.outcome in
       let new : World = after_node h w id e serial r.outcome r.state in
-      (seen, (key, subst (λ (t : Turn). Takes h place w t seen new) (sym is) (r.outcome, r.state, step_steps (setting h id) (node_at w.seats id) e place, refl, refl)), refl)
+      (seen, (key, subst (λ (t : Turn). Takes h place w t seen new) (sym is) (r.outcome, r.state, step_steps (setting h id) (node_at w.states id) e place, refl, refl)), refl)
   turn_done (Ends seen new) is = (seen, (key, subst (λ (t : Turn). Takes h place w t seen new) (sym is) (refl, refl)), refl)
   turn_done (Refused fault) is = is
 

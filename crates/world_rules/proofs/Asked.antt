@@ -26,7 +26,7 @@ use Rattle.roster.specs.Lookups.{is_master}
 use Rattle.peer_chooser.specs.declared.said.Said.{Said}
 use Rattle.peer_chooser.specs.declared.said.Source.{Source}
 use Rattle.peer_chooser.specs.declared.said.Source.TheVariants as source
-use Rattle.peer_chooser.specs.Round.{RoundText, has_told, answered, ended}
+use Rattle.peer_chooser.specs.Round.{RoundText, has_answered, answered, ended}
 use Rattle.node_rules.specs.declared.message.Message.{Message}
 use Rattle.node_rules.specs.declared.message.Message.TheVariants as message
 use Rattle.node_rules.specs.declared.state.Fetch.{Fetch}
@@ -204,7 +204,7 @@ module _ {X : Type 0} (g : Setting) (s : NodeState X) (e : Event X) (mark : X) (
     hears_answers : (peer : Peer) (said : Said) (o : Option RoundText) → Answers (hears g s p peer said now mark o)
     unfolding hears
     hears_answers peer said None = silent
-    hears_answers peer said (Some r) = branches Answers (has_told r.told peer.id) _ _ (λ _. silent) (λ _. moves_answers (with_round p (answered r peer.id said)) (was_waiting p has))
+    hears_answers peer said (Some r) = branches Answers (has_answered r.answers peer.id) _ _ (λ _. silent) (λ _. moves_answers (with_round p (answered r peer.id said)) (was_waiting p has))
 
     told_by_answers : (said : Peer → Said) (o : Option Peer) → Answers (told_by g s p said now mark o)
     unfolding told_by

@@ -21,7 +21,7 @@ use Rattle.world_rules.specs.Run.{Step, IsItem, purges, purged_by, TellsDone, Is
 use Rattle.world_rules.specs.Lineage.{PurgeHasLineage, AllHaveRaised, HasLineage}
 use Rattle.world_rules.proofs.Items.{item_pushed, item_cases}
 use Rattle.world_rules.proofs.Issues.{purges-append}
-use Rattle.world_rules.proofs.Seats.{pending-none_of_append, pending-pushed}
+use Rattle.world_rules.proofs.MemberStates.{pending-none_of_append, pending-pushed}
 use Rattle.world_rules.proofs.Later.{grows_itself, Extends, extends_by, node_later, answers_later, masters_later, obeyed_later, purges_later, all_later}
 use Rattle.world_rules.proofs.MasterTurns.{clear_right, new_right, new_obeyed}
 
@@ -40,11 +40,11 @@ extends_step past event seen = extends_by past (record { event = event; seen = s
 -- what holds after an event that issues nothing, before its step is added
 pub record Leaves (h : Tables) (past : List Step) (seen : Seen) (w : World) : Type 0 where
   pub lineage : HasLineage h past w
-  pub tells : (number : ℕ) → TellsDone number seen → AllHaveRaised h past w.seats number
+  pub tells : (number : ℕ) → TellsDone number seen → AllHaveRaised h past w.states number
 
 module _ (h : Tables) (past : List Step) (event : WorldEvent) (seen : Seen) (w : World) (silent : purged_by event seen ≡ None) (leaves : Leaves h past seen w) where
-  step_all : (number : ℕ) → AllHaveRaised h past w.seats number → AllHaveRaised h (with_step past event seen) w.seats number
-  step_all number = all_later past (with_step past event seen) (extends_step past event seen) h w.seats w.seats (grows_itself w.seats) number
+  step_all : (number : ℕ) → AllHaveRaised h past w.states number → AllHaveRaised h (with_step past event seen) w.states number
+  step_all number = all_later past (with_step past event seen) (extends_step past event seen) h w.states w.states (grows_itself w.states) number
 
   step_last : w.master.last ≡ length (purges (with_step past event seen))
   unfolding with_step
@@ -55,7 +55,7 @@ module _ (h : Tables) (past : List Step) (event : WorldEvent) (seen : Seen) (w :
       let g : length (purges (record { event = event; seen = seen } ∷ [])) ≡ 0 = ap length e in
       omega (arith, leaves.lineage.last)
 
-  step_reported : (place number : ℕ) → IsReportedAt (with_step past event seen) place number → AllHaveRaised h (with_step past event seen) w.seats number
+  step_reported : (place number : ℕ) → IsReportedAt (with_step past event seen) place number → AllHaveRaised h (with_step past event seen) w.states number
   unfolding with_step
   step_reported place number (step, is, tells) = elim (item_cases past (record { event = event; seen = seen }) place step is) [
     | inl was ↦ step_all number (leaves.lineage.reported place number (step, was, tells))
@@ -66,11 +66,11 @@ module _ (h : Tables) (past : List Step) (event : WorldEvent) (seen : Seen) (w :
   counted = record {
     last = step_last;
     small = leaves.lineage.small;
-    nodes = λ id. node_later past (with_step past event seen) (extends_step past event seen) (node_at w.seats id) (leaves.lineage.nodes id);
+    nodes = λ id. node_later past (with_step past event seen) (extends_step past event seen) (node_at w.states id) (leaves.lineage.nodes id);
     masters = masters_later past (with_step past event seen) (extends_step past event seen) h w.datagrams leaves.lineage.masters;
-    obeyed = obeyed_later past (with_step past event seen) (extends_step past event seen) h w.seats w.seats (grows_itself w.seats) w.datagrams leaves.lineage.obeyed;
+    obeyed = obeyed_later past (with_step past event seen) (extends_step past event seen) h w.states w.states (grows_itself w.states) w.datagrams leaves.lineage.obeyed;
     answers = answers_later past (with_step past event seen) (extends_step past event seen) w.answers leaves.lineage.answers;
-    pending = purges_later past (with_step past event seen) (extends_step past event seen) h w.seats w.seats (grows_itself w.seats) w.master.pending leaves.lineage.pending;
+    pending = purges_later past (with_step past event seen) (extends_step past event seen) h w.states w.states (grows_itself w.states) w.master.pending leaves.lineage.pending;
     done = λ number low high none. step_all number (leaves.lineage.done number low high none);
     reported = step_reported;
   }
@@ -108,21 +108,21 @@ module _ (h : Tables) (past : List Step) (w : World) (lineage : HasLineage h pas
   new_purge : Purge
   new_purge = record { number = w.master.last + 1; key = key; marked = [] }
 
-  new_purge_right : PurgeHasLineage issued_now w.seats new_purge
+  new_purge_right : PurgeHasLineage issued_now w.states new_purge
   unfolding new_purge
   new_purge_right = record { issued_key = issue_item; is_key = is_key; marked = λ id has. absurd (true_not_false (sym has)) }
 
-  issue_all : (number : ℕ) → AllHaveRaised h past w.seats number → AllHaveRaised h issued_now w.seats number
-  issue_all number = all_later past issued_now issue_extends h w.seats w.seats (grows_itself w.seats) number
+  issue_all : (number : ℕ) → AllHaveRaised h past w.states number → AllHaveRaised h issued_now w.states number
+  issue_all number = all_later past issued_now issue_extends h w.states w.states (grows_itself w.states) number
 
-  issue_done : (number : ℕ) → 1 ≤ number → number ≤ w.master.last + 1 → pending_at record { last = w.master.last + 1; pending = w.master.pending ++ new_purge ∷ [] } number ≡ None → AllHaveRaised h issued_now w.seats number
+  issue_done : (number : ℕ) → 1 ≤ number → number ≤ w.master.last + 1 → pending_at record { last = w.master.last + 1; pending = w.master.pending ++ new_purge ∷ [] } number ≡ None → AllHaveRaised h issued_now w.states number
   unfolding new_purge
   issue_done number low high none = elim (ℕ_discrete number (w.master.last + 1)) [
     | yes e ↦ absurd (pending-pushed w.master.pending new_purge (subst (λ n. pending_at record { last = w.master.last + 1; pending = w.master.pending ++ new_purge ∷ [] } n ≡ None) e none))
     | no ne ↦ issue_all number (lineage.done number low (omega (arith, low, high, ne)) (pending-none_of_append w.master.pending (new_purge ∷ []) number none))
   ]
 
-  issue_reported : (place number : ℕ) → IsReportedAt issued_now place number → AllHaveRaised h issued_now w.seats number
+  issue_reported : (place number : ℕ) → IsReportedAt issued_now place number → AllHaveRaised h issued_now w.states number
   unfolding issued_now with_step
   issue_reported place number (step, is, tells) = elim (item_cases past (record { event = Issue key; seen = Issued (w.master.last + 1) }) place step is) [
     | inl was ↦ issue_all number (lineage.reported place number (step, was, tells))
@@ -136,11 +136,11 @@ module _ (h : Tables) (past : List Step) (w : World) (lineage : HasLineage h pas
       record {
         last = issue_last;
         small = small;
-        nodes = λ id. node_later past issued_now issue_extends (node_at w.seats id) (lineage.nodes id);
-        masters = all_joined _ w.datagrams (clears_of h (w.master.last + 1) key) (masters_later past issued_now issue_extends h w.datagrams lineage.masters) (new_right h issued_now w.seats (w.master.last + 1) key (clear_right h issued_now w.seats new_purge short new_purge_right));
-        obeyed = all_joined _ w.datagrams (clears_of h (w.master.last + 1) key) (obeyed_later past issued_now issue_extends h w.seats w.seats (grows_itself w.seats) w.datagrams lineage.obeyed) (new_obeyed h issued_now w.seats (w.master.last + 1) key);
+        nodes = λ id. node_later past issued_now issue_extends (node_at w.states id) (lineage.nodes id);
+        masters = all_joined _ w.datagrams (clears_of h (w.master.last + 1) key) (masters_later past issued_now issue_extends h w.datagrams lineage.masters) (new_right h issued_now w.states (w.master.last + 1) key (clear_right h issued_now w.states new_purge short new_purge_right));
+        obeyed = all_joined _ w.datagrams (clears_of h (w.master.last + 1) key) (obeyed_later past issued_now issue_extends h w.states w.states (grows_itself w.states) w.datagrams lineage.obeyed) (new_obeyed h issued_now w.states (w.master.last + 1) key);
         answers = answers_later past issued_now issue_extends w.answers lineage.answers;
-        pending = all_joined (PurgeHasLineage issued_now w.seats) w.master.pending (new_purge ∷ []) (purges_later past issued_now issue_extends h w.seats w.seats (grows_itself w.seats) w.master.pending lineage.pending) (new_purge_right, tt);
+        pending = all_joined (PurgeHasLineage issued_now w.states) w.master.pending (new_purge ∷ []) (purges_later past issued_now issue_extends h w.states w.states (grows_itself w.states) w.master.pending lineage.pending) (new_purge_right, tt);
         done = issue_done;
         reported = issue_reported;
       }

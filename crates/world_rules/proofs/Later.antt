@@ -10,11 +10,11 @@ use Rattle.floor_rules.specs.Floors.{floor}
 use Rattle.node_rules.proofs.Pendings.{all_mapped}
 use Rattle.purge_rules.specs.declared.purges.Purge.{Purge}
 use Rattle.values_tables.specs.declared.plain.Tables.{Tables}
-use Rattle.world_rules.specs.World.{Seat, Datagram, PeerAnswer, node_at, with_node}
+use Rattle.world_rules.specs.World.{MemberState, Datagram, PeerAnswer, node_at, with_node}
 use Rattle.world_rules.specs.Run.{Step, IsItem, purges, issued}
 use Rattle.world_rules.specs.Lineage.{IsStamped, IsStampedCopy, IsStampedFetch, IsStampedRead, IsSentAnswer, HasRaised, IsClear, IsMastersRightly, IsObeyed, NodeHasLineage, PurgeHasLineage, AllHaveRaised}
 use Rattle.world_rules.proofs.Issues.{count_later, issued_later, key_later}
-use Rattle.world_rules.proofs.Seats.{each_node}
+use Rattle.world_rules.proofs.MemberStates.{each_node}
 
 -- the longer list of steps has all purges of the shorter, and bounds at least as great
 pub record Extends (past now : List Step) : Type 0 where
@@ -29,14 +29,14 @@ pub extends_by : (past more : List Step) → Extends past (past ++ more)
 extends_by past more = record { keys = key_later past more; stamps = issued_later past more; count = count_later past more }
 
 -- no floor of any node falls
-abbrev pub Grows : List Seat → List Seat → Type 0
+abbrev pub Grows : List MemberState → List MemberState → Type 0
 Grows old new = (id : ℕ) (key : List ℕ) → floor (node_at old id).floors key ≤ floor (node_at new id).floors key
 
-pub grows_itself : (seats : List Seat) → Grows seats seats
-grows_itself seats = λ id key. omega arith
+pub grows_itself : (states : List MemberState) → Grows states states
+grows_itself states = λ id key. omega arith
 
-pub grows_by : (seats : List Seat) (id : ℕ) (s : NodeState ℕ) → ((key : List ℕ) → floor (node_at seats id).floors key ≤ floor s.floors key) → Grows seats (with_node seats id s)
-grows_by seats id s h = each_node (λ each (now : NodeState ℕ). (key : List ℕ) → floor (node_at seats each).floors key ≤ floor now.floors key) seats id s h (λ each key. omega arith)
+pub grows_by : (states : List MemberState) (id : ℕ) (s : NodeState ℕ) → ((key : List ℕ) → floor (node_at states id).floors key ≤ floor s.floors key) → Grows states (with_node states id s)
+grows_by states id s h = each_node (λ each (now : NodeState ℕ). (key : List ℕ) → floor (node_at states each).floors key ≤ floor now.floors key) states id s h (λ each key. omega arith)
 
 module _ (past now : List Step) (extends : Extends past now) where
   pub stamped_later : (stamp mark : ℕ) → IsStamped past stamp mark → IsStamped now stamp mark
@@ -66,7 +66,7 @@ module _ (past now : List Step) (extends : Extends past now) where
   pub masters_later : (h : Tables) (datagrams : List Datagram) → AllByRecursion (IsMastersRightly h past) datagrams → AllByRecursion (IsMastersRightly h now) datagrams
   masters_later h datagrams all = all_mapped (IsMastersRightly h past) (IsMastersRightly h now) (λ d is from. clear_later d.message (is from)) datagrams all
 
-  module _ (h : Tables) (old new : List Seat) (grows : Grows old new) where
+  module _ (h : Tables) (old new : List MemberState) (grows : Grows old new) where
     pub obeyed_later : (datagrams : List Datagram) → AllByRecursion (IsObeyed h past old) datagrams → AllByRecursion (IsObeyed h now new) datagrams
     obeyed_later datagrams all = all_mapped (IsObeyed h past old) (IsObeyed h now new) (λ d is to number acknowledges id from. raised_later (node_at old id) (node_at new id) number (grows id) (is to number acknowledges id from)) datagrams all
 

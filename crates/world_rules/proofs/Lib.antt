@@ -1,12 +1,12 @@
 -- Two proofs, of safety and of sources, each bottom up. Read safety from its end: Safe derives it
 -- from the invariant HasLineage; Runs has the invariant at every place; Turns keeps it over each
 -- event, by NodeTurns (a node's step), MasterTurns (the master's call) and Counting (a purge more).
--- Items, Issues, Seats, Later, Members, Numbers and Keys are lemmas on lists, look-ups and CLRs.
--- Back is the law of siblings, Applying that events have runs. Sources: Asked (one step, by all the
--- rules of a node), Waiting, Sourced, SourceTurns and SourceRuns, in this order.
+-- Items, Issues, MemberStates, Later, Members, Numbers and Keys are lemmas on lists, look-ups and
+-- CLRs. Back is the law of siblings, Applying that events have runs. Sources: Asked (one step, by all
+-- the rules of a node), Waiting, Sourced, SourceTurns and SourceRuns, in this order.
 pub mod Items
 pub mod Issues
-pub mod Seats
+pub mod MemberStates
 pub mod Later
 pub mod Members
 pub mod Numbers

@@ -12,7 +12,7 @@ use Rattle.roster.specs.Lookups.{is_member}
 use Rattle.node_rules.proofs.Cases.{branches, true_not_false, or_true}
 use Rattle.node_rules.proofs.Pendings.{found, found_passes}
 use Rattle.purge_rules.specs.Members.{is_among, possible_ids, members_of}
-use Rattle.world_rules.proofs.Seats.{or_cases, or_left, and_parts, ids_same, same_id}
+use Rattle.world_rules.proofs.MemberStates.{or_cases, or_left, and_parts, ids_same, same_id}
 
 -- this many ids from the first one on
 ids_from : ℕ → ℕ → List ℕ

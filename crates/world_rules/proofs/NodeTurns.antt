@@ -41,12 +41,12 @@ use Rattle.values_tables.specs.declared.plain.Tables.{Tables}
 use Rattle.roster.specs.Judged.{IsRoster}
 use Rattle.node_rules.specs.Messages.{protocol_of as udp_of}
 use Rattle.node_rules.specs.State.{setting}
-use Rattle.world_rules.specs.World.{Seat, Datagram, PeerAsk, PeerAnswer, Waiting, World, node_at, with_node, datagrams_from, Answered, answer_of, mark_of, answer_to, asked_by, answers_in, reply_in, after_node}
-use Rattle.world_rules.specs.Turn.{with_seat}
+use Rattle.world_rules.specs.World.{MemberState, Datagram, PeerAsk, PeerAnswer, Waiting, World, node_at, with_node, datagrams_from, Answered, answer_of, mark_of, answer_to, asked_by, answers_in, reply_in, after_node}
+use Rattle.world_rules.specs.Turn.{with_member_state}
 use Rattle.world_rules.specs.Run.{Step, IsItem, purges, issued}
 use Rattle.world_rules.specs.Lineage.{IsStamped, IsStampedCopy, IsStampedFetch, IsStampedRead, IsStampedAnswer, IsSentAnswer, HasRaised, IsClear, IsMastersRightly, IsObeyed, NodeHasLineage, HasLineage}
 use Rattle.world_rules.proofs.Issues.{issued_here}
-use Rattle.world_rules.proofs.Seats.{node_at-same, each_node}
+use Rattle.world_rules.proofs.MemberStates.{node_at-same, each_node}
 use Rattle.world_rules.proofs.Later.{extends_itself, Grows, grows_by, obeyed_later, purges_later, all_later}
 use Rattle.world_rules.proofs.Numbers.{clear_is_purge}
 use Rattle.world_rules.proofs.Keys.{own_key}
@@ -134,38 +134,38 @@ module _ (h : Tables) (past : List Step) (id : ℕ) (old : NodeState ℕ) (linea
 
 -- A member's node changes, and its floors never fall
 
-module _ (h : Tables) (past : List Step) (w : World) (lineage : HasLineage h past w) (id : ℕ) (s : NodeState ℕ) (floors : (key : List ℕ) → floor (node_at w.seats id).floors key ≤ floor s.floors key) (node : NodeHasLineage past s) where
-  grown : Grows w.seats (with_node w.seats id s)
-  grown = grows_by w.seats id s floors
+module _ (h : Tables) (past : List Step) (w : World) (lineage : HasLineage h past w) (id : ℕ) (s : NodeState ℕ) (floors : (key : List ℕ) → floor (node_at w.states id).floors key ≤ floor s.floors key) (node : NodeHasLineage past s) where
+  grown : Grows w.states (with_node w.states id s)
+  grown = grows_by w.states id s floors
 
   -- with what was sent, the invariant holds
-  pub seat_keeps : (datagrams : List Datagram) (asks : List PeerAsk) (answers : List PeerAnswer) (waiting : List Waiting) →
-      AllByRecursion (IsMastersRightly h past) datagrams → AllByRecursion (IsObeyed h past (with_node w.seats id s)) datagrams → AllByRecursion (IsSentAnswer past) answers →
-      HasLineage h past record { seats = with_node w.seats id s; master = w.master; clock = w.clock; datagrams = w.datagrams ++ datagrams; asks = asks; answers = w.answers ++ answers; waiting = waiting }
-  seat_keeps datagrams asks answers waiting masters obeyed stamped = record {
+  pub state_keeps : (datagrams : List Datagram) (asks : List PeerAsk) (answers : List PeerAnswer) (waiting : List Waiting) →
+      AllByRecursion (IsMastersRightly h past) datagrams → AllByRecursion (IsObeyed h past (with_node w.states id s)) datagrams → AllByRecursion (IsSentAnswer past) answers →
+      HasLineage h past record { states = with_node w.states id s; master = w.master; clock = w.clock; datagrams = w.datagrams ++ datagrams; asks = asks; answers = w.answers ++ answers; waiting = waiting }
+  state_keeps datagrams asks answers waiting masters obeyed stamped = record {
     last = lineage.last;
     small = lineage.small;
-    nodes = each_node (λ each (now : NodeState ℕ). NodeHasLineage past now) w.seats id s node lineage.nodes;
+    nodes = each_node (λ each (now : NodeState ℕ). NodeHasLineage past now) w.states id s node lineage.nodes;
     masters = all_joined (IsMastersRightly h past) w.datagrams datagrams lineage.masters masters;
-    obeyed = all_joined (IsObeyed h past (with_node w.seats id s)) w.datagrams datagrams (obeyed_later past past (extends_itself past) h w.seats (with_node w.seats id s) grown w.datagrams lineage.obeyed) obeyed;
+    obeyed = all_joined (IsObeyed h past (with_node w.states id s)) w.datagrams datagrams (obeyed_later past past (extends_itself past) h w.states (with_node w.states id s) grown w.datagrams lineage.obeyed) obeyed;
     answers = all_joined (IsSentAnswer past) w.answers answers lineage.answers stamped;
-    pending = purges_later past past (extends_itself past) h w.seats (with_node w.seats id s) grown w.master.pending lineage.pending;
-    done = λ number low high none. all_later past past (extends_itself past) h w.seats (with_node w.seats id s) grown number (lineage.done number low high none);
-    reported = λ place number told. all_later past past (extends_itself past) h w.seats (with_node w.seats id s) grown number (lineage.reported place number told);
+    pending = purges_later past past (extends_itself past) h w.states (with_node w.states id s) grown w.master.pending lineage.pending;
+    done = λ number low high none. all_later past past (extends_itself past) h w.states (with_node w.states id s) grown number (lineage.done number low high none);
+    reported = λ place number told. all_later past past (extends_itself past) h w.states (with_node w.states id s) grown number (lineage.reported place number told);
   }
 
   -- it also holds if nothing was sent
-  pub silent_keeps : HasLineage h past (with_seat w id s)
+  pub silent_keeps : HasLineage h past (with_member_state w id s)
   silent_keeps = record {
     last = lineage.last;
     small = lineage.small;
-    nodes = each_node (λ each (now : NodeState ℕ). NodeHasLineage past now) w.seats id s node lineage.nodes;
+    nodes = each_node (λ each (now : NodeState ℕ). NodeHasLineage past now) w.states id s node lineage.nodes;
     masters = lineage.masters;
-    obeyed = obeyed_later past past (extends_itself past) h w.seats (with_node w.seats id s) grown w.datagrams lineage.obeyed;
+    obeyed = obeyed_later past past (extends_itself past) h w.states (with_node w.states id s) grown w.datagrams lineage.obeyed;
     answers = lineage.answers;
-    pending = purges_later past past (extends_itself past) h w.seats (with_node w.seats id s) grown w.master.pending lineage.pending;
-    done = λ number low high none. all_later past past (extends_itself past) h w.seats (with_node w.seats id s) grown number (lineage.done number low high none);
-    reported = λ place number told. all_later past past (extends_itself past) h w.seats (with_node w.seats id s) grown number (lineage.reported place number told);
+    pending = purges_later past past (extends_itself past) h w.states (with_node w.states id s) grown w.master.pending lineage.pending;
+    done = λ number low high none. all_later past past (extends_itself past) h w.states (with_node w.states id s) grown number (lineage.done number low high none);
+    reported = λ place number told. all_later past past (extends_itself past) h w.states (with_node w.states id s) grown number (lineage.reported place number told);
   }
 
 -- What a node sends
@@ -188,23 +188,23 @@ module _ (h : Tables) (proper : IsRoster h) (past : List Step) (id : ℕ) (next 
       raised_by from m number from_master (comes from_master) raised
   event_raised _ comes to number master same raised = absurd same
 
-  module _ (seats : List Seat) (at_id : node_at seats id ≡ next) (e : Event ℕ) (comes : ComesRightly h past e) (c : Member) (entry : member_of h id ≡ Some c) where
+  module _ (states : List MemberState) (at_id : node_at states id ≡ next) (e : Event ℕ) (comes : ComesRightly h past e) (c : Member) (entry : member_of h id ≡ Some c) where
     sent_datagram : Outgoing → Datagram
     sent_datagram o = record { sender = address_by (udp_of o.message) c.cache; receiver = o.to; message = o.message }
 
-    outgoing_obeyed : (o : Outgoing) → IsObedient (setting h id) e next.floors o → IsObeyed h past seats (sent_datagram o)
+    outgoing_obeyed : (o : Outgoing) → IsObedient (setting h id) e next.floors o → IsObeyed h past states (sent_datagram o)
     unfolding sent_datagram
     outgoing_obeyed o obeys to_master number acknowledges other from =
         let both = subst (Acknowledges (setting h id) e next.floors o.to) acknowledges obeys in
         let address : address_by (udp_of o.message) c.cache ≡ c.cache.htcp = ap (λ by. address_by by c.cache) (htcp_only o.message number acknowledges) in
         let same : id ≡ other = same_Some id other (sym (proper.own.found id c entry) ∙ ap (λ a. member_at h a udp.Htcp) (sym address) ∙ from) in
-        subst (λ n. HasRaised past (node_at seats n) number) same (subst (λ s. HasRaised past s number) (sym at_id) (event_raised e comes o.to number to_master both.0 both.1))
+        subst (λ n. HasRaised past (node_at states n) number) same (subst (λ s. HasRaised past s number) (sym at_id) (event_raised e comes o.to number to_master both.0 both.1))
 
     outgoing_masters : (o : Outgoing) → IsMastersRightly h past (sent_datagram o)
     unfolding sent_datagram
     outgoing_masters o from = absurd (true_not_false (sym from ∙ proper.own.apart id c (udp_of o.message) entry))
 
-    all_obeyed : (sent : List Outgoing) → AllByRecursion (IsObedient (setting h id) e next.floors) sent → AllByRecursion (IsObeyed h past seats) (map sent_datagram sent)
+    all_obeyed : (sent : List Outgoing) → AllByRecursion (IsObedient (setting h id) e next.floors) sent → AllByRecursion (IsObeyed h past states) (map sent_datagram sent)
     all_obeyed [] all = tt
     all_obeyed (o ∷ sent) all = (outgoing_obeyed o all.0, all_obeyed sent all.1)
 
@@ -212,16 +212,16 @@ module _ (h : Tables) (proper : IsRoster h) (past : List Step) (id : ℕ) (next 
     all_masters [] = tt
     all_masters (o ∷ sent) = (outgoing_masters o, all_masters sent)
 
-  module _ (seats : List Seat) (at_id : node_at seats id ≡ next) (e : Event ℕ) (comes : ComesRightly h past e) (sent : List Outgoing) where
-    datagrams_obeyed : (o : Option Member) → member_of h id ≡ o → AllByRecursion (IsObedient (setting h id) e next.floors) sent → AllByRecursion (IsObeyed h past seats) (datagrams_from o sent)
+  module _ (states : List MemberState) (at_id : node_at states id ≡ next) (e : Event ℕ) (comes : ComesRightly h past e) (sent : List Outgoing) where
+    datagrams_obeyed : (o : Option Member) → member_of h id ≡ o → AllByRecursion (IsObedient (setting h id) e next.floors) sent → AllByRecursion (IsObeyed h past states) (datagrams_from o sent)
     unfolding sent_datagram
     datagrams_obeyed None entry all = tt
-    datagrams_obeyed (Some c) entry all = all_obeyed seats at_id e comes c entry sent all
+    datagrams_obeyed (Some c) entry all = all_obeyed states at_id e comes c entry sent all
 
     datagrams_masters : (o : Option Member) → member_of h id ≡ o → AllByRecursion (IsMastersRightly h past) (datagrams_from o sent)
     unfolding sent_datagram
     datagrams_masters None entry = tt
-    datagrams_masters (Some c) entry = all_masters seats at_id e comes c entry sent
+    datagrams_masters (Some c) entry = all_masters states at_id e comes c entry sent
 
 -- the responses that a node sends keep the invariant
 served_stamped : (past : List Step) (served : Served ℕ) → IsBareStatus served → ((c : WebCopy ℕ) → copy_in served ≡ Some c → IsStampedCopy past c) → IsStampedAnswer past (answer_of served) (mark_of served)
@@ -240,15 +240,15 @@ answers_sent past waiting id e serial (Some serve) bare stamped = answer_sent pa
 -- A node's turn
 
 module _ (h : Tables) (proper : IsRoster h) (past : List Step) (w : World) (lineage : HasLineage h past w) (id : ℕ) (e : Event ℕ) (comes : ComesRightly h past e) (serial : ℕ) where
-  result_keeps : (outcome : Result (Reply ℕ) StepFault) (next : NodeState ℕ) → Lawful (setting h id) (node_at w.seats id) e (length past + 1) outcome next →
+  result_keeps : (outcome : Result (Reply ℕ) StepFault) (next : NodeState ℕ) → Lawful (setting h id) (node_at w.states id) e (length past + 1) outcome next →
       AllByRecursion (IsObedient (setting h id) e next.floors) (reply_in outcome).send → IsBareInServe (reply_in outcome).serve → ((c : WebCopy ℕ) → copy_in_serve (reply_in outcome).serve ≡ Some c → IsStampedCopy past c) → HasLineage h past (after_node h w id e serial outcome next)
   result_keeps outcome next law obeys bare stamped =
-      let at_id : node_at (with_node w.seats id next) id ≡ next = node_at-same w.seats id next in
-      seat_keeps h past w lineage id next law.floors (node_keeps h past id (node_at w.seats id) (lineage.nodes id) e comes outcome next law) _ _ _ _
-      (datagrams_masters h proper past id next (with_node w.seats id next) at_id e comes (reply_in outcome).send (member_of h id) refl)
-      (datagrams_obeyed h proper past id next (with_node w.seats id next) at_id e comes (reply_in outcome).send (member_of h id) refl obeys)
+      let at_id : node_at (with_node w.states id next) id ≡ next = node_at-same w.states id next in
+      state_keeps h past w lineage id next law.floors (node_keeps h past id (node_at w.states id) (lineage.nodes id) e comes outcome next law) _ _ _ _
+      (datagrams_masters h proper past id next (with_node w.states id next) at_id e comes (reply_in outcome).send (member_of h id) refl)
+      (datagrams_obeyed h proper past id next (with_node w.states id next) at_id e comes (reply_in outcome).send (member_of h id) refl obeys)
       (answers_sent past w.waiting id e serial (reply_in outcome).serve bare stamped)
 
-  pub takes_keeps : (outcome : Result (Reply ℕ) StepFault) (next : NodeState ℕ) → Lawful (setting h id) (node_at w.seats id) e (length past + 1) outcome next → HasLineage h past (after_node h w id e serial outcome next)
-  takes_keeps (Ok reply) next law = result_keeps (Ok reply) next law law.acknowledges law.statuses (λ c is. copy_stamped h past id (node_at w.seats id) (lineage.nodes id) e comes c (law.serves c is))
+  pub takes_keeps : (outcome : Result (Reply ℕ) StepFault) (next : NodeState ℕ) → Lawful (setting h id) (node_at w.states id) e (length past + 1) outcome next → HasLineage h past (after_node h w id e serial outcome next)
+  takes_keeps (Ok reply) next law = result_keeps (Ok reply) next law law.acknowledges law.statuses (λ c is. copy_stamped h past id (node_at w.states id) (lineage.nodes id) e comes c (law.serves c is))
   takes_keeps (Err fault) next law = result_keeps (Err fault) next law tt tt (λ c is. absurd (none-some c is))

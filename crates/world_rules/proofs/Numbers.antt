@@ -24,7 +24,7 @@ use Rattle.values_tables.specs.declared.plain.Tables.{Tables}
 use Rattle.values_keys.specs.KeyOf.{key_of}
 use Rattle.node_rules.specs.State.{setting}
 use Rattle.world_rules.proofs.Members.{all_tested}
-use Rattle.world_rules.proofs.Seats.{same_id, other_id, or_left}
+use Rattle.world_rules.proofs.MemberStates.{same_id, other_id, or_left}
 
 IsDigit : ℕ → Type 0
 IsDigit c = (48 ≤ c) × (c ≤ 57)

@@ -26,7 +26,7 @@ use Rattle.world_rules.specs.Lineage.{IsStamped, HasLineage}
 use Rattle.world_rules.specs.Safety.{NothingOldIsServed, SendsBack, SiblingsAskNothing}
 use Rattle.world_rules.proofs.Items.{item_pushed, item_later, item_taken, same_item, parted}
 use Rattle.world_rules.proofs.Issues.{purges-append, issued_later, issued_up, key_later}
-use Rattle.world_rules.proofs.Seats.{node_at-same}
+use Rattle.world_rules.proofs.MemberStates.{node_at-same}
 use Rattle.world_rules.proofs.NodeTurns.{copy_stamped}
 use Rattle.world_rules.proofs.Turns.{IsRight, turn_right}
 use Rattle.world_rules.proofs.Runs.{lineage_before}
@@ -37,19 +37,19 @@ use Rattle.world_rules.proofs.Back.{sibling_sends_back}
 record IsServedRightly (h : Tables) (past : List Step) (w : World) (c : WebCopy ℕ) : Type 0 where
   id : ℕ
   member : is_member h id ≡ true
-  current : floor (node_at w.seats id).floors c.key ≤ c.stamp
+  current : floor (node_at w.states id).floors c.key ≤ c.stamp
   stamped : IsStamped past c.stamp c.tag
 
 module _ (h : Tables) (proper : IsRoster h) (past : List Step) (old : World) (lineage : HasLineage h past old) (event : WorldEvent) (seen : Seen) (new : World) (c : WebCopy ℕ) (serves : ServesCopy seen c) where
   turn_served : (t : Turn) → IsRight h past event t → Takes h (length past + 1) old t seen new → IsServedRightly h past old c
   turn_served (NodeSteps id e serial) right (outcome, next, steps, is_seen, is_new) =
-      let law = steps_are_lawful (setting h id) (node_at old.seats id) e (length past + 1) outcome next steps in
+      let law = steps_are_lawful (setting h id) (node_at old.states id) e (length past + 1) outcome next steps in
       let served : copy_served outcome ≡ Some c = subst (λ (s : Seen). ServesCopy s c) is_seen serves in
       record {
         id = id;
         member = right.member;
         current = omega (arith, law.floors c.key, law.current c served);
-        stamped = copy_stamped h past id (node_at old.seats id) (lineage.nodes id) e right.comes c (law.serves c served);
+        stamped = copy_stamped h past id (node_at old.states id) (lineage.nodes id) e right.comes c (law.serves c served);
       }
   turn_served (Ends what world) right (is_seen, is_new) = absurd (right.serves_none c (subst (λ (s : Seen). ServesCopy s c) is_seen serves))
   turn_served (Refused fault) right takes = absurd takes
@@ -96,7 +96,7 @@ module _ (h : Tables) (proper : IsRoster h) (steps : List Step) (w : World) (run
       let whole : part ++ drop (serve_place - 1) steps ≡ steps = take-append-drop (serve_place - 1) steps in
       let known : IsItem (purges steps) number raised.0 = rw whole at (key_later part (drop (serve_place - 1) steps) number raised.0 raised.1) in
       let same : raised.0 ≡ key = same_item (purges steps) number raised.0 key known (issued_key issue_place number key is_issued) in
-      let low : number ≤ floor (node_at old.seats right.id).floors c.key = subst (λ u. number ≤ floor (node_at old.seats right.id).floors u) (same ∙ sym same_key) raised.2 in
+      let low : number ≤ floor (node_at old.states right.id).floors c.key = subst (λ u. number ≤ floor (node_at old.states right.id).floors u) (same ∙ sym same_key) raised.2 in
       let later : issued part c.tag ≤ issued steps c.tag = rw whole at (issued_later part (drop (serve_place - 1) steps) c.tag) in
       let next : number ≡ issued steps issue_place + 1 = issued_number issue_place number key is_issued in
       elim (dec_lt issue_place c.tag) [
@@ -117,11 +117,11 @@ seen_outcome _ other = other
 pub siblings_ask_nothing : (h : Tables) (steps : List Step) → SiblingsAskNothing h steps
 siblings_ask_nothing h steps past rest event id outcome before after e serial is_step runs (key, takes) is_turn asks =
     let (result, next, node_steps, is_seen, is_new) = subst (λ (t : Turn). Takes h (length past + 1) before t (Replied id outcome) after) is_turn takes in
-    let law = steps_are_lawful (setting h id) (node_at before.seats id) e (length past + 1) result next node_steps in
+    let law = steps_are_lawful (setting h id) (node_at before.states id) e (length past + 1) result next node_steps in
     let same : outcome ≡ result = ap (λ (s : Seen). seen_outcome s outcome) is_seen in
-    let at_id : node_at after.seats id ≡ next = ap (λ (w : World). node_at w.seats id) is_new ∙ node_at-same before.seats id next in
-    let none : BeginsNothing (node_at before.seats id) result next = law.siblings asks in
-    let back : SendsBack e (sent result) = sibling_sends_back (setting h id) (node_at before.seats id) e (length past + 1) result next asks node_steps in (
-      subst (λ r. BeginsNothing (node_at before.seats id) r (node_at after.seats id)) (sym same) (subst (BeginsNothing (node_at before.seats id) result) (sym at_id) none),
+    let at_id : node_at after.states id ≡ next = ap (λ (w : World). node_at w.states id) is_new ∙ node_at-same before.states id next in
+    let none : BeginsNothing (node_at before.states id) result next = law.siblings asks in
+    let back : SendsBack e (sent result) = sibling_sends_back (setting h id) (node_at before.states id) e (length past + 1) result next asks node_steps in (
+      subst (λ r. BeginsNothing (node_at before.states id) r (node_at after.states id)) (sym same) (subst (BeginsNothing (node_at before.states id) result) (sym at_id) none),
       subst (λ (r : Result (Reply ℕ) StepFault). SendsBack e (sent r)) (sym same) back,
     )

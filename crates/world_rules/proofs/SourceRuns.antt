@@ -57,7 +57,7 @@ module _ (h : Tables) (past : List Step) (old : World) (after : IsAfter h past o
   -- a copy that is served has a source
   takes_copy : (c : WebCopy ℕ) → ServesCopy seen c → (t : Turn) → turn h old cause ≡ t → Knows h past old t → Takes h (length past + 1) old t seen new → IsSourcedCopy h (past ++ record { event = cause; seen = seen } ∷ []) c
   takes_copy c serves (NodeSteps id e serial) meets known (outcome, next, steps, is_seen, is_new) =
-      let law = steps_are_lawful (setting h id) (node_at old.seats id) e (length past + 1) outcome next steps in
+      let law = steps_are_lawful (setting h id) (node_at old.states id) e (length past + 1) outcome next steps in
       let served : copy_served outcome ≡ Some c = subst (λ (s : Seen). ServesCopy s c) is_seen serves in
       rw is_seen (copy_source h past old after.runs after.sources cause id serial outcome e meets known.knows c (law.serves c served))
   takes_copy c serves (Ends what world) meets known (is_seen, is_new) = absurd (known.serves_none c (subst (λ (s : Seen). ServesCopy s c) is_seen serves))
@@ -112,15 +112,15 @@ module _ (h : Tables) where
 
     -- Ages
 
-    age_in : (e : Event ℕ) (id : ℕ) (reply : Reply ℕ) (serve : Serve ℕ) (served : Served ℕ) (c : WebCopy ℕ) (age : ℕ) → served ≡ Copy c age → IsServedRightly (node_at w.seats id) e serve.waiter serve.asker served → age ≡ served_age c (moment e)
-    age_in e id reply serve served c age is rightly = (subst (IsServedRightly (node_at w.seats id) e serve.waiter serve.asker) is rightly).0
+    age_in : (e : Event ℕ) (id : ℕ) (reply : Reply ℕ) (serve : Serve ℕ) (served : Served ℕ) (c : WebCopy ℕ) (age : ℕ) → served ≡ Copy c age → IsServedRightly (node_at w.states id) e serve.waiter serve.asker served → age ≡ served_age c (moment e)
+    age_in e id reply serve served c age is rightly = (subst (IsServedRightly (node_at w.states id) e serve.waiter serve.asker) is rightly).0
 
     age_by : (cause : WorldEvent) (id : ℕ) (reply : Reply ℕ) (serve : Serve ℕ) (c : WebCopy ℕ) (age : ℕ) (next : World) → reply.serve ≡ Some serve → serve.served ≡ Copy c age →
         (t : Turn) → Knows h steps w t → Takes h (length steps + 1) w t (Replied id (Ok reply)) next → age ≡ served_age c w.clock
     age_by cause id reply serve c age next is_serve is_copy (NodeSteps member e serial) known (outcome, state, node_steps, is_seen, is_new) =
-        let asked = steps_answer_asks (setting h member) (node_at w.seats member) (length steps + 1) e outcome state node_steps in
+        let asked = steps_answer_asks (setting h member) (node_at w.states member) (length steps + 1) e outcome state node_steps in
         let same : outcome ≡ Ok reply = ap (λ (s : Seen). seen_outcome s outcome) (sym is_seen) in
-        let rightly : IsRightlyIn (node_at w.seats member) e (Some serve) = subst (IsRightlyIn (node_at w.seats member) e) is_serve (subst (ServesRightly (node_at w.seats member) e) same asked.serves) in
+        let rightly : IsRightlyIn (node_at w.states member) e (Some serve) = subst (IsRightlyIn (node_at w.states member) e) is_serve (subst (ServesRightly (node_at w.states member) e) same asked.serves) in
         age_in e member reply serve serve.served c age is_copy rightly ∙ ap (served_age c) known.at
     age_by cause id reply serve c age next is_serve is_copy (Ends what world) known takes =
         absurd (known.serves_none c (subst (λ (s : Seen). ServesCopy s c) takes.0 (ap copy_in_serve is_serve ∙ ap copy_in is_copy)))

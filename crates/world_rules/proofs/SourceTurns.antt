@@ -29,11 +29,11 @@ use Rattle.world_rules.specs.declared.event.WorldEvent.TheVariants as world
 use Rattle.world_rules.specs.declared.outcome.WorldFault.TheVariants.{NoSuchPacket, NotPending}
 use Rattle.node_rules.specs.Messages.{protocol_of as udp_of}
 use Rattle.world_rules.specs.World.{Datagram, PeerAsk, PeerAnswer, Waiting, World, item, node_at}
-use Rattle.world_rules.specs.Turn.{Seen, Nothing, Turn, NodeSteps, Ends, Refused, at_member, with_clock, with_master, with_sent, with_seat, issue_by, acknowledged_by, master_hears_htcp, master_hears, delivered_to, delivered, ask_delivered, answer_delivered, origin_by, origin_to, foreign_by, foreign_to, fetching_at, turn}
+use Rattle.world_rules.specs.Turn.{Seen, Nothing, Turn, NodeSteps, Ends, Refused, at_member, with_clock, with_master, with_sent, with_member_state, issue_by, acknowledged_by, master_hears_htcp, master_hears, delivered_to, delivered, ask_delivered, answer_delivered, origin_by, origin_to, foreign_by, foreign_to, fetching_at, turn}
 use Rattle.world_rules.specs.Run.{Step, ServesCopy}
 use Rattle.world_rules.specs.Asked.{moment}
 use Rattle.world_rules.specs.Sources.{AnswerHasSource, NodeHasSources, NodeHasAsks, HasSources}
-use Rattle.world_rules.proofs.Seats.{all_item, each_node}
+use Rattle.world_rules.proofs.MemberStates.{all_item, each_node}
 use Rattle.world_rules.proofs.Sourced.{KnowsSource, each_but}
 use Rattle.world_rules.proofs.Waiting.{others_restart, own_restart}
 
@@ -128,13 +128,13 @@ module _ (h : Tables) (past : List Step) (w : World) (sources : HasSources h pas
   issue_known key None = same_known _ _ (sent_known _ _) (λ c s. absurd s)
 
   -- a node that has lost what waited, and its copies unless it is closed
-  seat_known : (id : ℕ) (s : NodeState ℕ) → NodeHasSources h past id s → s.pending ≡ [] → EndsKnown h past Nothing (with_seat w id s)
-  seat_known id s node empty = same_known Nothing (with_seat w id s)
+  state_known : (id : ℕ) (s : NodeState ℕ) → NodeHasSources h past id s → s.pending ≡ [] → EndsKnown h past Nothing (with_member_state w id s)
+  state_known id s node empty = same_known Nothing (with_member_state w id s)
       (record {
-        nodes = each_node (λ each (s : NodeState ℕ). NodeHasSources h past each s) w.seats id s node sources.nodes;
+        nodes = each_node (λ each (s : NodeState ℕ). NodeHasSources h past each s) w.states id s node sources.nodes;
         answers = sources.answers;
-        asks = each_but (λ each (s : NodeState ℕ). s.closed ≡ false → NodeHasAsks (filter (λ (x : Waiting). not (nat_eq x.node id)) w.waiting) each s) w.seats id s
-            (λ is_open. own_restart id w.waiting s empty) (λ other ne is_open. others_restart id w.waiting other (node_at w.seats other) ne (sources.asks other is_open));
+        asks = each_but (λ each (s : NodeState ℕ). s.closed ≡ false → NodeHasAsks (filter (λ (x : Waiting). not (nat_eq x.node id)) w.waiting) each s) w.states id s
+            (λ is_open. own_restart id w.waiting s empty) (λ other ne is_open. others_restart id w.waiting other (node_at w.states other) ne (sources.asks other is_open));
       }) (λ c s. absurd s)
 
   pub turn_known : (cause : WorldEvent) → Knows h past w (turn h w cause)
@@ -149,8 +149,8 @@ module _ (h : Tables) (past : List Step) (w : World) (sources : HasSources h pas
       branches (Knows h past w) (is_own h sender) (Refused NoSuchPacket) (delivered_to w sender m (member_at h to (udp_of m))) (λ _. tt) (λ _. to_known sender m (member_at h to (udp_of m)))
   turn_known (world.Fail id serial) = at_member_known id _ (plainly_known (event.FetchFailed serial w.clock) refl tt)
   turn_known (world.Expire id serial) = at_member_known id _ (plainly_known (event.Expired serial w.clock) refl tt)
-  turn_known (world.Fault id) = at_member_known id _ (seat_known id (closed_node (node_at w.seats id)) record { copies = λ is_open. absurd (true_not_false is_open); reads = tt } refl)
-  turn_known (world.Restart id) = at_member_known id _ (seat_known id (opened (node_at w.seats id).floors) record { copies = λ is_open. tt; reads = tt } refl)
+  turn_known (world.Fault id) = at_member_known id _ (state_known id (closed_node (node_at w.states id)) record { copies = λ is_open. absurd (true_not_false is_open); reads = tt } refl)
+  turn_known (world.Restart id) = at_member_known id _ (state_known id (opened (node_at w.states id).floors) record { copies = λ is_open. tt; reads = tt } refl)
   turn_known (world.Issue key) = issue_known key (issue_fault w.master)
   turn_known world.Resend = same_known Nothing _ (sent_known w.master _) (λ c s. absurd s)
   turn_known (world.Status number) = same_known _ w sources (λ c s. absurd s)

@@ -39,12 +39,12 @@ use Rattle.world_rules.specs.World.{Datagram, PeerAsk, PeerAnswer, World, item, 
 use Rattle.world_rules.specs.declared.event.WorldEvent.{WorldEvent}
 use Rattle.world_rules.specs.declared.event.WorldEvent.TheVariants as world
 use Rattle.world_rules.specs.declared.outcome.WorldFault.TheVariants.{NoSuchPacket}
-use Rattle.world_rules.specs.Turn.{Seen, Replied, NotIssued, Told, Nothing, Turn, NodeSteps, Ends, Refused, at_member, with_clock, with_master, with_seat, issue_by, told, acknowledged_by, master_hears_htcp, master_hears, delivered_to, delivered, ask_delivered, answer_delivered, origin_by, origin_to, foreign_by, foreign_to, fetching_at, turn}
+use Rattle.world_rules.specs.Turn.{Seen, Replied, NotIssued, Reported, Nothing, Turn, NodeSteps, Ends, Refused, at_member, with_clock, with_master, with_member_state, issue_by, reports, acknowledged_by, master_hears_htcp, master_hears, delivered_to, delivered, ask_delivered, answer_delivered, origin_by, origin_to, foreign_by, foreign_to, fetching_at, turn}
 use Rattle.world_rules.specs.Run.{Step, Takes, IsOfKey, Happens, purged_by, TellsDone, ServesCopy}
 use Rattle.world_rules.specs.Lineage.{HasRaised, IsClear, IsMastersRightly, IsObeyed, IsSentAnswer, NodeHasLineage, AllHaveRaised, HasLineage}
-use Rattle.world_rules.proofs.Seats.{same_id, all_item}
+use Rattle.world_rules.proofs.MemberStates.{same_id, all_item}
 use Rattle.world_rules.proofs.NodeTurns.{ComesRightly, takes_keeps, silent_keeps}
-use Rattle.world_rules.proofs.MasterTurns.{clock_keeps, resend_keeps, acknowledge_keeps, told_raised}
+use Rattle.world_rules.proofs.MasterTurns.{clock_keeps, resend_keeps, acknowledge_keeps, reported_raised}
 use Rattle.world_rules.proofs.Counting.{with_step, as_step, counted, left_number, issue_keeps}
 
 -- what an event's turn leads to: a node's step on what was sent rightly, or a world in which the
@@ -89,7 +89,7 @@ module _ (h : Tables) (proper : IsRoster h) (past : List Step) (w : World) (line
   at_member_right event id t right = branches (IsRight h past event) (is_member h id) t (Refused NoSuchPacket) right (λ _. tt)
 
   -- an event without a node's step that issues nothing
-  end_right : (event : WorldEvent) (seen : Seen) (new : World) → purged_by event seen ≡ None → HasLineage h past new → ((number : ℕ) → TellsDone number seen → AllHaveRaised h past new.seats number) → ((c : WebCopy ℕ) → ServesCopy seen c → ⊥) → IsRight h past event (Ends seen new)
+  end_right : (event : WorldEvent) (seen : Seen) (new : World) → purged_by event seen ≡ None → HasLineage h past new → ((number : ℕ) → TellsDone number seen → AllHaveRaised h past new.states number) → ((c : WebCopy ℕ) → ServesCopy seen c → ⊥) → IsRight h past event (Ends seen new)
   end_right event seen new silent kept tells none = record { lineage = counted h past event seen new silent record { lineage = kept; tells = tells }; serves_none = none }
 
   quiet_right : (event : WorldEvent) (new : World) → purged_by event Nothing ≡ None → HasLineage h past new → IsRight h past event (Ends Nothing new)
@@ -97,20 +97,20 @@ module _ (h : Tables) (proper : IsRoster h) (past : List Step) (w : World) (line
 
   -- The master
 
-  told_right : (event : WorldEvent) (number : ℕ) (new : World) → ((s : Seen) → purged_by event (Told number (status_of (members_of h) new.master number)) ≡ None) → HasLineage h past new → IsRight h past event (told h new number)
-  told_right event number new silent kept = end_right event (Told number (status_of (members_of h) new.master number)) new (silent Nothing) kept (λ n t. told_raised h past new kept number n t) (λ c s. absurd s)
+  reported_right : (event : WorldEvent) (number : ℕ) (new : World) → ((s : Seen) → purged_by event (Reported number (status_of (members_of h) new.master number)) ≡ None) → HasLineage h past new → IsRight h past event (told h new number)
+  reported_right event number new silent kept = end_right event (Reported number (status_of (members_of h) new.master number)) new (silent Nothing) kept (λ n t. reported_raised h past new kept number n t) (λ c s. absurd s)
 
-  acknowledged_right : (which : ℕ) (number code : ℕ) (o : Option ℕ) → ((id : ℕ) → o ≡ Some id → is_acknowledging code ≡ true → HasRaised past (node_at w.seats id) number) → IsRight h past (world.Datagram which) (acknowledged_by h w number code o)
+  acknowledged_right : (which : ℕ) (number code : ℕ) (o : Option ℕ) → ((id : ℕ) → o ≡ Some id → is_acknowledging code ≡ true → HasRaised past (node_at w.states id) number) → IsRight h past (world.Datagram which) (acknowledged_by h w number code o)
   acknowledged_right which number code None raised = quiet_right (world.Datagram which) w refl lineage
   acknowledged_right which number code (Some id) raised =
-      told_right (world.Datagram which) number (with_master w (acknowledged (members_of h) w.master id number code).purges) (λ s. refl) (acknowledge_keeps h past w lineage proper id number code (raised id refl))
+      reported_right (world.Datagram which) number (with_master w (acknowledged (members_of h) w.master id number code).purges) (λ s. refl) (acknowledge_keeps h past w lineage proper id number code (raised id refl))
 
-  master_htcp_right : (which : ℕ) (sender : Address) (minor trans : ℕ) (c : Content) → ((number : ℕ) → acknowledged_by_message (message.Htcp record { minor = minor; trans = trans; content = c }) ≡ Some number → (id : ℕ) → member_at h sender udp.Htcp ≡ Some id → HasRaised past (node_at w.seats id) number) → IsRight h past (world.Datagram which) (master_hears_htcp h w sender trans c)
+  master_htcp_right : (which : ℕ) (sender : Address) (minor trans : ℕ) (c : Content) → ((number : ℕ) → acknowledged_by_message (message.Htcp record { minor = minor; trans = trans; content = c }) ≡ Some number → (id : ℕ) → member_at h sender udp.Htcp ≡ Some id → HasRaised past (node_at w.states id) number) → IsRight h past (world.Datagram which) (master_hears_htcp h w sender trans c)
   master_htcp_right which sender minor trans (content.ClrAnswer code) raised =
       acknowledged_right which trans code (member_at h sender udp.Htcp) (λ id from counts. raised trans (ap (λ b. cond b (Some trans) None) counts) id from)
   master_htcp_right which sender minor trans _ raised = quiet_right (world.Datagram which) w refl lineage
 
-  master_right : (which : ℕ) (sender : Address) (m : Message) → ((number : ℕ) → acknowledged_by_message m ≡ Some number → (id : ℕ) → member_at h sender udp.Htcp ≡ Some id → HasRaised past (node_at w.seats id) number) → IsRight h past (world.Datagram which) (master_hears h w sender m)
+  master_right : (which : ℕ) (sender : Address) (m : Message) → ((number : ℕ) → acknowledged_by_message m ≡ Some number → (id : ℕ) → member_at h sender udp.Htcp ≡ Some id → HasRaised past (node_at w.states id) number) → IsRight h past (world.Datagram which) (master_hears h w sender m)
   master_right which sender (message.Icp m) raised = quiet_right (world.Datagram which) w refl lineage
   master_right which sender (message.Htcp m) raised = master_htcp_right which sender m.minor m.trans m.content raised
 
@@ -128,7 +128,7 @@ module _ (h : Tables) (proper : IsRoster h) (past : List Step) (w : World) (line
   delivered_right which None is = tt
   delivered_right which (Some d) is =
       let masters : IsMastersRightly h past d = all_item (IsMastersRightly h past) w.datagrams which d lineage.masters is in
-      let obeyed : IsObeyed h past w.seats d = all_item (IsObeyed h past w.seats) w.datagrams which d lineage.obeyed is in
+      let obeyed : IsObeyed h past w.states d = all_item (IsObeyed h past w.states) w.datagrams which d lineage.obeyed is in
       branches (IsRight h past (world.Datagram which)) (is_master h d.receiver) (master_hears h w d.sender d.message) (delivered_to w d.sender d.message (member_at h d.receiver (udp_of d.message)))
       (λ to_master. master_right which d.sender d.message (obeyed to_master)) (λ _. to_right (world.Datagram which) d.sender d.message (udp_of d.message) d.receiver masters (member_at h d.receiver (udp_of d.message)) refl)
 
@@ -165,10 +165,10 @@ module _ (h : Tables) (proper : IsRoster h) (past : List Step) (w : World) (line
 
   -- Faults and restarts
 
-  closed_right : (id : ℕ) → NodeHasLineage past (closed_node (node_at w.seats id))
+  closed_right : (id : ℕ) → NodeHasLineage past (closed_node (node_at w.states id))
   closed_right id = record { seen_issued = (lineage.nodes id).seen_issued; copies = λ is_open. absurd (true_not_false is_open); reads = tt }
 
-  opened_right : (id : ℕ) → NodeHasLineage past (opened (node_at w.seats id).floors)
+  opened_right : (id : ℕ) → NodeHasLineage past (opened (node_at w.states id).floors)
   opened_right id = record { seen_issued = (lineage.nodes id).seen_issued; copies = λ is_open. tt; reads = tt }
 
   -- each event's turn is right
@@ -182,11 +182,11 @@ module _ (h : Tables) (proper : IsRoster h) (past : List Step) (w : World) (line
   turn_right (world.Foreign id serial answer) key = at_member_right (world.Foreign id serial answer) id _ (foreign_right id serial answer (fetching_at w id serial))
   turn_right (world.Fail id serial) key = at_member_right (world.Fail id serial) id (NodeSteps id (event.FetchFailed serial w.clock) 0) (λ member. record { comes = tt; member = member })
   turn_right (world.Expire id serial) key = at_member_right (world.Expire id serial) id (NodeSteps id (event.Expired serial w.clock) 0) (λ member. record { comes = tt; member = member })
-  turn_right (world.Fault id) key = at_member_right (world.Fault id) id _ (λ member. quiet_right (world.Fault id) (with_seat w id (closed_node (node_at w.seats id))) refl (silent_keeps h past w lineage id _ (λ key. omega arith) (closed_right id)))
-  turn_right (world.Restart id) key = at_member_right (world.Restart id) id _ (λ member. quiet_right (world.Restart id) (with_seat w id (opened (node_at w.seats id).floors)) refl (silent_keeps h past w lineage id _ (λ key. omega arith) (opened_right id)))
+  turn_right (world.Fault id) key = at_member_right (world.Fault id) id _ (λ member. quiet_right (world.Fault id) (with_member_state w id (closed_node (node_at w.states id))) refl (silent_keeps h past w lineage id _ (λ key. omega arith) (closed_right id)))
+  turn_right (world.Restart id) key = at_member_right (world.Restart id) id _ (λ member. quiet_right (world.Restart id) (with_member_state w id (opened (node_at w.states id).floors)) refl (silent_keeps h past w lineage id _ (λ key. omega arith) (opened_right id)))
   turn_right (world.Issue key) is_key = issue_right key is_key (issue_fault w.master) refl
   turn_right world.Resend key = quiet_right world.Resend _ refl (resend_keeps h past w lineage)
-  turn_right (world.Status number) key = told_right (world.Status number) number w (λ s. refl) lineage
+  turn_right (world.Status number) key = reported_right (world.Status number) number w (λ s. refl) lineage
   turn_right world.RestartMaster key = quiet_right world.RestartMaster w refl lineage
   turn_right (world.Strange to sender m) key =
       branches (IsRight h past (world.Strange to sender m)) (is_own h sender) (Refused NoSuchPacket) _ (λ _. tt)
@@ -200,7 +200,7 @@ issues_nothing _ id outcome = refl
 module _ (h : Tables) (proper : IsRoster h) (past : List Step) (old : World) (lineage : HasLineage h past old) (event : WorldEvent) (seen : Seen) (new : World) where
   takes_on : (t : Turn) → IsRight h past event t → Takes h (length past + 1) old t seen new → HasLineage h (with_step past event seen) new
   takes_on (NodeSteps id e serial) right (outcome, next, steps, is_seen, is_new) =
-      let law = steps_are_lawful (setting h id) (node_at old.seats id) e (length past + 1) outcome next steps in
+      let law = steps_are_lawful (setting h id) (node_at old.states id) e (length past + 1) outcome next steps in
       let kept : HasLineage h past (after_node h old id e serial outcome next) = takes_keeps h proper past old lineage id e right.comes serial outcome next law in
       rw (is_seen, is_new) (counted h past event (Replied id outcome) (after_node h old id e serial outcome next) (issues_nothing event id outcome) record { lineage = kept; tells = λ number t. absurd t })
   takes_on (Ends what world) right (is_seen, is_new) = rw (is_seen, is_new) right.lineage

@@ -13,7 +13,7 @@ use Rattle.node_rules.proofs.Pendings.{all_mapped, all_joined, all_left, contain
 use Rattle.world_rules.specs.World.{Waiting, Answered, is_waiting_as, asked_before, waits_now}
 use Rattle.world_rules.specs.Asked.{Asks, IsAskAfter}
 use Rattle.world_rules.specs.Sources.{IsTaken, IsKept, NodeHasAsks}
-use Rattle.world_rules.proofs.Seats.{same_id, other_id, ids_same}
+use Rattle.world_rules.proofs.MemberStates.{same_id, other_id, ids_same}
 
 answered_by : Waiting → Answered
 answered_by w = record { serial = w.serial; key = w.key }

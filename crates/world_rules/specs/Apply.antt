@@ -15,7 +15,7 @@ use Rattle.world_rules.specs.declared.outcome.ActorFault.{ActorFault}
 use Rattle.world_rules.specs.declared.outcome.ActorFault.TheVariants as actor
 use Rattle.world_rules.specs.declared.outcome.WorldFault.{WorldFault}
 use Rattle.world_rules.specs.World.{World, node_at, reply_in, after_node}
-use Rattle.world_rules.specs.Turn.{Seen, Replied, Issued, NotIssued, Told, Turn, NodeSteps, Ends, Refused, turn}
+use Rattle.world_rules.specs.Turn.{Seen, Replied, Issued, NotIssued, Reported, Turn, NodeSteps, Ends, Refused, turn}
 use Rattle.world_rules.specs.Run.{Happens}
 
 -- this many numbers after the first
@@ -39,7 +39,7 @@ purge_of _ = None
 
 -- the number and the status of the purge that the master reported, if it did
 abbrev pub status_of : Seen → Option (ℕ × Status)
-status_of (Told number status) = Some (number, status)
+status_of (Reported number status) = Some (number, status)
 status_of _ = None
 
 -- the serial of the round that begins, if any
@@ -64,8 +64,8 @@ fault_of (NotIssued fault) = Some (actor.Master fault)
 fault_of _ = None
 
 -- the outcome of what was seen, if these were sent: a response, datagrams and a request, by numbers
-abbrev pub told_by : Seen → Option ℕ → List ℕ → Option ℕ → Outcome
-told_by seen answer sent ask = record {
+abbrev pub outcome_with : Seen → Option ℕ → List ℕ → Option ℕ → Outcome
+outcome_with seen answer sent ask = record {
   serve = (reply_of seen).serve;
   answer = answer;
   purge = purge_of seen;
@@ -80,7 +80,7 @@ told_by seen answer sent ask = record {
 -- the outcome of what was seen, where the old world became the new
 abbrev pub outcome_of : World → World → Seen → Outcome
 outcome_of old new seen =
-    told_by seen (new_item (length old.answers) (length new.answers)) (numbers_after (length old.datagrams) (length new.datagrams - length old.datagrams))
+    outcome_with seen (new_item (length old.answers) (length new.answers)) (numbers_after (length old.datagrams) (length new.datagrams - length old.datagrams))
     (new_item (length old.asks) (length new.asks))
 
 -- an event is applied, or is refused: then it changes nothing and has no place
@@ -98,7 +98,7 @@ did_step roster w id e serial r = did w (Replied id r.outcome) (after_node roste
 
 -- what a turn leads to if nothing fails
 abbrev pub by_turn : Tables → ℕ → World → Turn → Applied
-by_turn roster place w (NodeSteps id e serial) = did_step roster w id e serial (step (setting roster id) (node_at w.seats id) e place)
+by_turn roster place w (NodeSteps id e serial) = did_step roster w id e serial (step (setting roster id) (node_at w.states id) e place)
 by_turn roster place w (Ends seen new) = did w seen new
 by_turn roster place w (Refused fault) = DidNot fault
 

@@ -22,7 +22,7 @@ use Rattle.purge_rules.specs.Members.{is_among}
 use Rattle.purge_rules.specs.Purges.{pending_at}
 use Rattle.purge_rules.specs.Clear.{clear}
 use Rattle.values_tables.specs.declared.plain.Tables.{Tables}
-use Rattle.world_rules.specs.World.{Seat, Datagram, PeerAnswer, World, node_at}
+use Rattle.world_rules.specs.World.{MemberState, Datagram, PeerAnswer, World, node_at}
 use Rattle.world_rules.specs.Run.{Step, IsItem, purges, issued, IsReportedAt}
 
 -- a stamp is at most the number of purges issued before the mark
@@ -69,10 +69,10 @@ abbrev pub IsMastersRightly : Tables → List Step → Datagram → Type 0
 IsMastersRightly roster past d = is_master roster d.sender ≡ true → IsClear past d.message
 
 -- if the datagram acknowledges a purge to the master, the member that sent it has raised its floor
-abbrev pub IsObeyed : Tables → List Step → List Seat → Datagram → Type 0
-IsObeyed roster past seats d =
+abbrev pub IsObeyed : Tables → List Step → List MemberState → Datagram → Type 0
+IsObeyed roster past states d =
     is_master roster d.receiver ≡ true → (number : ℕ) → acknowledged d.message ≡ Some number →
-    (id : ℕ) → member_at roster d.sender udp.Htcp ≡ Some id → HasRaised past (node_at seats id) number
+    (id : ℕ) → member_at roster d.sender udp.Htcp ≡ Some id → HasRaised past (node_at states id) number
 
 -- what holds of each node
 pub record NodeHasLineage (past : List Step) (s : NodeState ℕ) : Type 0 where
@@ -83,23 +83,23 @@ pub record NodeHasLineage (past : List Step) (s : NodeState ℕ) : Type 0 where
 
 -- a pending purge has the key of its number, and the members that are marked as having acknowledged
 -- it have raised their floors
-pub record PurgeHasLineage (past : List Step) (seats : List Seat) (p : Purge) : Type 0 where
+pub record PurgeHasLineage (past : List Step) (states : List MemberState) (p : Purge) : Type 0 where
   pub issued_key : IsItem (purges past) p.number p.key
   pub is_key : IsKey p.key
-  pub marked : (id : ℕ) → is_among id p.marked ≡ true → HasRaised past (node_at seats id) p.number
+  pub marked : (id : ℕ) → is_among id p.marked ≡ true → HasRaised past (node_at states id) p.number
 
 -- each member has raised its floor for the purge with this number
-abbrev pub AllHaveRaised : Tables → List Step → List Seat → ℕ → Type 0
-AllHaveRaised roster past seats number = (id : ℕ) → is_member roster id ≡ true → HasRaised past (node_at seats id) number
+abbrev pub AllHaveRaised : Tables → List Step → List MemberState → ℕ → Type 0
+AllHaveRaised roster past states number = (id : ℕ) → is_member roster id ≡ true → HasRaised past (node_at states id) number
 
 -- the invariant: what holds of the world after these steps
 pub record HasLineage (roster : Tables) (past : List Step) (w : World) : Type 0 where
   pub last : w.master.last ≡ length (purges past)
   pub small : w.master.last ≤ 4294967295
-  pub nodes : (id : ℕ) → NodeHasLineage past (node_at w.seats id)
+  pub nodes : (id : ℕ) → NodeHasLineage past (node_at w.states id)
   pub masters : AllByRecursion (IsMastersRightly roster past) w.datagrams
-  pub obeyed : AllByRecursion (IsObeyed roster past w.seats) w.datagrams
+  pub obeyed : AllByRecursion (IsObeyed roster past w.states) w.datagrams
   pub answers : AllByRecursion (IsSentAnswer past) w.answers
-  pub pending : AllByRecursion (PurgeHasLineage past w.seats) w.master.pending
-  pub done : (number : ℕ) → 1 ≤ number → number ≤ w.master.last → pending_at w.master number ≡ None → AllHaveRaised roster past w.seats number
-  pub reported : (place number : ℕ) → IsReportedAt past place number → AllHaveRaised roster past w.seats number
+  pub pending : AllByRecursion (PurgeHasLineage past w.states) w.master.pending
+  pub done : (number : ℕ) → 1 ≤ number → number ≤ w.master.last → pending_at w.master number ≡ None → AllHaveRaised roster past w.states number
+  pub reported : (place number : ℕ) → IsReportedAt past place number → AllHaveRaised roster past w.states number

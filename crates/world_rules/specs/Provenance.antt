@@ -62,7 +62,7 @@ pub record IsFromOrigin (roster : Tables) (steps : List Step) (key : List ℕ) (
   pub outcome : Result (Reply ℕ) StepFault
   pub comes : NodeStepAt roster steps place id (event.OriginAnswer serial key answer now) outcome
   pub read : Pending ℕ
-  pub waits : Contains (node_at comes.before.seats id).pending read
+  pub waits : Contains (node_at comes.before.states id).pending read
   pub as_serial : fetch_serial read ≡ serial
   pub stamp : ℕ
   pub asked : ℕ

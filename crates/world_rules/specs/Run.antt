@@ -15,14 +15,14 @@ use Rattle.world_rules.specs.declared.event.WorldEvent.TheVariants.{Issue}
 use Rattle.world_rules.specs.declared.outcome.WorldFault.{WorldFault}
 use Rattle.node_rules.specs.State.{setting}
 use Rattle.world_rules.specs.World.{World, node_at, after_node}
-use Rattle.world_rules.specs.Turn.{Seen, Replied, Issued, Told, Turn, NodeSteps, Ends, Refused, turn}
+use Rattle.world_rules.specs.Turn.{Seen, Replied, Issued, Reported, Turn, NodeSteps, Ends, Refused, turn}
 
 -- This turn, at this place of the run, may be seen so and leave this world. Only a node's step
 -- leaves a choice: memory or its floor store may fail. The place is the step's mark.
 abbrev pub Takes : Tables → ℕ → World → Turn → Seen → World → Type 0
 Takes roster place old (NodeSteps id e serial) seen new =
     (outcome : Result (Reply ℕ) StepFault) × (next : NodeState ℕ)
-    × Steps (setting roster id) (node_at old.seats id) e place outcome next
+    × Steps (setting roster id) (node_at old.states id) e place outcome next
     × (seen ≡ Replied id outcome) × (new ≡ after_node roster old id e serial outcome next)
 Takes roster place old (Ends what world) seen new = (seen ≡ what) × (new ≡ world)
 Takes roster place old (Refused fault) seen new = ⊥
@@ -78,7 +78,7 @@ IsIssuedAt steps place number key = IsItem steps place (record { event = Issue k
 
 -- the master reports that the purge with this number is done
 abbrev pub TellsDone : ℕ → Seen → Type 0
-TellsDone number (Told of Done) = of ≡ number
+TellsDone number (Reported of Done) = of ≡ number
 TellsDone number _ = ⊥
 
 -- at this place the master reports the purge done, at an acknowledgement or because it was asked

@@ -41,4 +41,4 @@ SiblingsAskNothing roster steps =
     steps ≡ past ++ record { event = event; seen = Replied id outcome } ∷ rest →
     Run roster 1 (new_world roster) past before → Happens roster (length past + 1) before event (Replied id outcome) after →
     turn roster before event ≡ NodeSteps id e serial → is_from_sibling (setting roster id) e ≡ true →
-    BeginsNothing (node_at before.seats id) outcome (node_at after.seats id) × SendsBack e (sent outcome)
+    BeginsNothing (node_at before.states id) outcome (node_at after.states id) × SendsBack e (sent outcome)

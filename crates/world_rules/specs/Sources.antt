@@ -47,6 +47,6 @@ pub record NodeHasAsks (waiting : List Waiting) (id : ℕ) (s : NodeState ℕ) :
 
 -- the invariant: what holds of the world after these steps
 pub record HasSources (roster : Tables) (past : List Step) (w : World) : Type 0 where
-  pub nodes : (id : ℕ) → NodeHasSources roster past id (node_at w.seats id)
+  pub nodes : (id : ℕ) → NodeHasSources roster past id (node_at w.states id)
   pub answers : AllByRecursion (AnswerHasSource roster past) w.answers
-  pub asks : (id : ℕ) → (node_at w.seats id).closed ≡ false → NodeHasAsks w.waiting id (node_at w.seats id)
+  pub asks : (id : ℕ) → (node_at w.states id).closed ≡ false → NodeHasAsks w.waiting id (node_at w.states id)

@@ -44,7 +44,7 @@ pub data Seen : Type 0 where
   Issued : (number : ℕ) → Seen
   NotIssued : (fault : MasterFault) → Seen
   -- the master reported the status of a purge
-  Told : (number : ℕ) (status : Status) → Seen
+  Reported : (number : ℕ) (status : Status) → Seen
   Nothing : Seen
 
 -- what an event leads to
@@ -64,19 +64,19 @@ at_member roster id turn = if is_member roster id then turn else Refused NoSuchP
 
 -- the world at another time
 abbrev pub with_clock : World → ℕ → World
-with_clock w now = record { seats = w.seats; master = w.master; clock = now; datagrams = w.datagrams; asks = w.asks; answers = w.answers; waiting = w.waiting }
+with_clock w now = record { states = w.states; master = w.master; clock = now; datagrams = w.datagrams; asks = w.asks; answers = w.answers; waiting = w.waiting }
 
 -- the world with other purges of the master
 abbrev pub with_master : World → PurgeList → World
-with_master w m = record { seats = w.seats; master = m; clock = w.clock; datagrams = w.datagrams; asks = w.asks; answers = w.answers; waiting = w.waiting }
+with_master w m = record { states = w.states; master = m; clock = w.clock; datagrams = w.datagrams; asks = w.asks; answers = w.answers; waiting = w.waiting }
 
 -- the world after these datagrams were sent
 abbrev pub with_sent : World → List Datagram → World
-with_sent w sent = record { seats = w.seats; master = w.master; clock = w.clock; datagrams = w.datagrams ++ sent; asks = w.asks; answers = w.answers; waiting = w.waiting }
+with_sent w sent = record { states = w.states; master = w.master; clock = w.clock; datagrams = w.datagrams ++ sent; asks = w.asks; answers = w.answers; waiting = w.waiting }
 
 -- the world with another node of the member; the members' requests that waited there are gone
-abbrev pub with_seat : World → ℕ → NodeState ℕ → World
-with_seat w id node = record { seats = with_node w.seats id node; master = w.master; clock = w.clock; datagrams = w.datagrams; asks = w.asks; answers = w.answers; waiting = filter (λ x. not (x.node == id)) w.waiting }
+abbrev pub with_member_state : World → ℕ → NodeState ℕ → World
+with_member_state w id node = record { states = with_node w.states id node; master = w.master; clock = w.clock; datagrams = w.datagrams; asks = w.asks; answers = w.answers; waiting = filter (λ x. not (x.node == id)) w.waiting }
 
 -- The master
 
@@ -101,14 +101,14 @@ issue_by roster w key None =
     Ends (Issued number) (with_sent (with_master w (with_purge w.master number key)) (clears_of roster number key))
 
 -- the master reports the status of the purge with this number
-abbrev pub told : Tables → World → ℕ → Turn
-told roster w number = Ends (Told number (status_of (members_of roster) w.master number)) w
+abbrev pub reports : Tables → World → ℕ → Turn
+reports roster w number = Ends (Reported number (status_of (members_of roster) w.master number)) w
 
 -- A member's response to a CLR counts for the purge whose number is its TRANS-ID. It is counted,
 -- and the status is reported.
 abbrev pub acknowledged_by : Tables → World → ℕ → ℕ → Option ℕ → Turn
 acknowledged_by roster w number code None = Ends Nothing w
-acknowledged_by roster w number code (Some id) = told roster (with_master w (acknowledged (members_of roster) w.master id number code).purges) number
+acknowledged_by roster w number code (Some id) = reports roster (with_master w (acknowledged (members_of roster) w.master id number code).purges) number
 
 -- the sender of a response to a CLR is known by its HTCP address [Master 5]
 abbrev pub master_hears_htcp : Tables → World → Address → ℕ → Content → Turn
@@ -180,7 +180,7 @@ foreign_to w id serial answer (Some p) = foreign_by w id serial answer p.ask.key
 
 -- the request that fetches under this serial at a member, if any
 abbrev pub fetching_at : World → ℕ → ℕ → Option (Pending ℕ)
-fetching_at w id serial = find (is_at serial) (node_at w.seats id).pending
+fetching_at w id serial = find (is_at serial) (node_at w.states id).pending
 
 -- All events
 
@@ -196,9 +196,9 @@ turn roster w (world.Foreign id serial answer) = at_member roster id (foreign_to
 turn roster w (world.Strange to sender m) = strange_comes roster w to sender m
 turn roster w (world.Fail id serial) = at_member roster id (NodeSteps id (event.FetchFailed serial w.clock) 0)
 turn roster w (world.Expire id serial) = at_member roster id (NodeSteps id (event.Expired serial w.clock) 0)
-turn roster w (world.Fault id) = at_member roster id (Ends Nothing (with_seat w id (closed_node (node_at w.seats id))))
-turn roster w (world.Restart id) = at_member roster id (Ends Nothing (with_seat w id (opened (node_at w.seats id).floors)))
+turn roster w (world.Fault id) = at_member roster id (Ends Nothing (with_member_state w id (closed_node (node_at w.states id))))
+turn roster w (world.Restart id) = at_member roster id (Ends Nothing (with_member_state w id (opened (node_at w.states id).floors)))
 turn roster w (world.Issue key) = issue_by roster w key (issue_fault w.master)
 turn roster w world.Resend = Ends Nothing (with_sent w (clears_due roster w.master))
-turn roster w (world.Status number) = told roster w number
+turn roster w (world.Status number) = reports roster w number
 turn roster w world.RestartMaster = Ends Nothing w

@@ -28,7 +28,7 @@ use Rattle.purge_rules.specs.Purges.{PurgeList, no_purges}
 use Rattle.node_rules.specs.Messages.{protocol_of}
 
 -- a member's node; the marks in it are places of the run
-pub record Seat : Type 0 where
+pub record MemberState : Type 0 where
   pub id : ℕ
   pub node : NodeState ℕ
 
@@ -65,7 +65,7 @@ pub record Waiting : Type 0 where
 -- The network is the lists of everything ever sent; any item may arrive, again and in any order.
 -- What a restart keeps stands in the nodes' floors and in the master's purges.
 pub record World : Type 0 where
-  pub seats : List Seat
+  pub states : List MemberState
   pub master : PurgeList
   pub clock : ℕ
   pub datagrams : List Datagram
@@ -79,21 +79,21 @@ new_node = opened empty
 
 -- the world at the start: nothing is stored and nothing was sent
 abbrev pub new_world : Tables → World
-new_world roster = record { seats = map (λ m. record { id = m.cache.id; node = new_node }) roster.members; master = no_purges; clock = 0; datagrams = []; asks = []; answers = []; waiting = [] }
+new_world roster = record { states = map (λ m. record { id = m.cache.id; node = new_node }) roster.members; master = no_purges; clock = 0; datagrams = []; asks = []; answers = []; waiting = [] }
 
 -- the item with this number, counted from 1
 abbrev pub item : {A : Type 0} → List A → ℕ → Option A
 item items number = if number == 0 then None else slice_get items (number - 1)
 
 -- the node of the member with this id; a new node if there is none
-abbrev pub node_at : List Seat → ℕ → NodeState ℕ
+abbrev pub node_at : List MemberState → ℕ → NodeState ℕ
 node_at [] id = new_node
-node_at (seat ∷ seats) id = if seat.id == id then seat.node else node_at seats id
+node_at (state ∷ states) id = if state.id == id then state.node else node_at states id
 
--- the seats with this node at the member's id
-abbrev pub with_node : List Seat → ℕ → NodeState ℕ → List Seat
+-- the states with this node at the member's id
+abbrev pub with_node : List MemberState → ℕ → NodeState ℕ → List MemberState
 with_node [] id node = record { id = id; node = node } ∷ []
-with_node (seat ∷ seats) id node = if seat.id == id then record { id = id; node = node } ∷ seats else seat ∷ with_node seats id node
+with_node (state ∷ states) id node = if state.id == id then record { id = id; node = node } ∷ states else state ∷ with_node states id node
 
 -- What a node's reply sends
 
@@ -176,11 +176,11 @@ reply_in (Err fault) = quiet
 -- The serial is that of the member's request that the event is, else 0.
 abbrev pub after_node : Tables → World → ℕ → Event ℕ → ℕ → Result (Reply ℕ) StepFault → NodeState ℕ → World
 after_node roster w id e serial outcome next = record {
-  seats = with_node w.seats id next;
+  states = with_node w.states id next;
   master = w.master;
   clock = w.clock;
   datagrams = w.datagrams ++ datagrams_from (member_of roster id) (reply_in outcome).send;
   asks = w.asks ++ asks_in id (reply_in outcome).begin;
   answers = w.answers ++ answers_in w.waiting id e serial (reply_in outcome).serve;
-  waiting = w.waiting ++ waits_now id e serial (node_at w.seats id) next;
+  waiting = w.waiting ++ waits_now id e serial (node_at w.states id) next;
 }

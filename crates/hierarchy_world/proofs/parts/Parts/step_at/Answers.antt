@@ -4,8 +4,8 @@ use Rattle.std.specs.Vec.{with_item}
 use Rattle.std.proofs.lemmas.Option.{slice_get_read}
 use Rattle.std.proofs.lemmas.Result.{IfOk-weaker}
 use Rattle.hierarchy_world.specs.declared.parts.Parts.{Parts}
-use Rattle.hierarchy_world.specs.declared.seats.Stepped.{Stepped}
-use Rattle.hierarchy_world.specs.Parts.{IsStep, HasStepped, IsSeatChanged}
+use Rattle.hierarchy_world.specs.declared.members.Stepped.{Stepped}
+use Rattle.hierarchy_world.specs.Parts.{IsStep, HasStepped, IsMemberChanged}
 use Rattle.hierarchy_world.proofs.Taking.{has_stepped}
 use Rattle.hierarchy_world.proofs.parts.Parts.step_at.Goals as goal
 
@@ -26,7 +26,7 @@ returns-clause-stepped c =
     } in
     let at : slice_get old.nodes.items c.args.place ≡ Some c.index_mut.result.now =
     slice_get_read old.nodes.items _ c.args.place c.index_mut.result.now refl c.requires.below c.index_mut.ensures.value in
-    let stays : IsSeatChanged old new (set old.nodes.items c.args.place c.step_of.new.node) old.waiting.items = record { roster = refl; nodes = refl; master = refl; clock = refl; place = refl; datagrams = refl; asks = refl; answers = refl; waiting = refl } in
+    let stays : IsMemberChanged old new (set old.nodes.items c.args.place c.step_of.new.node) old.waiting.items = record { roster = refl; nodes = refl; master = refl; clock = refl; place = refl; datagrams = refl; asks = refl; answers = refl; waiting = refl } in
     IfOk-weaker c.step_of.result
     (λ (s : Stepped). IsStep c.index_mut.result.now old.place c.args.event s c.step_of.new.node)
     (λ (s : Stepped). HasStepped old c.args.id c.args.event s new)

@@ -3,7 +3,7 @@ use Rattle.std.proofs.Common.{◌==◌, ap}
 use Rattle.values_plain.specs.declared.address.Udp.TheVariants as udp
 use Rattle.node_rules.specs.State.{round_serial}
 use Rattle.node_rules.specs.Datagrams.{htcp_told}
-use Rattle.node_core.specs.Heard.{said_by}
+use Rattle.node_core.specs.SaidWithStamp.{said_by}
 use Rattle.node_core.specs.View.{NodeText, setting_of}
 use Rattle.node_core.proofs.HearingRounds.{none_found, found_at, tells_nobody, tells_ask}
 use Rattle.node_core.proofs.node.Node.htcp_told.Goals as goal

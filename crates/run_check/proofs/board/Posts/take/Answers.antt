@@ -23,11 +23,11 @@ returns-in-Some-clause-others c = λ standing.
     put_twice posts c.args.id c.in-Some.place c.index_mut.result.now place below c.index_mut.ensures.value c.replace.new.dest standing
 
 pub returns-in-Some-clause-sound : goal.returns-in-Some-clause-sound
-returns-in-Some-clause-sound c = λ roster seated.
+returns-in-Some-clause-sound c = λ roster nodes.
     let posts = c.args.self.now.posts.items in
     let place : place_of c.args.id (map post_of posts) ≡ Some c.in-Some.place = ap (λ l. place_of c.args.id (map post_of l)) (sym c.as_slice.ensures.value) ∙ sym c.place_of.ensures.place ∙ c.in-Some.is in
     let below : c.in-Some.place < length posts = subst (λ (l : List Post). c.in-Some.place < length l) c.as_slice.ensures.value c.in-Some.ensures.below in
-    subst (IsSound roster c.args.id) (sym c.replace.ensures.value) (sound_there posts c.args.id c.in-Some.place c.index_mut.result.now place below c.index_mut.ensures.value roster seated)
+    subst (IsSound roster c.args.id) (sym c.replace.ensures.value) (sound_there posts c.args.id c.in-Some.place c.index_mut.result.now place below c.index_mut.ensures.value roster nodes)
 
 pub returns-in-None-clause-standing : goal.returns-in-None-clause-standing
 returns-in-None-clause-standing c =

@@ -1,0 +1,64 @@
+//! The two tables that the threads of a node share, each under its lock.
+use crate::clients::WaitingClients;
+use crate::fault::HandedBack;
+use crate::rounds::Rounds;
+use std::alloc::{AllocError, Global};
+use std::sync::{Mutex, Wait};
+
+/// The waiting clients with the early answers, and the waiting rounds, each under a lock of its
+/// own. Each function holds one lock for one call.
+#[derive(Drop)]
+pub struct WaitTables<C: Drop, A: Drop> {
+    clients: Mutex<WaitingClients<C, A>>,
+    rounds: Mutex<Rounds>,
+}
+
+impl<C: Drop, A: Drop> WaitTables<C, A> {
+    /// Empty tables. It takes no memory.
+    pub fn new(alloc: Global) -> WaitTables<C, A> {
+        WaitTables {
+            clients: Mutex::new(WaitingClients::new(alloc)),
+            rounds: Mutex::new(Rounds::new(alloc)),
+        }
+    }
+
+    /// [`WaitingClients::clients`] under the lock.
+    pub fn clients<R: Wait>(&self, rt: &R) -> usize {
+        self.clients.lock(rt).clients()
+    }
+
+    /// [`WaitingClients::leave`] under the lock.
+    pub fn leave<R: Wait>(
+        &self,
+        rt: &R,
+        block: u32,
+        client: C,
+    ) -> Result<Option<(C, A)>, HandedBack<C>> {
+        self.clients.lock(rt).leave(block, client)
+    }
+
+    /// [`WaitingClients::answer`] under the lock.
+    pub fn answer<R: Wait>(
+        &self,
+        rt: &R,
+        block: u32,
+        answer: A,
+    ) -> Result<Option<(C, A)>, HandedBack<A>> {
+        self.clients.lock(rt).answer(block, answer)
+    }
+
+    /// [`WaitingClients::take_first`] under the lock.
+    pub fn take_first<R: Wait>(&self, rt: &R) -> Option<C> {
+        self.clients.lock(rt).take_first()
+    }
+
+    /// [`Rounds::begin`] under the lock.
+    pub fn begin<R: Wait>(&self, rt: &R, until: u64, serial: u32) -> Result<(), AllocError> {
+        self.rounds.lock(rt).begin(until, serial)
+    }
+
+    /// [`Rounds::due`] under the lock.
+    pub fn due<R: Wait>(&self, rt: &R, now: u64) -> Option<u32> {
+        self.rounds.lock(rt).due(now)
+    }
+}

@@ -1,7 +1,0 @@
-use Rattle.std.proofs.Common.{rules, tests}
-use Rattle.std.proofs.lemmas.Slice.Eq.{slice_eq-Decides}
-use Rattle.peer_chooser.specs.declared.said.Told.{Told}
-use Rattle.run_check.proofs.states.same_told.Goals as goal
-
-pub returns : goal.returns
-returns c = slice_eq-Decides (λ (a b : Told). search (rules, tests)) c.args.one.now c.args.other.now c.eq.result c.eq.ensures
