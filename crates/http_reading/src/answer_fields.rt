@@ -1,7 +1,7 @@
 //! The age and the purge stamp of a response, which are not among its kept fields.
 
 ghost use Rattle.std.specs.Prelude.{◌≡◌};
-ghost use Rattle.http_reading.specs.Answer as spec;
+ghost use Rattle.http_reading.specs.AnswerFields as spec;
 ghost use Rattle.http_reading.specs.Fields.{fields_of};
 
 use crate::decimal::{number_up_to, plain_number};

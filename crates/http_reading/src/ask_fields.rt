@@ -1,7 +1,7 @@
 //! Host, credentials and member number of a request.
 
 ghost use Rattle.std.specs.Prelude.{◌≡◌};
-ghost use Rattle.http_reading.specs.Ask as spec;
+ghost use Rattle.http_reading.specs.AskFields as spec;
 ghost use Rattle.http_reading.specs.Fields.{fields_of};
 
 use crate::decimal::plain_number;
