@@ -44,7 +44,7 @@ impl Parts {
     }
 
     /// A datagram that was sent arrives at the master, or at the member that answers its protocol.
-    #[tactic(auto, using(crate::proofs::Members::reached_member, crate::proofs::Answerable::sendable_answerable))]
+    #[tactic(auto, using(crate::proofs::MemberNodes::reached_member, crate::proofs::Answerable::sendable_answerable))]
     pub(crate) fn datagram(&mut self, number: u64) -> Result<Seen, WorldFault>
         requires { IsSound self.old }
         ensures { IsTaken self.old (turns.delivered self.old.roster (world_of self.old) (item_of self.old.datagrams.items number)) result self.new }
@@ -66,7 +66,7 @@ impl Parts {
     }
 
     /// A datagram arrives at a member from an address that is neither a member's nor the master's.
-    #[tactic(auto, using(crate::proofs::Members::reached_member))]
+    #[tactic(auto, using(crate::proofs::MemberNodes::reached_member))]
     pub(crate) fn strange(
         &mut self,
         to: Address,

@@ -70,7 +70,7 @@ fn place_in(nodes: &[Node<u64, MemoryFloors>], id: u8) -> Option<usize>
 
 impl Parts {
     /// The index of the node with this id, if it is a member's.
-    #[tactic(auto, using(crate::proofs::Members::member_place))]
+    #[tactic(auto, using(crate::proofs::MemberNodes::member_place))]
     pub(crate) fn place_of(&self, id: u8) -> Option<usize>
         requires { IsSound self.now }
         ensures place { MatchOption result (is_member self.now.roster id ≡ false) (λ place. (is_member self.now.roster id ≡ true) × IsPlace self.now.nodes.items id place) }
