@@ -138,7 +138,7 @@ placed_text placed.Stored = codes "stored"
 
 -- the same node in another state
 abbrev pub in_state : Answering → NodeState (Unit {0}) → Answering
-in_state node s = record { roster = node.roster; id = node.id; state = s; store = node.store }
+in_state node s = record node { state = s }
 
 -- a closed node places nothing
 abbrev pub PlacesIf : Bool → Answering → List ℕ → Option ℕ → List ℕ → Answering → Type 0

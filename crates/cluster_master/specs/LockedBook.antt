@@ -80,7 +80,7 @@ IsUnmade before after out = (out ≡ Err NoMemory) × ((after ≡ before) ⊎ (a
 
 -- this book under the lock, with no entries kept
 abbrev pub cleared : {S : Type 0} → LockedBookView S → BookView S → LockedBookView S
-cleared locked book = record { book = book; kept = []; to_keep = locked.to_keep; may_be_due = locked.may_be_due }
+cleared locked book = record locked { book = book; kept = [] }
 
 -- all entries are taken; or those that are kept, where there was no memory to put the open page's behind them
 abbrev pub IsTaken : {S : Type 0} → LockedBookView S → List MasterEntry → LockedBookView S → Type 0

@@ -105,7 +105,7 @@ pub record IsStep (before : MemberNode) (mark : ℕ) (e : Event ℕ) (s : Steppe
 
 -- the world in which the member's node has this state, and all else is the same
 abbrev pub with_state : World → ℕ → NodeState ℕ → World
-with_state w id next = record { states = with_node w.states id next; master = w.master; clock = w.clock; datagrams = w.datagrams; asks = w.asks; answers = w.answers; waiting = w.waiting }
+with_state w id next = record w { states = with_node w.states id next }
 
 -- the member's node has taken this step at the run's place, and nothing is sent yet
 pub record HasStepped (old : Parts) (id : ℕ) (e : Event ℕ) (s : Stepped) (new : Parts) : Type 0 where

@@ -5,7 +5,7 @@ use Rattle.http_messages.specs.Answer.{AnswerText}
 -- a stored response as it is served: with its age now (RFC 9111, section 5.1) and the stamp that
 -- is given
 abbrev pub served_as : AnswerText → ℕ → Option ℕ → AnswerText
-served_as a age stamp = record { status = a.status; fields = a.fields; age = Some age; stamp = stamp; body = a.body }
+served_as a age stamp = record a { age = Some age; stamp = stamp }
 
 -- a status alone: no fields, no age, no stamp, and an empty body
 abbrev pub bare : ℕ → AnswerText

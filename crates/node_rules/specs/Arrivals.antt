@@ -25,7 +25,7 @@ unknown s = refuses s UnknownSerial
 
 -- The request after its fetch has ended, with these peers tried.
 abbrev pub not_fetching : {X : Type 0} → Pending X → List ℕ → Pending X
-not_fetching p tried = record { block = p.block; asker = p.asker; ask = p.ask; round = p.round; tried = tried; fetches = p.fetches; reads = p.reads; fetch = Nowhere }
+not_fetching p tried = record p { tried = tried; fetch = Nowhere }
 
 -- A response as a copy. A response without a lifetime gets the lifetime 0.
 abbrev pub new_copy : {X : Type 0} → List ℕ → ℕ → ℕ → Option ℕ → AnswerText → X → WebCopy X
@@ -139,7 +139,7 @@ fetch_failed g s serial now mark = failure_of g s now mark (find (λ p. fetch_se
 
 -- The request with its round as it is now.
 abbrev pub with_round : {X : Type 0} → Pending X → RoundText → Pending X
-with_round p r = record { block = p.block; asker = p.asker; ask = p.ask; round = Some r; tried = p.tried; fetches = p.fetches; reads = p.reads; fetch = p.fetch }
+with_round p r = record p { round = Some r }
 
 -- A round has changed. A request goes on unless a fetch runs for it; else it only keeps the round.
 unfoldable pub round_moves : {X : Type 0} → Setting → NodeState X → Pending X → ℕ → X → Stepped X

@@ -37,7 +37,7 @@ is_busy s = nat_le 1024 (length s.pending) || nat_lt 134217727 s.next
 
 -- The next block is taken.
 abbrev pub takes_block : {X : Type 0} → NodeState X → NodeState X
-takes_block s = record { floors = s.floors; copies = s.copies; pending = s.pending; next = s.next + 1; closed = s.closed }
+takes_block s = record s { next = s.next + 1 }
 
 -- A new pending request, for which nothing has begun.
 abbrev pub new_ask : {X : Type 0} → ℕ → Option ℕ → Ask → Option RoundText → Pending X

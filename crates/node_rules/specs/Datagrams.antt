@@ -167,7 +167,7 @@ is_full floors key = nat_le most_rows (len floors) && not (is_some (get floors k
 
 -- The state after a purge: the key's floor is raised, and no copy of it below the number is held. [Purge 2]
 abbrev pub purged : {X : Type 0} → NodeState X → List ℕ → ℕ → NodeState X
-purged s key n = record { floors = raised s.floors key n; copies = without_below key n s.copies; pending = s.pending; next = s.next; closed = s.closed }
+purged s key n = record s { floors = raised s.floors key n; copies = without_below key n s.copies }
 
 -- A purge. The floor is raised, an older copy goes, and the response says whether one went. That
 -- the raise is committed first is said where the store is: KeepsStore of node_core. [Purge 2]

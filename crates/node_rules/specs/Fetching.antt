@@ -19,7 +19,7 @@ use Rattle.node_rules.specs.State.{Setting, Stepped, replies, quiet, beginning, 
 
 -- The request with one fetch more begun, so one serial more taken.
 abbrev pub fetching : {X : Type 0} → Pending X → ℕ → Fetch X → Pending X
-fetching p reads fetch = record { block = p.block; asker = p.asker; ask = p.ask; round = p.round; tried = p.tried; fetches = p.fetches + 1; reads = reads; fetch = fetch }
+fetching p reads fetch = record p { fetches = p.fetches + 1; reads = reads; fetch = fetch }
 
 -- A member is told which member sends the request; a foreign cache is not.
 abbrev pub own_id : ℕ → ℕ → Option ℕ
@@ -32,7 +32,7 @@ peer_ask key cached member = record { key = key; only_if_cached = cached; no_cac
 -- The request that an origin is sent. It bears `no-cache` if the pending request does (RFC 9111,
 -- section 5.2.1.4). [Fetch 3]
 abbrev pub origin_ask : Ask → Ask
-origin_ask ask = record { key = ask.key; only_if_cached = false; no_cache = ask.no_cache; member = None }
+origin_ask ask = record ask { only_if_cached = false; member = None }
 
 -- The request goes to a peer, under the next serial of its block.
 unfoldable pub ask_peer : {X : Type 0} → Setting → NodeState X → Pending X → ℕ → Bool → ℕ → Stepped X

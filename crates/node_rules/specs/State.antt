@@ -43,7 +43,7 @@ refuses s fault = record { state = s; outcome = Err fault }
 
 -- The node closed: no request is pending. Floors and copies stay.
 abbrev pub closed_node : {X : Type 0} → NodeState X → NodeState X
-closed_node s = record { floors = s.floors; copies = s.copies; pending = []; next = s.next; closed = true }
+closed_node s = record s { pending = []; closed = true }
 
 -- A reply that serves, sends and begins nothing.
 abbrev pub quiet : {X : Type 0} → Reply X
@@ -69,11 +69,11 @@ opened floors = record { floors = floors; copies = []; pending = []; next = 1; c
 
 -- The state with these copies.
 abbrev pub with_copies : {X : Type 0} → NodeState X → List (WebCopy X) → NodeState X
-with_copies s copies = record { floors = s.floors; copies = copies; pending = s.pending; next = s.next; closed = s.closed }
+with_copies s copies = record s { copies = copies }
 
 -- The state with these pending requests.
 abbrev pub with_pending : {X : Type 0} → NodeState X → List (Pending X) → NodeState X
-with_pending s pending = record { floors = s.floors; copies = s.copies; pending = pending; next = s.next; closed = s.closed }
+with_pending s pending = record s { pending = pending }
 
 -- The request has this block.
 abbrev pub is_of_block : {X : Type 0} → ℕ → Pending X → Bool

@@ -8,4 +8,10 @@ progress_of p = record { round = p.round; tried = p.tried; fetches = p.fetches; 
 
 -- The request, as far as this.
 abbrev pub with_progress : {X : Type 0} → Pending X → Progress X → Pending X
-with_progress p progress = record { block = p.block; asker = p.asker; ask = p.ask; round = progress.round; tried = progress.tried; fetches = progress.fetches; reads = progress.reads; fetch = progress.fetch }
+with_progress p progress = record p {
+  round = progress.round;
+  tried = progress.tried;
+  fetches = progress.fetches;
+  reads = progress.reads;
+  fetch = progress.fetch;
+}

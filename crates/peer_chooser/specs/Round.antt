@@ -34,7 +34,7 @@ awaited r id = if has_answered r.answers id then None else find (λ p. p.id == i
 -- The round with an answer behind the others, if there is a peer that gave it.
 abbrev pub with_answer : RoundText → Said → Option Peer → RoundText
 with_answer r said None = r
-with_answer r said (Some p) = record { asked = r.asked; answers = r.answers ++ record { peer = p; said = said } ∷ []; expired = r.expired }
+with_answer r said (Some p) = record r { answers = r.answers ++ record { peer = p; said = said } ∷ [] }
 
 -- A peer's first answer counts, even if it comes late. No other answer changes anything. [Round 2]
 abbrev pub answered : RoundText → ℕ → Said → RoundText
@@ -42,4 +42,4 @@ answered r id said = with_answer r said (awaited r id)
 
 -- The time for answers is over.
 abbrev pub ended : RoundText → RoundText
-ended r = record { asked = r.asked; answers = r.answers; expired = true }
+ended r = record r { expired = true }

@@ -40,7 +40,7 @@ with_purge purges number key = record { last = number; pending = purges.pending 
 
 -- the purge, with the member marked
 abbrev pub marked_by : ℕ → Purge → Purge
-marked_by id p = record { number = p.number; key = p.key; marked = with_id id p.marked }
+marked_by id p = record p { marked = with_id id p.marked }
 
 -- the purges, with the member marked at the purge of this number
 abbrev pub with_mark : PurgeList → ℕ → ℕ → PurgeList

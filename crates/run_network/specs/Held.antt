@@ -92,11 +92,11 @@ HoldsWaits waits waiting = (node block : ℕ) → key_at waits node block ≡ wa
 
 -- the network with these responses sent too
 abbrev pub with_answers : Network → List SentAnswer → Network
-with_answers n more = record { datagrams = n.datagrams; asks = n.asks; answers = n.answers ++ more; waiting = n.waiting }
+with_answers n more = record n { answers = n.answers ++ more }
 
 -- the network in which these requests wait too
 abbrev pub with_waits : Network → List Waits → Network
-with_waits n more = record { datagrams = n.datagrams; asks = n.asks; answers = n.answers; waiting = n.waiting ++ more }
+with_waits n more = record n { waiting = n.waiting ++ more }
 
 -- what is held is this network
 pub record Holds (roster : Tables) (held : Held) (n : Network) : Type 0 where

@@ -46,12 +46,12 @@ with_standing (p ∷ ps) id standing = if p.id == id then record { id = id; stan
 
 -- the board with this standing of the node
 abbrev pub with_node : Board → ℕ → Standing → Board
-with_node b id standing = record { posts = with_standing b.posts id standing; master = b.master; network = b.network }
+with_node b id standing = record b { posts = with_standing b.posts id standing }
 
 -- the board with this network
 abbrev pub with_network : Board → Network → Board
-with_network b n = record { posts = b.posts; master = b.master; network = n }
+with_network b n = record b { network = n }
 
 -- the board with this state of the master
 abbrev pub with_master : Board → MasterState → Board
-with_master b m = record { posts = b.posts; master = m; network = b.network }
+with_master b m = record b { master = m }

@@ -110,7 +110,7 @@ with_reply roster n id e reply = record {
 
 -- the network without what waited at a node
 abbrev pub without_waiting : Network → ℕ → Network
-without_waiting n id = record { datagrams = n.datagrams; asks = n.asks; answers = n.answers; waiting = filter (λ w. not (w.node == id)) n.waiting }
+without_waiting n id = record n { waiting = filter (λ w. not (w.node == id)) n.waiting }
 
 -- What an entry of the master sends: the CLR of a new purge to each member. What it sends again was
 -- sent before.
@@ -122,7 +122,7 @@ clears_by roster _ _ = []
 
 -- the network after a call of the master
 abbrev pub with_clears : Tables → Network → MasterCall → Result MasterAnswer MasterFault → Network
-with_clears roster n c a = record { datagrams = n.datagrams ++ clears_by roster c a; asks = n.asks; answers = n.answers; waiting = n.waiting }
+with_clears roster n c a = record n { datagrams = n.datagrams ++ clears_by roster c a }
 
 -- Whether what an entry received was sent
 

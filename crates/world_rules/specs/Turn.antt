@@ -64,19 +64,19 @@ at_member roster id turn = if is_member roster id then turn else Refused NoSuchP
 
 -- the world at another time
 abbrev pub with_clock : World → ℕ → World
-with_clock w now = record { states = w.states; master = w.master; clock = now; datagrams = w.datagrams; asks = w.asks; answers = w.answers; waiting = w.waiting }
+with_clock w now = record w { clock = now }
 
 -- the world with other purges of the master
 abbrev pub with_master : World → PurgeList → World
-with_master w m = record { states = w.states; master = m; clock = w.clock; datagrams = w.datagrams; asks = w.asks; answers = w.answers; waiting = w.waiting }
+with_master w m = record w { master = m }
 
 -- the world after these datagrams were sent
 abbrev pub with_sent : World → List Datagram → World
-with_sent w sent = record { states = w.states; master = w.master; clock = w.clock; datagrams = w.datagrams ++ sent; asks = w.asks; answers = w.answers; waiting = w.waiting }
+with_sent w sent = record w { datagrams = w.datagrams ++ sent }
 
 -- the world with another node of the member; the members' requests that waited there are gone
 abbrev pub with_member_state : World → ℕ → NodeState ℕ → World
-with_member_state w id node = record { states = with_node w.states id node; master = w.master; clock = w.clock; datagrams = w.datagrams; asks = w.asks; answers = w.answers; waiting = filter (λ x. not (x.node == id)) w.waiting }
+with_member_state w id node = record w { states = with_node w.states id node; waiting = filter (λ x. not (x.node == id)) w.waiting }
 
 -- The master
 

@@ -113,7 +113,7 @@ asks_in id _ = []
 
 -- the response to a member that holds a copy: with its age and its stamp
 abbrev pub answer_of_copy : WebCopy ℕ → ℕ → AnswerText
-answer_of_copy c age = record { status = c.answer.status; fields = c.answer.fields; age = Some age; stamp = Some c.stamp; body = c.answer.body }
+answer_of_copy c age = record c.answer { age = Some age; stamp = Some c.stamp }
 
 -- the response to a member that is a bare status
 abbrev pub answer_of_status : ℕ → AnswerText
@@ -175,10 +175,8 @@ reply_in (Err fault) = quiet
 -- The world after one step of a member's node: all that the step sends is added to what was sent.
 -- The serial is that of the member's request that the event is, else 0.
 abbrev pub after_node : Tables → World → ℕ → Event ℕ → ℕ → Result (Reply ℕ) StepFault → NodeState ℕ → World
-after_node roster w id e serial outcome next = record {
+after_node roster w id e serial outcome next = record w {
   states = with_node w.states id next;
-  master = w.master;
-  clock = w.clock;
   datagrams = w.datagrams ++ datagrams_from (member_of roster id) (reply_in outcome).send;
   asks = w.asks ++ asks_in id (reply_in outcome).begin;
   answers = w.answers ++ answers_in w.waiting id e serial (reply_in outcome).serve;
