@@ -38,7 +38,8 @@ icp_alone : (octets : List ℕ) (m : Icp) (f : IcpFault) → icp_laws.IsDecided 
 icp_alone octets m f (inl (other, only)) spells first = let e = sym only.no_fault ∙ first in cc
 icp_alone octets m f (inr (other, none)) spells first = none.none m spells
 
-htcp_alone : (octets : List ℕ) (m : Htcp) (f : HtcpFault) → htcp_laws.IsDecided octets → htcp_grammar.Spells octets m → htcp_faults.first_fault octets ≡ Some f → ⊥
+htcp_alone : (octets : List ℕ) (m : Htcp) (f : HtcpFault) → htcp_laws.IsDecided octets → htcp_grammar.Spells octets m →
+    htcp_faults.first_fault octets ≡ Some f → ⊥
 htcp_alone octets m f (inl (other, only)) spells first = let e = sym only.no_fault ∙ first in cc
 htcp_alone octets m f (inr (other, none)) spells first = none.none m spells
 
@@ -75,7 +76,8 @@ told_silent (Ok reply) turn text (inr is) none nothing = absurd cc
 told_silent (Err f) turn text is none nothing = absurd cc
 
 -- a step that sends something is answered by that, in hex
-told_sent : (outcome : Result (Reply (Unit {0})) StepFault) (turn : Turn) (text : List ℕ) → ToldAfter outcome (Ok turn) → turn.send ≢ [] → text ≡ flat_map packet_hex turn.send → IsTold outcome text
+told_sent : (outcome : Result (Reply (Unit {0})) StepFault) (turn : Turn) (text : List ℕ) → ToldAfter outcome (Ok turn) → turn.send ≢ [] →
+    text ≡ flat_map packet_hex turn.send → IsTold outcome text
 told_sent (Ok reply) turn text (inl is) some hex =
     let same : turn ≡ turn_of reply = cc in
     let sends : turn.send ≡ map packet_of reply.send = ap (λ (t : Turn). t.send) same in
@@ -92,7 +94,8 @@ named fault.StoreFault lacks = refl
 named fault.NoMemory lacks = absurd (lacks refl)
 
 -- a step that is refused is answered by the name of its fault
-told_refused : (outcome : Result (Reply (Unit {0})) StepFault) (f : StepFault) → ToldAfter outcome (Err f) → f ≢ fault.NoMemory → IsTold outcome (step_fault_name f)
+told_refused : (outcome : Result (Reply (Unit {0})) StepFault) (f : StepFault) → ToldAfter outcome (Err f) → f ≢ fault.NoMemory →
+    IsTold outcome (step_fault_name f)
 told_refused (Ok reply) f (inl is) lacks = absurd cc
 told_refused (Ok reply) f (inr is) lacks = absurd (lacks cc)
 told_refused (Err other) f is lacks =
@@ -101,13 +104,17 @@ told_refused (Err other) f is lacks =
 
 -- what takes a step takes one by the rules of the node, and is answered so
 abbrev Stepping : (Answering → Event (Unit {0}) → Result (Reply (Unit {0})) StepFault → Answering → Type 0) → Answering → Answering → Type 0
-Stepping takes node next = (e : Event (Unit {0})) (outcome : Result (Reply (Unit {0})) StepFault) (text : List ℕ) → takes node e outcome next → IsTold outcome text → StepAnswers node e text next
+Stepping takes node next = (e : Event (Unit {0})) (outcome : Result (Reply (Unit {0})) StepFault) (text : List ℕ) → takes node e outcome next →
+    IsTold outcome text → StepAnswers node e text next
 
 -- a datagram after which nothing is sent
-pub silent : (takes : Answering → Event (Unit {0}) → Result (Reply (Unit {0})) StepFault → Answering → Type 0) (by : Udp) (from : Address) (octets : List ℕ) (node next : Answering) (turn : Turn) (text : List ℕ) →
-    IsOctets octets → MeetsOctets takes by from octets 0 node next (Ok turn) → Stepping takes node next → turn.send ≡ [] → IsSilence by octets text → OctetsAnswer node by from octets text next
+pub silent : (takes : Answering → Event (Unit {0}) → Result (Reply (Unit {0})) StepFault → Answering → Type 0) (by : Udp) (from : Address) (octets : List ℕ)
+    (node next : Answering) (turn : Turn) (text : List ℕ) →
+    IsOctets octets → MeetsOctets takes by from octets 0 node next (Ok turn) → Stepping takes node next → turn.send ≡ [] → IsSilence by octets text →
+    OctetsAnswer node by from octets text next
 silent takes by from octets node next turn text fits (inl (None, has, (same, is))) stepped none (inl fault_named) = inl (fault_named, same)
-silent takes by from octets node next turn text fits (inl (None, has, (same, is))) stepped none (inr (m, spells, nothing)) = absurd (exclusive by octets m fits spells has)
+silent takes by from octets node next turn text fits (inl (None, has, (same, is))) stepped none (inr (m, spells, nothing)) =
+    absurd (exclusive by octets m fits spells has)
 silent takes by from octets node next turn text fits (inl (Some e, (m, spells, is), (outcome, taken, told))) stepped none (inl fault_named) =
     absurd (exclusive by octets m fits spells (unnamed by octets text fault_named))
 silent takes by from octets node next turn text fits (inl (Some e, (m, spells, is), (outcome, taken, told))) stepped none (inr (other, other_spells, nothing)) =
@@ -115,8 +122,10 @@ silent takes by from octets node next turn text fits (inl (Some e, (m, spells, i
 silent takes by from octets node next turn text fits (inr ((same, is), spelled)) stepped none silence = absurd cc
 
 -- a datagram after which something is sent
-pub sent : (takes : Answering → Event (Unit {0}) → Result (Reply (Unit {0})) StepFault → Answering → Type 0) (by : Udp) (from : Address) (octets : List ℕ) (node next : Answering) (turn : Turn) (text : List ℕ) →
-    MeetsOctets takes by from octets 0 node next (Ok turn) → Stepping takes node next → turn.send ≢ [] → text ≡ flat_map packet_hex turn.send → OctetsAnswer node by from octets text next
+pub sent : (takes : Answering → Event (Unit {0}) → Result (Reply (Unit {0})) StepFault → Answering → Type 0) (by : Udp) (from : Address) (octets : List ℕ)
+    (node next : Answering) (turn : Turn) (text : List ℕ) →
+    MeetsOctets takes by from octets 0 node next (Ok turn) → Stepping takes node next → turn.send ≢ [] → text ≡ flat_map packet_hex turn.send →
+    OctetsAnswer node by from octets text next
 sent takes by from octets node next turn text (inl (None, has, (same, is))) stepped some hex =
     let idle_turn : turn ≡ idle = cc in absurd (some (ap (λ (t : Turn). t.send) idle_turn))
 sent takes by from octets node next turn text (inl (Some e, (m, spells, is), (outcome, taken, told))) stepped some hex =
@@ -124,22 +133,31 @@ sent takes by from octets node next turn text (inl (Some e, (m, spells, is), (ou
 sent takes by from octets node next turn text (inr ((same, is), spelled)) stepped some hex = absurd cc
 
 -- a datagram whose step is refused, for another cause than memory
-pub refused : (takes : Answering → Event (Unit {0}) → Result (Reply (Unit {0})) StepFault → Answering → Type 0) (by : Udp) (from : Address) (octets : List ℕ) (node next : Answering) (f : StepFault) →
-    MeetsOctets takes by from octets 0 node next (Err f) → Stepping takes node next → f ≢ fault.NoMemory → OctetsAnswer node by from octets (step_fault_name f) next
+pub refused : (takes : Answering → Event (Unit {0}) → Result (Reply (Unit {0})) StepFault → Answering → Type 0) (by : Udp) (from : Address) (octets : List ℕ)
+    (node next : Answering) (f : StepFault) →
+    MeetsOctets takes by from octets 0 node next (Err f) → Stepping takes node next → f ≢ fault.NoMemory →
+    OctetsAnswer node by from octets (step_fault_name f) next
 refused takes by from octets node next f (inl (None, has, (same, is))) stepped lacks = absurd cc
 refused takes by from octets node next f (inl (Some e, (m, spells, is), (outcome, taken, told))) stepped lacks =
-    inr (m, spells, subst (λ ev. StepAnswers node ev (step_fault_name f) next) is (stepped e outcome (step_fault_name f) taken (told_refused outcome f told lacks)))
+    inr (
+      m,
+      spells,
+      subst (λ ev. StepAnswers node ev (step_fault_name f) next) is
+          (stepped e outcome (step_fault_name f) taken (told_refused outcome f told lacks)),
+    )
 refused takes by from octets node next f (inr ((same, is), spelled)) stepped lacks = absurd (lacks cc)
 
 -- which fault octets have, by what reading them answers
 
 -- the fault of octets, by what reading them as ICP answers
-pub icp_fault_of : (octets : List ℕ) (r : Result Message IcpFault) → IfOk r (IsIcp octets) → IfErr r (λ f. f ≢ icp_fault.NoMemory → icp_faults.first_fault octets ≡ Some f) → IsIcpFault octets (result_err r)
+pub icp_fault_of : (octets : List ℕ) (r : Result Message IcpFault) → IfOk r (IsIcp octets) →
+    IfErr r (λ f. f ≢ icp_fault.NoMemory → icp_faults.first_fault octets ≡ Some f) → IsIcpFault octets (result_err r)
 icp_fault_of octets (Ok m) ok err = (m, ok)
 icp_fault_of octets (Err f) ok err = err
 
 -- the fault of octets, by what reading them as HTCP answers
-pub htcp_fault_of : (octets : List ℕ) (r : Result Message HtcpFault) → IfOk r (IsHtcp octets) → IfErr r (λ f. f ≢ htcp_fault.NoMemory → htcp_faults.first_fault octets ≡ Some f) → IsHtcpFault octets (result_err r)
+pub htcp_fault_of : (octets : List ℕ) (r : Result Message HtcpFault) → IfOk r (IsHtcp octets) →
+    IfErr r (λ f. f ≢ htcp_fault.NoMemory → htcp_faults.first_fault octets ≡ Some f) → IsHtcpFault octets (result_err r)
 htcp_fault_of octets (Ok m) ok err = (m, ok)
 htcp_fault_of octets (Err f) ok err = err
 

@@ -177,13 +177,16 @@ IsTold (Err f) text = text ≡ step_fault_name f
 pub record StepAnswers (node : Answering) (e : Event (Unit {0})) (text : List ℕ) (next : Answering) : Type 0 where
   pub outcome : Result (Reply (Unit {0})) StepFault
   pub same : IsSameMember node next
-  pub steps : (key_of : List ℕ → Option (List ℕ)) → GivesKeys key_of → Steps (setting_of node key_of) node.state e tt outcome next.state
+  pub steps : (key_of : List ℕ → Option (List ℕ)) → GivesKeys key_of →
+      Steps (setting_of node key_of) node.state e tt outcome next.state
   pub told : IsTold outcome text
 
 -- the octets have this fault first, by the protocol's codec
 abbrev pub HasFaultNamed : Udp → List ℕ → List ℕ → Type 0
-HasFaultNamed udp.Icp octets text = (fault : IcpFault) × (icp_faults.first_fault octets ≡ Some fault) × (text ≡ icp_fault_name fault)
-HasFaultNamed udp.Htcp octets text = (fault : HtcpFault) × (htcp_faults.first_fault octets ≡ Some fault) × (text ≡ htcp_fault_name fault)
+HasFaultNamed udp.Icp octets text = (fault : IcpFault) × (icp_faults.first_fault octets ≡ Some fault)
+    × (text ≡ icp_fault_name fault)
+HasFaultNamed udp.Htcp octets text = (fault : HtcpFault) × (htcp_faults.first_fault octets ≡ Some fault)
+    × (text ≡ htcp_fault_name fault)
 
 -- the first fault of octets by a codec, memory aside, or none where they spell a message
 

@@ -81,7 +81,8 @@ pub fn run_answer<R: Read, W: Write>(
     reader: &mut R,
     writer: &mut W,
 ) -> Result<(), RunFault>
-    ensures { HasAnswered (R.remaining reader.old) (W.contents writer.old) (W.contents writer.new) result }
+    ensures { HasAnswered (R.remaining reader.old) (W.contents writer.old)
+        (W.contents writer.new) result }
 {
     let node = match first_node(alloc) {
         Ok(node) => node,
@@ -168,7 +169,8 @@ fn place(
     stamp: Option<u32>,
     text: &mut Vec<u8>,
 ) -> Result<(), AllocError>
-    ensures { OnOk result ((answer : List ℕ) × CommandAnswers node.old (StoreLine url.now stamp) answer node.new
+    ensures { OnOk result ((answer : List ℕ)
+        × CommandAnswers node.old (StoreLine url.now stamp) answer node.new
         × (text.new.items ≡ text.old.items ++ answer)) }
 {
     let key = match Key::read(alloc, url) {
@@ -204,7 +206,8 @@ fn answer_hex(
     hex: &[u8],
     text: &mut Vec<u8>,
 ) -> Result<(), AllocError>
-    ensures { OnOk result ((answer : List ℕ) × DatagramAnswers node.old by from (decode_of hex.now) answer node.new
+    ensures { OnOk result ((answer : List ℕ)
+        × DatagramAnswers node.old by from (decode_of hex.now) answer node.new
         × (text.new.items ≡ text.old.items ++ answer)) }
 {
     match hex::decode(alloc, hex) {
@@ -223,7 +226,8 @@ fn answer_octets(
     octets: &[u8],
     text: &mut Vec<u8>,
 ) -> Result<(), AllocError>
-    ensures { OnOk result ((answer : List ℕ) × DatagramAnswers node.old by from (Ok octets.now) answer node.new
+    ensures { OnOk result ((answer : List ℕ)
+        × DatagramAnswers node.old by from (Ok octets.now) answer node.new
         × (text.new.items ≡ text.old.items ++ answer)) }
 {
     match on_datagram(alloc, node, by, from, octets, 0) {
@@ -242,7 +246,8 @@ fn answer_octets(
 
 /// Writes why nothing is sent: the fault of octets that are no message, or `nothing`.
 fn push_silence(alloc: Global, by: Udp, octets: &[u8], text: &mut Vec<u8>) -> Result<(), AllocError>
-    ensures { OnOk result ((answer : List ℕ) × IsSilence by octets.now answer × (text.new.items ≡ text.old.items ++ answer)) }
+    ensures { OnOk result ((answer : List ℕ) × IsSilence by octets.now answer
+        × (text.new.items ≡ text.old.items ++ answer)) }
 {
     match by {
         Udp::Icp => match icp_fault(alloc, octets) {

@@ -61,7 +61,8 @@ pub(crate) type Answering = Node<(), MemoryFloors>;
 /// comes (no contract says so).
 pub(crate) fn first_node(alloc: Global) -> Result<Answering, RunFault>
     ensures ok { IfOk result IsFirst }
-    ensures err { IfErr result (λ fault. (fault ≡ RunFault.NoMemory) ⊎ (fault ≡ RunFault.NoFirstNode)) }
+    ensures err { IfErr result (λ fault. (fault ≡ RunFault.NoMemory)
+        ⊎ (fault ≡ RunFault.NoFirstNode)) }
 {
     let roster = match Roster::read(alloc, ROSTER) {
         Ok(roster) => roster,

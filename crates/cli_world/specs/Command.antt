@@ -169,7 +169,8 @@ origin_by None serial status body = BadLine
 -- `origin N SERIAL STATUS BODY`, whose body has an octet at least
 abbrev pub origin_of : List ℕ → List ℕ → List ℕ → List ℕ → Command
 origin_of node serial status [] = BadLine
-origin_of node serial status (octet ∷ octets) = origin_by (octet_in node) (word_in serial) (short_in status) (octet ∷ octets)
+origin_of node serial status (octet ∷ octets) = origin_by (octet_in node) (word_in serial) (short_in status)
+    (octet ∷ octets)
 
 -- a line of a keyword and four words
 abbrev pub with_four : List ℕ → List ℕ → List ℕ → List ℕ → List ℕ → Command

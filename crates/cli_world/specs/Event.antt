@@ -24,7 +24,8 @@ by_key event_of (Err fault) = heard.BadUrl fault
 -- a client asks a member for a URL
 abbrev pub IsAskedFor : ℕ → List ℕ → Bool → Heard → Type 0
 IsAskedFor node url only_if_cached h =
-    (outcome : Result (List ℕ) KeyFault) × HasKey url outcome × (h ≡ by_key (λ key. world.Client node (asked_for key only_if_cached)) outcome)
+    (outcome : Result (List ℕ) KeyFault) × HasKey url outcome
+    × (h ≡ by_key (λ key. world.Client node (asked_for key only_if_cached)) outcome)
 
 -- a purge of a URL is issued
 abbrev pub IsIssueFor : List ℕ → Heard → Type 0
@@ -40,7 +41,8 @@ answer_with status body = record { status = status; fields = max_age_field ∷ [
 
 -- the origin answers a read; a bad line, where the response has no text
 abbrev pub origin_heard : ℕ → ℕ → AnswerText → Heard
-origin_heard node serial answer = if is_writable answer then heard.Event (world.Origin node serial answer) else heard.Bad
+origin_heard node serial answer = if is_writable answer then heard.Event (world.Origin node serial answer)
+    else heard.Bad
 
 -- the origin answers a read with this status and body
 abbrev pub IsOriginFor : ℕ → ℕ → ℕ → List ℕ → Heard → Type 0

@@ -26,7 +26,8 @@ IsTold (Err f) text = text ≡ refusal_shown (world_fault_name f)
 
 -- the event is applied to the world or refused, and this is told
 abbrev pub EventAnswers : WorldView → WorldEvent → List ℕ → WorldView → Type 0
-EventAnswers old event text new = (result : Result Outcome WorldFault) × IsApplied old event result new × IsTold result text
+EventAnswers old event text new = (result : Result Outcome WorldFault) × IsApplied old event result new
+    × IsTold result text
 
 -- what is told of a line, after its number
 abbrev pub HeardAnswers : WorldView → Heard → List ℕ → WorldView → Type 0
@@ -58,5 +59,6 @@ pub record HasNotBegun (old new : Option (List ℕ)) (r : Result (Unit {0}) RunF
   pub unwritten : new ≡ old
 
 -- a script is played over a new world, or there was no memory for a world
-abbrev pub HasPlayedWorld : Tables → Option (List ℕ) → Option (List ℕ) → Option (List ℕ) → Result (Unit {0}) RunFault → Type 0
+abbrev pub HasPlayedWorld : Tables → Option (List ℕ) → Option (List ℕ) → Option (List ℕ) → Result (Unit {0}) RunFault →
+    Type 0
 HasPlayedWorld roster input old new r = HasBegun roster input old new r ⊎ HasNotBegun old new r

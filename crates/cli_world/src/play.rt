@@ -41,7 +41,8 @@ pub fn run_world<R: Read, W: Write>(
     reader: &mut R,
     writer: &mut W,
 ) -> Result<(), RunFault>
-    ensures { HasPlayedWorld roster.now (R.remaining reader.old) (W.contents writer.old) (W.contents writer.new) result }
+    ensures { HasPlayedWorld roster.now (R.remaining reader.old) (W.contents writer.old)
+        (W.contents writer.new) result }
 {
     let world = match World::new(alloc, roster) {
         Ok(world) => world,

@@ -68,7 +68,8 @@ fn push_serve(serve: &Option<Serve<u64>>, text: &mut Vec<u8>) -> Result<(), Allo
 
 /// Writes the number of a purge, or how far one is.
 fn push_purge(outcome: &Outcome, text: &mut Vec<u8>) -> Result<(), AllocError>
-    ensures { OnOk result (text.new.items ≡ text.old.items ++ purge_shown outcome.now.purge outcome.now.status) }
+    ensures { OnOk result (text.new.items ≡ text.old.items
+        ++ purge_shown outcome.now.purge outcome.now.status) }
 {
     push_short("purge", outcome.purge, text)?;
     match outcome.status {

@@ -17,12 +17,14 @@ pub record Gathered : Type 0 where
 abbrev pub GoesOn : Option Gathered → Option Gathered → Type 0
 GoesOn old None = Unit {0}
 GoesOn None (Some new) = ⊥
-GoesOn (Some old) (Some new) = (records : List Record) × (entries : List MasterEntry) × (new.records ≡ old.records ++ records) × (new.entries ≡ old.entries ++ entries)
+GoesOn (Some old) (Some new) = (records : List Record) × (entries : List MasterEntry)
+    × (new.records ≡ old.records ++ records) × (new.entries ≡ old.entries ++ entries)
 
 -- a verdict is the one on all that was gathered, and the run is forgotten where nothing is gathered any more; why the
 -- records of a member are not given no contract can say, since they are under a lock
 abbrev pub IsChecked : Tables → Option Gathered → Checked → Type 0
-IsChecked roster gathered (checked.Judged verdict) = MatchOption gathered ⊥ (λ g. IsVerdictOn roster g.records g.entries verdict)
+IsChecked roster gathered (checked.Judged verdict) = MatchOption gathered ⊥
+    (λ g. IsVerdictOn roster g.records g.entries verdict)
 IsChecked roster gathered checked.Forgotten = gathered ≡ None
 IsChecked roster gathered checked.SeatMissing = Unit {0}
 IsChecked roster gathered checked.Mismatch = Unit {0}

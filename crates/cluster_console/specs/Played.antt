@@ -42,7 +42,8 @@ TellsStatus number text = (asked : Result Status MasterFault) × IfErr asked IsT
 
 -- the answer of a member, with a status of 200 to 599 and a body of at most 65,536 octets, or why there is none
 abbrev pub TellsAnswer : List ℕ → Type 0
-TellsAnswer text = (got : Result AnswerText FetchFault) × IfOk got (λ answer. IsTrue (is_writable answer)) × (text ≡ got_shown got)
+TellsAnswer text = (got : Result AnswerText FetchFault) × IfOk got (λ answer. IsTrue (is_writable answer))
+    × (text ≡ got_shown got)
 
 -- a `get` of a node that is no member is a bad line
 abbrev pub GetTells : Tables → ℕ → List ℕ → List ℕ → Type 0
@@ -52,7 +53,8 @@ GetTells roster node url text =
 
 -- the verdict on what was gathered of the run so far, or why there is none
 abbrev pub TellsCheck : Tables → Option Gathered → List ℕ → Type 0
-TellsCheck roster gathered text = (checked : Checked) × IsChecked roster gathered checked × (text ≡ checked_shown checked)
+TellsCheck roster gathered text = (checked : Checked) × IsChecked roster gathered checked
+    × (text ≡ checked_shown checked)
 
 -- the text may answer what a line asks for
 abbrev pub CommandTells : Tables → Option Gathered → Command → List ℕ → Type 0
@@ -76,8 +78,10 @@ LineAnswers roster before line text new after = GatheredAnswers roster before li
 
 -- the lines before the first `quit` are answered one after another, each by a text that may answer it, while what is
 -- gathered of the run goes on from the first to the last
-abbrev pub HasAnswered : Tables → Option Gathered → Option (List ℕ) → Option (List ℕ) → Option (List ℕ) → Result (Unit {0}) RunFault → Option Gathered → Type 0
-HasAnswered roster before input old new r after = HasPlayedUntil (GatheredAnswers roster) quit before input old new r after
+abbrev pub HasAnswered : Tables → Option Gathered → Option (List ℕ) → Option (List ℕ) → Option (List ℕ) →
+    Result (Unit {0}) RunFault → Option Gathered → Type 0
+HasAnswered roster before input old new r after = HasPlayedUntil (GatheredAnswers roster) quit before input old new r
+    after
 
 -- where the member of an id serves HTTP
 abbrev pub http_of : Tables → ℕ → Option Address

@@ -66,7 +66,8 @@ pub fn answer_lines<S: PurgeStore, C: Checker + Drop, R: Wait + Clock + Net, I: 
     input: &mut I,
     output: &mut O,
 ) -> (C, Result<(), RunFault>)
-    ensures { HasAnswered roster.now (C.gathered checker) (I.remaining input.old) (O.contents output.old) (O.contents output.new) result.1 (C.gathered result.0) }
+    ensures { HasAnswered roster.now (C.gathered checker) (I.remaining input.old)
+        (O.contents output.old) (O.contents output.new) result.1 (C.gathered result.0) }
 {
     let mut player = Player {
         rt,
@@ -93,7 +94,9 @@ impl<S: PurgeStore, C: Checker, R: Wait + Clock + Net> Player<'_, S, C, R> {
     /// Answers what a line asks for.
     #[tactic(auto, using(crate::proofs::Gathering::goes_on))]
     fn tell(&mut self, alloc: Global, line: Line<'_>, text: &mut Vec<u8>) -> Result<(), AllocError>
-        ensures told { OnOk result ((answer : List ℕ) × CommandTells self.old.roster.now (C.gathered self.new.checker) (command_text line.entry) answer × (text.new.items ≡ text.old.items ++ answer)) }
+        ensures told { OnOk result ((answer : List ℕ)
+            × CommandTells self.old.roster.now (C.gathered self.new.checker)
+            (command_text line.entry) answer × (text.new.items ≡ text.old.items ++ answer)) }
         ensures goes_on { GoesOn (C.gathered self.old.checker) (C.gathered self.new.checker) }
         ensures roster { self.new.roster.now ≡ self.old.roster.now }
     {
@@ -108,7 +111,8 @@ impl<S: PurgeStore, C: Checker, R: Wait + Clock + Net> Player<'_, S, C, R> {
 
     /// Answers `purge URL`.
     fn purge(&self, alloc: Global, url: &[u8], text: &mut Vec<u8>) -> Result<(), AllocError>
-        ensures { OnOk result ((answer : List ℕ) × IsSaid TellsPurge url.now answer × (text.new.items ≡ text.old.items ++ answer)) }
+        ensures { OnOk result ((answer : List ℕ) × IsSaid TellsPurge url.now answer
+            × (text.new.items ≡ text.old.items ++ answer)) }
     {
         match Key::read(alloc, url) {
             Ok(key) => {
@@ -122,7 +126,8 @@ impl<S: PurgeStore, C: Checker, R: Wait + Clock + Net> Player<'_, S, C, R> {
 
     /// Answers `status P`.
     fn status(&self, number: u32, text: &mut Vec<u8>) -> Result<(), AllocError>
-        ensures { OnOk result ((answer : List ℕ) × TellsStatus number answer × (text.new.items ≡ text.old.items ++ answer)) }
+        ensures { OnOk result ((answer : List ℕ) × TellsStatus number answer
+            × (text.new.items ≡ text.old.items ++ answer)) }
     {
         push_asked(number, self.asked(number), text)
     }
@@ -140,7 +145,9 @@ impl<S: PurgeStore, C: Checker, R: Wait + Clock + Net> Player<'_, S, C, R> {
 
     /// Answers `check`.
     fn check(&mut self, alloc: Global, text: &mut Vec<u8>) -> Result<(), AllocError>
-        ensures told { OnOk result ((answer : List ℕ) × TellsCheck self.old.roster.now (C.gathered self.new.checker) answer × (text.new.items ≡ text.old.items ++ answer)) }
+        ensures told { OnOk result ((answer : List ℕ)
+            × TellsCheck self.old.roster.now (C.gathered self.new.checker) answer
+            × (text.new.items ≡ text.old.items ++ answer)) }
         ensures goes_on { GoesOn (C.gathered self.old.checker) (C.gathered self.new.checker) }
         ensures roster { self.new.roster.now ≡ self.old.roster.now }
     {
@@ -156,7 +163,9 @@ impl<S: PurgeStore, C: Checker, R: Wait + Clock + Net> Player<'_, S, C, R> {
         url: &[u8],
         text: &mut Vec<u8>,
     ) -> Result<(), AllocError>
-        ensures told { OnOk result ((answer : List ℕ) × GetTells self.old.roster.now node url.now answer × (text.new.items ≡ text.old.items ++ answer)) }
+        ensures told { OnOk result ((answer : List ℕ)
+            × GetTells self.old.roster.now node url.now answer
+            × (text.new.items ≡ text.old.items ++ answer)) }
         ensures checker { self.new.checker ≡ self.old.checker }
         ensures roster { self.new.roster.now ≡ self.old.roster.now }
     {
@@ -174,7 +183,8 @@ impl<S: PurgeStore, C: Checker, R: Wait + Clock + Net> Player<'_, S, C, R> {
         url: &[u8],
         text: &mut Vec<u8>,
     ) -> Result<(), AllocError>
-        ensures told { OnOk result ((answer : List ℕ) × IsSaid TellsAnswer url.now answer × (text.new.items ≡ text.old.items ++ answer)) }
+        ensures told { OnOk result ((answer : List ℕ) × IsSaid TellsAnswer url.now answer
+            × (text.new.items ≡ text.old.items ++ answer)) }
         ensures checker { self.new.checker ≡ self.old.checker }
         ensures roster { self.new.roster.now ≡ self.old.roster.now }
     {

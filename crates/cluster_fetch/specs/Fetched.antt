@@ -27,4 +27,5 @@ event_of_answer Origin serial key answer now = OriginAnswer serial key answer no
 -- the event of a fetch: a response that the node gets, or a failure
 abbrev pub event_of_fetch : ResponseSource → ℕ → List ℕ → Option AnswerText → ℕ → Event (Unit {0})
 event_of_fetch source serial key None now = FetchFailed serial now
-event_of_fetch source serial key (Some a) now = if is_told source a then event_of_answer source serial key a now else FetchFailed serial now
+event_of_fetch source serial key (Some a) now = if is_told source a then event_of_answer source serial key a now
+    else FetchFailed serial now

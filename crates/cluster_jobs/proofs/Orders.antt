@@ -89,7 +89,8 @@ leaves_begins steps waiting h = (waiting, sym h)
 pub in_order_more : (steps : List Step) (s : Step) (waiting : List Sight) → IsInOrder steps → Leaves (steps ++ s ∷ []) waiting → IsInOrder (steps ++ s ∷ [])
 in_order_more steps s waiting old now early h =
     ⊎_elim (λ (b : Begins early steps). old early b)
-    (λ (all : early ≡ steps ++ s ∷ []). let P : List Step → Type 0 = λ l. Begins (taken_in l) (put_in l) in subst P (sym all) (leaves_begins (steps ++ s ∷ []) waiting now))
+    (λ (all : early ≡ steps ++ s ∷ []). let P : List Step → Type 0 = λ l. Begins (taken_in l) (put_in l) in
+    subst P (sym all) (leaves_begins (steps ++ s ∷ []) waiting now))
     (begins_snoc early steps s h)
 
 -- no step at all is in order

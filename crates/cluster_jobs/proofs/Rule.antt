@@ -22,7 +22,8 @@ abbrev All : (ℕ → View → Type 0) → List View → Type 0
 All F views = (pass : ℕ) (v : View) → get_elem? views pass ≡ some v → F pass v
 
 -- what holds of one new view, and of all others where they stand, holds of all
-all_set : (F : ℕ → View → Type 0) (views : List View) (pass : ℕ) (w : View) → F pass w → ((j : ℕ) (u : View) → j ≢ pass → get_elem? views j ≡ some u → F j u) → All F (set views pass w)
+all_set : (F : ℕ → View → Type 0) (views : List View) (pass : ℕ) (w : View) → F pass w → ((j : ℕ) (u : View) → j ≢ pass → get_elem? views j ≡ some u → F j u) →
+    All F (set views pass w)
 all_set F views pass w mine others j u e = ⊎_elim (λ (x : (j ≡ pass) × (w ≡ u)). subst (λ (y : ℕ × View). F y.0 y.1) (λ i. (sym x.0 i, x.1 i)) mine)
     (λ (x : (j ≢ pass) × (get_elem? views j ≡ some u)). others j u x.0 x.1) (at_set views pass j w u e)
 
@@ -57,7 +58,8 @@ begins = (
     only (suc j) u other e = some-ne-none u (sym e)
 
 -- a pass with every part: each other pass knows nothing
-others_idle : (items : List Job) (views : List View) (steps : List Step) (pass : ℕ) (v : View) → IsKept items views steps → get_elem? views pass ≡ some v → v.parts ≡ all_parts
+others_idle : (items : List Job) (views : List View) (steps : List Step) (pass : ℕ) (v : View) → IsKept items views steps → get_elem? views pass ≡ some v →
+    v.parts ≡ all_parts
     → (j : ℕ) (u : View) → j ≢ pass → get_elem? views j ≡ some u → u ≡ nobody
 others_idle items views steps pass v kept at whole j u other e =
     let left = weigh-set (λ (w : View). w.parts) views pass v nobody at in
@@ -67,7 +69,8 @@ others_idle items views steps pass v kept at whole j u other e =
     kept.idle j u e (omega arith)
 
 -- so it has seen all steps
-sees_all : (items : List Job) (views : List View) (steps : List Step) (pass : ℕ) (v : View) → IsKept items views steps → get_elem? views pass ≡ some v → v.parts ≡ all_parts → steps ≡ v.seen
+sees_all : (items : List Job) (views : List View) (steps : List Step) (pass : ℕ) (v : View) → IsKept items views steps → get_elem? views pass ≡ some v →
+    v.parts ≡ all_parts → steps ≡ v.seen
 sees_all items views steps pass v kept at whole =
     let k = kept.known in
     elim (ℕ_discrete k.0 pass) as (λ _. steps ≡ v.seen) [
@@ -80,7 +83,8 @@ sees_all items views steps pass v kept at whole =
     ]
 
 -- and all steps are its own
-owns_all : (items : List Job) (views : List View) (steps : List Step) (pass : ℕ) (v : View) → IsKept items views steps → get_elem? views pass ≡ some v → v.parts ≡ all_parts
+owns_all : (items : List Job) (views : List View) (steps : List Step) (pass : ℕ) (v : View) → IsKept items views steps → get_elem? views pass ≡ some v →
+    v.parts ≡ all_parts
     → (weight : Step → ℕ) → weigh weight v.own ≡ weigh weight steps
 owns_all items views steps pass v kept at whole weight =
     let sum = weigh-set (own_weight weight) views pass v nobody at in
@@ -92,7 +96,8 @@ owns_all items views steps pass v kept at whole weight =
     omega arith
 
 -- one more step of this pass keeps the rule, where these jobs are left after it
-steps_on : (items left : List Job) (views : List View) (pass : ℕ) (v : View) (s : Step) (steps : List Step) → 0 < v.parts → IsKept items views steps → get_elem? views pass ≡ some v
+steps_on : (items left : List Job) (views : List View) (pass : ℕ) (v : View) (s : Step) (steps : List Step) → 0 < v.parts → IsKept items views steps →
+    get_elem? views pass ≡ some v
     → Leaves (steps ++ s ∷ []) (map sight_of left) → (w : View) × Kept left (set views pass w) × Follows v s w
 steps_on items left views pass v s steps part kept at leaves =
     let now = steps ++ s ∷ [] in
@@ -125,7 +130,8 @@ steps_on items left views pass v s steps part kept at leaves =
 -- a put keeps the rule
 pub puts : (n pass : ℕ) (v : View) (job : Job) → 0 < v.parts → Pushes Kept n pass v job (λ w. Follows v (put job) w)
 puts n pass v job part items views room kept at =
-    let leaves = leaves_put kept.0 (map sight_of items) (sight_of job) kept.1.leaves ∙ ap (λ l. taken_in (kept.0 ++ put job ∷ []) ++ l) (sym (map-append sight_of items (job ∷ []))) in
+    let leaves = leaves_put kept.0 (map sight_of items) (sight_of job) kept.1.leaves ∙ ap (λ l. taken_in (kept.0 ++ put job ∷ []) ++ l)
+    (sym (map-append sight_of items (job ∷ []))) in
     steps_on items (items ++ job ∷ []) views pass v (put job) kept.0 part kept.1 at leaves
 
 -- a take keeps the rule
@@ -146,12 +152,15 @@ finds pass v items views kept at = (
 )
 
 -- the pass that has seen all steps, where it is this one
-the_same : (views : List View) (steps : List Step) (pass : ℕ) (v : View) (j : ℕ) (u : View) → j ≡ pass → get_elem? views pass ≡ some v → get_elem? views j ≡ some u → u.seen ≡ steps → v.seen ≡ steps
-the_same views steps pass v j u same at there all = sym (ap (λ (w : View). w.seen) (some-injective u v (sym there ∙ ap (λ n. get_elem? views n) same ∙ at))) ∙ all
+the_same : (views : List View) (steps : List Step) (pass : ℕ) (v : View) (j : ℕ) (u : View) → j ≡ pass → get_elem? views pass ≡ some v →
+    get_elem? views j ≡ some u → u.seen ≡ steps → v.seen ≡ steps
+the_same views steps pass v j u same at there all = sym (ap (λ (w : View). w.seen) (some-injective u v (sym there ∙ ap (λ n. get_elem? views n) same ∙ at)))
+    ∙ all
 
 -- what holds of all views and of one more holds of the longer list
 snoc_all : (F : ℕ → View → Type 0) (views : List View) (w : View) → All F views → ((j : ℕ) → F j w) → All F (views ++ w ∷ [])
-snoc_all F views w old new j u e = ⊎_elim (λ x. old j u x) (λ (same : w ≡ u). let P : View → Type 0 = λ y. F j y in subst P same (new j)) (at_snoc views w u j e)
+snoc_all F views w old new j u e = ⊎_elim (λ x. old j u x) (λ (same : w ≡ u). let P : View → Type 0 = λ y. F j y in subst P same (new j))
+    (at_snoc views w u j e)
 
 -- a split keeps the rule
 pub forks : (pass : ℕ) (v : View) → 1 < v.parts → Forks Kept pass v (kept_part v) (cut_part v)
@@ -162,14 +171,17 @@ forks pass v more items views kept at =
       record {
         in_order = k.in_order;
         leaves = k.leaves;
-        parts = (let sum = weigh-set (λ (u : View). u.parts) views pass v l at in let old = k.parts in let both = weigh-append (λ (u : View). u.parts) vs (r ∷ []) in omega arith);
-        begins = snoc_all (λ _ u. Begins u.seen steps) vs r (all_set (λ _ u. Begins u.seen steps) views pass l seen (λ j u other e. k.begins j u e)) (λ j. seen);
+        parts = (let sum = weigh-set (λ (u : View). u.parts) views pass v l at in let old = k.parts in let both =
+            weigh-append (λ (u : View). u.parts) vs (r ∷ []) in omega arith);
+        begins = snoc_all (λ _ u. Begins u.seen steps) vs r (all_set (λ _ u. Begins u.seen steps) views pass l seen (λ j u other e. k.begins j u e))
+            (λ j. seen);
         known = fork_known items views steps pass v k at;
         owned = λ weight.
             let sum = weigh-set (own_weight weight) views pass v l at in let old = k.owned weight in
             let both = weigh-append (own_weight weight) vs (r ∷ []) in omega arith;
         idle = snoc_all (λ _ u. u.parts ≡ 0 → u ≡ nobody) vs r
-            (all_set (λ _ u. u.parts ≡ 0 → u ≡ nobody) views pass l (λ none. absurd (omega arith)) (λ j u other e. k.idle j u e)) (λ j none. absurd (omega arith));
+            (all_set (λ _ u. u.parts ≡ 0 → u ≡ nobody) views pass l (λ none. absurd (omega arith)) (λ j u other e. k.idle j u e))
+            (λ j none. absurd (omega arith));
       },
     )
   where
@@ -211,7 +223,8 @@ merges pass v other u items views kept at apart at' =
       },
     )
   where
-    merge_known : (views : List View) (steps : List Step) (pass : ℕ) (v : View) (other : ℕ) (u : View) → other ≢ pass → get_elem? views pass ≡ some v → get_elem? views other ≡ some u
+    merge_known : (views : List View) (steps : List Step) (pass : ℕ) (v : View) (other : ℕ) (u : View) → other ≢ pass → get_elem? views pass ≡ some v →
+        get_elem? views other ≡ some u
         → ((j : ℕ) × (w : View) × (get_elem? views j ≡ some w) × (w.seen ≡ steps)) → Begins v.seen steps → Begins u.seen steps
         → (j : ℕ) × (w : View) × (get_elem? (set (set views pass (joined v u)) other nobody) j ≡ some w) × (w.seen ≡ steps)
     merge_known views steps pass v other u apart at was all mine theirs =

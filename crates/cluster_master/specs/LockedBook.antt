@@ -59,7 +59,12 @@ to_keep_after to_keep kept = if keeps to_keep (length kept) then to_keep else Dr
 
 -- the page is filed: the book has no entry, and the same master
 abbrev pub filed : {S : Type 0} → LockedBookView S → LockedBookView S
-filed locked = record { book = emptied locked.book; kept = kept_with locked.to_keep locked.kept locked.book.entries; to_keep = to_keep_after locked.to_keep locked.kept; may_be_due = locked.may_be_due }
+filed locked = record {
+  book = emptied locked.book;
+  kept = kept_with locked.to_keep locked.kept locked.book.entries;
+  to_keep = to_keep_after locked.to_keep locked.kept;
+  may_be_due = locked.may_be_due;
+}
 
 -- a page of 4,096 entries is full, and is filed before a call
 abbrev pub ready : {S : Type 0} → LockedBookView S → LockedBookView S
@@ -67,7 +72,8 @@ ready locked = if nat_le 4096 (length locked.book.entries) then filed locked els
 
 -- the master has answered the call so, at some place, and the call is entered with that answer behind the entries of
 -- the page
-pub record IsCalledAt {S : Type 0} (was now : Witness) (before after : LockedBookView S) (c : MasterCall) (out : Result MasterAnswer MasterFault) : Type 0 where
+pub record IsCalledAt {S : Type 0} (was now : Witness) (before after : LockedBookView S) (c : MasterCall)
+    (out : Result MasterAnswer MasterFault) : Type 0 where
   pub place : ℕ
   pub entered : IsEntered was now (ready before).book after.book place c out
   pub kept : after.kept ≡ (ready before).kept

@@ -85,7 +85,8 @@ fn keep<S: PurgeStore>(
     kept: &mut Vec<MasterEntry>,
     book: &mut MasterBook<S>,
 ) -> Result<(), AllocError>
-    ensures kept { OnOk result ((kept.new.items ≡ kept.old.items ++ book.old.entries) × (book.new ≡ emptied book.old)) }
+    ensures kept { OnOk result ((kept.new.items ≡ kept.old.items ++ book.old.entries)
+        × (book.new ≡ emptied book.old)) }
     ensures refused { OnErr result ((kept.new.items ≡ kept.old.items) × (book.new ≡ book.old)) }
     ensures memory { OnErr result (kept.old.items ≢ []) }
 {
@@ -133,8 +134,10 @@ impl<S: PurgeStore> LockedBook<S> {
     /// `NoMemory`, the master is not called, and no entry is lost.
     pub(crate) fn call(&mut self, call: MasterCall) -> Result<MasterAnswer, MasterFault>
         ensures called { IsUnmade self.old self.new result
-            ⊎ IsCalledAt (witness (S.is_honest self.old.book.master.store) (S.may_find self.old.book.master.store) (S.failed self.old.book.master.store))
-            (witness (S.is_honest self.new.book.master.store) (S.may_find self.new.book.master.store) (S.failed self.new.book.master.store))
+            ⊎ IsCalledAt (witness (S.is_honest self.old.book.master.store)
+            (S.may_find self.old.book.master.store) (S.failed self.old.book.master.store))
+            (witness (S.is_honest self.new.book.master.store)
+            (S.may_find self.new.book.master.store) (S.failed self.new.book.master.store))
             self.old self.new call result }
         ensures told { IsToldOf call result }
     {

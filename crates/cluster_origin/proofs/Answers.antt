@@ -21,14 +21,17 @@ pub can_be_written : (key : List ℕ) (count : ℕ) → length (body_of key coun
 can_be_written key count short = is_writable_by key count (le-leb _ _ (omega arith))
 
 -- so the parts of one make a response
-pub is_made : (fields : List FieldText) (body key : List ℕ) (count : ℕ) (made : Option AnswerText) → fields ≡ lifetime ∷ [] → body ≡ body_of key count → length body ≤ 1035 →
-    (let answer : AnswerText = record { status = 200; fields = fields; age = None; stamp = None; body = body } in made ≡ (if is_writable answer then Some answer else None)) → made ≡ None → ⊥
+pub is_made : (fields : List FieldText) (body key : List ℕ) (count : ℕ) (made : Option AnswerText) → fields ≡ lifetime ∷ [] → body ≡ body_of key count →
+    length body ≤ 1035 →
+    (let answer : AnswerText = record { status = 200; fields = fields; age = None; stamp = None; body = body } in
+    made ≡ (if is_writable answer then Some answer else None)) → made ≡ None → ⊥
 is_made fields body key count made same_fields same_body short is none =
     let short_body : length (body_of key count) ≤ 1035 = subst (λ (b : List ℕ). length b ≤ 1035) same_body short in
     let writable : is_writable (answer_for key count) ≡ true = can_be_written key count short_body in
     none-some (answer_for key count) (sym none ∙ (rw (same_fields, same_body, writable) at is))
 
 -- what is written of a response is what the request is answered
-pub written_answer : (old new : Option (List ℕ)) (ask : Ask) (count : ℕ) (result : Result (Unit {0}) FetchFault) → Writes old new result (told ask count) → IfErr result (λ fault. fault ≡ Io) → AnswersAsk old new ask count result
+pub written_answer : (old new : Option (List ℕ)) (ask : Ask) (count : ℕ) (result : Result (Unit {0}) FetchFault) → Writes old new result (told ask count) →
+    IfErr result (λ fault. fault ≡ Io) → AnswersAsk old new ask count result
 written_answer old new ask count (Ok done) written fault = written
 written_answer old new ask count (Err fault) written is = subst (λ (fault : FetchFault). AnswersAsk old new ask count (Err fault)) (sym is) written

@@ -14,4 +14,11 @@ body_of key count = key_path key ++ (codes " " ++ decimal count)
 
 -- the response to a request for this key, which is the `count`th that is answered
 abbrev pub answer_for : List ℕ → ℕ → AnswerText
-answer_for key count = record { status = 200; fields = lifetime ∷ []; age = None; stamp = None; body = body_of key count }
+answer_for key count = record {
+  status = 200;
+  fields = lifetime ∷ [];
+  age = None;
+  stamp = None;
+  body =
+      body_of key count;
+}

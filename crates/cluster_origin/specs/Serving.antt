@@ -40,12 +40,14 @@ AnswersAsk old new ask count (Err fault) = ⊥
 
 -- a request was read, and is answered; or it was not, and its fault is told: by the text of the refusal, or a front of
 -- it where the writer failed
-abbrev pub AfterRead : Option (List ℕ) → Option (List ℕ) → ℕ → Result Ask FetchFault → Result (Unit {0}) FetchFault → Type 0
+abbrev pub AfterRead : Option (List ℕ) → Option (List ℕ) → ℕ → Result Ask FetchFault → Result (Unit {0}) FetchFault →
+    Type 0
 AfterRead old new count (Ok ask) result = AnswersAsk old new ask count result
 AfterRead old new count (Err fault) result = (result ≡ Err fault) × AppendsFront old new (refusal fault)
 
 -- one request is read, and its response or its refusal is written
-pub record ServesNext (count : ℕ) (reader_old reader_new writer_old writer_new : Option (List ℕ)) (result : Result (Unit {0}) FetchFault) : Type 0 where
+pub record ServesNext (count : ℕ) (reader_old reader_new writer_old writer_new : Option (List ℕ))
+    (result : Result (Unit {0}) FetchFault) : Type 0 where
   pub read : Result Ask FetchFault
   pub reads : ReadsAsk reader_old reader_new read
   pub answers : AfterRead writer_old writer_new count read result

@@ -18,7 +18,8 @@ pub dropped : (old new : Option Kept) → new ≡ None → GoesOn (gathered_in o
 dropped old new none = subst (λ n. GoesOn (gathered_in old) (gathered_in n)) (sym none) tt
 
 -- two steps in a row make one
-pub kept_twice : (old middle new : Option Kept) → GoesOn (gathered_in old) (gathered_in middle) → GoesOn (gathered_in middle) (gathered_in new) → GoesOn (gathered_in old) (gathered_in new)
+pub kept_twice : (old middle new : Option Kept) → GoesOn (gathered_in old) (gathered_in middle) → GoesOn (gathered_in middle) (gathered_in new) →
+    GoesOn (gathered_in old) (gathered_in new)
 kept_twice old middle new first second = goes_on_twice (gathered_in old) (gathered_in middle) (gathered_in new) first second
 
 -- the records with one more, or the same records
@@ -27,11 +28,13 @@ more_records records next true = ([], sym (append-nil records))
 more_records records next false = (next ∷ [], refl)
 
 -- the records with the next one put behind them
-pub record_put : (old new : Kept) (next : Record) → new.records.items ≡ with_record old.records.items next → new.entries ≡ old.entries → GoesOn (gathered_in (Some old)) (gathered_in (Some new))
+pub record_put : (old new : Kept) (next : Record) → new.records.items ≡ with_record old.records.items next → new.entries ≡ old.entries →
+    GoesOn (gathered_in (Some old)) (gathered_in (Some new))
 record_put old new next records entries =
     let more = more_records old.records.items next (tells_nothing old.records.items next) in
     (more.0, [], records ∙ more.1, ap (λ e. e.items) entries ∙ sym (append-nil old.entries.items))
 
 -- the master's entries with more put behind them
-pub entries_put : (old new : Kept) (more : List MasterEntry) → new.entries.items ≡ old.entries.items ++ more → new.records ≡ old.records → GoesOn (gathered_in (Some old)) (gathered_in (Some new))
+pub entries_put : (old new : Kept) (more : List MasterEntry) → new.entries.items ≡ old.entries.items ++ more → new.records ≡ old.records →
+    GoesOn (gathered_in (Some old)) (gathered_in (Some new))
 entries_put old new more entries records = ([], more, ap (λ r. r.items) records ∙ sym (append-nil old.records.items), entries)

@@ -25,4 +25,5 @@ gathered_at_first shifts = if shifts == 0 then None else Some (record { records 
 
 -- the lines were answered while the run was gathered, and what is kept at the end goes on from that
 abbrev pub HasRun : Tables → ℕ → Option (List ℕ) → Option (List ℕ) → Option (List ℕ) → Option Kept → Type 0
-HasRun roster shifts input old new kept = (gathered : Option Gathered) × HasAnswered roster (gathered_at_first shifts) input old new (Ok tt) gathered × GoesOn gathered (gathered_in kept)
+HasRun roster shifts input old new kept = (gathered : Option Gathered)
+    × HasAnswered roster (gathered_at_first shifts) input old new (Ok tt) gathered × GoesOn gathered (gathered_in kept)

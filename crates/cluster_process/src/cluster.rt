@@ -100,7 +100,8 @@ pub fn run_cluster<
     output: &mut O,
 ) -> Result<Option<Kept>, ClusterFault>
     requires { (2 ≤ workers) × (workers ≤ 8) }
-    ensures { IfOk result (HasRun roster.now history (I.remaining input.old) (O.contents output.old) (O.contents output.new)) }
+    ensures { IfOk result (HasRun roster.now history (I.remaining input.old) (O.contents output.old)
+        (O.contents output.new)) }
 {
     let places = Places::new(alloc)?;
     let Stores { nodes, purges } = stores;
@@ -142,7 +143,8 @@ fn run_nodes<
     input: &mut I,
     output: &mut O,
 ) -> Result<Option<Kept>, ClusterFault>
-    ensures { IfOk result (HasRun common.entry.roster.now common.entry.history (I.remaining input.old) (O.contents output.old) (O.contents output.new)) }
+    ensures { IfOk result (HasRun common.entry.roster.now common.entry.history
+        (I.remaining input.old) (O.contents output.old) (O.contents output.new)) }
 {
     let mut running = Vec::with_capacity(alloc, nodes.len())?;
     let ended = match start_nodes(rt, alloc, &common, nodes, &mut running) {
@@ -271,7 +273,8 @@ fn answer<I: Read, O: Write, S: PurgeStore, R: Wait + Clock + RandomSource + Net
     input: &mut I,
     output: &mut O,
 ) -> Result<Option<Kept>, ClusterFault>
-    ensures { IfOk result (HasRun common.now.roster.now common.now.history (I.remaining input.old) (O.contents output.old) (O.contents output.new)) }
+    ensures { IfOk result (HasRun common.now.roster.now common.now.history (I.remaining input.old)
+        (O.contents output.old) (O.contents output.new)) }
 {
     let (Ok(poll), Ok(keys)) = (StreamPoll::new(rt, alloc), RandomState::new(rt)) else {
         return Err(ClusterFault::System);

@@ -95,7 +95,8 @@ impl Kept {
 
     /// Puts the next record of a member behind those that are kept, unless it tells nothing.
     fn put_record(&mut self, next: Record) -> Result<(), AllocError>
-        ensures records { OnOk result (self.new.records.items ≡ with_record self.old.records.items next) }
+        ensures records { OnOk result (self.new.records.items
+            ≡ with_record self.old.records.items next) }
         ensures entries { self.new.entries ≡ self.old.entries }
     {
         if is_idle(self.records.as_slice(), &next) {
@@ -106,7 +107,8 @@ impl Kept {
 
     /// Puts the next calls of the master behind those that are kept.
     fn put_entries(&mut self, mut entries: Vec<MasterEntry>) -> Result<(), AllocError>
-        ensures entries { OnOk result (self.new.entries.items ≡ self.old.entries.items ++ entries.items) }
+        ensures entries { OnOk result (self.new.entries.items ≡ self.old.entries.items
+            ++ entries.items) }
         ensures records { self.new.records ≡ self.old.records }
     {
         self.entries.append(&mut entries)

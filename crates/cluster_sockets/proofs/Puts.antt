@@ -33,7 +33,8 @@ more_put u v w h k = record {
   seen = begins_further u.seen v.seen w.seen h.seen k.seen;
   own = (
     h.own.0 ++ k.own.0,
-    k.own.1 ∙ ap (λ l. l ++ map Put k.own.0) h.own.1 ∙ append_assoc u.own (map Put h.own.0) (map Put k.own.0) ∙ ap (λ l. u.own ++ l) (sym (map-append Put h.own.0 k.own.0)),
+    k.own.1 ∙ ap (λ l. l ++ map Put k.own.0) h.own.1 ∙ append_assoc u.own (map Put h.own.0) (map Put k.own.0)
+        ∙ ap (λ l. u.own ++ l) (sym (map-append Put h.own.0 k.own.0)),
     All-append HasCome h.own.0 k.own.0 h.own.2 k.own.2,
   );
 }

@@ -15,7 +15,8 @@ ascend_push (v ∷ rounds) w up low = (
 )
 
 -- the rounds with one more: still in order, none later than the latest, 65,536 at most
-pub one_more : (rounds : List WaitingRound) (w : WaitingRound) (latest : ℕ) → Ascend rounds → All (λ v. v.until ≤ latest) rounds → latest ≤ w.until → length rounds < 65536
+pub one_more : (rounds : List WaitingRound) (w : WaitingRound) (latest : ℕ) → Ascend rounds → All (λ v. v.until ≤ latest) rounds → latest ≤ w.until →
+    length rounds < 65536
     → Ascend (rounds ++ w ∷ []) × All (λ v. v.until ≤ w.until) (rounds ++ w ∷ []) × (length (rounds ++ w ∷ []) ≤ 65536)
 one_more rounds w latest up early late few =
     let low : All (λ v. v.until ≤ w.until) rounds = All-weaker (λ v. v.until ≤ latest) (λ v. v.until ≤ w.until) (λ v h. omega arith) rounds early in (
@@ -25,7 +26,8 @@ one_more rounds w latest up early late few =
     )
 
 -- the rounds without the first: the same
-pub one_fewer : (old rest : List WaitingRound) (w : WaitingRound) (latest : ℕ) → old ≡ w ∷ rest → Ascend old × All (λ v. v.until ≤ latest) old × (length old ≤ 65536)
+pub one_fewer : (old rest : List WaitingRound) (w : WaitingRound) (latest : ℕ) → old ≡ w ∷ rest → Ascend old × All (λ v. v.until ≤ latest) old
+    × (length old ≤ 65536)
     → Ascend rest × All (λ v. v.until ≤ latest) rest × (length rest ≤ 65536)
 one_fewer old rest w latest e h =
     let k = rw e at h in

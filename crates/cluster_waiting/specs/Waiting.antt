@@ -41,33 +41,40 @@ IsCause row block Full = (found_at row block ≡ None) × (1056 ≤ length row)
 IsCause row block NoMemory = (found_at row block ≡ None) × (length row < 1056)
 
 -- an item is handed back with its cause, and nothing changes
-pub record IsHandedBack {T : Type 0} (row : List (ℕ × T)) (block : ℕ) (one : T) (new : List (ℕ × T)) (handed_back : HandedBack T) : Type 0 where
+pub record IsHandedBack {T : Type 0} (row : List (ℕ × T)) (block : ℕ) (one : T) (new : List (ℕ × T))
+    (handed_back : HandedBack T) : Type 0 where
   pub back : handed_back.back ≡ one
   pub cause : IsCause row block handed_back.fault
   pub same : new ≡ row
 
 -- a client comes, by the answer that is kept under its block: it gets that answer, or waits, or is refused
-abbrev pub LeavesAt : {C A : Type 0} → Option A → ℕ → C → WaitingClientsView C A → Result (Option (C × A)) (HandedBack C) → WaitingClientsView C A → Type 0
+abbrev pub LeavesAt : {C A : Type 0} → Option A → ℕ → C → WaitingClientsView C A →
+    Result (Option (C × A)) (HandedBack C) → WaitingClientsView C A → Type 0
 LeavesAt (Some answer) block client old result new =
     (result ≡ Ok (Some (client, answer))) × (new.clients ≡ old.clients) × (new.answers ≡ without old.answers block)
 LeavesAt None block client old result new =
     (new.answers ≡ old.answers)
-    × MatchResult result (λ met. (met ≡ None) × IsPut old.clients block client new.clients) (IsHandedBack old.clients block client new.clients)
+    × MatchResult result (λ met. (met ≡ None) × IsPut old.clients block client new.clients)
+    (IsHandedBack old.clients block client new.clients)
 
 -- a client comes
-abbrev pub Leaves : {C A : Type 0} → ℕ → C → WaitingClientsView C A → Result (Option (C × A)) (HandedBack C) → WaitingClientsView C A → Type 0
+abbrev pub Leaves : {C A : Type 0} → ℕ → C → WaitingClientsView C A → Result (Option (C × A)) (HandedBack C) →
+    WaitingClientsView C A → Type 0
 Leaves block client old result new = LeavesAt (found_at old.answers block) block client old result new
 
 -- an answer comes, by the client that waits under its block: that client gets it, or it is kept, or is refused
-abbrev pub AnswersAt : {C A : Type 0} → Option C → ℕ → A → WaitingClientsView C A → Result (Option (C × A)) (HandedBack A) → WaitingClientsView C A → Type 0
+abbrev pub AnswersAt : {C A : Type 0} → Option C → ℕ → A → WaitingClientsView C A →
+    Result (Option (C × A)) (HandedBack A) → WaitingClientsView C A → Type 0
 AnswersAt (Some client) block answer old result new =
     (result ≡ Ok (Some (client, answer))) × (new.answers ≡ old.answers) × (new.clients ≡ without old.clients block)
 AnswersAt None block answer old result new =
     (new.clients ≡ old.clients)
-    × MatchResult result (λ met. (met ≡ None) × IsPut old.answers block answer new.answers) (IsHandedBack old.answers block answer new.answers)
+    × MatchResult result (λ met. (met ≡ None) × IsPut old.answers block answer new.answers)
+    (IsHandedBack old.answers block answer new.answers)
 
 -- an answer comes
-abbrev pub Answers : {C A : Type 0} → ℕ → A → WaitingClientsView C A → Result (Option (C × A)) (HandedBack A) → WaitingClientsView C A → Type 0
+abbrev pub Answers : {C A : Type 0} → ℕ → A → WaitingClientsView C A → Result (Option (C × A)) (HandedBack A) →
+    WaitingClientsView C A → Type 0
 Answers block answer old result new = AnswersAt (found_at old.clients block) block answer old result new
 
 -- the client with the least block is taken out
@@ -99,7 +106,8 @@ added old until serial = record {
 
 -- the first round is taken out, and its deadline has come
 abbrev pub IsDue : ℕ → RoundsView → RoundsView → ℕ → Type 0
-IsDue now old new serial = (until : ℕ) × (old.rounds ≡ waiting until serial ∷ new.rounds) × (until ≤ now) × (new.latest ≡ old.latest)
+IsDue now old new serial = (until : ℕ) × (old.rounds ≡ waiting until serial ∷ new.rounds) × (until ≤ now)
+    × (new.latest ≡ old.latest)
 
 -- no deadline has come, and all rounds stay
 abbrev pub NoneIsDue : ℕ → RoundsView → RoundsView → Type 0

@@ -85,7 +85,8 @@ impl<C: Drop, A: Drop> WaitingClients<C, A> {
 
     /// Takes out the waiting client with the least block, if a client waits.
     pub fn take_first(&mut self) -> Option<C>
-        ensures { MatchOption result ((self.old.clients ≡ []) × (self.new ≡ self.old)) (TakesClient self.old self.new) }
+        ensures { MatchOption result ((self.old.clients ≡ [])
+            × (self.new ≡ self.old)) (TakesClient self.old self.new) }
     {
         match self.clients.pop_first() {
             Some((_, client)) => Some(client),
@@ -96,7 +97,9 @@ impl<C: Drop, A: Drop> WaitingClients<C, A> {
 
 /// Puts one item under a block that has none.
 fn put<T: Drop>(row: &mut BTreeMap<u32, T>, block: u32, one: T) -> Result<(), HandedBack<T>>
-    ensures put { MatchResult result (λ _. IsPut row.old.entries block one row.new.entries) (IsHandedBack row.old.entries block one row.new.entries) }
+    ensures put { MatchResult result (λ _.
+        IsPut row.old.entries block one row.new.entries)
+        (IsHandedBack row.old.entries block one row.new.entries) }
     ensures most { length row.old.entries ≤ 1056 → length row.new.entries ≤ 1056 }
 {
     if row.contains_key(&block) {

@@ -70,7 +70,8 @@ impl Rounds {
     /// Takes out the first round if its deadline has come at this moment, in milliseconds, and
     /// gives its serial. There is none only where no deadline has come.
     pub fn due(&mut self, now: u64) -> Option<u32>
-        ensures { MatchOption result (NoneIsDue now self.old self.new) (IsDue now self.old self.new) }
+        ensures { MatchOption result (NoneIsDue now self.old self.new)
+            (IsDue now self.old self.new) }
     {
         match self.rounds.front() {
             Some(first) if first.until <= now => {}

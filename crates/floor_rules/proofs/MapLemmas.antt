@@ -44,10 +44,13 @@ pub got : (rows : Rows) (q : List ℕ) → get (map_of rows) q ≡ found_in rows
 got rows q = get-from_entries nat_list_cmp_total (map url_entry rows.entries) q ∙ found rows.entries q
 
 -- an entry goes in where the map puts it
-put_in : (entries : List (Url × ℕ)) (k : Url) (n : ℕ) → map url_entry (insert_entry url_cmp entries k n) ≡ put (slice_cmp nat_cmp) k.items n (map url_entry entries)
+put_in : (entries : List (Url × ℕ)) (k : Url) (n : ℕ) → map url_entry (insert_entry url_cmp entries k n) ≡ put (slice_cmp nat_cmp) k.items n
+    (map url_entry entries)
 put_in [] k n = refl
-put_in (e ∷ entries) k n = elim (slice_cmp nat_cmp k.items e.0.items) as (λ o. map url_entry (match_ordering o ((k, n) ∷ e ∷ entries) ((e.0, n) ∷ entries) (e ∷ insert_entry url_cmp entries k n))
-    ≡ by_order o ((k.items, n) ∷ url_entry e ∷ map url_entry entries) ((e.0.items, n) ∷ map url_entry entries) (url_entry e ∷ put (slice_cmp nat_cmp) k.items n (map url_entry entries))) [
+put_in (e ∷ entries) k n = elim (slice_cmp nat_cmp k.items e.0.items) as
+    (λ o. map url_entry (match_ordering o ((k, n) ∷ e ∷ entries) ((e.0, n) ∷ entries) (e ∷ insert_entry url_cmp entries k n))
+    ≡ by_order o ((k.items, n) ∷ url_entry e ∷ map url_entry entries) ((e.0.items, n) ∷ map url_entry entries)
+    (url_entry e ∷ put (slice_cmp nat_cmp) k.items n (map url_entry entries))) [
       | Less ↦ refl
       | Equal ↦ refl
       | Greater ↦ ap (λ es. url_entry e ∷ es) (put_in entries k n)
@@ -57,7 +60,8 @@ shadowed : {A : Type 0} (b : Bool) (x y z : A) → cond b x z ≡ cond b x (cond
 shadowed true x y z = refl
 shadowed false x y z = refl
 
-found_put : (entries : List (List ℕ × ℕ)) (k q : List ℕ) (n : ℕ) → find (slice_cmp nat_cmp) q (put (slice_cmp nat_cmp) k n entries) ≡ cond (same_url q k) (Some n) (find (slice_cmp nat_cmp) q entries)
+found_put : (entries : List (List ℕ × ℕ)) (k q : List ℕ) (n : ℕ) → find (slice_cmp nat_cmp) q (put (slice_cmp nat_cmp) k n entries) ≡ cond (same_url q k)
+    (Some n) (find (slice_cmp nat_cmp) q entries)
 found_put [] k q n = refl
 found_put (e ∷ entries) k q n = go (slice_cmp nat_cmp k e.0) refl (found_put entries k q n)
   where
@@ -81,12 +85,14 @@ found_put (e ∷ entries) k q n = go (slice_cmp nat_cmp k e.0) refl (found_put e
         let own : slice_cmp nat_cmp k e.0 ≡ Equal = tied (slice_cmp nat_cmp k e.0) (rw both (own_url e.0)) in
         let bad : Greater ≡ Equal = sym is ∙ own in cc))
 
-pub was_set : (old : Rows) (entries : List (Url × ℕ)) (k : Url) (n : ℕ) → entries ≡ insert_entry url_cmp old.entries k n → from_entries {R = slice_cmp nat_cmp} (map url_entry entries) ≡ insert (map_of old) k.items n
+pub was_set : (old : Rows) (entries : List (Url × ℕ)) (k : Url) (n : ℕ) → entries ≡ insert_entry url_cmp old.entries k n →
+    from_entries {R = slice_cmp nat_cmp} (map url_entry entries) ≡ insert (map_of old) k.items n
 was_set old entries k n is = same_map nat_list_cmp_total (slice_cmp-IsAntisymmetric nat_cmp-IsAntisymmetric) _ _ (λ q.
     get-from_entries nat_list_cmp_total (map url_entry entries) q
     ∙ ap (λ es. find (slice_cmp nat_cmp) q es) (ap (map url_entry) is ∙ put_in old.entries k n)
     ∙ found_put (map url_entry old.entries) k.items q n
-    ∙ sym (get-insert nat_list_cmp_total (map_of old) k.items n q ∙ ap (cond (same_url q k.items) (Some n)) (get-from_entries nat_list_cmp_total (map url_entry old.entries) q)))
+    ∙ sym (get-insert nat_list_cmp_total (map_of old) k.items n q ∙ ap (cond (same_url q k.items) (Some n))
+    (get-from_entries nat_list_cmp_total (map url_entry old.entries) q)))
 
 above_next : (a b c : ℕ) → a ≤ b → max b c ≡ max (max a c) b
 above_next a b c h = omega arith
@@ -104,7 +110,8 @@ greatest_put [] k n low = max_back n 0
 greatest_put (e ∷ entries) k n low = go (slice_cmp nat_cmp k e.0) low (greatest_put entries k n)
   where
     go : (o : Ordering) → unwrap_or (cond (is_eq o) (Some e.1) (find (slice_cmp nat_cmp) k entries)) 0 ≤ n
-        → (unwrap_or (find (slice_cmp nat_cmp) k entries) 0 ≤ n → greatest (map (λ (x : List ℕ × ℕ). x.1) (put (slice_cmp nat_cmp) k n entries)) ≡ max (greatest (map (λ (x : List ℕ × ℕ). x.1) entries)) n)
+        → (unwrap_or (find (slice_cmp nat_cmp) k entries) 0 ≤ n → greatest (map (λ (x : List ℕ × ℕ). x.1) (put (slice_cmp nat_cmp) k n entries)) ≡ max
+        (greatest (map (λ (x : List ℕ × ℕ). x.1) entries)) n)
         → greatest (map (λ (x : List ℕ × ℕ). x.1) (by_order o ((k, n) ∷ e ∷ entries) ((e.0, n) ∷ entries) (e ∷ put (slice_cmp nat_cmp) k n entries)))
         ≡ max (greatest (map (λ (x : List ℕ × ℕ). x.1) (e ∷ entries))) n
     go Less h more = max_back n _
@@ -120,13 +127,16 @@ above : (k : Url) (entries : List (Url × ℕ)) → AllByRecursion (λ y. url_cm
 above k [] all = refl
 above k (e ∷ entries) all = rw (all.0) (above k entries all.1)
 
-pub length_is : (entries : List (Url × ℕ)) → IsStrictlySortedBy url_cmp (map (λ (e : Url × ℕ). e.0) entries) → len (from_entries {R = slice_cmp nat_cmp} (map url_entry entries)) ≡ length entries
+pub length_is : (entries : List (Url × ℕ)) → IsStrictlySortedBy url_cmp (map (λ (e : Url × ℕ). e.0) entries) →
+    len (from_entries {R = slice_cmp nat_cmp} (map url_entry entries)) ≡ length entries
 length_is [] up = len-empty (slice_cmp nat_cmp) ℕ
 length_is (e ∷ entries) up =
     let rest = map (λ (x : Url × ℕ). x.0) entries in
     let m : FloorMap = from_entries (map url_entry entries) in
-    let none : get m e.0.items ≡ None = get-from_entries nat_list_cmp_total (map url_entry entries) e.0.items ∙ above e.0 entries (sorted_head url_cmp e.0 rest up) in
-    len-insert nat_list_cmp_total m e.0.items e.1 ∙ ap (λ (o : Option ℕ). cond (is_some o) (len m) (len m + 1)) none ∙ ap (λ n. n + 1) (length_is entries (sorted_tail url_cmp e.0 rest up)) ∙ add-one (length entries)
+    let none : get m e.0.items ≡ None = get-from_entries nat_list_cmp_total (map url_entry entries) e.0.items
+    ∙ above e.0 entries (sorted_head url_cmp e.0 rest up) in
+    len-insert nat_list_cmp_total m e.0.items e.1 ∙ ap (λ (o : Option ℕ). cond (is_some o) (len m) (len m + 1)) none
+    ∙ ap (λ n. n + 1) (length_is entries (sorted_tail url_cmp e.0 rest up)) ∙ add-one (length entries)
 
 pub some_of : (o : Option ℕ) (n : ℕ) → 1 ≤ n → n ≤ unwrap_or o 0 → o ≡ Some (unwrap_or o 0)
 some_of None n low h = absurd (omega arith)
@@ -141,7 +151,8 @@ pub raised_same : (m : FloorMap) (u : List ℕ) (n : ℕ) → 1 ≤ n → n ≤ 
 raised_same m u n low h =
     let top : max (floor m u) n ≡ floor m u = omega arith in
     let has : get m u ≡ Some (floor m u) = some_of (get m u) n low h in
-    rw top (same_map nat_list_cmp_total (slice_cmp-IsAntisymmetric nat_cmp-IsAntisymmetric) _ _ (λ q. get-insert nat_list_cmp_total m u (floor m u) q ∙ kept m u q (same_url q u) refl has))
+    rw top (same_map nat_list_cmp_total (slice_cmp-IsAntisymmetric nat_cmp-IsAntisymmetric) _ _
+    (λ q. get-insert nat_list_cmp_total m u (floor m u) q ∙ kept m u q (same_url q u) refl has))
 
 pub raised_higher : (m : FloorMap) (u : List ℕ) (n : ℕ) → floor m u < n → raised m u n ≡ insert m u n
 raised_higher m u n h = let top : max (floor m u) n ≡ n = omega arith in rw top

@@ -23,17 +23,21 @@ put_first : (k : Url) (n : ℕ) (es : List (Url × ℕ)) → AllByRecursion (λ 
     put (slice_cmp nat_cmp) k.items n (map url_entry es) ≡ (k.items, n) ∷ map url_entry es
 put_first k n [] all = refl
 put_first k n (e ∷ es) all =
-    ap (λ (o : Ordering). by_order o ((k.items, n) ∷ url_entry e ∷ map url_entry es) ((e.0.items, n) ∷ map url_entry es) (url_entry e ∷ put (slice_cmp nat_cmp) k.items n (map url_entry es))) all.0
+    ap (λ (o : Ordering). by_order o ((k.items, n) ∷ url_entry e ∷ map url_entry es) ((e.0.items, n) ∷ map url_entry es)
+    (url_entry e ∷ put (slice_cmp nat_cmp) k.items n (map url_entry es))) all.0
 
 -- the rows of a tree are the map's
-pub rows_are : (es : List (Url × ℕ)) → IsStrictlySortedBy url_cmp (map (λ (e : Url × ℕ). e.0) es) → entries (from_entries {R = slice_cmp nat_cmp} (map url_entry es)) ≡ map url_entry es
+pub rows_are : (es : List (Url × ℕ)) → IsStrictlySortedBy url_cmp (map (λ (e : Url × ℕ). e.0) es) →
+    entries (from_entries {R = slice_cmp nat_cmp} (map url_entry es)) ≡ map url_entry es
 rows_are [] up = no_entries _ (sym (len-entries (empty {X = ℕ} {R = slice_cmp nat_cmp})) ∙ len-empty (slice_cmp nat_cmp) ℕ)
 rows_are (e ∷ es) up =
     let rest = map (λ (x : Url × ℕ). x.0) es in
     let m : FloorMap = from_entries (map url_entry es) in
-    entries-insert nat_list_cmp_total m e.0.items e.1 ∙ ap (λ l. put (slice_cmp nat_cmp) e.0.items e.1 l) (rows_are es (sorted_tail url_cmp e.0 rest up)) ∙ put_first e.0 e.1 es (sorted_head url_cmp e.0 rest up)
+    entries-insert nat_list_cmp_total m e.0.items e.1 ∙ ap (λ l. put (slice_cmp nat_cmp) e.0.items e.1 l) (rows_are es (sorted_tail url_cmp e.0 rest up))
+    ∙ put_first e.0 e.1 es (sorted_head url_cmp e.0 rest up)
 
-pub same_rows : (m n : Rows) → IsStrictlySortedBy url_cmp (map (λ (e : Url × ℕ). e.0) m.entries) → IsStrictlySortedBy url_cmp (map (λ (e : Url × ℕ). e.0) n.entries) → map_of m ≡ map_of n → map url_entry m.entries ≡ map url_entry n.entries
+pub same_rows : (m n : Rows) → IsStrictlySortedBy url_cmp (map (λ (e : Url × ℕ). e.0) m.entries) →
+    IsStrictlySortedBy url_cmp (map (λ (e : Url × ℕ). e.0) n.entries) → map_of m ≡ map_of n → map url_entry m.entries ≡ map url_entry n.entries
 same_rows m n up also same = sym (rows_are m.entries up) ∙ ap (λ (f : FloorMap). entries f) same ∙ rows_are n.entries also
 
 -- Comparing rows
@@ -68,7 +72,8 @@ equal_rows (a ∷ xs) [] h = absurd (cc)
 equal_rows (a ∷ xs) (b ∷ ys) h =
     let (here, there) = both _ (rows_equal xs ys) h in
     let (text, number) = both (pointwise nat_eq a.0.items b.0.items) (nat_eq a.1 b.1) here in
-    ap (λ t. (t, a.1) ∷ map url_entry xs) (equal_texts a.0.items b.0.items text) ∙ ap (λ n. (b.0.items, n) ∷ map url_entry xs) (eqb-true a.1 b.1 number) ∙ ap (λ l. url_entry b ∷ l) (equal_rows xs ys there)
+    ap (λ t. (t, a.1) ∷ map url_entry xs) (equal_texts a.0.items b.0.items text) ∙ ap (λ n. (b.0.items, n) ∷ map url_entry xs) (eqb-true a.1 b.1 number)
+    ∙ ap (λ l. url_entry b ∷ l) (equal_rows xs ys there)
 
 abbrev first_or : (List ℕ × ℕ) → List (List ℕ × ℕ) → List ℕ × ℕ
 first_or d [] = d
@@ -84,6 +89,7 @@ rows_same [] (b ∷ ys) e = absurd (cc)
 rows_same (a ∷ xs) [] e = absurd (cc)
 rows_same (a ∷ xs) (b ∷ ys) e =
     let first : url_entry a ≡ url_entry b = ap (first_or (url_entry a)) e in
-    let text : pointwise nat_eq a.0.items b.0.items ≡ true = subst (λ t. pointwise nat_eq a.0.items t ≡ true) (ap (λ (p : List ℕ × ℕ). p.0) first) (own_text a.0.items) in
+    let text : pointwise nat_eq a.0.items b.0.items ≡ true = subst (λ t. pointwise nat_eq a.0.items t ≡ true) (ap (λ (p : List ℕ × ℕ). p.0) first)
+    (own_text a.0.items) in
     let number : nat_eq a.1 b.1 ≡ true = subst (λ n. nat_eq a.1 n ≡ true) (ap (λ (p : List ℕ × ℕ). p.1) first) (own_number a.1) in
     ap (λ c. (c && nat_eq a.1 b.1) && rows_equal xs ys) text ∙ ap (λ c. c && rows_equal xs ys) number ∙ rows_same xs ys (ap others e)

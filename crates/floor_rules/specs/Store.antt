@@ -4,7 +4,8 @@ use Rattle.floor_rules.specs.Floors.{FloorMap, HasRoom, raised}
 
 -- the floors from before the raise, or from after it if there was room for it [Floor 4]
 abbrev pub IsBeforeOrAfter : FloorMap → List ℕ → ℕ → FloorMap → Type 0
-IsBeforeOrAfter before url number floors = (floors ≡ before) ⊎ (HasRoom before url × (floors ≡ raised before url number))
+IsBeforeOrAfter before url number floors = (floors ≡ before)
+    ⊎ (HasRoom before url × (floors ≡ raised before url number))
 
 -- the count of failures has risen, or stands at its maximum [Floor 4]
 abbrev pub HaveRisen : ℕ → ℕ → Type 0

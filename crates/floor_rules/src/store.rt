@@ -47,7 +47,8 @@ pub trait FloorStore {
         ensures honest { is_honest self.new → is_honest self.old }
         ensures left { (found : FloorMap) → may_find self.new found → may_find self.old found }
         ensures once { failed self.new ≤ failed self.old + 1 }
-        ensures fault { result ≡ Err FloorFault.StoreFault → HaveRisen (failed self.old) (failed self.new) }
+        ensures fault { result ≡ Err FloorFault.StoreFault →
+            HaveRisen (failed self.old) (failed self.new) }
         ensures cause { result ≡ Err FloorFault.StoreFault → is_usable self.old ≡ false }
         ensures named { (result ≢ Err FloorFault.FloorsFull) × (result ≢ Err FloorFault.BadTable) };
 
@@ -63,20 +64,28 @@ pub trait FloorStore {
     fn raise(&mut self, alloc: Global, key: &Key, number: u32) -> Result<(), FloorFault>
         requires { 1 ≤ number }
         ensures honest { is_honest self.new → is_honest self.old }
-        ensures committed { OnOk result (is_honest self.new → content self.new ≡ raised (content self.old) key.now number) }
-        ensures durable { OnOk result (is_honest self.new → (found : FloorMap) → may_find self.new found → found ≡ raised (content self.old) key.now number) }
-        ensures crash { is_honest self.new → IsTrue (is_usable self.old) → (found : FloorMap) → may_find self.new found → IsBeforeOrAfter (content self.old) key.now number found }
+        ensures committed { OnOk result (is_honest self.new →
+            content self.new ≡ raised (content self.old) key.now number) }
+        ensures durable { OnOk result (is_honest self.new → (found : FloorMap) →
+            may_find self.new found → found ≡ raised (content self.old) key.now number) }
+        ensures crash { is_honest self.new → IsTrue (is_usable self.old) → (found : FloorMap) →
+            may_find self.new found → IsBeforeOrAfter (content self.old) key.now number found }
         ensures refused { is_usable self.old ≡ false → result ≡ Err FloorFault.StoreFault }
-        ensures left { is_usable self.old ≡ false → (found : FloorMap) → may_find self.new found → may_find self.old found }
+        ensures left { is_usable self.old ≡ false → (found : FloorMap) → may_find self.new found →
+            may_find self.old found }
         ensures usable { OnOk result (IsTrue (is_usable self.new)) }
         ensures spent { result ≡ Err FloorFault.StoreFault → is_usable self.new ≡ false }
-        ensures full { result ≡ Err FloorFault.FloorsFull → is_honest self.new → IsFull (content self.old) key.now }
+        ensures full { result ≡ Err FloorFault.FloorsFull → is_honest self.new →
+            IsFull (content self.old) key.now }
         ensures room { OnOk result (is_honest self.new → HasRoom (content self.old) key.now) }
-        ensures cause { result ≡ Err FloorFault.StoreFault → is_honest self.new → IsTrue (is_usable self.old) → has_cause self.old self.new key.now number }
+        ensures cause { result ≡ Err FloorFault.StoreFault → is_honest self.new →
+            IsTrue (is_usable self.old) → has_cause self.old self.new key.now number }
         ensures unchanged { result ≡ Err FloorFault.FloorsFull → self.new ≡ self.old }
-        ensures counted { (result ≡ Err FloorFault.StoreFault) ⊎ (failed self.new ≡ failed self.old) }
+        ensures counted { (result ≡ Err FloorFault.StoreFault)
+            ⊎ (failed self.new ≡ failed self.old) }
         ensures once { failed self.new ≤ failed self.old + 1 }
-        ensures fault { result ≡ Err FloorFault.StoreFault → HaveRisen (failed self.old) (failed self.new) }
+        ensures fault { result ≡ Err FloorFault.StoreFault →
+            HaveRisen (failed self.old) (failed self.new) }
         ensures named { result ≢ Err FloorFault.BadTable };
 
     /// How many calls have returned `StoreFault`. At 18446744073709551615 it stays.

@@ -11,14 +11,16 @@ use Rattle.hierarchy_world.specs.Parts.{IsMade, world_of, view_of}
 use Rattle.hierarchy_world.proofs.Refusing.{not_for_places}
 
 -- no other fault makes the world unusable
-not_spoilt : (spoilt : Bool) (answer : Result Outcome WorldFault) → (IsTrue spoilt ↔ (answer ≡ Err fault.NoMemory)) → (answer ≡ Err fault.NoMemory → ⊥) → spoilt ≡ false
+not_spoilt : (spoilt : Bool) (answer : Result Outcome WorldFault) → (IsTrue spoilt ↔ (answer ≡ Err fault.NoMemory)) → (answer ≡ Err fault.NoMemory → ⊥) →
+    spoilt ≡ false
 not_spoilt true answer is none = absurd (none (is.0 refl))
 not_spoilt false answer is none = refl
 
 same_view : (old new : Parts) (spoilt : Bool) → new ≡ old → spoilt ≡ false → view_of new spoilt ≡ view_of old false
 same_view old new spoilt same usable = ap (λ (p : Parts). view_of p spoilt) same ∙ ap (λ (b : Bool). view_of old b) usable
 
-pub made_applied : (old new : Parts) (event : WorldEvent) (answer : Result Outcome WorldFault) (spoilt : Bool) → (IsTrue spoilt ↔ (answer ≡ Err fault.NoMemory)) → IsMade old event answer new →
+pub made_applied : (old new : Parts) (event : WorldEvent) (answer : Result Outcome WorldFault) (spoilt : Bool) →
+    (IsTrue spoilt ↔ (answer ≡ Err fault.NoMemory)) → IsMade old event answer new →
     IsApplied (view_of old false) event answer (view_of new spoilt)
 made_applied old new event (Ok outcome) spoilt is made = made.2
 made_applied old new event (Err fault.NoSuchPacket) spoilt is made = (made.0, same_view old new spoilt made.1 (not_spoilt spoilt _ is (λ e. cc)))

@@ -12,10 +12,12 @@ use Rattle.hierarchy_world.proofs.Places.{place_id, place_state, place_put}
 use Rattle.hierarchy_world.proofs.MemberNodes.{member_node_put, ids_put}
 
 abbrev world_by : List MemberState → PurgeList → ℕ → List Datagram → List PeerAsk → List PeerAnswer → List Waiting → World
-world_by states master clock datagrams asks answers waiting = record { states = states; master = master; clock = clock; datagrams = datagrams; asks = asks; answers = answers; waiting = waiting }
+world_by states master clock datagrams asks answers waiting =
+    record { states = states; master = master; clock = clock; datagrams = datagrams; asks = asks; answers = answers; waiting = waiting }
 
 -- worlds with equal parts are equal
-pub same_world : (a b : World) → a.states ≡ b.states → a.master ≡ b.master → a.clock ≡ b.clock → a.datagrams ≡ b.datagrams → a.asks ≡ b.asks → a.answers ≡ b.answers → a.waiting ≡ b.waiting →
+pub same_world : (a b : World) → a.states ≡ b.states → a.master ≡ b.master → a.clock ≡ b.clock → a.datagrams ≡ b.datagrams → a.asks ≡ b.asks →
+    a.answers ≡ b.answers → a.waiting ≡ b.waiting →
     world_by a.states a.master a.clock a.datagrams a.asks a.answers a.waiting ≡ world_by b.states b.master b.clock b.datagrams b.asks b.answers b.waiting
 same_world a b states master clock datagrams asks answers waiting =
     ap (λ x. world_by x a.master a.clock a.datagrams a.asks a.answers a.waiting) states
@@ -26,7 +28,8 @@ same_world a b states master clock datagrams asks answers waiting =
     ∙ ap (λ x. world_by b.states b.master b.clock b.datagrams b.asks x a.waiting) answers
     ∙ ap (λ x. world_by b.states b.master b.clock b.datagrams b.asks b.answers x) waiting
 
-module _ (old : Parts) (before : MemberNode) (id place : ℕ) (sound : IsSound old) (is_place : IsPlace old.nodes.items id place) (at : slice_get old.nodes.items place ≡ Some before) where
+module _ (old : Parts) (before : MemberNode) (id place : ℕ) (sound : IsSound old) (is_place : IsPlace old.nodes.items id place)
+    (at : slice_get old.nodes.items place ≡ Some before) where
   -- what holds of the node that was there
   pub was_id : before.id ≡ id
   was_id = place_id old.nodes.items id place before is_place at
@@ -37,7 +40,8 @@ module _ (old : Parts) (before : MemberNode) (id place : ℕ) (sound : IsSound o
   pub was_state : node_at (member_states old.nodes.items) id ≡ before.state
   was_state = place_state old.nodes.items id place before is_place at
 
-module _ (old new : Parts) (before n : MemberNode) (id place : ℕ) (sound : IsSound old) (is_place : IsPlace old.nodes.items id place) (at : slice_get old.nodes.items place ≡ Some before)
+module _ (old new : Parts) (before n : MemberNode) (id place : ℕ) (sound : IsSound old) (is_place : IsPlace old.nodes.items id place)
+    (at : slice_get old.nodes.items place ≡ Some before)
     (roster_same : new.roster ≡ old.roster) (master_same : new.master ≡ old.master) (nodes_are : new.nodes.items ≡ set old.nodes.items place n)
     (same_id : n.id ≡ before.id) (same_roster : n.roster ≡ before.roster) (stored : n.store ≡ n.state.floors) where
   now_id : n.id ≡ id
@@ -50,7 +54,8 @@ module _ (old new : Parts) (before n : MemberNode) (id place : ℕ) (sound : IsS
   still_sound = record {
     nodes = subst (λ l. AllByRecursion (IsMemberNode new.roster) l) (sym nodes_are)
         (subst (λ r. AllByRecursion (IsMemberNode r) (set old.nodes.items place n)) (sym roster_same)
-        (member_node_put old.roster old.nodes.items place n sound.nodes record { roster = same_roster ∙ (was_member_node old before id place sound is_place at).roster; stored = stored }));
+        (member_node_put old.roster old.nodes.items place n sound.nodes record
+        { roster = same_roster ∙ (was_member_node old before id place sound is_place at).roster; stored = stored }));
     ids = ap (map (λ m. m.id)) nodes_are ∙ ids_put old.nodes.items place n now_place ∙ sound.ids ∙ ap (λ r. map (λ m. m.cache.id) r.members) (sym roster_same);
     master = record {
       members = ap (λ m. m.members) master_same ∙ sound.master.members ∙ ap members_of (sym roster_same);
@@ -59,7 +64,8 @@ module _ (old new : Parts) (before n : MemberNode) (id place : ℕ) (sound : IsS
   }
 
   pub states_are : member_states new.nodes.items ≡ with_node (member_states old.nodes.items) id n.state
-  states_are = ap member_states nodes_are ∙ sym (subst (λ i. with_node (member_states old.nodes.items) i n.state ≡ member_states (set old.nodes.items place n)) now_id (place_put old.nodes.items place n now_place))
+  states_are = ap member_states nodes_are ∙ sym (subst (λ i. with_node (member_states old.nodes.items) i n.state ≡ member_states (set old.nodes.items place n))
+      now_id (place_put old.nodes.items place n now_place))
 
 -- taking a node out and putting another in at its index replaces it
 pub put_back : (nodes : List MemberNode) (place : ℕ) (n : MemberNode) → place < length nodes → insert (remove nodes place) place n ≡ set nodes place n

@@ -16,7 +16,18 @@ use Rattle.hierarchy_world.specs.Parts.{IsSound, LackedNothing, HasTaken, IsMade
 
 -- the parts at another place of the run
 abbrev pub at_place : Parts → ℕ → Parts
-at_place p place = record { alloc = p.alloc; roster = p.roster; nodes = p.nodes; master = p.master; clock = p.clock; datagrams = p.datagrams; asks = p.asks; answers = p.answers; waiting = p.waiting; place = place }
+at_place p place = record {
+  alloc = p.alloc;
+  roster = p.roster;
+  nodes = p.nodes;
+  master = p.master;
+  clock = p.clock;
+  datagrams = p.datagrams;
+  asks = p.asks;
+  answers = p.answers;
+  waiting = p.waiting;
+  place = place;
+}
 
 sound_there : (p : Parts) (place : ℕ) → IsSound p → IsSound (at_place p place)
 sound_there p place sound = record { nodes = sound.nodes; ids = sound.ids; master = sound.master }
@@ -43,7 +54,8 @@ tells_no_lack : (seen : SeenHere) (outcome : Outcome) → LackedNothing seen →
 tells_no_lack seen outcome had told = (λ is. no_memory_told seen had (sym told ∙ is), λ is. no_store_told seen had (sym told ∙ is))
 
 -- a turn that was taken, and the next place
-pub turn_made : (old mid : Parts) (event : WorldEvent) (seen : SeenHere) (outcome : Outcome) → HasTaken old (turn old.roster (world_of old) event) seen mid → IsOfKey event →
+pub turn_made : (old mid : Parts) (event : WorldEvent) (seen : SeenHere) (outcome : Outcome) → HasTaken old (turn old.roster (world_of old) event) seen mid →
+    IsOfKey event →
     outcome ≡ outcome_of (world_of old) (world_of mid) (seen_of seen) → IsMade old event (Ok outcome) (at_place mid (mid.place + 1))
 turn_made old mid event seen outcome taken key told = (
   sound_there mid (mid.place + 1) taken.sound,

@@ -24,22 +24,28 @@ nobody : (t : Tables) (m : Htcp) (o : Option Member) → is_some o ≡ false →
 nobody t m None e = refl
 nobody t m (Some member) e = absurd (true_not_false e)
 
-left_out : {A : Type 0} (f : ℕ → List A) (b : Bool) (id : ℕ) (ids kept : List ℕ) → (b ≡ false → f id ≡ []) → flat_map f ids ≡ flat_map f kept → flat_map f (id ∷ ids) ≡ flat_map f (cond b (id ∷ kept) kept)
+left_out : {A : Type 0} (f : ℕ → List A) (b : Bool) (id : ℕ) (ids kept : List ℕ) → (b ≡ false → f id ≡ []) → flat_map f ids ≡ flat_map f kept →
+    flat_map f (id ∷ ids) ≡ flat_map f (cond b (id ∷ kept) kept)
 left_out f true id ids kept none same = ap (λ l. f id ++ l) same
 left_out f false id ids kept none same = ap (λ l. l ++ flat_map f ids) (none refl) ∙ same
 
-all_kept : {A : Type 0} (f : ℕ → List A) (test : ℕ → Bool) (ids : List ℕ) → ((id : ℕ) → test id ≡ false → f id ≡ []) → flat_map f ids ≡ flat_map f (filter test ids)
+all_kept : {A : Type 0} (f : ℕ → List A) (test : ℕ → Bool) (ids : List ℕ) → ((id : ℕ) → test id ≡ false → f id ≡ []) →
+    flat_map f ids ≡ flat_map f (filter test ids)
 all_kept f test [] none = refl
 all_kept f test (id ∷ ids) none = left_out f (test id) id ids (filter test ids) (none id) (all_kept f test ids none)
 
 -- a CLR for each possible id, if a member has it, is one CLR to each member
-pub clears_to_all : (t : Tables) (number : ℕ) (key : List ℕ) → flat_map (λ id. clear_to t (Some (clear number key)) (member_of t id)) possible_ids ≡ clears_of t number key
+pub clears_to_all : (t : Tables) (number : ℕ) (key : List ℕ) → flat_map (λ id. clear_to t (Some (clear number key)) (member_of t id)) possible_ids ≡ clears_of t
+    number key
 unfolding members_of
-clears_to_all t number key = all_kept (λ id. clear_to t (Some (clear number key)) (member_of t id)) (is_member t) possible_ids (λ id e. nobody t (clear number key) (member_of t id) e)
+clears_to_all t number key = all_kept (λ id. clear_to t (Some (clear number key)) (member_of t id)) (is_member t) possible_ids
+    (λ id e. nobody t (clear number key) (member_of t id) e)
 
 -- one more item, which makes a datagram or none
-pub made_more : {X A : Type 0} (f : X → List A) (xs : List X) (i j : ℕ) (d : X) (so_far now : List A) (o : Option A) → j ≡ suc i → i < length xs → so_far ≡ flat_map f (take i xs) → f (get_or xs i d) ≡ cons_option o [] →
+pub made_more : {X A : Type 0} (f : X → List A) (xs : List X) (i j : ℕ) (d : X) (so_far now : List A) (o : Option A) → j ≡ suc i → i < length xs →
+    so_far ≡ flat_map f (take i xs) → f (get_or xs i d) ≡ cons_option o [] →
     now ≡ so_far ++ cons_option o [] → now ≡ flat_map f (take j xs)
 made_more f xs i j d so_far now o is_next less before is more =
-    more ∙ ap (λ l. l ++ cons_option o []) before ∙ ap (λ l. flat_map f (take i xs) ++ l) (sym is ∙ sym (append-nil (f (get_or xs i d)))) ∙ sym (flat_map-append f (take i xs) (get_or xs i d ∷ []))
+    more ∙ ap (λ l. l ++ cons_option o []) before ∙ ap (λ l. flat_map f (take i xs) ++ l) (sym is ∙ sym (append-nil (f (get_or xs i d))))
+    ∙ sym (flat_map-append f (take i xs) (get_or xs i d ∷ []))
     ∙ ap (λ l. flat_map f l) (sym (take-suc xs i d less)) ∙ ap (λ (n : ℕ). flat_map f (take n xs)) (sym is_next)

@@ -33,11 +33,13 @@ use Rattle.hierarchy_world.specs.Posted.{heard_by}
 use Rattle.hierarchy_world.proofs.Changing.{was_state}
 
 -- a turn at an id that is a member's
-pub member_taken : (old new : Parts) (id : ℕ) (t : Turn) (result : Result SeenHere WorldFault) → is_member old.roster id ≡ true → IsTaken old t result new → IsTaken old (at_member old.roster id t) result new
+pub member_taken : (old new : Parts) (id : ℕ) (t : Turn) (result : Result SeenHere WorldFault) → is_member old.roster id ≡ true → IsTaken old t result new →
+    IsTaken old (at_member old.roster id t) result new
 member_taken old new id t result member taken = subst (λ (b : Bool). IsTaken old (cond b t (Refused fault.NoSuchPacket)) result new) (sym member) taken
 
 -- a turn at an id that is no member's
-pub stranger_refused : (old : Parts) (id : ℕ) (t : Turn) → is_member old.roster id ≡ false → IsTaken old (at_member old.roster id t) (Err fault.NoSuchPacket) old
+pub stranger_refused : (old : Parts) (id : ℕ) (t : Turn) → is_member old.roster id ≡ false →
+    IsTaken old (at_member old.roster id t) (Err fault.NoSuchPacket) old
 stranger_refused old id t none = (ap (λ (b : Bool). cond b t (Refused fault.NoSuchPacket)) none, refl)
 
 -- a turn that is taken, under another name
@@ -45,12 +47,14 @@ pub taken_as : (old new : Parts) (t u : Turn) (result : Result SeenHere WorldFau
 taken_as old new t u result is taken = subst (λ (x : Turn). IsTaken old x result new) (sym is) taken
 
 -- a turn at a member, under another name
-pub member_taken_as : (old new : Parts) (id : ℕ) (t u : Turn) (result : Result SeenHere WorldFault) → is_member old.roster id ≡ true → u ≡ t → IsTaken old t result new → IsTaken old (at_member old.roster id u) result new
+pub member_taken_as : (old new : Parts) (id : ℕ) (t u : Turn) (result : Result SeenHere WorldFault) → is_member old.roster id ≡ true → u ≡ t →
+    IsTaken old t result new → IsTaken old (at_member old.roster id u) result new
 member_taken_as old new id t u result member is taken = member_taken old new id u result member (taken_as old new t u result is taken)
 
 -- only a response to a CLR counts at the master
 
-hears_content : (t : Tables) (w : World) (sender : Address) (trans : ℕ) (c : Content) → master_hears_htcp t w sender trans c ≡ heard_by t w sender (clear_answer_in trans c)
+hears_content : (t : Tables) (w : World) (sender : Address) (trans : ℕ) (c : Content) → master_hears_htcp t w sender trans c ≡ heard_by t w sender
+    (clear_answer_in trans c)
 hears_content t w sender trans (content.NopAsk desired) = refl
 hears_content t w sender trans content.NopAnswer = refl
 hears_content t w sender trans (content.TstAsk desired spec) = refl
@@ -67,67 +71,79 @@ hears t w sender (message.Icp m) = refl
 hears t w sender (message.Htcp m) = hears_content t w sender m.trans m.content
 
 -- a datagram reaches the master
-pub to_master : (t : Tables) (w : World) (o : Option Datagram) (d : Datagram) → o ≡ Some d → is_master t d.receiver ≡ true → delivered t w o ≡ heard_by t w d.sender (clear_answer d.message)
+pub to_master : (t : Tables) (w : World) (o : Option Datagram) (d : Datagram) → o ≡ Some d → is_master t d.receiver ≡ true →
+    delivered t w o ≡ heard_by t w d.sender (clear_answer d.message)
 to_master t w o d is master =
     ap (λ (x : Option Datagram). delivered t w x) is
     ∙ ap (λ (b : Bool). cond b (master_hears t w d.sender d.message) (delivered_to w d.sender d.message (member_at t d.receiver (udp_of d.message)))) master
     ∙ hears t w d.sender d.message
 
 -- a datagram reaches a member, or nobody
-pub to_member : (t : Tables) (w : World) (o : Option Datagram) (d : Datagram) (found : Option ℕ) → o ≡ Some d → is_master t d.receiver ≡ false → found ≡ member_at t d.receiver (udp_of d.message) → delivered t w o ≡ delivered_to w d.sender d.message found
+pub to_member : (t : Tables) (w : World) (o : Option Datagram) (d : Datagram) (found : Option ℕ) → o ≡ Some d → is_master t d.receiver ≡ false →
+    found ≡ member_at t d.receiver (udp_of d.message) → delivered t w o ≡ delivered_to w d.sender d.message found
 to_member t w o d found is master at =
     ap (λ (x : Option Datagram). delivered t w x) is
     ∙ ap (λ (b : Bool). cond b (master_hears t w d.sender d.message) (delivered_to w d.sender d.message (member_at t d.receiver (udp_of d.message)))) master
     ∙ ap (λ (x : Option ℕ). delivered_to w d.sender d.message x) (sym at)
 
 -- a stranger's datagram reaches a member, or nobody
-pub strange_to : (t : Tables) (w : World) (to sender : Address) (m : Message) (found : Option ℕ) → is_own t sender ≡ false → found ≡ member_at t to (udp_of m) → strange_comes t w to sender m ≡ delivered_to w sender m found
+pub strange_to : (t : Tables) (w : World) (to sender : Address) (m : Message) (found : Option ℕ) → is_own t sender ≡ false → found ≡ member_at t to (udp_of m) →
+    strange_comes t w to sender m ≡ delivered_to w sender m found
 strange_to t w to sender m found own at =
     ap (λ (b : Bool). cond b (Refused fault.NoSuchPacket) (delivered_to w sender m (member_at t to (udp_of m)))) own
     ∙ ap (λ (x : Option ℕ). delivered_to w sender m x) (sym at)
 
 -- its source is the address of a member or of the master
-pub own_refused : (t : Tables) (w : World) (to sender : Address) (m : Message) → is_own t sender ≡ true → strange_comes t w to sender m ≡ Refused fault.NoSuchPacket
+pub own_refused : (t : Tables) (w : World) (to sender : Address) (m : Message) → is_own t sender ≡ true →
+    strange_comes t w to sender m ≡ Refused fault.NoSuchPacket
 own_refused t w to sender m own = ap (λ (b : Bool). cond b (Refused fault.NoSuchPacket) (delivered_to w sender m (member_at t to (udp_of m)))) own
 
 -- a request arrives
-pub ask_comes : (t : Tables) (w : World) (o : Option PeerAsk) (a : PeerAsk) → o ≡ Some a → ask_delivered t w o ≡ at_member t a.receiver (NodeSteps a.receiver (event.PeerAsk a.sender a.ask w.clock) a.serial)
+pub ask_comes : (t : Tables) (w : World) (o : Option PeerAsk) (a : PeerAsk) → o ≡ Some a → ask_delivered t w o ≡ at_member t a.receiver
+    (NodeSteps a.receiver (event.PeerAsk a.sender a.ask w.clock) a.serial)
 ask_comes t w o a is = ap (λ (x : Option PeerAsk). ask_delivered t w x) is
 
 -- a response arrives
 pub answer_comes : (t : Tables) (w : World) (serial : Option ℕ) (o : Option PeerAnswer) (a : PeerAnswer) → o ≡ Some a →
-    answer_delivered t w serial o ≡ at_member t a.receiver (NodeSteps a.receiver (event.PeerAnswer (unwrap_or serial a.serial) a.sender a.key a.answer a.mark w.clock) 0)
+    answer_delivered t w serial o ≡ at_member t a.receiver
+    (NodeSteps a.receiver (event.PeerAnswer (unwrap_or serial a.serial) a.sender a.key a.answer a.mark w.clock) 0)
 answer_comes t w serial o a is = ap (λ (x : Option PeerAnswer). answer_delivered t w serial x) is
 
 -- the request that a member's node fetches under a serial
-pub fetching_here : (p : Parts) (n : MemberNode) (id place serial : ℕ) (found : Option (Pending ℕ)) → IsSound p → IsPlace p.nodes.items id place → slice_get p.nodes.items place ≡ Some n →
+pub fetching_here : (p : Parts) (n : MemberNode) (id place serial : ℕ) (found : Option (Pending ℕ)) → IsSound p → IsPlace p.nodes.items id place →
+    slice_get p.nodes.items place ≡ Some n →
     found ≡ find (λ (x : Pending ℕ). nat_eq (fetch_serial x) serial) n.state.pending → found ≡ fetching_at (world_of p) id serial
 fetching_here p n id place serial found sound is_place at is =
     is ∙ ap (λ (s : NodeState ℕ). find (λ (x : Pending ℕ). nat_eq (fetch_serial x) serial) s.pending) (sym (was_state p n id place sound is_place at))
 
 -- an origin responds to the read that is pending
-pub origin_comes : (w : World) (id serial : ℕ) (answer : AnswerText) (o : Option (Pending ℕ)) (p : Pending ℕ) (stamp asked mark : ℕ) → Some p ≡ o → p.fetch ≡ AtOrigin stamp asked mark →
+pub origin_comes : (w : World) (id serial : ℕ) (answer : AnswerText) (o : Option (Pending ℕ)) (p : Pending ℕ) (stamp asked mark : ℕ) → Some p ≡ o →
+    p.fetch ≡ AtOrigin stamp asked mark →
     origin_to w id serial answer o ≡ NodeSteps id (event.OriginAnswer serial p.ask.key answer w.clock) 0
 origin_comes w id serial answer o p stamp asked mark is at =
     ap (λ (x : Option (Pending ℕ)). origin_to w id serial answer x) (sym is) ∙ ap (λ (f : Fetch ℕ). origin_by w id serial answer p.ask.key f) at
 
-no_read : (w : World) (id serial : ℕ) (answer : AnswerText) (key : List ℕ) (f : Fetch ℕ) → ((stamp asked mark : ℕ) → f ≡ AtOrigin stamp asked mark → ⊥) → origin_by w id serial answer key f ≡ Refused fault.NotPending
+no_read : (w : World) (id serial : ℕ) (answer : AnswerText) (key : List ℕ) (f : Fetch ℕ) → ((stamp asked mark : ℕ) → f ≡ AtOrigin stamp asked mark → ⊥) →
+    origin_by w id serial answer key f ≡ Refused fault.NotPending
 no_read w id serial answer key Nowhere none = refl
 no_read w id serial answer key (AtPeer peer asked) none = refl
 no_read w id serial answer key (AtOrigin stamp asked mark) none = absurd (none stamp asked mark refl)
 
 -- what is pending is no origin read
-pub no_origin : (w : World) (id serial : ℕ) (answer : AnswerText) (o : Option (Pending ℕ)) (p : Pending ℕ) → Some p ≡ o → ((stamp asked mark : ℕ) → p.fetch ≡ AtOrigin stamp asked mark → ⊥) →
+pub no_origin : (w : World) (id serial : ℕ) (answer : AnswerText) (o : Option (Pending ℕ)) (p : Pending ℕ) → Some p ≡ o →
+    ((stamp asked mark : ℕ) → p.fetch ≡ AtOrigin stamp asked mark → ⊥) →
     origin_to w id serial answer o ≡ Refused fault.NotPending
 no_origin w id serial answer o p is none =
     ap (λ (x : Option (Pending ℕ)). origin_to w id serial answer x) (sym is) ∙ no_read w id serial answer p.ask.key p.fetch none
 
 -- nothing is pending under the serial
-pub origin_to_none : (w : World) (id serial : ℕ) (answer : AnswerText) (o : Option (Pending ℕ)) → None ≡ o → origin_to w id serial answer o ≡ Refused fault.NotPending
+pub origin_to_none : (w : World) (id serial : ℕ) (answer : AnswerText) (o : Option (Pending ℕ)) → None ≡ o →
+    origin_to w id serial answer o ≡ Refused fault.NotPending
 origin_to_none w id serial answer o is = ap (λ (x : Option (Pending ℕ)). origin_to w id serial answer x) (sym is)
 
 -- a foreign cache responds to the fetch from it that is pending
-pub foreign_comes : (w : World) (id serial : ℕ) (answer : AnswerText) (o : Option (Pending ℕ)) (p : Pending ℕ) (peer asked : ℕ) → Some p ≡ o → p.fetch ≡ AtPeer peer asked → is_foreign_id peer ≡ true →
+pub foreign_comes : (w : World) (id serial : ℕ) (answer : AnswerText) (o : Option (Pending ℕ)) (p : Pending ℕ) (peer asked : ℕ) → Some p ≡ o →
+    p.fetch ≡ AtPeer peer asked → is_foreign_id peer ≡ true →
     foreign_to w id serial answer o ≡ NodeSteps id (event.ForeignAnswer serial peer p.ask.key answer 0 w.clock) 0
 foreign_comes w id serial answer o p peer asked is at is_foreign =
     ap (λ (x : Option (Pending ℕ)). foreign_to w id serial answer x) (sym is) ∙ ap (λ (f : Fetch ℕ). foreign_by w id serial answer p.ask.key f) at
@@ -138,49 +154,60 @@ by_member : (w : World) (id serial : ℕ) (answer : AnswerText) (key : List ℕ)
 by_member w id serial answer key peer true none = absurd (none refl)
 by_member w id serial answer key peer false none = refl
 
-no_fetch : (w : World) (id serial : ℕ) (answer : AnswerText) (key : List ℕ) (f : Fetch ℕ) → ((peer asked : ℕ) → f ≡ AtPeer peer asked → is_foreign_id peer ≡ true → ⊥) → foreign_by w id serial answer key f ≡ Refused fault.NotPending
+no_fetch : (w : World) (id serial : ℕ) (answer : AnswerText) (key : List ℕ) (f : Fetch ℕ) →
+    ((peer asked : ℕ) → f ≡ AtPeer peer asked → is_foreign_id peer ≡ true → ⊥) → foreign_by w id serial answer key f ≡ Refused fault.NotPending
 no_fetch w id serial answer key Nowhere none = refl
 no_fetch w id serial answer key (AtPeer peer asked) none = by_member w id serial answer key peer (is_foreign_id peer) (none peer asked refl)
 no_fetch w id serial answer key (AtOrigin stamp asked mark) none = refl
 
 -- what is pending is no fetch from a foreign cache
-pub no_foreign : (w : World) (id serial : ℕ) (answer : AnswerText) (o : Option (Pending ℕ)) (p : Pending ℕ) → Some p ≡ o → ((peer asked : ℕ) → p.fetch ≡ AtPeer peer asked → is_foreign_id peer ≡ true → ⊥) →
+pub no_foreign : (w : World) (id serial : ℕ) (answer : AnswerText) (o : Option (Pending ℕ)) (p : Pending ℕ) → Some p ≡ o →
+    ((peer asked : ℕ) → p.fetch ≡ AtPeer peer asked → is_foreign_id peer ≡ true → ⊥) →
     foreign_to w id serial answer o ≡ Refused fault.NotPending
 no_foreign w id serial answer o p is none =
     ap (λ (x : Option (Pending ℕ)). foreign_to w id serial answer x) (sym is) ∙ no_fetch w id serial answer p.ask.key p.fetch none
 
 -- nothing is pending under the serial
-pub foreign_to_none : (w : World) (id serial : ℕ) (answer : AnswerText) (o : Option (Pending ℕ)) → None ≡ o → foreign_to w id serial answer o ≡ Refused fault.NotPending
+pub foreign_to_none : (w : World) (id serial : ℕ) (answer : AnswerText) (o : Option (Pending ℕ)) → None ≡ o →
+    foreign_to w id serial answer o ≡ Refused fault.NotPending
 foreign_to_none w id serial answer o is = ap (λ (x : Option (Pending ℕ)). foreign_to w id serial answer x) (sym is)
 
 -- A fault, or a restart
 
 -- a turn after which nothing is seen, and the world after it
-pub ends_so : (old new : Parts) (w : World) → IsSound new → new.roster ≡ old.roster → new.place ≡ old.place → world_of new ≡ w → IsTaken old (Ends Nothing w) (Ok here.Nothing) new
+pub ends_so : (old new : Parts) (w : World) → IsSound new → new.roster ≡ old.roster → new.place ≡ old.place → world_of new ≡ w →
+    IsTaken old (Ends Nothing w) (Ok here.Nothing) new
 ends_so old new w sound roster place is = record { sound = sound; roster = roster; place = place; lacked_nothing = tt; takes = (refl, is) }
 
-module _ (old new : Parts) (n : MemberNode) (id place serial : ℕ) (answer : AnswerText) (sound : IsSound old) (found : (is_member old.roster id ≡ true) × IsPlace old.nodes.items id place)
+module _ (old new : Parts) (n : MemberNode) (id place serial : ℕ) (answer : AnswerText) (sound : IsSound old)
+    (found : (is_member old.roster id ≡ true) × IsPlace old.nodes.items id place)
     (below : place < length old.nodes.items) (at : n ≡ get_or old.nodes.items place n) where
   -- what is found at the node is what the model finds
-  fetching_is : (o : Option (Pending ℕ)) → o ≡ find (λ (x : Pending ℕ). nat_eq (fetch_serial x) serial) n.state.pending → o ≡ fetching_at (world_of old) id serial
+  fetching_is : (o : Option (Pending ℕ)) → o ≡ find (λ (x : Pending ℕ). nat_eq (fetch_serial x) serial) n.state.pending →
+      o ≡ fetching_at (world_of old) id serial
   fetching_is o is = fetching_here old n id place serial o sound found.1 (slice_get_read old.nodes.items (length old.nodes.items) place n refl below at) is
 
   -- an origin's response reaches a member
-  pub origin_taken : (p : Pending ℕ) (key : List ℕ) (stamp asked mark : ℕ) (result : Result SeenHere WorldFault) → Some p ≡ find (λ (x : Pending ℕ). nat_eq (fetch_serial x) serial) n.state.pending →
+  pub origin_taken : (p : Pending ℕ) (key : List ℕ) (stamp asked mark : ℕ) (result : Result SeenHere WorldFault) →
+      Some p ≡ find (λ (x : Pending ℕ). nat_eq (fetch_serial x) serial) n.state.pending →
       p.fetch ≡ AtOrigin stamp asked mark → key ≡ p.ask.key → IsTaken old (NodeSteps id (event.OriginAnswer serial key answer old.clock) 0) result new →
       IsTaken old (at_member old.roster id (origin_to (world_of old) id serial answer (fetching_at (world_of old) id serial))) result new
   origin_taken p key stamp asked mark result is fetch same taken =
-      member_taken_as old new id (NodeSteps id (event.OriginAnswer serial key answer old.clock) 0) (origin_to (world_of old) id serial answer (fetching_at (world_of old) id serial)) result found.0
+      member_taken_as old new id (NodeSteps id (event.OriginAnswer serial key answer old.clock) 0)
+      (origin_to (world_of old) id serial answer (fetching_at (world_of old) id serial)) result found.0
       (origin_comes (world_of old) id serial answer (fetching_at (world_of old) id serial) p stamp asked mark (fetching_is (Some p) is) fetch
       ∙ ap (λ (k : List ℕ). NodeSteps id (event.OriginAnswer serial k answer old.clock) 0) (sym same))
       taken
 
   -- a foreign cache's response reaches a member
-  pub foreign_taken : (p : Pending ℕ) (key : List ℕ) (peer asked : ℕ) (result : Result SeenHere WorldFault) → Some p ≡ find (λ (x : Pending ℕ). nat_eq (fetch_serial x) serial) n.state.pending →
-      p.fetch ≡ AtPeer peer asked → is_foreign_id peer ≡ true → key ≡ p.ask.key → IsTaken old (NodeSteps id (event.ForeignAnswer serial peer key answer 0 old.clock) 0) result new →
+  pub foreign_taken : (p : Pending ℕ) (key : List ℕ) (peer asked : ℕ) (result : Result SeenHere WorldFault) →
+      Some p ≡ find (λ (x : Pending ℕ). nat_eq (fetch_serial x) serial) n.state.pending →
+      p.fetch ≡ AtPeer peer asked → is_foreign_id peer ≡ true → key ≡ p.ask.key →
+      IsTaken old (NodeSteps id (event.ForeignAnswer serial peer key answer 0 old.clock) 0) result new →
       IsTaken old (at_member old.roster id (foreign_to (world_of old) id serial answer (fetching_at (world_of old) id serial))) result new
   foreign_taken p key peer asked result is fetch is_foreign same taken =
-      member_taken_as old new id (NodeSteps id (event.ForeignAnswer serial peer key answer 0 old.clock) 0) (foreign_to (world_of old) id serial answer (fetching_at (world_of old) id serial)) result found.0
+      member_taken_as old new id (NodeSteps id (event.ForeignAnswer serial peer key answer 0 old.clock) 0)
+      (foreign_to (world_of old) id serial answer (fetching_at (world_of old) id serial)) result found.0
       (foreign_comes (world_of old) id serial answer (fetching_at (world_of old) id serial) p peer asked (fetching_is (Some p) is) fetch is_foreign
       ∙ ap (λ (k : List ℕ). NodeSteps id (event.ForeignAnswer serial peer k answer 0 old.clock) 0) (sym same))
       taken
@@ -198,17 +225,20 @@ module _ (old new : Parts) (n : MemberNode) (id place serial : ℕ) (answer : An
   none_for_foreign is = to_nobody _ (foreign_to_none (world_of old) id serial answer (fetching_at (world_of old) id serial) (fetching_is None is))
 
   -- what is pending there is no origin read
-  pub no_read_there : (p : Pending ℕ) → Some p ≡ find (λ (x : Pending ℕ). nat_eq (fetch_serial x) serial) n.state.pending → ((stamp asked mark : ℕ) → p.fetch ≡ AtOrigin stamp asked mark → ⊥) →
+  pub no_read_there : (p : Pending ℕ) → Some p ≡ find (λ (x : Pending ℕ). nat_eq (fetch_serial x) serial) n.state.pending →
+      ((stamp asked mark : ℕ) → p.fetch ≡ AtOrigin stamp asked mark → ⊥) →
       at_member old.roster id (origin_to (world_of old) id serial answer (fetching_at (world_of old) id serial)) ≡ Refused fault.NotPending
   no_read_there p is none = to_nobody _ (no_origin (world_of old) id serial answer (fetching_at (world_of old) id serial) p (fetching_is (Some p) is) none)
 
   -- what is pending there is no fetch from a foreign cache
-  pub no_fetch_there : (p : Pending ℕ) → Some p ≡ find (λ (x : Pending ℕ). nat_eq (fetch_serial x) serial) n.state.pending → ((peer asked : ℕ) → p.fetch ≡ AtPeer peer asked → is_foreign_id peer ≡ true → ⊥) →
+  pub no_fetch_there : (p : Pending ℕ) → Some p ≡ find (λ (x : Pending ℕ). nat_eq (fetch_serial x) serial) n.state.pending →
+      ((peer asked : ℕ) → p.fetch ≡ AtPeer peer asked → is_foreign_id peer ≡ true → ⊥) →
       at_member old.roster id (foreign_to (world_of old) id serial answer (fetching_at (world_of old) id serial)) ≡ Refused fault.NotPending
   no_fetch_there p is none = to_nobody _ (no_foreign (world_of old) id serial answer (fetching_at (world_of old) id serial) p (fetching_is (Some p) is) none)
 
 -- a fetch from a member is not one from a foreign cache
-pub not_foreign : (f : Fetch ℕ) (peer asked : ℕ) (b : Bool) → f ≡ AtPeer peer asked → b ≡ is_foreign_id peer → b ≡ false → (p q : ℕ) → f ≡ AtPeer p q → is_foreign_id p ≡ true → ⊥
+pub not_foreign : (f : Fetch ℕ) (peer asked : ℕ) (b : Bool) → f ≡ AtPeer peer asked → b ≡ is_foreign_id peer → b ≡ false → (p q : ℕ) → f ≡ AtPeer p q →
+    is_foreign_id p ≡ true → ⊥
 not_foreign f peer asked b at is none p q e foreign =
     let same_peer : p ≡ peer = cc in
     true_not_false (sym foreign ∙ ap (λ (n : ℕ). is_foreign_id n) same_peer ∙ sym is ∙ none)
@@ -219,9 +249,11 @@ abbrev mail : Address → Address → Message → Datagram
 mail sender receiver m = record { sender = sender; receiver = receiver; message = m }
 
 -- a datagram that was sent reaches a member
-pub mail_comes : (t : Tables) (w : World) (o : Option Datagram) (d : Datagram) (sender receiver : Address) (m said copy : Message) (by : Udp) (id : ℕ) → Some d ≡ o → mail sender receiver m ≡ d → said ≡ m →
+pub mail_comes : (t : Tables) (w : World) (o : Option Datagram) (d : Datagram) (sender receiver : Address) (m said copy : Message) (by : Udp) (id : ℕ) →
+    Some d ≡ o → mail sender receiver m ≡ d → said ≡ m →
     is_master t receiver ≡ false → by ≡ udp_of said → Some id ≡ member_at t receiver by → copy ≡ said → delivered t w o ≡ delivered_to w sender copy (Some id)
 mail_comes t w o d sender receiver m said copy by id is view same master by_is at copied =
     ap (λ (x : Option Datagram). delivered t w x) (sym is) ∙ ap (λ (x : Datagram). delivered t w (Some x)) (sym view)
-    ∙ to_member t w (Some (mail sender receiver m)) (mail sender receiver m) (Some id) refl master (at ∙ ap (λ (u : Udp). member_at t receiver u) by_is ∙ ap (λ (x : Message). member_at t receiver (udp_of x)) same)
+    ∙ to_member t w (Some (mail sender receiver m)) (mail sender receiver m) (Some id) refl master
+    (at ∙ ap (λ (u : Udp). member_at t receiver u) by_is ∙ ap (λ (x : Message). member_at t receiver (udp_of x)) same)
     ∙ ap (λ (x : Message). delivered_to w sender x (Some id)) (sym (copied ∙ same))

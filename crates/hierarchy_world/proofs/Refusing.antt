@@ -94,7 +94,8 @@ origin_right w id serial answer (Some p) = origin_fetch_right w id serial answer
 
 foreign_fetch_right : (w : World) (id serial : ℕ) (answer : AnswerText) (key : List ℕ) (f : Fetch ℕ) → IsRight (foreign_by w id serial answer key f)
 foreign_fetch_right w id serial answer key Nowhere = tt
-foreign_fetch_right w id serial answer key (AtPeer peer asked) = either_right (is_foreign_id peer) (NodeSteps id (event.ForeignAnswer serial peer key answer 0 w.clock) 0) (Refused fault.NotPending) tt tt
+foreign_fetch_right w id serial answer key (AtPeer peer asked) = either_right (is_foreign_id peer)
+    (NodeSteps id (event.ForeignAnswer serial peer key answer 0 w.clock) 0) (Refused fault.NotPending) tt tt
 foreign_fetch_right w id serial answer key (AtOrigin stamp asked mark) = tt
 
 foreign_right : (w : World) (id serial : ℕ) (answer : AnswerText) (o : Option (Pending ℕ)) → IsRight (foreign_to w id serial answer o)
@@ -113,7 +114,8 @@ turn_right t w (world.Ask number) = ask_right t w (item w.asks number)
 turn_right t w (world.Answer number serial) = answer_right t w serial (item w.answers number)
 turn_right t w (world.Origin id serial answer) = member_right t id _ (origin_right w id serial answer (fetching_at w id serial))
 turn_right t w (world.Foreign id serial answer) = member_right t id _ (foreign_right w id serial answer (fetching_at w id serial))
-turn_right t w (world.Strange to sender m) = either_right (is_own t sender) (Refused fault.NoSuchPacket) (delivered_to w sender m (member_at t to (udp_of m))) tt (found_right w sender m (member_at t to (udp_of m)))
+turn_right t w (world.Strange to sender m) = either_right (is_own t sender) (Refused fault.NoSuchPacket) (delivered_to w sender m (member_at t to (udp_of m)))
+    tt (found_right w sender m (member_at t to (udp_of m)))
 turn_right t w (world.Fail id serial) = member_right t id _ tt
 turn_right t w (world.Expire id serial) = member_right t id _ tt
 turn_right t w (world.Fault id) = member_right t id _ tt

@@ -12,7 +12,8 @@ use Rattle.hierarchy_world.proofs.Changing.{same_world, was_state, still_sound, 
 
 -- the nodes change, and then what waits
 pub then_forgets : (old mid new : Parts) (nodes : List MemberNode) (id : ℕ) → IsMemberChanged old mid nodes old.waiting.items →
-    IsMemberChanged mid new mid.nodes.items (filter (λ w. not (nat_eq w.node id)) mid.waiting.items) → IsMemberChanged old new nodes (filter (λ w. not (nat_eq w.node id)) old.waiting.items)
+    IsMemberChanged mid new mid.nodes.items (filter (λ w. not (nat_eq w.node id)) mid.waiting.items) →
+    IsMemberChanged old new nodes (filter (λ w. not (nat_eq w.node id)) old.waiting.items)
 then_forgets old mid new nodes id first last = record {
   roster = last.roster ∙ first.roster;
   nodes = last.nodes ∙ first.nodes;
@@ -25,7 +26,8 @@ then_forgets old mid new nodes id first last = record {
   waiting = last.waiting ∙ ap (filter (λ w. not (nat_eq w.node id))) first.waiting;
 }
 
-module _ (old new : Parts) (before n : MemberNode) (id place : ℕ) (sound : IsSound old) (is_place : IsPlace old.nodes.items id place) (at : slice_get old.nodes.items place ≡ Some before)
+module _ (old new : Parts) (before n : MemberNode) (id place : ℕ) (sound : IsSound old) (is_place : IsPlace old.nodes.items id place)
+    (at : slice_get old.nodes.items place ≡ Some before)
     (changed : IsMemberChanged old new (set old.nodes.items place n) (filter (λ w. not (nat_eq w.node id)) old.waiting.items)) where
   module _ (same_id : n.id ≡ before.id) (same_roster : n.roster ≡ before.roster) (stored : IsStored n) where
     pub state_sound : IsSound new
@@ -40,7 +42,8 @@ module _ (old new : Parts) (before n : MemberNode) (id place : ℕ) (sound : IsS
     state_was : node_at (member_states old.nodes.items) id ≡ before.state
     state_was = was_state old before id place sound is_place at
 
-    pub state_by : (next : NodeState ℕ → NodeState ℕ) → n.state ≡ next before.state → world_of new ≡ with_member_state (world_of old) id (next (node_at (member_states old.nodes.items) id))
+    pub state_by : (next : NodeState ℕ → NodeState ℕ) → n.state ≡ next before.state → world_of new ≡ with_member_state (world_of old) id
+        (next (node_at (member_states old.nodes.items) id))
     state_by next is = state_is_now ∙ ap (with_member_state (world_of old) id) (is ∙ ap next (sym state_was))
 
 -- a node that closes keeps what is stored

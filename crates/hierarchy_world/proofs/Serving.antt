@@ -33,7 +33,8 @@ waits_here (event.Expired at now) id serial old new = refl
 at_most : (n most : ℕ) → min n most ≤ most
 at_most n most = search rules
 
-written : (s : NodeState ℕ) (e : Event ℕ) (waiter asker : Option ℕ) (served : Served ℕ) → IsServedRightly s e waiter asker served → IsBareStatus served → IsWritten served
+written : (s : NodeState ℕ) (e : Event ℕ) (waiter asker : Option ℕ) (served : Served ℕ) → IsServedRightly s e waiter asker served → IsBareStatus served →
+    IsWritten served
 written s e waiter asker (Copy c age) right bare = subst (λ n. n ≤ 2147483648) (sym right.0) (at_most _ 2147483648)
 written s e waiter asker (Status status) right bare = bare
 
@@ -42,11 +43,13 @@ written_in s e None right bare = tt
 written_in s e (Some serve) right bare = written s e serve.waiter serve.asker serve.served right bare
 
 -- what a reply serves can be written
-pub step_written : (g : Setting) (s : NodeState ℕ) (e : Event ℕ) (mark : ℕ) (reply : Reply ℕ) (next : NodeState ℕ) → Steps g s e mark (Ok reply) next → IsWrittenIn reply.serve
+pub step_written : (g : Setting) (s : NodeState ℕ) (e : Event ℕ) (mark : ℕ) (reply : Reply ℕ) (next : NodeState ℕ) → Steps g s e mark (Ok reply) next →
+    IsWrittenIn reply.serve
 step_written g s e mark reply next steps =
     written_in s e reply.serve (steps_answer_asks g s mark e (Ok reply) next steps).serves (steps_are_lawful g s e mark (Ok reply) next steps).statuses
 
 -- what an outcome serves can be written
-pub outcome_written : (g : Setting) (s : NodeState ℕ) (e : Event ℕ) (mark : ℕ) (outcome : Result (Reply ℕ) StepFault) (next : NodeState ℕ) → Steps g s e mark outcome next → IsWrittenBy outcome
+pub outcome_written : (g : Setting) (s : NodeState ℕ) (e : Event ℕ) (mark : ℕ) (outcome : Result (Reply ℕ) StepFault) (next : NodeState ℕ) →
+    Steps g s e mark outcome next → IsWrittenBy outcome
 outcome_written g s e mark (Ok reply) next steps = step_written g s e mark reply next steps
 outcome_written g s e mark (Err fault) next steps = tt

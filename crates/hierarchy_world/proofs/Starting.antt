@@ -41,21 +41,27 @@ all_ids : (t : Tables) (members : List Member) → map (λ (n : MemberNode). n.i
 all_ids t [] = refl
 all_ids t (m ∷ members) = ap (λ (l : List ℕ). m.cache.id ∷ l) (all_ids t members)
 
-all_member_states : (t : Tables) (members : List Member) → member_states (nodes_of t members) ≡ map (λ (m : Member). record { id = m.cache.id; node = new_node }) members
+all_member_states : (t : Tables) (members : List Member) → member_states (nodes_of t members) ≡ map
+    (λ (m : Member). record { id = m.cache.id; node = new_node }) members
 all_member_states t [] = refl
 all_member_states t (m ∷ members) = ap (λ (l : List MemberState). record { id = m.cache.id; node = new_node } ∷ l) (all_member_states t members)
 
-pub new_sound : (p : Parts) (t : Tables) → p.roster ≡ t → p.nodes.items ≡ nodes_of t t.members → p.master.members ≡ members_of t → p.master.state ≡ opened_master no_purges → IsSound p
+pub new_sound : (p : Parts) (t : Tables) → p.roster ≡ t → p.nodes.items ≡ nodes_of t t.members → p.master.members ≡ members_of t →
+    p.master.state ≡ opened_master no_purges → IsSound p
 new_sound p t roster nodes members state = record {
-  nodes = subst (λ (l : List MemberNode). AllByRecursion (IsMemberNode p.roster) l) (sym nodes) (subst (λ (r : Tables). AllByRecursion (IsMemberNode r) (nodes_of t t.members)) (sym roster) (all_member_nodes t t.members));
-  ids = ap (λ (l : List MemberNode). map (λ (n : MemberNode). n.id) l) nodes ∙ all_ids t t.members ∙ ap (λ (r : Tables). map (λ (m : Member). m.cache.id) r.members) (sym roster);
+  nodes = subst (λ (l : List MemberNode). AllByRecursion (IsMemberNode p.roster) l) (sym nodes)
+      (subst (λ (r : Tables). AllByRecursion (IsMemberNode r) (nodes_of t t.members)) (sym roster) (all_member_nodes t t.members));
+  ids = ap (λ (l : List MemberNode). map (λ (n : MemberNode). n.id) l) nodes ∙ all_ids t t.members
+      ∙ ap (λ (r : Tables). map (λ (m : Member). m.cache.id) r.members) (sym roster);
   master = record {
     members = members ∙ ap (λ (r : Tables). members_of r) (sym roster);
     is_open = ap (λ (s : MasterState). s.closed) state;
   };
 }
 
-pub new_is : (p : Parts) (t : Tables) → p.nodes.items ≡ nodes_of t t.members → p.master.state ≡ opened_master no_purges → p.clock ≡ 0 → p.datagrams.items ≡ [] → p.asks.items ≡ [] → p.answers.items ≡ [] → p.waiting.items ≡ [] →
+pub new_is : (p : Parts) (t : Tables) → p.nodes.items ≡ nodes_of t t.members → p.master.state ≡ opened_master no_purges → p.clock ≡ 0 → p.datagrams.items ≡ [] →
+    p.asks.items ≡ [] → p.answers.items ≡ [] → p.waiting.items ≡ [] →
     world_of p ≡ new_world t
 new_is p t nodes state clock datagrams asks answers waiting =
-    same_world (world_of p) (new_world t) (ap member_states nodes ∙ all_member_states t t.members) (ap (λ (s : MasterState). s.purges) state) clock datagrams asks answers waiting
+    same_world (world_of p) (new_world t) (ap member_states nodes ∙ all_member_states t t.members) (ap (λ (s : MasterState). s.purges) state) clock datagrams
+    asks answers waiting

@@ -36,7 +36,8 @@ by_function g s e mark (Err fault.Busy) next memory store steps = steps
 abbrev Keeps : MemberNode → MemberNode → Result (Reply ℕ) StepFault → Type 0
 Keeps before after outcome = KeepsStore (Unit {0}) (λ found. found ≡ after.store) before after outcome
 
-stored_closed : (before after : MemberNode) (g : Setting) (e : Event ℕ) (mark : ℕ) (outcome : Result (Reply ℕ) StepFault) → before.state.closed ≡ true → before.store ≡ before.state.floors →
+stored_closed : (before after : MemberNode) (g : Setting) (e : Event ℕ) (mark : ℕ) (outcome : Result (Reply ℕ) StepFault) → before.state.closed ≡ true →
+    before.store ≡ before.state.floors →
     step g before.state e mark ≡ record { state = after.state; outcome = outcome } → Keeps before after outcome → after.store ≡ after.state.floors
 stored_closed before after g e mark outcome is_closed stored is keeps =
     let both = sym is ∙ closed_step g before.state e mark is_closed in
@@ -47,15 +48,18 @@ stored_closed before after g e mark outcome is_closed stored is keeps =
       | inr found ↦ elim (found tt after.store refl) [ inl old ↦ old ∙ ap (λ s. s.floors) (sym same) | inr new ↦ new ]
     ]
 
-stored_by : (closed : Bool) (before after : MemberNode) (g : Setting) (e : Event ℕ) (mark : ℕ) (outcome : Result (Reply ℕ) StepFault) → after.state.closed ≡ closed → before.store ≡ before.state.floors →
+stored_by : (closed : Bool) (before after : MemberNode) (g : Setting) (e : Event ℕ) (mark : ℕ) (outcome : Result (Reply ℕ) StepFault) →
+    after.state.closed ≡ closed → before.store ≡ before.state.floors →
     (after.state.closed ≡ false → after.store ≡ after.state.floors) →
     step g before.state e mark ≡ record { state = after.state; outcome = outcome } → Keeps before after outcome → after.store ≡ after.state.floors
 stored_by true before after g e mark outcome is_closed stored tied is keeps =
-    stored_closed before after g e mark outcome (sym (the_function_closes_no_node g before.state e mark) ∙ ap (λ r. r.state.closed) is ∙ is_closed) stored is keeps
+    stored_closed before after g e mark outcome (sym (the_function_closes_no_node g before.state e mark) ∙ ap (λ r. r.state.closed) is ∙ is_closed) stored is
+    keeps
 stored_by false before after g e mark outcome is_open stored tied is keeps = tied is_open
 
 -- the store has the node's floors after the step too
-pub stored_after : (before after : MemberNode) (g : Setting) (e : Event ℕ) (mark : ℕ) (outcome : Result (Reply ℕ) StepFault) → before.store ≡ before.state.floors →
+pub stored_after : (before after : MemberNode) (g : Setting) (e : Event ℕ) (mark : ℕ) (outcome : Result (Reply ℕ) StepFault) →
+    before.store ≡ before.state.floors →
     (after.state.closed ≡ false → after.store ≡ after.state.floors) → outcome ≢ Err fault.NoMemory → outcome ≢ Err fault.StoreFault →
     Steps g before.state e mark outcome after.state → Keeps before after outcome → after.store ≡ after.state.floors
 stored_after before after g e mark outcome stored tied memory store steps keeps =
@@ -66,13 +70,16 @@ pub never_fails : (outcome : Result (Reply ℕ) StepFault) → FailsWithCause (U
 never_fails outcome cause is = elim (cause is tt) [ inl less ↦ absurd (omega arith) | inr most ↦ absurd (omega arith) ]
 
 -- the contract of a node's step, for a node over floors in memory
-pub is_step : (before after : MemberNode) (e : Event ℕ) (mark : ℕ) (s : SteppedHere) → IsStored before → IsSameMember before after → Keeps before after s.outcome → FailsWithCause (Unit {0}) (HaveRisen 0 0) s.outcome →
-    ((key_of : List ℕ → Option (List ℕ)) → GivesKeys key_of → Steps (setting_of before key_of) before.state e mark s.outcome after.state) → IsTied after.state.closed after.state.floors true (Unit {0}) after.store →
+pub is_step : (before after : MemberNode) (e : Event ℕ) (mark : ℕ) (s : SteppedHere) → IsStored before → IsSameMember before after →
+    Keeps before after s.outcome → FailsWithCause (Unit {0}) (HaveRisen 0 0) s.outcome →
+    ((key_of : List ℕ → Option (List ℕ)) → GivesKeys key_of → Steps (setting_of before key_of) before.state e mark s.outcome after.state) →
+    IsTied after.state.closed after.state.floors true (Unit {0}) after.store →
     s.outcome ≢ Err fault.NoMemory → s.before ≡ before.state.next → s.after ≡ after.state.next → IsStep before mark e s after
 is_step before after e mark s stored same keeps cause steps tied memory first last = record {
   roster = same.roster;
   id = same.id;
-  stored = stored_after before after (setting before.roster before.id) e mark s.outcome stored (λ still. (tied still).1 tt) memory (never_fails s.outcome cause) (steps key_of gives_keys) keeps;
+  stored = stored_after before after (setting before.roster before.id) e mark s.outcome stored (λ still. (tied still).1 tt) memory (never_fails s.outcome cause)
+      (steps key_of gives_keys) keeps;
   steps = steps key_of gives_keys;
   memory = memory;
   store = never_fails s.outcome cause;

@@ -20,8 +20,10 @@ use Rattle.hierarchy_world.proofs.Changing.{same_world, was_id, was_member_node,
 use Rattle.hierarchy_world.proofs.Serving.{waits_here}
 
 -- A node's step at its index
-module _ (old new : Parts) (before n : MemberNode) (id place : ℕ) (e : Event ℕ) (s : Stepped) (sound : IsSound old) (is_place : IsPlace old.nodes.items id place)
-    (at : slice_get old.nodes.items place ≡ Some before) (changed : IsMemberChanged old new (set old.nodes.items place n) old.waiting.items) (is : IsStep before old.place e s n) where
+module _ (old new : Parts) (before n : MemberNode) (id place : ℕ) (e : Event ℕ) (s : Stepped) (sound : IsSound old)
+    (is_place : IsPlace old.nodes.items id place)
+    (at : slice_get old.nodes.items place ≡ Some before) (changed : IsMemberChanged old new (set old.nodes.items place n) old.waiting.items)
+    (is : IsStep before old.place e s n) where
   is_state : node_at (member_states old.nodes.items) id ≡ before.state
   is_state = was_state old before id place sound is_place at
 
@@ -53,7 +55,8 @@ module _ (old new : Parts) (before n : MemberNode) (id place : ℕ) (e : Event �
 pub adds_sound : (a b : Parts) (datagrams : List Datagram) (asks : List PeerAsk) (answers : List PeerAnswer) (waiting : List Waiting) →
     Adds a b datagrams asks answers waiting → IsSound a → IsSound b
 adds_sound a b datagrams asks answers waiting adds sound = record {
-  nodes = subst (λ l. AllByRecursion (IsMemberNode b.roster) l) (sym adds.nodes) (subst (λ r. AllByRecursion (IsMemberNode r) a.nodes.items) (sym adds.roster) sound.nodes);
+  nodes = subst (λ l. AllByRecursion (IsMemberNode b.roster) l) (sym adds.nodes)
+      (subst (λ r. AllByRecursion (IsMemberNode r) a.nodes.items) (sym adds.roster) sound.nodes);
   ids = ap (map (λ n. n.id)) adds.nodes ∙ sound.ids ∙ ap (λ r. map (λ m. m.cache.id) r.members) (sym adds.roster);
   master = record {
     members = ap (λ m. m.members) adds.master ∙ sound.master.members ∙ ap members_of (sym adds.roster);
@@ -62,17 +65,21 @@ adds_sound a b datagrams asks answers waiting adds sound = record {
 }
 
 -- the request that is answered, and the response, are those of the event
-answered_here : (waiting : List Waiting) (id : ℕ) (e : Event ℕ) (serial : ℕ) (asked : Option Answered) (waiter : Option ℕ) → asked ≡ asked_now e serial → answered waiting id asked waiter ≡ asked_by waiting id e serial waiter
+answered_here : (waiting : List Waiting) (id : ℕ) (e : Event ℕ) (serial : ℕ) (asked : Option Answered) (waiter : Option ℕ) → asked ≡ asked_now e serial →
+    answered waiting id asked waiter ≡ asked_by waiting id e serial waiter
 answered_here waiting id e serial asked None is = is
 answered_here waiting id e serial asked (Some block) is = refl
 
-answers_here : (waiting : List Waiting) (id : ℕ) (e : Event ℕ) (serial : ℕ) (asked : Option Answered) (serve : Option (Serve ℕ)) → asked ≡ asked_now e serial → answers_by waiting id asked serve ≡ answers_in waiting id e serial serve
+answers_here : (waiting : List Waiting) (id : ℕ) (e : Event ℕ) (serial : ℕ) (asked : Option Answered) (serve : Option (Serve ℕ)) → asked ≡ asked_now e serial →
+    answers_by waiting id asked serve ≡ answers_in waiting id e serial serve
 answers_here waiting id e serial asked None is = refl
 answers_here waiting id e serial asked (Some serve) is = ap (answer_to id serve.asker serve.served) (answered_here waiting id e serial asked serve.waiter is)
 
 -- A node's step, all that it sends, and what waits afterwards
-module _ (old mid sent new : Parts) (id : ℕ) (e : Event ℕ) (asked : Option Answered) (s : Stepped) (h : HasStepped old id e s mid) (is : asked ≡ asked_now e (serial_of asked))
-    (first : Adds mid sent (datagrams_from (member_of mid.roster id) (reply_in s.outcome).send) (asks_in id (reply_in s.outcome).begin) (answers_by mid.waiting.items id asked (reply_in s.outcome).serve) [])
+module _ (old mid sent new : Parts) (id : ℕ) (e : Event ℕ) (asked : Option Answered) (s : Stepped) (h : HasStepped old id e s mid)
+    (is : asked ≡ asked_now e (serial_of asked))
+    (first : Adds mid sent (datagrams_from (member_of mid.roster id) (reply_in s.outcome).send) (asks_in id (reply_in s.outcome).begin)
+    (answers_by mid.waiting.items id asked (reply_in s.outcome).serve) [])
     (last : Adds sent new [] [] [] (waits_by id asked s.before s.after)) where
   datagrams_are : new.datagrams.items ≡ old.datagrams.items ++ datagrams_from (member_of old.roster id) (reply_in s.outcome).send
   datagrams_are =

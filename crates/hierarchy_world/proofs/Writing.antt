@@ -44,11 +44,14 @@ abbrev answer_by : ℕ → List FieldText → ℕ → ℕ → List ℕ → Answe
 answer_by status fields age stamp body = record { status = status; fields = fields; age = Some age; stamp = Some stamp; body = body }
 
 -- the response that is made of these parts
-pub made_of : (a : AnswerText) (age stamp : ℕ) (made : AnswerText) (status : ℕ) (fields : List FieldText) (body : List ℕ) → is_writable a ≡ true → age ≤ 2147483648 →
-    status ≡ a.status → fields ≡ a.fields → body ≡ a.body → Some made ≡ cond (is_writable (answer_by status fields age stamp body)) (Some (answer_by status fields age stamp body)) None →
+pub made_of : (a : AnswerText) (age stamp : ℕ) (made : AnswerText) (status : ℕ) (fields : List FieldText) (body : List ℕ) → is_writable a ≡ true →
+    age ≤ 2147483648 →
+    status ≡ a.status → fields ≡ a.fields → body ≡ a.body → Some made ≡ cond (is_writable (answer_by status fields age stamp body))
+    (Some (answer_by status fields age stamp body)) None →
     made ≡ answer_by a.status a.fields age stamp a.body
 made_of a age stamp made status fields body h small same_status same_fields same_body is =
     let same : answer_by status fields age stamp body ≡ answer_by a.status a.fields age stamp a.body =
-    ap (λ x. answer_by x fields age stamp body) same_status ∙ ap (λ x. answer_by a.status x age stamp body) same_fields ∙ ap (λ x. answer_by a.status a.fields age stamp x) same_body in
+    ap (λ x. answer_by x fields age stamp body) same_status ∙ ap (λ x. answer_by a.status x age stamp body) same_fields
+    ∙ ap (λ x. answer_by a.status a.fields age stamp x) same_body in
     same_Some made (answer_by status fields age stamp body)
     (is ∙ ap (λ b. cond b (Some (answer_by status fields age stamp body)) None) (ap is_writable same ∙ writable_aged a age stamp h small)) ∙ same

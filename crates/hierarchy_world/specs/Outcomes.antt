@@ -15,4 +15,5 @@ pub record AreCounts (w : World) (c : Counts) : Type 0 where
 -- the outcome of what was seen, by the counts of items sent before and after
 abbrev pub outcome_by : Counts → Counts → Seen → Outcome
 outcome_by before after seen =
-    outcome_with seen (new_item before.answers after.answers) (numbers_after before.datagrams (after.datagrams - before.datagrams)) (new_item before.asks after.asks)
+    outcome_with seen (new_item before.answers after.answers)
+    (numbers_after before.datagrams (after.datagrams - before.datagrams)) (new_item before.asks after.asks)

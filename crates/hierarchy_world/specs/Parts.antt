@@ -140,7 +140,8 @@ IsTaken old t (Err fault.NoMemory) new = Unit {0}
 IsTaken old t (Err f) new = (t ≡ Refused f) × (new ≡ old)
 
 -- only these items are added to what was sent and to what waits
-pub record Adds (old new : Parts) (more_datagrams : List Datagram) (more_asks : List PeerAsk) (more_answers : List PeerAnswer) (more_waiting : List Waiting) : Type 0 where
+pub record Adds (old new : Parts) (more_datagrams : List Datagram) (more_asks : List PeerAsk)
+    (more_answers : List PeerAnswer) (more_waiting : List Waiting) : Type 0 where
   pub roster : new.roster ≡ old.roster
   pub nodes : new.nodes.items ≡ old.nodes.items
   pub master : new.master ≡ old.master
@@ -171,6 +172,7 @@ IsKeyed event (Err f) = Unit {0}
 -- The event has happened at its place, or it is refused and changes nothing. After NoMemory nothing
 -- is said.
 abbrev pub IsMade : Parts → WorldEvent → Result Outcome WorldFault → Parts → Type 0
-IsMade old event (Ok outcome) new = IsSound new × TellsNoLack outcome × HasHappened (view_of old false) event outcome (view_of new false)
+IsMade old event (Ok outcome) new = IsSound new × TellsNoLack outcome
+    × HasHappened (view_of old false) event outcome (view_of new false)
 IsMade old event (Err fault.NoMemory) new = Unit {0}
 IsMade old event (Err f) new = (turn old.roster (world_of old) event ≡ Refused f) × (new ≡ old)

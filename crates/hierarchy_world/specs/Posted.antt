@@ -37,7 +37,8 @@ answered waiting id asked (Some block) = asked_before waiting id block
 -- the response that is sent to a member, by the member's request that the event is, if it is one
 abbrev pub answers_by : List Waiting → ℕ → Option Answered → Option (Serve ℕ) → List PeerAnswer
 answers_by waiting id asked None = []
-answers_by waiting id asked (Some serve) = answer_to id serve.asker serve.served (answered waiting id asked serve.waiter)
+answers_by waiting id asked (Some serve) = answer_to id serve.asker serve.served
+    (answered waiting id asked serve.waiter)
 
 -- the same for what an outcome serves
 abbrev pub IsWrittenBy : Result (Reply ℕ) StepFault → Type 0
@@ -51,4 +52,5 @@ serial_of (Some a) = a.serial
 -- the member's request that has begun to wait: the event's, if the node has taken a block
 abbrev pub waits_by : ℕ → Option Answered → ℕ → ℕ → List Waiting
 waits_by id None before after = []
-waits_by id (Some a) before after = if before == after then [] else record { node = id; block = before; serial = a.serial; key = a.key } ∷ []
+waits_by id (Some a) before after = if before == after then []
+    else record { node = id; block = before; serial = a.serial; key = a.key } ∷ []

@@ -22,7 +22,8 @@ Tells roster place old (step ∷ steps) new outcomes =
     × (outcomes ≡ outcome_of old next step.seen ∷ rest) × Tells roster (place + 1) next steps new rest
 
 -- all the events were applied, from a new world on, with these outcomes, and the run is safe
-pub record IsSafeRun (roster : Tables) (all_events : List WorldEvent) (new : World) (outcomes : List Outcome) : Type 0 where
+pub record IsSafeRun (roster : Tables) (all_events : List WorldEvent) (new : World) (outcomes : List Outcome) :
+    Type 0 where
   pub steps : List Step
   pub events : map (λ s. s.event) steps ≡ all_events
   pub told : Tells roster 1 (new_world roster) steps new outcomes
@@ -34,10 +35,12 @@ pub record IsSafeRun (roster : Tables) (all_events : List WorldEvent) (new : Wor
 -- step that lacked memory or met a failing store
 abbrev pub HasRun : Tables → List WorldEvent → WorldView → List Outcome → Type 0
 HasRun roster events w outcomes =
-    (w.roster ≡ roster) × (w.place ≡ 1 + length events) × (w.spoilt ≡ false) × All TellsNoLack outcomes × IsSafeRun roster events w.world outcomes
+    (w.roster ≡ roster) × (w.place ≡ 1 + length events) × (w.spoilt ≡ false) × All TellsNoLack outcomes
+    × IsSafeRun roster events w.world outcomes
 
 -- the events up to here were applied, with these outcomes
-pub record IsRunSoFar (roster : Tables) (all_events : List WorldEvent) (new : World) (outcomes : List Outcome) : Type 0 where
+pub record IsRunSoFar (roster : Tables) (all_events : List WorldEvent) (new : World) (outcomes : List Outcome) :
+    Type 0 where
   pub steps : List Step
   pub events : map (λ s. s.event) steps ≡ all_events
   pub told : Tells roster 1 (new_world roster) steps new outcomes
@@ -45,7 +48,8 @@ pub record IsRunSoFar (roster : Tables) (all_events : List WorldEvent) (new : Wo
 -- an event after some that were applied is refused with this fault
 abbrev pub IsRefusedAfter : Tables → List WorldEvent → WorldFault → Type 0
 IsRefusedAfter roster events f =
-    (before : List WorldEvent) × (event : WorldEvent) × (after : List WorldEvent) × (w : World) × (outcomes : List Outcome)
+    (before : List WorldEvent) × (event : WorldEvent) × (after : List WorldEvent) × (w : World)
+    × (outcomes : List Outcome)
     × (events ≡ before ++ event ∷ after) × IsRunSoFar roster before w outcomes × (turn roster w event ≡ Refused f)
 
 -- why the events were not all applied; of NoMemory nothing is said

@@ -23,19 +23,23 @@ pub record WorldView : Type 0 where
 -- The outcome tells of no step that lacked memory or met a failing store. If a node lacks memory,
 -- so does applying the event; and floors in memory never fail.
 abbrev pub TellsNoLack : Outcome → Type 0
-TellsNoLack outcome = (outcome.fault ≢ Some (actor.Step step_fault.NoMemory)) × (outcome.fault ≢ Some (actor.Step step_fault.StoreFault))
+TellsNoLack outcome = (outcome.fault ≢ Some (actor.Step step_fault.NoMemory))
+    × (outcome.fault ≢ Some (actor.Step step_fault.StoreFault))
 
 -- the event has happened at the old place, with this outcome
 abbrev pub HasHappened : WorldView → WorldEvent → Outcome → WorldView → Type 0
 HasHappened old event outcome new =
     (new.roster ≡ old.roster) × (new.place ≡ old.place + 1)
-    × (seen : Seen) × Happens old.roster old.place old.world event seen new.world × (outcome ≡ outcome_of old.world new.world seen)
+    × (seen : Seen) × Happens old.roster old.place old.world event seen new.world
+    × (outcome ≡ outcome_of old.world new.world seen)
 
 -- An event is applied, or it is refused or no place is left, and nothing changes. After NoMemory
 -- nothing is said.
 abbrev pub IsApplied : WorldView → WorldEvent → Result Outcome WorldFault → WorldView → Type 0
 IsApplied old event (Ok outcome) new = HasHappened old event outcome new
-IsApplied old event (Err fault.NoSuchPacket) new = (turn old.roster old.world event ≡ Refused fault.NoSuchPacket) × (new ≡ old)
-IsApplied old event (Err fault.NotPending) new = (turn old.roster old.world event ≡ Refused fault.NotPending) × (new ≡ old)
+IsApplied old event (Err fault.NoSuchPacket) new = (turn old.roster old.world event ≡ Refused fault.NoSuchPacket)
+    × (new ≡ old)
+IsApplied old event (Err fault.NotPending) new = (turn old.roster old.world event ≡ Refused fault.NotPending)
+    × (new ≡ old)
 IsApplied old event (Err fault.PlacesSpent) new = (old.place ≡ 2 ^ 64 - 1) × (new ≡ old)
 IsApplied old event (Err fault.NoMemory) new = Unit {0}

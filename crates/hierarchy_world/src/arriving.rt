@@ -21,7 +21,8 @@ impl Parts {
     /// A client sends a request to a member.
     pub(crate) fn client(&mut self, id: u8, ask: Ask) -> Result<Seen, WorldFault>
         requires { IsSound self.old }
-        ensures { IsTaken self.old (turns.at_member self.old.roster id (turns.NodeSteps id (events.Client ask self.old.clock) 0)) result self.new }
+        ensures { IsTaken self.old (turns.at_member self.old.roster id
+            (turns.NodeSteps id (events.Client ask self.old.clock) 0)) result self.new }
     {
         let Some(place) = self.place_of(id) else {
             return Err(WorldFault::NoSuchPacket);
@@ -34,7 +35,8 @@ impl Parts {
     fn hear(&mut self, id: u8, from: Address, message: Received) -> Result<Seen, WorldFault>
         requires sound { IsSound self.old }
         requires member { is_member self.old.roster id ≡ true }
-        ensures { IsTaken self.old (turns.delivered_to (world_of self.old) from message (Some id)) result self.new }
+        ensures { IsTaken self.old (turns.delivered_to (world_of self.old) from message (Some id))
+            result self.new }
     {
         let Some(place) = self.place_of(id) else {
             return Err(WorldFault::NoSuchPacket);
@@ -47,7 +49,8 @@ impl Parts {
     #[tactic(auto, using(crate::proofs::MemberNodes::reached_member, crate::proofs::Answerable::sendable_answerable))]
     pub(crate) fn datagram(&mut self, number: u64) -> Result<Seen, WorldFault>
         requires { IsSound self.old }
-        ensures { IsTaken self.old (turns.delivered self.old.roster (world_of self.old) (item_of self.old.datagrams.items number)) result self.new }
+        ensures { IsTaken self.old (turns.delivered self.old.roster (world_of self.old)
+            (item_of self.old.datagrams.items number)) result self.new }
     {
         let Some(datagram) = item(self.datagrams.as_slice(), number) else {
             return Err(WorldFault::NoSuchPacket);
@@ -74,7 +77,8 @@ impl Parts {
         message: Received,
     ) -> Result<Seen, WorldFault>
         requires { IsSound self.old }
-        ensures { IsTaken self.old (turns.strange_comes self.old.roster (world_of self.old) to from message) result self.new }
+        ensures { IsTaken self.old (turns.strange_comes self.old.roster
+            (world_of self.old) to from message) result self.new }
     {
         if self.roster.is_own(from) {
             return Err(WorldFault::NoSuchPacket);
@@ -88,7 +92,8 @@ impl Parts {
     /// A request that a member sent to a member arrives.
     pub(crate) fn peer_ask(&mut self, number: u64) -> Result<Seen, WorldFault>
         requires { IsSound self.old }
-        ensures { IsTaken self.old (turns.ask_delivered self.old.roster (world_of self.old) (item_of self.old.asks.items number)) result self.new }
+        ensures { IsTaken self.old (turns.ask_delivered self.old.roster (world_of self.old)
+            (item_of self.old.asks.items number)) result self.new }
     {
         let Some(sent) = item(self.asks.as_slice(), number) else {
             return Err(WorldFault::NoSuchPacket);
@@ -117,7 +122,9 @@ impl Parts {
         serial: Option<u32>,
     ) -> Result<Seen, WorldFault>
         requires { IsSound self.old }
-        ensures { IsTaken self.old (turns.answer_delivered self.old.roster (world_of self.old) serial (item_of self.old.answers.items number)) result self.new }
+        ensures { IsTaken self.old (turns.answer_delivered self.old.roster
+            (world_of self.old) serial (item_of self.old.answers.items number))
+            result self.new }
     {
         let Some(sent) = item(self.answers.as_slice(), number) else {
             return Err(WorldFault::NoSuchPacket);
@@ -140,7 +147,9 @@ impl Parts {
     /// The origin responds to a read. `NotPending`: no read is pending under the serial.
     pub(crate) fn origin(&mut self, id: u8, serial: u32, answer: Answer) -> Result<Seen, WorldFault>
         requires { IsSound self.old }
-        ensures { IsTaken self.old (turns.at_member self.old.roster id (turns.origin_to (world_of self.old) id serial answer (turns.fetching_at (world_of self.old) id serial))) result self.new }
+        ensures { IsTaken self.old (turns.at_member self.old.roster id
+            (turns.origin_to (world_of self.old) id serial answer
+            (turns.fetching_at (world_of self.old) id serial))) result self.new }
     {
         let Some(place) = self.place_of(id) else {
             return Err(WorldFault::NoSuchPacket);
@@ -171,7 +180,9 @@ impl Parts {
         answer: Answer,
     ) -> Result<Seen, WorldFault>
         requires { IsSound self.old }
-        ensures { IsTaken self.old (turns.at_member self.old.roster id (turns.foreign_to (world_of self.old) id serial answer (turns.fetching_at (world_of self.old) id serial))) result self.new }
+        ensures { IsTaken self.old (turns.at_member self.old.roster id
+            (turns.foreign_to (world_of self.old) id serial answer
+            (turns.fetching_at (world_of self.old) id serial))) result self.new }
     {
         let Some(place) = self.place_of(id) else {
             return Err(WorldFault::NoSuchPacket);
@@ -198,7 +209,8 @@ impl Parts {
     /// A member's fetch fails.
     pub(crate) fn fail(&mut self, id: u8, serial: u32) -> Result<Seen, WorldFault>
         requires { IsSound self.old }
-        ensures { IsTaken self.old (turns.at_member self.old.roster id (turns.NodeSteps id (events.FetchFailed serial self.old.clock) 0)) result self.new }
+        ensures { IsTaken self.old (turns.at_member self.old.roster id
+            (turns.NodeSteps id (events.FetchFailed serial self.old.clock) 0)) result self.new }
     {
         let Some(place) = self.place_of(id) else {
             return Err(WorldFault::NoSuchPacket);
@@ -210,7 +222,8 @@ impl Parts {
     /// The waiting time of a member's round is over.
     pub(crate) fn expire(&mut self, id: u8, serial: u32) -> Result<Seen, WorldFault>
         requires { IsSound self.old }
-        ensures { IsTaken self.old (turns.at_member self.old.roster id (turns.NodeSteps id (events.Expired serial self.old.clock) 0)) result self.new }
+        ensures { IsTaken self.old (turns.at_member self.old.roster id
+            (turns.NodeSteps id (events.Expired serial self.old.clock) 0)) result self.new }
     {
         let Some(place) = self.place_of(id) else {
             return Err(WorldFault::NoSuchPacket);
@@ -222,7 +235,9 @@ impl Parts {
     /// A member's floor store fails, and the member closes.
     pub(crate) fn fault(&mut self, id: u8) -> Result<Seen, WorldFault>
         requires { IsSound self.old }
-        ensures { IsTaken self.old (turns.at_member self.old.roster id (turns.Ends turns.Nothing (turns.with_member_state (world_of self.old) id (closed_node (node_at (world_of self.old).states id))))) result self.new }
+        ensures { IsTaken self.old (turns.at_member self.old.roster id
+            (turns.Ends turns.Nothing (turns.with_member_state (world_of self.old) id
+            (closed_node (node_at (world_of self.old).states id))))) result self.new }
     {
         let Some(place) = self.place_of(id) else {
             return Err(WorldFault::NoSuchPacket);
@@ -234,7 +249,9 @@ impl Parts {
     /// A member restarts, with its floors and nothing else.
     pub(crate) fn restart(&mut self, id: u8) -> Result<Seen, WorldFault>
         requires { IsSound self.old }
-        ensures { IsTaken self.old (turns.at_member self.old.roster id (turns.Ends turns.Nothing (turns.with_member_state (world_of self.old) id (opened (node_at (world_of self.old).states id).floors)))) result self.new }
+        ensures { IsTaken self.old (turns.at_member self.old.roster id
+            (turns.Ends turns.Nothing (turns.with_member_state (world_of self.old) id
+            (opened (node_at (world_of self.old).states id).floors)))) result self.new }
     {
         let Some(place) = self.place_of(id) else {
             return Err(WorldFault::NoSuchPacket);

@@ -73,7 +73,8 @@ impl Parts {
     #[tactic(auto, using(crate::proofs::MemberNodes::member_place))]
     pub(crate) fn place_of(&self, id: u8) -> Option<usize>
         requires { IsSound self.now }
-        ensures place { MatchOption result (is_member self.now.roster id ≡ false) (λ place. (is_member self.now.roster id ≡ true) × IsPlace self.now.nodes.items id place) }
+        ensures place { MatchOption result (is_member self.now.roster id ≡ false) (λ place.
+            (is_member self.now.roster id ≡ true) × IsPlace self.now.nodes.items id place) }
         ensures below { IfSome result (λ place. place < length self.now.nodes.items) }
     {
         place_in(self.nodes.as_slice(), id)
@@ -81,7 +82,8 @@ impl Parts {
 
     /// Drops the members' requests that waited at this node.
     fn forget(&mut self, id: u8)
-        ensures same { IsMemberChanged self.old self.new self.old.nodes.items (filter (λ w. not (w.node == id)) self.old.waiting.items) }
+        ensures same { IsMemberChanged self.old self.new self.old.nodes.items
+            (filter (λ w. not (w.node == id)) self.old.waiting.items) }
     {
         self.waiting.retain(|waiting| waiting.node != id);
     }
@@ -113,7 +115,9 @@ impl Parts {
         ensures sound { IsSound self.new }
         ensures roster { self.new.roster ≡ self.old.roster }
         ensures place { self.new.place ≡ self.old.place }
-        ensures world { world_of self.new ≡ with_member_state (world_of self.old) id (closed_node (node_at (world_of self.old).states id)) }
+        ensures world { world_of self.new
+            ≡ with_member_state (world_of self.old) id
+            (closed_node (node_at (world_of self.old).states id)) }
     {
         self.nodes[place].close();
         self.forget(id);
@@ -127,7 +131,9 @@ impl Parts {
         ensures sound { OnOk result (IsSound self.new) }
         ensures roster { OnOk result (self.new.roster ≡ self.old.roster) }
         ensures place { OnOk result (self.new.place ≡ self.old.place) }
-        ensures world { OnOk result (world_of self.new ≡ with_member_state (world_of self.old) id (opened (node_at (world_of self.old).states id).floors)) }
+        ensures world { OnOk result (world_of self.new
+            ≡ with_member_state (world_of self.old) id
+            (opened (node_at (world_of self.old).states id).floors)) }
     {
         let roster = self.roster.copy(self.alloc)?;
         let store = self.nodes.remove(place).into_floors();

@@ -58,7 +58,8 @@ fn is_spoiling(answer: &Result<Outcome, WorldFault>) -> bool
 
 /// A new node of a member, which holds nothing.
 fn new_node(alloc: Global, roster: &Roster, id: u8) -> Result<Node<u64, MemoryFloors>, WorldFault>
-    ensures made { IfOk result (λ node. node ≡ record { roster = roster.now; id = id; state = opened empty; store = empty }) }
+    ensures made { IfOk result (λ node.
+        node ≡ record { roster = roster.now; id = id; state = opened empty; store = empty }) }
     ensures fault { IfErr result (λ fault. fault ≡ NoMemory) }
 {
     let copy = roster.copy(alloc)?;
@@ -70,7 +71,14 @@ fn new_node(alloc: Global, roster: &Roster, id: u8) -> Result<Node<u64, MemoryFl
 
 /// A new node for each member.
 fn new_nodes(alloc: Global, roster: &Roster) -> Result<Vec<Node<u64, MemoryFloors>>, WorldFault>
-    ensures made { IfOk result (λ nodes. nodes.items ≡ map (λ m. record { roster = roster.now; id = m.cache.id; state = opened empty; store = empty }) roster.now.members) }
+    ensures made { IfOk result (λ nodes.
+        nodes.items ≡ map (λ m. record {
+          roster = roster.now;
+          id = m.cache.id;
+          state =
+              opened empty;
+          store = empty;
+        }) roster.now.members) }
     ensures fault { IfErr result (λ fault. fault ≡ NoMemory) }
 {
     let members = roster.members();
@@ -115,7 +123,14 @@ impl World {
     ///
     /// Faults: only `NoMemory`.
     pub fn new(alloc: Global, roster: &Roster) -> Result<World, WorldFault>
-        ensures made { IfOk result (λ w. w ≡ record { roster = roster.now; place = 1; spoilt = false; world = new_world roster.now }) }
+        ensures made { IfOk result (λ w.
+            w ≡ record {
+              roster = roster.now;
+              place = 1;
+              spoilt = false;
+              world =
+                  new_world roster.now;
+            }) }
         ensures valid { IfOk result (λ w. IsRoster w.roster) }
         ensures fault { IfErr result (λ fault. fault ≡ NoMemory) }
     {
@@ -137,7 +152,8 @@ impl World {
     pub fn apply(&mut self, event: WorldEvent) -> Result<Outcome, WorldFault>
         ensures applied { IsApplied self.old event result self.new }
         ensures spent { self.old.place ≡ 2 ^ 64 - 1 → result ≡ Err PlacesSpent }
-        ensures spoilt { self.old.spoilt ≡ true → (self.new ≡ self.old) × (self.old.place ≢ 2 ^ 64 - 1 → result ≡ Err NoMemory) }
+        ensures spoilt { self.old.spoilt ≡ true → (self.new ≡ self.old)
+            × (self.old.place ≢ 2 ^ 64 - 1 → result ≡ Err NoMemory) }
         ensures spoils { result ≡ Err NoMemory → self.new.spoilt ≡ true }
         ensures usable { OnOk result (self.new.spoilt ≡ false) }
         ensures lack { IfOk result TellsNoLack }

@@ -160,7 +160,8 @@ fn answer_to(
     asked: Option<Arrived>,
 ) -> Result<Option<PeerAnswer>, AllocError>
     requires { IsWritten serve.now.served }
-    ensures { IfOk result (λ answer. world.answer_to id serve.now.asker serve.now.served asked ≡ cons_option answer []) }
+    ensures { IfOk result (λ answer.
+        world.answer_to id serve.now.asker serve.now.served asked ≡ cons_option answer []) }
 {
     match (serve.asker, asked) {
         (Some(asker), Some(asked)) => Ok(Some(PeerAnswer {
@@ -204,7 +205,8 @@ impl Parts {
         asked: &Option<Arrived>,
         waiter: Option<u32>,
     ) -> Result<Option<Arrived>, AllocError>
-        ensures { IfOk result (λ found. found ≡ answered_by self.now.waiting.items id asked.now waiter) }
+        ensures { IfOk result (λ found.
+            found ≡ answered_by self.now.waiting.items id asked.now waiter) }
     {
         match waiter {
             Some(block) => asked_before(self.alloc, self.waiting.as_slice(), id, block),
@@ -214,7 +216,8 @@ impl Parts {
 
     /// Sends a member's datagrams.
     fn send(&mut self, id: u8, sent: &[Outgoing]) -> Result<(), AllocError>
-        ensures { OnOk result (Adds self.old self.new (world.datagrams_from (member_by_id self.old.roster id) sent.now) [] [] []) }
+        ensures { OnOk result (Adds self.old self.new
+            (world.datagrams_from (member_by_id self.old.roster id) sent.now) [] [] []) }
     {
         if let Some(member) = self.roster.member(id) {
             let mut made = datagrams_from(self.alloc, &member.cache, sent)?;
@@ -241,7 +244,8 @@ impl Parts {
         serve: &Option<Serve<u64>>,
     ) -> Result<(), AllocError>
         requires { IsWrittenIn serve.now }
-        ensures { OnOk result (Adds self.old self.new [] [] (answers_by self.old.waiting.items id asked.now serve.now) []) }
+        ensures { OnOk result (Adds self.old self.new [] []
+            (answers_by self.old.waiting.items id asked.now serve.now) []) }
     {
         let Some(serve) = serve else {
             return Ok(());
@@ -261,7 +265,10 @@ impl Parts {
         reply: &Reply<u64>,
     ) -> Result<(), AllocError>
         requires { IsWrittenIn reply.now.serve }
-        ensures { OnOk result (Adds self.old self.new (world.datagrams_from (member_by_id self.old.roster id) reply.now.send) (world.asks_in id reply.now.begin) (answers_by self.old.waiting.items id asked.now reply.now.serve) []) }
+        ensures { OnOk result (Adds self.old self.new
+            (world.datagrams_from (member_by_id self.old.roster id) reply.now.send)
+            (world.asks_in id reply.now.begin)
+            (answers_by self.old.waiting.items id asked.now reply.now.serve) []) }
     {
         self.send(id, reply.send.as_slice())?;
         self.ask(id, &reply.begin)?;
@@ -276,8 +283,12 @@ impl Parts {
         outcome: &Result<Reply<u64>, StepFault>,
     ) -> Result<(), AllocError>
         requires { IsWrittenBy outcome.now }
-        ensures { OnOk result (Adds self.old self.new (world.datagrams_from (member_by_id self.old.roster id) (world.reply_in outcome.now).send)
-            (world.asks_in id (world.reply_in outcome.now).begin) (answers_by self.old.waiting.items id asked.now (world.reply_in outcome.now).serve) []) }
+        ensures { OnOk result (Adds self.old self.new
+            (world.datagrams_from (member_by_id self.old.roster id)
+            (world.reply_in outcome.now).send)
+            (world.asks_in id (world.reply_in outcome.now).begin)
+            (answers_by self.old.waiting.items id asked.now (world.reply_in outcome.now).serve)
+            []) }
     {
         match outcome {
             Ok(reply) => self.post(id, asked, reply),

@@ -28,7 +28,12 @@ use world_rules::WorldFault;
 /// A CLR as a datagram from the master to a member.
 fn clear_to(master: Address, receiver: Address, message: Htcp) -> Datagram
     requires { Fits message }
-    ensures { result ≡ record { sender = master; receiver = receiver; message = messages.Htcp message } }
+    ensures { result ≡ record {
+      sender = master;
+      receiver = receiver;
+      message =
+          messages.Htcp message;
+    } }
 {
     Datagram {
         sender: master,
@@ -55,7 +60,9 @@ fn new_clear(
     number: u32,
     key: &Key,
 ) -> Result<Option<Datagram>, AllocError>
-    ensures { IfOk result (λ made. turns.clear_to roster.now (Some (clear_of number key.now)) (member_by_id roster.now id) ≡ cons_option made []) }
+    ensures { IfOk result (λ made.
+        turns.clear_to roster.now (Some (clear_of number key.now)) (member_by_id roster.now id)
+        ≡ cons_option made []) }
 {
     match htcp_of(roster, id) {
         Some(address) => {
@@ -93,7 +100,9 @@ fn due_clear(
     number: u32,
     id: u8,
 ) -> Result<Option<Datagram>, AllocError>
-    ensures { IfOk result (λ made. turns.clear_to roster.now (message_of master.now.state.purges number) (member_by_id roster.now id) ≡ cons_option made []) }
+    ensures { IfOk result (λ made.
+        turns.clear_to roster.now (message_of master.now.state.purges number)
+        (member_by_id roster.now id) ≡ cons_option made []) }
 {
     match (master.message(number)?, htcp_of(roster, id)) {
         (Some(message), Some(address)) => { Ok(Some(clear_to(roster.master(), address, message))) }
@@ -108,7 +117,9 @@ fn due_clears(
     master: &Master<MemoryPurges>,
     due: &[(u32, u8)],
 ) -> Result<Vec<Datagram>, AllocError>
-    ensures { IfOk result (λ made. made.items ≡ flat_map (λ d. turns.clear_to roster.now (message_of master.now.state.purges d.0) (member_by_id roster.now d.1)) due.now) }
+    ensures { IfOk result (λ made.
+        made.items ≡ flat_map (λ d. turns.clear_to roster.now
+        (message_of master.now.state.purges d.0) (member_by_id roster.now d.1)) due.now) }
 {
     let mut made = Vec::with_capacity(alloc, due.len())?;
     for pair in due {
@@ -122,7 +133,8 @@ fn due_clears(
 impl Parts {
     /// Sends the CLR of a new purge to each member, in order of ids.
     fn send_clears(&mut self, number: u32, key: &Key) -> Result<(), AllocError>
-        ensures { OnOk result (Adds self.old self.new (turns.clears_of self.old.roster number key.now) [] [] []) }
+        ensures { OnOk result (Adds self.old self.new
+            (turns.clears_of self.old.roster number key.now) [] [] []) }
     {
         let mut made = new_clears(self.alloc, &self.roster, number, key)?;
         self.datagrams.append(&mut made)
@@ -131,7 +143,9 @@ impl Parts {
     /// The master issues a purge and sends its CLRs, or refuses.
     pub(crate) fn issue(&mut self, key: &Key) -> Result<Seen, WorldFault>
         requires { IsSound self.old }
-        ensures taken { IsTaken self.old (turns.issue_by self.old.roster (world_of self.old) key.now (issue_fault self.old.master.state.purges)) result self.new }
+        ensures taken { IsTaken self.old
+            (turns.issue_by self.old.roster (world_of self.old) key.now
+            (issue_fault self.old.master.state.purges)) result self.new }
         ensures key { IsKey key.now }
     {
         let _text = key.text();
@@ -152,7 +166,10 @@ impl Parts {
     /// The master sends each pending purge again to each member that has not acknowledged it.
     pub(crate) fn resend(&mut self) -> Result<Seen, WorldFault>
         requires { IsSound self.old }
-        ensures { IsTaken self.old (turns.Ends turns.Nothing (turns.with_sent (world_of self.old) (turns.clears_due self.old.roster self.old.master.state.purges))) result self.new }
+        ensures { IsTaken self.old (turns.Ends turns.Nothing
+            (turns.with_sent (world_of self.old)
+            (turns.clears_due self.old.roster self.old.master.state.purges)))
+            result self.new }
     {
         let Ok(due) = self.master.due() else {
             return Err(WorldFault::NoMemory);
@@ -165,7 +182,8 @@ impl Parts {
     /// The master reports the status of a purge.
     pub(crate) fn status(&self, number: u32) -> Seen
         requires { IsSound self.now }
-        ensures { IsTaken self.now (turns.reports self.now.roster (world_of self.now) number) (Ok result) self.now }
+        ensures { IsTaken self.now (turns.reports self.now.roster (world_of self.now) number)
+            (Ok result) self.now }
     {
         Seen::Reported(number, self.master.status(number))
     }
@@ -174,7 +192,8 @@ impl Parts {
     /// and reports the purge's status.
     fn acknowledge(&mut self, id: u8, number: u32, code: u8) -> Result<Seen, WorldFault>
         requires { IsSound self.old }
-        ensures { IsTaken self.old (turns.acknowledged_by self.old.roster (world_of self.old) number code (Some id)) result self.new }
+        ensures { IsTaken self.old (turns.acknowledged_by self.old.roster
+            (world_of self.old) number code (Some id)) result self.new }
     {
         match self.master.acknowledge(id, number, code) {
             Ok(_) => Ok(self.status(number)),
@@ -190,7 +209,8 @@ impl Parts {
         answer: Option<(u32, u8)>,
     ) -> Result<Seen, WorldFault>
         requires { IsSound self.old }
-        ensures { IsTaken self.old (heard_by self.old.roster (world_of self.old) sender answer) result self.new }
+        ensures { IsTaken self.old (heard_by self.old.roster (world_of self.old) sender answer)
+            result self.new }
     {
         let Some((number, code)) = answer else {
             return Ok(Seen::Nothing);

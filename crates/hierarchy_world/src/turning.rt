@@ -23,7 +23,8 @@ impl Parts {
     /// Takes the turn of an event.
     fn turn(&mut self, event: WorldEvent) -> Result<Seen, WorldFault>
         requires { IsSound self.old }
-        ensures taken { IsTaken self.old (turn_of self.old.roster (world_of self.old) event) result self.new }
+        ensures taken { IsTaken self.old
+            (turn_of self.old.roster (world_of self.old) event) result self.new }
         ensures key { IsKeyed event result }
     {
         match event {

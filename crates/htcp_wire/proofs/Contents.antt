@@ -31,7 +31,8 @@ two_of [] long = absurd (omega arith)
 two_of (first ∷ []) long = absurd (omega arith)
 two_of (first ∷ second ∷ rest) long = refl
 
-clr_takes : (section : Data) (desired : Bool) (content : Content) → IsOctets section.op_data → Asks section clr desired → clr_at desired section.op_data ≡ Some content → IsContent content section
+clr_takes : (section : Data) (desired : Bool) (content : Content) → IsOctets section.op_data → Asks section clr desired →
+    clr_at desired section.op_data ≡ Some content → IsContent content section
 clr_takes section desired content fits asks e =
     let octets = section.op_data in
     let low = slice_index octets 1 in
@@ -49,7 +50,8 @@ clr_takes section desired content fits asks e =
           (asks, record { high = slice_index octets 0; low = low / 16; begins = record { spare = text.0; parts = begins }; small = mod-lt low (omega arith) })
     ]
 
-ask_takes : (section : Data) (content : Content) → IsOctets section.op_data → section.rr ≡ false → ask_at section.opcode section.f1 section.op_data ≡ Some content → IsContent content section
+ask_takes : (section : Data) (content : Content) → IsOctets section.op_data → section.rr ≡ false →
+    ask_at section.opcode section.f1 section.op_data ≡ Some content → IsContent content section
 ask_takes section content fits rr e =
     let opcode = section.opcode in
     let desired = section.f1 in
@@ -74,7 +76,8 @@ answer_takes : (section : Data) (content : Content) → IsOctets section.op_data
 answer_takes section content fits rr f1 e =
     let opcode = section.opcode in
     let code = section.response in
-    let answers : (o c : ℕ) → opcode ≡ o → code ≡ c → Answers section o c false = λ o c is_o is_c. record { rr = rr; f1 = f1; opcode_is = is_o; code_is = is_c } in
+    let answers : (o c : ℕ) → opcode ≡ o → code ≡ c → Answers section o c false = λ o c is_o is_c. record { rr = rr; f1 = f1; opcode_is = is_o; code_is = is_c }
+    in
     elim (chosen (eqb opcode 0 && eqb code 0) _ _ _ e) [
       | inl here ↦
           let both = and_parts _ _ here.0 in
@@ -84,7 +87,10 @@ answer_takes section content fits rr f1 e =
             let both = and_parts _ _ here.0 in
             let known = mapped (λ k. TstHit k) (detail_at section.op_data) content here.1 in
             let text = detail_takes section.op_data known.0 fits known.1 in
-            is_content section (TstHit known.0) content known.2 (answers 1 0 (eqb-true _ _ both.0) (eqb-true _ _ both.1), record { spare = text.0; parts = text.1 })
+            is_content section (TstHit known.0) content known.2 (
+              answers 1 0 (eqb-true _ _ both.0) (eqb-true _ _ both.1),
+              record { spare = text.0; parts = text.1 },
+            )
         | inr not_hit ↦ elim (chosen (eqb opcode 1 && eqb code 1) _ _ _ not_hit.1) [
           | inl here ↦
               let both = and_parts _ _ here.0 in
@@ -119,15 +125,18 @@ content_takes section content fits e =
 front_short : (section : Data) (text : List ℕ) → length section.op_data < 2 ^ 16 → (begins : Begins section text) → length text < 2 ^ 16
 front_short section text small begins = omega (arith, ap length begins.parts, length-append text begins.spare)
 
-asks_again : (section : Data) (opcode : ℕ) (desired : Bool) (content : Content) → Asks section opcode desired → ask_at opcode desired section.op_data ≡ Some content → content_at section ≡ Some content
+asks_again : (section : Data) (opcode : ℕ) (desired : Bool) (content : Content) → Asks section opcode desired →
+    ask_at opcode desired section.op_data ≡ Some content → content_at section ≡ Some content
 unfolding content_at
 asks_again section opcode desired content asks e = rw (asks.rr, asks.opcode_is, asks.f1) e
 
-answers_again : (section : Data) (opcode code : ℕ) (content : Content) → Answers section opcode code false → answer_at opcode code section.op_data ≡ Some content → content_at section ≡ Some content
+answers_again : (section : Data) (opcode code : ℕ) (content : Content) → Answers section opcode code false →
+    answer_at opcode code section.op_data ≡ Some content → content_at section ≡ Some content
 unfolding content_at
 answers_again section opcode code content answers e = rw (answers.rr, answers.f1, answers.opcode_is, answers.code_is) e
 
-clr_again : (section : Data) (desired : Bool) (reason : ℕ) (spec : Specifier) → length section.op_data < 2 ^ 16 → Clears section reason spec → clr_at desired section.op_data ≡ Some (ClrAsk desired reason spec)
+clr_again : (section : Data) (desired : Bool) (reason : ℕ) (spec : Specifier) → length section.op_data < 2 ^ 16 → Clears section reason spec →
+    clr_at desired section.op_data ≡ Some (ClrAsk desired reason spec)
 clr_again section desired reason spec small clears =
     let short = front_short section (clears.high ∷ (clears.low * 16 + reason) ∷ specifier spec) small clears.begins in
     let parts : section.op_data ≡ clears.high ∷ (clears.low * 16 + reason) ∷ (specifier spec ++ clears.begins.spare) = clears.begins.parts in

@@ -25,9 +25,11 @@ record SameEnds (front other : List ℕ) (last final : ℕ) : Type 0 where
 same_ends : (front other : List ℕ) (last final : ℕ) → front ++ last ∷ [] ≡ other ++ final ∷ [] → SameEnds front other last final
 same_ends front other last final e =
     let size : length other ≡ length front = omega (arith, ap length e, length-append front (last ∷ []), length-append other (final ∷ [])) in
-    let fronts : front ≡ other = sym (take_at front (last ∷ []) (length front) refl) ∙ ap (take (length front)) e ∙ take_at other (final ∷ []) (length front) size in
+    let fronts : front ≡ other = sym (take_at front (last ∷ []) (length front) refl) ∙ ap (take (length front)) e
+    ∙ take_at other (final ∷ []) (length front) size in
     let lasts : last ≡ final =
-    sym (get_or-append_seam front last [] 0) ∙ ap (λ (t : List ℕ). get_or t (length front) 0) e ∙ ap (λ (n : ℕ). get_or (other ++ final ∷ []) n 0) (sym size) ∙ get_or-append_seam other final [] 0 in
+    sym (get_or-append_seam front last [] 0) ∙ ap (λ (t : List ℕ). get_or t (length front) 0) e ∙ ap (λ (n : ℕ). get_or (other ++ final ∷ []) n 0) (sym size)
+    ∙ get_or-append_seam other final [] 0 in
     record { fronts = fronts; lasts = lasts }
 
 -- ---- the LF of a CR LF
@@ -47,7 +49,8 @@ ends_at line octet e =
 ends_again : (line : List ℕ) → ends_line (line ++ 13 ∷ []) 10 ≡ true
 ends_again line =
     let size : length (line ++ 13 ∷ []) - 1 ≡ length line = omega (arith, length-append line (13 ∷ [])) in
-    let last : get_or (line ++ 13 ∷ []) (length (line ++ 13 ∷ []) - 1) 0 ≡ 13 = ap (λ (n : ℕ). get_or (line ++ 13 ∷ []) n 0) size ∙ get_or-append_seam line 13 [] 0 in
+    let last : get_or (line ++ 13 ∷ []) (length (line ++ 13 ∷ []) - 1) 0 ≡ 13 = ap (λ (n : ℕ). get_or (line ++ 13 ∷ []) n 0) size
+    ∙ get_or-append_seam line 13 [] 0 in
     let some : ltb 0 (length (line ++ 13 ∷ [])) ≡ true = lt-ltb _ _ (omega (arith, length-append line (13 ∷ []))) in
     rw (some, last) refl
 
@@ -64,7 +67,8 @@ front_line line front is whole = record {
 no_cut : (line : List ℕ) (octet : ℕ) → ends_line line octet ≡ false → IsLine line → (before after : List ℕ) → line ++ octet ∷ [] ≢ before ++ 13 ∷ 10 ∷ after
 no_cut line octet no_end whole before [] e =
     let same = same_ends line (before ++ 13 ∷ []) octet 10 (e ∙ sym (append_assoc before (13 ∷ []) (10 ∷ []))) in
-    let here : ends_line line octet ≡ true = ap (λ (l : List ℕ). ends_line l octet) same.fronts ∙ ap (ends_line (before ++ 13 ∷ [])) same.lasts ∙ ends_again before in
+    let here : ends_line line octet ≡ true = ap (λ (l : List ℕ). ends_line l octet) same.fronts ∙ ap (ends_line (before ++ 13 ∷ [])) same.lasts
+    ∙ ends_again before in
     both_ways (ends_line line octet) no_end here
 no_cut line octet no_end whole before (first ∷ others) e =
     let after : List ℕ = first ∷ others in
@@ -98,7 +102,8 @@ made_of line (octet ∷ text) whole =
           rw (at_end line text octet here) (record { some = λ e. absurd cc; each = (front_line line front ends.line_is whole, others.each); parts = parts })
       | inr no_end ↦
           let others = made_of (line ++ octet ∷ []) text (longer_line line octet no_end whole) in
-          rw (within_line line text octet no_end) (record { some = others.some; each = others.each; parts = others.parts ∙ append_assoc line (octet ∷ []) text })
+          rw (within_line line text octet no_end)
+          (record { some = others.some; each = others.each; parts = others.parts ∙ append_assoc line (octet ∷ []) text })
     ]
 
 pub lines_made : (text : List ℕ) → AreLines text (lines_of text)

@@ -56,7 +56,8 @@ decided octets fits = decided_by octets (first_fault octets) fits refl
 
 -- ---- want of memory is no fault of the octets
 
-apart : (failed : Bool) (fault : HtcpFault) (others : Option HtcpFault) → fault ≢ NoMemory → others ≢ Some NoMemory → cond failed (Some fault) others ≢ Some NoMemory
+apart : (failed : Bool) (fault : HtcpFault) (others : Option HtcpFault) → fault ≢ NoMemory → others ≢ Some NoMemory →
+    cond failed (Some fault) others ≢ Some NoMemory
 apart true fault others other later e = other cc
 apart false fault others other later e = later e
 
@@ -78,7 +79,8 @@ IsOkReading octets message = (first_fault octets ≡ None) × Holds octets messa
 abbrev pub IsErrReading : List ℕ → HtcpFault → Type 0
 IsErrReading octets fault = (first_fault octets ≡ Some fault) ⊎ ((first_fault octets ≡ None) × (fault ≡ NoMemory))
 
-pub ok_is_spelled : (octets : List ℕ) (result : Result Htcp HtcpFault) → IsOctets octets → IfOk result (IsOkReading octets) → IfOk result (λ message. Spells octets message)
+pub ok_is_spelled : (octets : List ℕ) (result : Result Htcp HtcpFault) → IsOctets octets → IfOk result (IsOkReading octets) →
+    IfOk result (λ message. Spells octets message)
 ok_is_spelled octets (Ok message) fits ok = spells_of octets message fits ok.0 ok.1
 ok_is_spelled octets (Err fault) fits ok = tt
 

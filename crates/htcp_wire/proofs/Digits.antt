@@ -31,7 +31,8 @@ digit_is : (c : ℕ) → 48 ≤ c → c ≤ 57 → digit_value c ≡ c - 48
 digit_is c low high = grind (arith, nat_tests)
 
 -- one more digit
-pub next_digit : (ds : List ℕ) (i : ℕ) → list_all is_ascii_digit ds ≡ true → i < length ds → (digits_value 10 (take (i + 1) ds) ≡ digits_value 10 (take i ds) * 10 + (get_or ds i 0 - 48)) × (48 ≤ get_or ds i 0) × (get_or ds i 0 ≤ 57)
+pub next_digit : (ds : List ℕ) (i : ℕ) → list_all is_ascii_digit ds ≡ true → i < length ds →
+    (digits_value 10 (take (i + 1) ds) ≡ digits_value 10 (take i ds) * 10 + (get_or ds i 0 - 48)) × (48 ≤ get_or ds i 0) × (get_or ds i 0 ≤ 57)
 next_digit ds i h within =
     let digit = digit_at ds i (numerals.to ds (rw same_digit_tests at h)) within in
     (digits_value_more 10 ds i within ∙ ap (λ n. digits_value 10 (take i ds) * 10 + n) (digit_is _ digit.0 digit.1), digit.0, digit.1)

@@ -32,7 +32,8 @@ unfolding lines_behind
 within_line line text octet no_end = rw no_end refl
 
 -- the end of a line
-pub at_end : (line text : List ℕ) (octet : ℕ) → ends_line line octet ≡ true → lines_behind line (octet ∷ text) ≡ take (length line - 1) line ∷ lines_behind [] text
+pub at_end : (line text : List ℕ) (octet : ℕ) → ends_line line octet ≡ true → lines_behind line (octet ∷ text) ≡ take (length line - 1) line
+    ∷ lines_behind [] text
 unfolding lines_behind
 at_end line text octet here = rw here refl
 
@@ -71,7 +72,8 @@ KeepsLines-within value text start end found inside no_end keeps =
     record { within = omega arith; same = ap (λ (lines : List (List ℕ)). found ++ filter_map value lines) (sym step) ∙ keeps.same }
 
 -- the line that ends at an octet, without its CR
-ended_line : (text : List ℕ) (start end : ℕ) → start ≤ end → end ≤ length text → take (length (line_at text start end) - 1) (line_at text start end) ≡ line_at text start (end - 1)
+ended_line : (text : List ℕ) (start end : ℕ) → start ≤ end → end ≤ length text → take (length (line_at text start end) - 1) (line_at text start end) ≡ line_at
+    text start (end - 1)
 ended_line text start end early inside =
     let size = length-line_at text start end early inside in
     let short : length (line_at text start end) - 1 ≡ end - 1 - start = omega arith in
@@ -88,8 +90,10 @@ KeepsLines-end value text start end found inside here keeps =
     ap (lines_behind (line_at text start end)) (rest_more text end inside)
     ∙ at_end (line_at text start end) rest (get_or text end 0) here
     ∙ ap (λ (l : List ℕ). l ∷ lines_behind [] rest) (ended_line text start end early (omega arith)) in
-    let empty : line_at text (end + 1) (end + 1) ≡ [] = ap (λ (n : ℕ). take n (drop (end + 1) text)) (let none : end + 1 - (end + 1) ≡ 0 = omega arith in none) in
-    let values : filter_map value (lines_behind (line_at text start end) (drop end text)) ≡ option_to_list (value line) ++ filter_map value (lines_behind [] rest) =
+    let empty : line_at text (end + 1) (end + 1) ≡ [] = ap (λ (n : ℕ). take n (drop (end + 1) text)) (let none : end + 1 - (end + 1) ≡ 0 = omega arith in none)
+    in
+    let values : filter_map value (lines_behind (line_at text start end) (drop end text)) ≡ option_to_list (value line)
+    ++ filter_map value (lines_behind [] rest) =
     ap (filter_map value) lines ∙ cons_option-append (value line) (filter_map value (lines_behind [] rest)) in
     record {
       within = omega arith;
@@ -126,14 +130,16 @@ line_added value text start end found last next inside here keeps last_is next_i
 -- a line that ends, whose value is the second
 pub second_value : (value : List ℕ → Option (List ℕ)) (text : List ℕ) (start end : ℕ) (found last : List (List ℕ)) → end < length text
     → ends_line (line_at text start end) (get_or text end 0) ≡ true → KeepsLines value text start end found
-    → last ≡ option_to_list (value (line_at text start (end - 1))) → length (found ++ last) ≡ 2 → number_of_values (filter_map value (lines_of text)) ≡ Err BadNumber
+    → last ≡ option_to_list (value (line_at text start (end - 1))) → length (found ++ last) ≡ 2 →
+    number_of_values (filter_map value (lines_of text)) ≡ Err BadNumber
 second_value value text start end found last inside here keeps last_is two =
     let step = line_added value text start end found last (found ++ last) inside here keeps last_is refl in
     sym (ap number_of_values step.same) ∙ two_values (found ++ last) _ two
 
 -- the last line, once all octets were looked at
 pub all_values : (value : List ℕ → Option (List ℕ)) (text : List ℕ) (start end : ℕ) (found last : List (List ℕ)) → end ≤ length text → length text ≤ end
-    → KeepsLines value text start end found → last ≡ option_to_list (value (line_at text start (length text))) → found ++ last ≡ filter_map value (lines_of text)
+    → KeepsLines value text start end found → last ≡ option_to_list (value (line_at text start (length text))) →
+    found ++ last ≡ filter_map value (lines_of text)
 all_values value text start end found last inside past keeps last_is =
     let all : end ≡ length text = omega arith in
     let whole : KeepsLines value text start (length text) found = subst (λ (n : ℕ). KeepsLines value text start n found) all keeps in

@@ -72,13 +72,15 @@ pub record CanCut (octets : List ℕ) : Type 0 where
   pub auth_enough : 2 ≤ big_number 2 (auth_field octets)
   pub auth_inside : big_number 2 (auth_field octets) ≤ length (auth_field octets)
 
-header_cut : (octets : List ℕ) → IsOctets octets → 14 ≤ length octets → major_field octets ≡ 0 → octets ≡ header (length_field octets) (minor_field octets) ++ drop 4 octets
+header_cut : (octets : List ℕ) → IsOctets octets → 14 ≤ length octets → major_field octets ≡ 0 → octets ≡ header (length_field octets) (minor_field octets)
+    ++ drop 4 octets
 header_cut octets fits long major =
     cut_number 2 octets fits (omega arith)
     ∙ ap (λ (t : List ℕ). big_bytes 2 (length_field octets) ++ t) (pair_at 2 octets (omega arith))
     ∙ ap (λ (n : ℕ). big_bytes 2 (length_field octets) ++ n ∷ minor_field octets ∷ drop 4 octets) major
 
-data_cut : (octets : List ℕ) → IsOctets octets → CanCut octets → drop 4 octets ≡ data_text (reserved_in (slice_index octets 7)) (trans_field octets) (data_field octets) ++ auth_field octets
+data_cut : (octets : List ℕ) → IsOctets octets → CanCut octets → drop 4 octets ≡ data_text (reserved_in (slice_index octets 7)) (trans_field octets)
+    (data_field octets) ++ auth_field octets
 data_cut octets fits can =
     let size = data_length_field octets in
     let code = slice_index octets 6 in
@@ -90,13 +92,16 @@ data_cut octets fits can =
     let enough : 8 ≤ size = can.enough in
     let room : 4 + size + 2 ≤ length octets = can.room in
     let first : drop 4 octets ≡ big_bytes 2 size ++ drop 6 octets =
-    cut_number 2 (drop 4 octets) (IsOctets-drop 4 octets fits) (omega (arith, length-drop 4 octets)) ∙ ap (λ (t : List ℕ). big_bytes 2 size ++ t) (drop-drop 2 4 octets) in
+    cut_number 2 (drop 4 octets) (IsOctets-drop 4 octets fits) (omega (arith, length-drop 4 octets))
+    ∙ ap (λ (t : List ℕ). big_bytes 2 size ++ t) (drop-drop 2 4 octets) in
     let second : drop 6 octets ≡ code ∷ flags ∷ drop 8 octets = pair_at 6 octets (omega arith) in
     let third : drop 8 octets ≡ big_bytes 4 trans ++ drop 12 octets =
-    cut_number 4 (drop 8 octets) (IsOctets-drop 8 octets fits) (omega (arith, length-drop 8 octets)) ∙ ap (λ (t : List ℕ). big_bytes 4 trans ++ t) (drop-drop 4 8 octets) in
+    cut_number 4 (drop 8 octets) (IsOctets-drop 8 octets fits) (omega (arith, length-drop 8 octets))
+    ∙ ap (λ (t : List ℕ). big_bytes 4 trans ++ t) (drop-drop 4 8 octets) in
     let past : 12 + (size - 8) ≡ 4 + size = omega arith in
     let fourth : drop 12 octets ≡ op_data ++ left =
-    sym (take-append-drop (size - 8) (drop 12 octets)) ∙ ap (λ (t : List ℕ). op_data ++ t) (drop-drop (size - 8) 12 octets ∙ ap (λ (n : ℕ). drop n octets) past) in
+    sym (take-append-drop (size - 8) (drop 12 octets)) ∙ ap (λ (t : List ℕ). op_data ++ t) (drop-drop (size - 8) 12 octets ∙ ap (λ (n : ℕ). drop n octets) past)
+    in
     let length_is : 8 + length op_data ≡ size = omega (arith, length-take (size - 8) (drop 12 octets), length-drop 12 octets) in
     let code_is : code ≡ code / 16 * 16 + code % 16 = sym (div-add-mod' code 16) in
     first
@@ -104,17 +109,20 @@ data_cut octets fits can =
     (second ∙ ap (λ (t : List ℕ). code ∷ flags ∷ t) (third ∙ ap (λ (t : List ℕ). big_bytes 4 trans ++ t) fourth))
     ∙ ap (λ (n : ℕ). big_bytes 2 size ++ n ∷ flags ∷ (big_bytes 4 trans ++ (op_data ++ left))) code_is
     ∙ ap (λ (n : ℕ). big_bytes 2 size ++ (code / 16 * 16 + code % 16) ∷ n ∷ (big_bytes 4 trans ++ (op_data ++ left))) (flags_split flags)
-    ∙ ap (λ (n : ℕ). big_bytes 2 n ++ (code / 16 * 16 + code % 16) ∷ (reserved_in flags * 4 + bit (eqb (flags / 2 % 2) 1) * 2 + bit (eqb (flags % 2) 1)) ∷ (big_bytes 4 trans ++ (op_data ++ left))) (sym length_is)
+    ∙ ap (λ (n : ℕ). big_bytes 2 n ++ (code / 16 * 16 + code % 16) ∷ (reserved_in flags * 4 + bit (eqb (flags / 2 % 2) 1) * 2 + bit (eqb (flags % 2) 1))
+    ∷ (big_bytes 4 trans ++ (op_data ++ left))) (sym length_is)
 
 pub octets_cut : (octets : List ℕ) → IsOctets octets → CanCut octets → major_field octets ≡ 0 → length_field octets ≡ length octets
-    → octets ≡ header (length octets) (minor_field octets) ++ (data_text (reserved_in (slice_index octets 7)) (trans_field octets) (data_field octets) ++ (auth (signature_in (auth_field octets)) ++ behind_in (auth_field octets)))
+    → octets ≡ header (length octets) (minor_field octets) ++ (data_text (reserved_in (slice_index octets 7)) (trans_field octets) (data_field octets)
+    ++ (auth (signature_in (auth_field octets)) ++ behind_in (auth_field octets)))
 octets_cut octets fits can major length_is =
     let left = auth_field octets in
     let section = data_text (reserved_in (slice_index octets 7)) (trans_field octets) (data_field octets) in
     let minor = minor_field octets in
     header_cut octets fits can.long major
     ∙ ap (λ (t : List ℕ). header (length_field octets) minor ++ t)
-    (data_cut octets fits can ∙ ap (λ (t : List ℕ). section ++ t) (auth_cut left (IsOctets-drop (4 + data_length_field octets) octets fits) can.auth_enough can.auth_inside))
+    (data_cut octets fits can ∙ ap (λ (t : List ℕ). section ++ t)
+    (auth_cut left (IsOctets-drop (4 + data_length_field octets) octets fits) can.auth_enough can.auth_inside))
     ∙ ap (λ (n : ℕ). header n minor ++ (section ++ (auth (signature_in left) ++ behind_in left))) length_is
 
 -- ---- from the parts to the octets
@@ -133,7 +141,8 @@ pub record HasParts (octets : List ℕ) (minor trans : ℕ) (section : Data) (le
   pub left_is : auth_field octets ≡ left
   pub size_is : length octets ≡ 12 + length section.op_data + length left
 
-pub parts_again : (octets : List ℕ) (minor reserved trans : ℕ) (section : Data) (left : List ℕ) → length octets < 2 ^ 16 → trans < 2 ^ 32 → section.response < 16
+pub parts_again : (octets : List ℕ) (minor reserved trans : ℕ) (section : Data) (left : List ℕ) → length octets < 2 ^ 16 → trans < 2 ^ 32 →
+    section.response < 16
     → octets ≡ header (length octets) minor ++ (data_text reserved trans section ++ left) → HasParts octets minor trans section left
 unfolding made
 parts_again octets minor reserved trans section left short trans_fits nibble parts =
@@ -145,15 +154,18 @@ parts_again octets minor reserved trans section left short trans_fits nibble par
     let behind_size = code ∷ flags ∷ (big_bytes 4 trans ++ behind_trans) in
     let size_is : length octets ≡ 12 + length op_data + length left = ap length parts ∙ simp length-append (omega arith) in
     let at12 : drop 12 octets ≡ behind_trans = ap (drop 12) parts in
-    let data_length_is : data_length_field octets ≡ size = ap (λ (t : List ℕ). big_number 2 (drop 4 t)) parts ∙ big_number-big_bytes 2 size behind_size (omega arith) in
-    let opcode_is : slice_index octets 6 / 16 ≡ section.opcode = ap (λ (t : List ℕ). slice_index t 6 / 16) parts ∙ div-mul-add section.opcode 16 section.response nibble in
+    let data_length_is : data_length_field octets ≡ size = ap (λ (t : List ℕ). big_number 2 (drop 4 t)) parts
+    ∙ big_number-big_bytes 2 size behind_size (omega arith) in
+    let opcode_is : slice_index octets 6 / 16 ≡ section.opcode = ap (λ (t : List ℕ). slice_index t 6 / 16) parts
+    ∙ div-mul-add section.opcode 16 section.response nibble in
     let response_is : slice_index octets 6 % 16 ≡ section.response =
     ap (λ (t : List ℕ). slice_index t 6 % 16) parts ∙ mul-add-mod_self_right section.opcode 16 section.response ∙ mod-eq_of_lt nibble in
     let bits = flags_again reserved section.f1 section.rr in
     let f1_is : eqb (slice_index octets 7 / 2 % 2) 1 ≡ section.f1 = ap (λ (t : List ℕ). eqb (slice_index t 7 / 2 % 2) 1) parts ∙ bits.f1_is in
     let rr_is : eqb (slice_index octets 7 % 2) 1 ≡ section.rr = ap (λ (t : List ℕ). eqb (slice_index t 7 % 2) 1) parts ∙ bits.rr_is in
     let few : data_length_field octets - 8 ≡ length op_data = omega arith in
-    let op_data_is : take (data_length_field octets - 8) (drop 12 octets) ≡ op_data = ap (λ (n : ℕ). take n (drop 12 octets)) few ∙ ap (take (length op_data)) at12 ∙ take_at op_data left (length op_data) refl in
+    let op_data_is : take (data_length_field octets - 8) (drop 12 octets) ≡ op_data = ap (λ (n : ℕ). take n (drop 12 octets)) few
+    ∙ ap (take (length op_data)) at12 ∙ take_at op_data left (length op_data) refl in
     let past : 4 + data_length_field octets ≡ 12 + length op_data = omega arith in
     record {
       length_is = ap (big_number 2) parts ∙ big_number-big_bytes 2 (length octets) (0 ∷ minor ∷ (data_text reserved trans section ++ left)) short;
@@ -162,11 +174,15 @@ parts_again octets minor reserved trans section left short trans_fits nibble par
       data_length_is = data_length_is;
       trans_is = ap (λ (t : List ℕ). big_number 4 (drop 8 t)) parts ∙ big_number-big_bytes 4 trans behind_trans trans_fits;
       section_is =
-          ap (λ (n : ℕ). made n (slice_index octets 6 % 16) (eqb (slice_index octets 7 / 2 % 2) 1) (eqb (slice_index octets 7 % 2) 1) (take (data_length_field octets - 8) (drop 12 octets))) opcode_is
-          ∙ ap (λ (n : ℕ). made section.opcode n (eqb (slice_index octets 7 / 2 % 2) 1) (eqb (slice_index octets 7 % 2) 1) (take (data_length_field octets - 8) (drop 12 octets))) response_is
-          ∙ ap (λ (b : Bool). made section.opcode section.response b (eqb (slice_index octets 7 % 2) 1) (take (data_length_field octets - 8) (drop 12 octets))) f1_is
+          ap (λ (n : ℕ). made n (slice_index octets 6 % 16) (eqb (slice_index octets 7 / 2 % 2) 1) (eqb (slice_index octets 7 % 2) 1)
+          (take (data_length_field octets - 8) (drop 12 octets))) opcode_is
+          ∙ ap (λ (n : ℕ). made section.opcode n (eqb (slice_index octets 7 / 2 % 2) 1) (eqb (slice_index octets 7 % 2) 1)
+          (take (data_length_field octets - 8) (drop 12 octets))) response_is
+          ∙ ap (λ (b : Bool). made section.opcode section.response b (eqb (slice_index octets 7 % 2) 1) (take (data_length_field octets - 8) (drop 12 octets)))
+          f1_is
           ∙ ap (λ (b : Bool). made section.opcode section.response section.f1 b (take (data_length_field octets - 8) (drop 12 octets))) rr_is
           ∙ ap (λ (t : List ℕ). made section.opcode section.response section.f1 section.rr t) op_data_is;
-      left_is = ap (λ (n : ℕ). drop n octets) past ∙ sym (drop-drop (length op_data) 12 octets) ∙ ap (drop (length op_data)) at12 ∙ drop_at op_data left (length op_data) refl;
+      left_is = ap (λ (n : ℕ). drop n octets) past ∙ sym (drop-drop (length op_data) 12 octets) ∙ ap (drop (length op_data)) at12
+          ∙ drop_at op_data left (length op_data) refl;
       size_is = size_is;
     }

@@ -99,7 +99,8 @@ read_of octets message s =
     let size : length octets ≡ 12 + length op_data + length left = p.size_is in
     let content : content_at s.section ≡ Some message.content = content_again message.content s.section (omega arith) s.is_content in
     let data_fits : is_bad_data (data_length_field octets) (length octets) ≡ false =
-    or_from _ _ (le-ltb (data_length_field octets) 8 (omega (arith, p.data_length_is))) (le-ltb (length octets) (4 + data_length_field octets + 2) (omega (arith, p.data_length_is))) in
+    or_from _ _ (le-ltb (data_length_field octets) 8 (omega (arith, p.data_length_is)))
+    (le-ltb (length octets) (4 + data_length_field octets + 2) (omega (arith, p.data_length_is))) in
     let no_fault : first_fault octets ≡ None = rw (
       le-ltb (length octets) 14 (omega arith),
       not_from_true _ (eq-eqb _ _ p.length_is),

@@ -41,7 +41,8 @@ three a b c d = simp append_assoc
 
 -- ---- specifiers
 
-pub specifier_takes : (op_data : List ℕ) (spec : Specifier) → IsOctets op_data → specifier_at op_data ≡ Some spec → (spare : List ℕ) × (op_data ≡ specifier spec ++ spare)
+pub specifier_takes : (op_data : List ℕ) (spec : Specifier) → IsOctets op_data → specifier_at op_data ≡ Some spec →
+    (spare : List ℕ) × (op_data ≡ specifier spec ++ spare)
 unfolding specifier_at
 specifier_takes op_data spec fits e =
     let m = bind_some (split_counted op_data) _ spec e in
@@ -54,7 +55,8 @@ specifier_takes op_data spec fits e =
     let fourth = cuts v.0.1 h.0 third.fits h.1 in
     let made : Specifier = record { method = m.0.0; uri = u.0.0; version = v.0.0; request_headers = h.0.0 } in
     let whole : op_data ≡ specifier made ++ h.0.1 =
-    first.parts ∙ ap (λ (t : List ℕ). counted m.0.0 ++ t) (second.parts ∙ ap (λ (t : List ℕ). counted u.0.0 ++ t) (third.parts ∙ ap (λ (t : List ℕ). counted v.0.0 ++ t) fourth.parts))
+    first.parts ∙ ap (λ (t : List ℕ). counted m.0.0 ++ t) (second.parts ∙ ap (λ (t : List ℕ). counted u.0.0 ++ t)
+    (third.parts ∙ ap (λ (t : List ℕ). counted v.0.0 ++ t) fourth.parts))
     ∙ four (counted m.0.0) (counted u.0.0) (counted v.0.0) (counted h.0.0) h.0.1 in
     (h.0.1, whole ∙ ap (λ (s : Specifier). specifier s ++ h.0.1) (some_is made spec h.2))
 
@@ -66,7 +68,8 @@ specifier_again spec spare small =
     let v = spec.version in
     let h = spec.request_headers in
     let size : length (specifier spec) ≡ (2 + length m) + ((2 + length u) + ((2 + length v) + (2 + length h))) = simp length-append (omega arith) in
-    let regrouped : specifier spec ++ spare ≡ counted m ++ (counted u ++ (counted v ++ (counted h ++ spare))) = sym (four (counted m) (counted u) (counted v) (counted h) spare) in
+    let regrouped : specifier spec ++ spare ≡ counted m ++ (counted u ++ (counted v ++ (counted h ++ spare))) =
+    sym (four (counted m) (counted u) (counted v) (counted h) spare) in
     ap specifier_at regrouped
     ∙ rw (
       split_counted-counted m (counted u ++ (counted v ++ (counted h ++ spare))) (omega (arith, size)),
@@ -77,7 +80,8 @@ specifier_again spec spare small =
 
 -- ---- details
 
-pub detail_takes : (op_data : List ℕ) (known : Detail) → IsOctets op_data → detail_at op_data ≡ Some known → (spare : List ℕ) × (op_data ≡ detail known ++ spare)
+pub detail_takes : (op_data : List ℕ) (known : Detail) → IsOctets op_data → detail_at op_data ≡ Some known →
+    (spare : List ℕ) × (op_data ≡ detail known ++ spare)
 unfolding detail_at
 detail_takes op_data known fits e =
     let r = bind_some (split_counted op_data) _ known e in

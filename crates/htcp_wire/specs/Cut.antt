@@ -12,11 +12,21 @@ use Rattle.htcp_wire.specs.declared.cut.ContentCut.TheVariants.{Plain, TstAsk, T
 
 -- the specifier, without where its texts are
 abbrev pub specifier_seen : SpecifierCut → Specifier
-specifier_seen cut = record { method = cut.method.now; uri = cut.uri.now; version = cut.version.now; request_headers = cut.request_headers.now }
+specifier_seen cut = record {
+  method = cut.method.now;
+  uri = cut.uri.now;
+  version = cut.version.now;
+  request_headers =
+      cut.request_headers.now;
+}
 
 -- the detail, without where its texts are
 abbrev pub detail_seen : DetailCut → Detail
-detail_seen cut = record { response_headers = cut.response_headers.now; entity_headers = cut.entity_headers.now; cache_headers = cut.cache_headers.now }
+detail_seen cut = record {
+  response_headers = cut.response_headers.now;
+  entity_headers = cut.entity_headers.now;
+  cache_headers = cut.cache_headers.now;
+}
 
 -- the content, without where its texts are
 abbrev pub content_seen : ContentCut → Content
@@ -28,4 +38,11 @@ content_seen (ClrAsk desired reason cut) = contents.ClrAsk desired reason (speci
 
 -- DATA, without where its texts are
 abbrev pub data_seen : DataCut → Data
-data_seen cut = record { opcode = cut.opcode; response = cut.response; f1 = cut.f1; rr = cut.rr; op_data = cut.op_data.now }
+data_seen cut = record {
+  opcode = cut.opcode;
+  response = cut.response;
+  f1 = cut.f1;
+  rr = cut.rr;
+  op_data =
+      cut.op_data.now;
+}

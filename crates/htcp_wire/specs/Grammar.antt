@@ -100,7 +100,8 @@ header size minor = big_bytes 2 size ++ 0 ∷ minor ∷ []
 abbrev pub data_text : ℕ → ℕ → Data → List ℕ
 data_text reserved trans section =
     big_bytes 2 (8 + length section.op_data)
-    ++ (section.opcode * 16 + section.response) ∷ (reserved * 4 + bit section.f1 * 2 + bit section.rr) ∷ (big_bytes 4 trans ++ section.op_data)
+    ++ (section.opcode * 16 + section.response) ∷ (reserved * 4 + bit section.f1 * 2 + bit section.rr)
+    ∷ (big_bytes 4 trans ++ section.op_data)
 
 -- "AUTH": LENGTH, itself included, and a signature, which nothing looks at
 abbrev pub auth : List ℕ → List ℕ
@@ -116,4 +117,5 @@ pub record Spells (octets : List ℕ) (message : Htcp) : Type 0 where
   pub response : section.response < 16
   pub trans : message.trans < 2 ^ 32
   pub short : length octets < 2 ^ 16
-  pub parts : octets ≡ header (length octets) message.minor ++ (data_text reserved message.trans section ++ (auth signature ++ behind))
+  pub parts : octets ≡ header (length octets) message.minor
+      ++ (data_text reserved message.trans section ++ (auth signature ++ behind))

@@ -24,7 +24,8 @@ line_feed = 10
 
 -- the octet is the LF of a CR LF, if this much of its line is before it
 abbrev pub ends_line : List ℕ → ℕ → Bool
-ends_line line octet = (octet == line_feed) && nat_lt 0 (length line) && (slice_index line (length line - 1) == carriage_return)
+ends_line line octet = (octet == line_feed) && nat_lt 0 (length line)
+    && (slice_index line (length line - 1) == carriage_return)
 
 -- the lines of a text whose first line begins with this: a text is cut at each CR LF, and what
 -- follows the last one is a line too
@@ -32,7 +33,8 @@ unfoldable pub lines_behind : List ℕ → List ℕ → List (List ℕ)
 lines_behind line [] = line ∷ []
 lines_behind line (octet ∷ text) =
     let ends = ends_line line octet in
-    (if ends then take (length line - 1) line ∷ [] else []) ++ lines_behind (if ends then [] else line ++ octet ∷ []) text
+    (if ends then take (length line - 1) line ∷ [] else []) ++ lines_behind (if ends then [] else line ++ octet ∷ [])
+    text
 
 -- the lines of a text
 abbrev pub lines_of : List ℕ → List (List ℕ)
@@ -62,7 +64,8 @@ is_same_name name other = bytes_eq (map to_ascii_lowercase name) (map to_ascii_l
 unfoldable pub value_in : List ℕ → List ℕ → Option (List ℕ)
 value_in name line =
     if is_none (position is_colon line) then None
-    else (if is_same_name (before_first is_colon line) name then Some (trim_end (trim_front (after_first is_colon line))) else None)
+    else (if is_same_name (before_first is_colon line) name
+    then Some (trim_end (trim_front (after_first is_colon line))) else None)
 
 -- a decimal number from 0 to 4294967295, so of ten digits at most, without leading zeros
 abbrev pub is_number : List ℕ → Bool

@@ -13,7 +13,8 @@ ask opcode desired op_data = record { opcode = opcode; response = 0; f1 = desire
 
 -- DATA of a response, with this OP-DATA
 abbrev pub answer : ℕ → ℕ → Bool → List ℕ → Data
-answer opcode code overall op_data = record { opcode = opcode; response = code; f1 = overall; rr = true; op_data = op_data }
+answer opcode code overall op_data =
+    record { opcode = opcode; response = code; f1 = overall; rr = true; op_data = op_data }
 
 -- the DATA that is written for a content
 abbrev pub written_data : Content → Data

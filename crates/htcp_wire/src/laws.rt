@@ -16,11 +16,13 @@ pub fn grammar_is_exact()
 /// A law: the octets that are written for a message that fits spell it, so `decode` reads back what
 /// `encode` wrote.
 pub fn written_is_spelled()
-    ensures { (message : Htcp) → Fits message → message.trans < 2 ^ 32 → Spells (written message) message }
+    ensures { (message : Htcp) → Fits message → message.trans < 2 ^ 32 →
+        Spells (written message) message }
 {}
 
 /// A law: the lines in which `number_in` looks are lines of the text, and it has no others.
 pub fn lines_are_exact()
     ensures made { (text : List ℕ) → AreLines text (lines_of text) }
-    ensures alone { (text : List ℕ) (lines : List (List ℕ)) → AreLines text lines → lines ≡ lines_of text }
+    ensures alone { (text : List ℕ) (lines : List (List ℕ)) → AreLines text lines →
+        lines ≡ lines_of text }
 {}

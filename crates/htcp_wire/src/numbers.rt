@@ -77,8 +77,11 @@ fn at_most_one<'a>(
     second: Option<&'a [u8]>,
 ) -> Result<Option<&'a [u8]>, HtcpFault>
     ensures { MatchResult result
-        (λ found. option_to_list (option_copied found) ≡ option_to_list (option_copied first.entry) ++ option_to_list (option_copied second.entry))
-        (λ fault. (fault ≡ HtcpFault.BadNumber) × (length (option_to_list (option_copied first.entry) ++ option_to_list (option_copied second.entry)) ≡ 2)) }
+        (λ found. option_to_list (option_copied found) ≡ option_to_list (option_copied first.entry)
+        ++ option_to_list (option_copied second.entry))
+        (λ fault. (fault ≡ HtcpFault.BadNumber)
+        × (length (option_to_list (option_copied first.entry)
+        ++ option_to_list (option_copied second.entry)) ≡ 2)) }
 {
     match (first, second) {
         (found, None) | (None, found) => Ok(found),

@@ -27,7 +27,8 @@ pub fn decode(alloc: Global, octets: &[u8]) -> Result<Htcp, HtcpFault>
     ensures read { (message : Htcp) → Spells octets.now message →
         MatchResult result (λ found. found ≡ message) (λ fault. fault ≡ HtcpFault.NoMemory) }
     // A fault that is given is the first of the octets.
-    ensures refused { IfErr result (λ fault. fault ≢ HtcpFault.NoMemory → first_fault octets.now ≡ Some fault) }
+    ensures refused { IfErr result (λ fault. fault ≢ HtcpFault.NoMemory →
+        first_fault octets.now ≡ Some fault) }
     // `NoMemory` comes only if the octets have no fault.
     ensures memory { result ≡ Err HtcpFault.NoMemory → first_fault octets.now ≡ None }
 {
@@ -36,7 +37,8 @@ pub fn decode(alloc: Global, octets: &[u8]) -> Result<Htcp, HtcpFault>
 
 /// The message at the offsets of a datagram, if it has no fault.
 fn read(alloc: Global, octets: &[u8]) -> Result<Htcp, HtcpFault>
-    ensures ok { IfOk result (λ message. (first_fault octets.now ≡ None) × Holds octets.now message) }
+    ensures ok { IfOk result (λ message. (first_fault octets.now ≡ None)
+        × Holds octets.now message) }
     ensures err { IfErr result (λ fault. (first_fault octets.now ≡ Some fault)
         ⊎ ((first_fault octets.now ≡ None) × (fault ≡ HtcpFault.NoMemory))) }
 {
@@ -75,8 +77,10 @@ struct Parts<'a> {
 #[tactic(auto, unfolding(crate::specs::Faults::first_fault))]
 fn split_parts(octets: &[u8]) -> Result<Parts<'_>, HtcpFault>
     ensures { MatchResult result
-        (λ parts. (2 ≤ length parts.auth.now) × (parts.minor ≡ minor_field octets.now) × (parts.trans ≡ trans_field octets.now)
-        × (data_seen parts.section ≡ data_field octets.now) × (parts.auth.now ≡ auth_field octets.now)
+        (λ parts. (2 ≤ length parts.auth.now) × (parts.minor ≡ minor_field octets.now)
+        × (parts.trans ≡ trans_field octets.now)
+        × (data_seen parts.section ≡ data_field octets.now)
+        × (parts.auth.now ≡ auth_field octets.now)
         × (first_fault octets.now ≡ fault_behind (data_field octets.now) (auth_field octets.now)))
         (λ fault. first_fault octets.now ≡ Some fault) }
 {

@@ -103,7 +103,8 @@ fn head(content: &Content, length: u16, trans: u32) -> [u8; HEAD_LENGTH]
     requires long { 14 ≤ length }
     ensures { let section = written_data content.now in
         result ≡ header length 0 ++ (big_bytes 2 (length - 6)
-        ++ (section.opcode * 16 + section.response) ∷ (0 * 4 + bit section.f1 * 2 + bit section.rr) ∷ big_bytes 4 trans) }
+        ++ (section.opcode * 16 + section.response) ∷ (0 * 4 + bit section.f1 * 2 + bit section.rr)
+        ∷ big_bytes 4 trans) }
 {
     let mut head = [0; HEAD_LENGTH];
     BigEndian::write_u16(&mut head, length);
@@ -117,7 +118,8 @@ fn head(content: &Content, length: u16, trans: u32) -> [u8; HEAD_LENGTH]
 /// OPCODE and RESPONSE, which is 0 in a request.
 fn code_octet(content: &Content) -> u8
     requires { InRange content.now }
-    ensures { let section = written_data content.now in result ≡ section.opcode * 16 + section.response }
+    ensures { let section = written_data content.now in result
+        ≡ section.opcode * 16 + section.response }
 {
     match content {
         Content::NopAsk { .. } | Content::NopAnswer => NOP * 16,
@@ -134,7 +136,8 @@ fn code_octet(content: &Content) -> u8
 
 /// RESERVED, which is 0, F1 and RR.
 fn flags_octet(content: &Content) -> u8
-    ensures { let section = written_data content.now in result ≡ 0 * 4 + bit section.f1 * 2 + bit section.rr }
+    ensures { let section = written_data content.now in result
+        ≡ 0 * 4 + bit section.f1 * 2 + bit section.rr }
 {
     match content {
         Content::NopAsk { desired }

@@ -83,7 +83,8 @@ not_long fault kind is =
     false≢true no_read
 
 -- a buffer that was not filled is a body that was cut
-pub cuts_body : (a b : Option (List ℕ)) (old behind front buffer : List ℕ) (start len came turns : ℕ) (fault : FetchFault) → start ≤ length old → behind ≡ drop start old
+pub cuts_body : (a b : Option (List ℕ)) (old behind front buffer : List ℕ) (start len came turns : ℕ) (fault : FetchFault) → start ≤ length old →
+    behind ≡ drop start old
     → came ≡ min (length behind) len → front ≡ take came behind → length buffer ≡ len → len ≤ 65536 → turns ≤ length old
     → FillsShort a b turns came front buffer fault → CutsBodyOf a b old start len fault
 cuts_body a b old behind front buffer start len came turns fault within behind_is came_is front_is len_is small counted cut =

@@ -25,10 +25,12 @@ take_two xs n a b within first second =
     ∙ append_assoc (take n xs) (a ∷ []) (b ∷ [])
 
 -- a line, the octets that it announces, and CRLF are a chunk
-pub chunk_stands : (octets : List ℕ) (at len size : ℕ) (rest after octets_of behind old new : List ℕ) → at ≤ length octets → rest ≡ drop at octets → after ≡ drop len rest → octets_of ≡ take size after → behind ≡ drop size after
+pub chunk_stands : (octets : List ℕ) (at len size : ℕ) (rest after octets_of behind old new : List ℕ) → at ≤ length octets → rest ≡ drop at octets →
+    after ≡ drop len rest → octets_of ≡ take size after → behind ≡ drop size after
     → (l : ChunkLine) × IsChunkLineAt rest len size l → len ≤ 256 → size ≢ 0 → size + 2 ≤ length after
     → get_or behind 0 0 ≡ 13 → get_or behind 1 0 ≡ 10 → new ≡ old ++ octets_of → AddsChunk octets at (at + len + size + 2) old new
-chunk_stands octets at len size rest after octets_of behind old new inside rest_is after_is chunk_is behind_is (l, line) short some room cr_behind lf_behind gained =
+chunk_stands octets at len size rest after octets_of behind old new inside rest_is after_is chunk_is behind_is (l, line) short some room cr_behind lf_behind
+    gained =
     let place : (k : ℕ) → get_or after (size + k) 0 ≡ get_or behind k 0 = λ k. sym (get_or-drop size after k 0) ∙ ap (λ t. get_or t k 0) (sym behind_is) in
     let zero_on : size ≡ size + 0 = omega arith in
     let cr = ap (λ k. get_or after k 0) zero_on ∙ place 0 ∙ cr_behind in
@@ -78,7 +80,8 @@ take-sum (suc m) n (x ∷ xs) =
     ap (λ k. take k (x ∷ xs)) step ∙ ap (λ t. x ∷ t) (take-sum m n xs)
 
 -- one more chunk
-pub chunks_more : (octets : List ℕ) (start at next : ℕ) (old new : List ℕ) → ChunksUpTo octets start at old → AddsChunk octets at next old new → ChunksUpTo octets start next new
+pub chunks_more : (octets : List ℕ) (start at next : ℕ) (old new : List ℕ) → ChunksUpTo octets start at old → AddsChunk octets at next old new →
+    ChunksUpTo octets start next new
 chunks_more octets start at next old new up adds =
     let forward = up.forward in
     let ahead = adds.forward in
@@ -91,13 +94,15 @@ chunks_more octets start at next old new up adds =
           ∙ ap₂ (λ a b. a ++ b) up.text (ap (take (next - at)) (drop-drop (at - start) start octets ∙ ap (λ k. drop k octets) there) ∙ adds.text)
           ∙ sym (flat_map-append print_chunk up.chunks (adds.chunk ∷ []) ∙ ap (λ t. flat_map print_chunk up.chunks ++ t) (append-nil (print_chunk adds.chunk)));
       body_is = adds.gained ∙ ap (λ t. t ++ adds.chunk.octets) up.body_is
-          ∙ sym (flat_map-append (λ c. c.octets) up.chunks (adds.chunk ∷ []) ∙ ap (λ t. flat_map (λ c. c.octets) up.chunks ++ t) (append-nil adds.chunk.octets));
+          ∙ sym (flat_map-append (λ c. c.octets) up.chunks (adds.chunk ∷ []) ∙ ap (λ t. flat_map (λ c. c.octets) up.chunks ++ t)
+          (append-nil adds.chunk.octets));
       forward = omega arith;
       within = adds.within;
     }
 
 -- more octets after the chunks
-pub chunks_grown : (octets grown piece : List ℕ) (start at : ℕ) (body : List ℕ) → grown ≡ octets ++ piece → ChunksUpTo octets start at body → ChunksUpTo grown start at body
+pub chunks_grown : (octets grown piece : List ℕ) (start at : ℕ) (body : List ℕ) → grown ≡ octets ++ piece → ChunksUpTo octets start at body →
+    ChunksUpTo grown start at body
 chunks_grown octets grown piece start at body is up =
     let forward = up.forward in
     let within = up.within in
@@ -139,7 +144,8 @@ last_grown octets grown piece at end is last =
     }
 
 -- more octets after the chunks and the line of the last one
-pub holds_grown : (octets grown piece : List ℕ) (start end : ℕ) (body : List ℕ) → grown ≡ octets ++ piece → HoldsChunks octets start end body → HoldsChunks grown start end body
+pub holds_grown : (octets grown piece : List ℕ) (start end : ℕ) (body : List ℕ) → grown ≡ octets ++ piece → HoldsChunks octets start end body →
+    HoldsChunks grown start end body
 holds_grown octets grown piece start end body is holds = record {
   at = holds.at;
   chunks = chunks_grown octets grown piece start holds.at body is holds.chunks;
@@ -147,7 +153,8 @@ holds_grown octets grown piece start end body is holds = record {
 }
 
 -- a fault of the reader comes while a chunk is not whole
-pub read_stops : (reader : Option (List ℕ)) (octets rest : List ℕ) (body_len : ℕ) (fault : FetchFault) → IsTrue (is_read_fault fault) → IsOpenChunk rest body_len
+pub read_stops : (reader : Option (List ℕ)) (octets rest : List ℕ) (body_len : ℕ) (fault : FetchFault) → IsTrue (is_read_fault fault) →
+    IsOpenChunk rest body_len
     → (fault ≡ EndOfInput → IsAtEnd reader) → (fault ≡ TooManyTurns → 70000 ≤ length octets) → StopsAtChunk reader octets rest body_len fault
 read_stops reader octets rest body_len Io kind opened ended spent = opened
 read_stops reader octets rest body_len EndOfInput kind opened ended spent = (opened, ended refl)

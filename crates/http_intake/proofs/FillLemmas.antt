@@ -25,9 +25,11 @@ take-filled buffer written at room count next within few is =
 
 -- a call that gave octets
 pub fills_more : (a b c : Option (List ℕ)) (front buffer written : List ℕ) (at room count next : ℕ) → Takes a b front (take at buffer)
-    → Consumes b c (take count written) → at ≤ length buffer → count ≤ length written → next ≡ at + count → Takes a c front (take next (put_mid at room buffer written))
+    → Consumes b c (take count written) → at ≤ length buffer → count ≤ length written → next ≡ at + count →
+    Takes a c front (take next (put_mid at room buffer written))
 fills_more a b c front buffer written at room count next taken consumed within few is =
-    takes_then a b c front (take at buffer) (take next (put_mid at room buffer written)) taken (take count written, take-filled buffer written at room count next within few is, consumed)
+    takes_then a b c front (take at buffer) (take next (put_mid at room buffer written)) taken
+    (take count written, take-filled buffer written at room count next within few is, consumed)
 
 -- a call that gave none
 pub fills_none : (a b c : Option (List ℕ)) (front buffer written : List ℕ) (at room : ℕ) → Takes a b front (take at buffer)

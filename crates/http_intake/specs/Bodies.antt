@@ -8,7 +8,8 @@ use Rattle.http_intake.specs.Reading.{Takes, most_turns, is_read_fault}
 
 -- the octets read grew, `len` of them from `start` on are the body, and no octet after the body
 -- was taken
-pub record ReadsBodyOf (reader_old reader_new : Option (List ℕ)) (old : List ℕ) (start len : ℕ) (body : List ℕ) : Type 0 where
+pub record ReadsBodyOf (reader_old reader_new : Option (List ℕ)) (old : List ℕ) (start len : ℕ) (body : List ℕ) :
+    Type 0 where
   pub octets : List ℕ
   pub taken : Takes reader_old reader_new old octets
   pub whole : start + len ≤ length octets
@@ -30,14 +31,16 @@ StopsBefore len reader octets start BodyTooLong = longest_body < len
 StopsBefore len reader octets start fault = ⊥
 
 -- the octets read grew, and then reading stopped; where the length is too great nothing was read
-pub record CutsBodyOf (reader_old reader_new : Option (List ℕ)) (old : List ℕ) (start len : ℕ) (fault : FetchFault) : Type 0 where
+pub record CutsBodyOf (reader_old reader_new : Option (List ℕ)) (old : List ℕ) (start len : ℕ) (fault : FetchFault) :
+    Type 0 where
   pub octets : List ℕ
   pub taken : Takes reader_old reader_new old octets
   pub untouched : fault ≡ BodyTooLong → octets ≡ old
   pub why : StopsBefore len reader_new octets start fault
 
 -- the octets read grew by all that the reader had, and from `start` on they are the body
-pub record ReadsToEnd (reader_old reader_new : Option (List ℕ)) (old : List ℕ) (start : ℕ) (body : List ℕ) : Type 0 where
+pub record ReadsToEnd (reader_old reader_new : Option (List ℕ)) (old : List ℕ) (start : ℕ) (body : List ℕ) :
+    Type 0 where
   pub octets : List ℕ
   pub taken : Takes reader_old reader_new old octets
   pub ended : IsAtEnd reader_new
@@ -54,14 +57,16 @@ StopsBeforeEnd octets start BodyTooLong = start + longest_body < length octets
 StopsBeforeEnd octets start fault = ⊥
 
 -- the octets read grew, and then reading stopped
-pub record CutsToEnd (reader_old reader_new : Option (List ℕ)) (old : List ℕ) (start : ℕ) (fault : FetchFault) : Type 0 where
+pub record CutsToEnd (reader_old reader_new : Option (List ℕ)) (old : List ℕ) (start : ℕ) (fault : FetchFault) :
+    Type 0 where
   pub octets : List ℕ
   pub taken : Takes reader_old reader_new old octets
   pub why : StopsBeforeEnd octets start fault
 
 -- the front of a buffer grew by what the reader gave, and then reading stopped before the buffer
 -- was full
-pub record FillsShort (reader_old reader_new : Option (List ℕ)) (turns from : ℕ) (front buffer : List ℕ) (fault : FetchFault) : Type 0 where
+pub record FillsShort (reader_old reader_new : Option (List ℕ)) (turns from : ℕ) (front buffer : List ℕ)
+    (fault : FetchFault) : Type 0 where
   pub at : ℕ
   pub taken : Takes reader_old reader_new front (take at buffer)
   pub forward : from ≤ at

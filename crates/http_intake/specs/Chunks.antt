@@ -60,24 +60,29 @@ IsOpenLine rest = HasNoChunkLine rest × MayBecomeChunkLine rest × (length rest
 -- a chunk's line within its limit stands at the front, not that of the last chunk, and a body of
 -- `body_len` octets may gain as many as it announces
 abbrev pub HasChunkLine : List ℕ → ℕ → ℕ → ℕ → Type 0
-HasChunkLine rest body_len len size = HasLine rest len size × (len ≤ longest_line) × (0 < size) × (body_len + size ≤ longest_body)
+HasChunkLine rest body_len len size = HasLine rest len size × (len ≤ longest_line) × (0 < size)
+    × (body_len + size ≤ longest_body)
 
 -- the octets are a front of a chunk's line, or a line with fewer octets than it announces and CRLF
 abbrev pub IsOpenChunk : List ℕ → ℕ → Type 0
-IsOpenChunk rest body_len = IsOpenLine rest ⊎ ((len : ℕ) × (size : ℕ) × HasChunkLine rest body_len len size × (length rest < len + size + 2))
+IsOpenChunk rest body_len = IsOpenLine rest
+    ⊎ ((len : ℕ) × (size : ℕ) × HasChunkLine rest body_len len size × (length rest < len + size + 2))
 
 -- no chunk's line within its limit stands at the front, whatever follows
 abbrev pub HasBadLine : List ℕ → Type 0
 HasBadLine rest =
-    NeverHasChunkLine rest ⊎ ((longest_line ≤ length rest) × HasNoChunkLine rest) ⊎ ((len : ℕ) × (size : ℕ) × HasLine rest len size × (longest_line < len))
+    NeverHasChunkLine rest ⊎ ((longest_line ≤ length rest) × HasNoChunkLine rest)
+    ⊎ ((len : ℕ) × (size : ℕ) × HasLine rest len size × (longest_line < len))
 
 -- no CRLF follows the octets of the chunk
 abbrev pub HasBadEnd : List ℕ → ℕ → Type 0
-HasBadEnd rest body_len = (len : ℕ) × (size : ℕ) × HasChunkLine rest body_len len size × (len + size + 2 ≤ length rest) × (take 2 (drop size (drop len rest)) ≢ crlf_bytes)
+HasBadEnd rest body_len = (len : ℕ) × (size : ℕ) × HasChunkLine rest body_len len size × (len + size + 2 ≤ length rest)
+    × (take 2 (drop size (drop len rest)) ≢ crlf_bytes)
 
 -- a chunk's line announces more octets than a body of `body_len` octets may gain
 abbrev pub IsTooLong : List ℕ → ℕ → Type 0
-IsTooLong rest body_len = (len : ℕ) × (size : ℕ) × HasLine rest len size × (len ≤ longest_line) × (longest_body < body_len + size)
+IsTooLong rest body_len = (len : ℕ) × (size : ℕ) × HasLine rest len size × (len ≤ longest_line)
+    × (longest_body < body_len + size)
 
 -- what stands at `at`, and what the body gained by it
 abbrev pub IsStep : List ℕ → ℕ → List ℕ → List ℕ → ChunkStep → Type 0

@@ -25,11 +25,13 @@ head_window start octets = take longest_head (drop start octets)
 -- the head of a request does not end within the limit, though some continuation ends it; or it has
 -- too many fields
 abbrev pub IsLongRequest : List ℕ → Type 0
-IsLongRequest window = ((longest_head ≤ length window) × HasNoRequest window × MayBecomeRequest window) ⊎ RequestExceeds most_fields window
+IsLongRequest window = ((longest_head ≤ length window) × HasNoRequest window × MayBecomeRequest window)
+    ⊎ RequestExceeds most_fields window
 
 -- the same for a response
 abbrev pub IsLongResponse : List ℕ → Type 0
-IsLongResponse window = ((longest_head ≤ length window) × HasNoResponse window × MayBecomeResponse window) ⊎ ResponseExceeds most_fields window
+IsLongResponse window = ((longest_head ≤ length window) × HasNoResponse window × MayBecomeResponse window)
+    ⊎ ResponseExceeds most_fields window
 
 -- The head of a request may still come of these octets: it has not ended, they are fewer than its
 -- limit, and some continuation makes them one, or they end within a target, whose test for UTF-8

@@ -23,7 +23,8 @@ pub record HoldsTrailer (octets : List ℕ) (start end : ℕ) : Type 0 where
 -- the trailer does not end within the limit, though some continuation ends it; or it has too many
 -- fields
 abbrev pub IsLongTrailer : List ℕ → Type 0
-IsLongTrailer window = ((longest_head ≤ length window) × HasNoSection window × MayBecomeSection window) ⊎ SectionExceeds most_fields window
+IsLongTrailer window = ((longest_head ≤ length window) × HasNoSection window × MayBecomeSection window)
+    ⊎ SectionExceeds most_fields window
 
 -- a trailer may still come of these octets: it has not ended, they are fewer than its limit, and
 -- some continuation makes them one
@@ -55,4 +56,5 @@ pub record HoldsChunkedBody (octets : List ℕ) (start end : ℕ) (body : List �
 abbrev pub StopsInChunkedBody : Option (List ℕ) → List ℕ → ℕ → FetchFault → Type 0
 StopsInChunkedBody reader octets start fault =
     StopsInChunks reader octets start fault
-    ⊎ ((trailer : ℕ) × (body : List ℕ) × HoldsChunks octets start trailer body × (length body ≤ longest_body) × StopsInTrailer reader octets trailer fault)
+    ⊎ ((trailer : ℕ) × (body : List ℕ) × HoldsChunks octets start trailer body × (length body ≤ longest_body)
+    × StopsInTrailer reader octets trailer fault)

@@ -27,7 +27,8 @@ impl Intake {
         len: u64,
     ) -> Result<Vec<u8>, FetchFault>
         requires { start ≤ length self }
-        ensures body { IfOk result (λ body. ReadsBodyOf (R.remaining reader.old) (R.remaining reader.new)
+        ensures body { IfOk result (λ body.
+            ReadsBodyOf (R.remaining reader.old) (R.remaining reader.new)
             self start len body.items) }
         ensures short { IfOk result (λ body. vec_len body ≤ longest_body) }
         ensures cut { IfErr result
@@ -63,7 +64,8 @@ impl Intake {
         start: usize,
     ) -> Result<Vec<u8>, FetchFault>
         requires { start ≤ length self }
-        ensures body { IfOk result (λ body. ReadsToEnd (R.remaining reader.old) (R.remaining reader.new)
+        ensures body { IfOk result (λ body.
+            ReadsToEnd (R.remaining reader.old) (R.remaining reader.new)
             self start body.items) }
         ensures stopped { IfErr result
             (CutsToEnd (R.remaining reader.old) (R.remaining reader.new) self start) }

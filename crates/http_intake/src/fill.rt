@@ -21,7 +21,8 @@ pub(crate) fn fill<R: Read>(
     requires from { from ≤ length buffer.old }
     requires turns { turns ≤ 70000 }
     ensures filled { OnOk result
-        (Takes (R.remaining reader.old) (R.remaining reader.new) (take from buffer.old) buffer.new) }
+        (Takes (R.remaining reader.old) (R.remaining reader.new)
+        (take from buffer.old) buffer.new) }
     ensures stopped { IfErr result (FillsShort (R.remaining reader.old) (R.remaining reader.new)
         turns from (take from buffer.old) buffer.new) }
 {

@@ -153,7 +153,8 @@ impl Intake {
             → NeverHasRequest (head_window start self.new) }
         ensures long { IsErrOf result FetchFault.HeadTooLong
             → IsLongRequest (head_window start self.new) }
-        ensures open { IfErr result (λ fault. IsReadFault fault → IsOpenRequest (drop start self.new)) }
+        ensures open { IfErr result (λ fault. IsReadFault fault →
+            IsOpenRequest (drop start self.new)) }
         ensures ended { IsErrOf result FetchFault.EndOfInput → IsAtEnd (R.remaining reader.new) }
         ensures spent { IsErrOf result FetchFault.TooManyTurns → most_turns ≤ length self.new }
         ensures faults { IfErr result IsHeadFault }
@@ -190,7 +191,8 @@ impl Intake {
             → NeverHasRequest (head_window start self.now) }
         ensures long { IsErrOf result FetchFault.HeadTooLong
             → IsLongRequest (head_window start self.now) }
-        ensures cut { IfErr result (λ e. IsReadFault e → (e ≡ fault) × IsOpenRequest (drop start self.now)) }
+        ensures cut { IfErr result (λ e. IsReadFault e → (e ≡ fault)
+            × IsOpenRequest (drop start self.now)) }
         ensures faults { IfErr result IsHeadFault }
     {
         match judge_request(self.window(start), headers) {
@@ -230,7 +232,8 @@ impl Intake {
             → NeverHasResponse (head_window start self.new) }
         ensures long { IsErrOf result FetchFault.HeadTooLong
             → IsLongResponse (head_window start self.new) }
-        ensures open { IfErr result (λ fault. IsReadFault fault → IsOpenResponse (drop start self.new)) }
+        ensures open { IfErr result (λ fault. IsReadFault fault →
+            IsOpenResponse (drop start self.new)) }
         ensures ended { IsErrOf result FetchFault.EndOfInput → IsAtEnd (R.remaining reader.new) }
         ensures spent { IsErrOf result FetchFault.TooManyTurns → most_turns ≤ length self.new }
         ensures faults { IfErr result IsHeadFault }
@@ -267,7 +270,8 @@ impl Intake {
             → NeverHasResponse (head_window start self.now) }
         ensures long { IsErrOf result FetchFault.HeadTooLong
             → IsLongResponse (head_window start self.now) }
-        ensures cut { IfErr result (λ e. IsReadFault e → (e ≡ fault) × IsOpenResponse (drop start self.now)) }
+        ensures cut { IfErr result (λ e. IsReadFault e → (e ≡ fault)
+            × IsOpenResponse (drop start self.now)) }
         ensures faults { IfErr result IsHeadFault }
     {
         match judge_response(self.window(start), headers) {

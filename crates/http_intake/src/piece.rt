@@ -23,7 +23,8 @@ pub(crate) fn read_piece<R: Read>(
     reader: &mut R,
 ) -> Result<(), FetchFault>
     requires { turns.old ≤ 70000 }
-    ensures taken { Takes (R.remaining reader.old) (R.remaining reader.new) octets.old.items octets.new.items }
+    ensures taken { Takes (R.remaining reader.old)
+        (R.remaining reader.new) octets.old.items octets.new.items }
     ensures kept { OnErr result (octets.new.items ≡ octets.old.items) }
     ensures turn { OnOk result (turns.new ≡ turns.old + 1) }
     ensures few_turns { turns.new ≤ 70000 }

@@ -40,9 +40,11 @@ impl Intake {
     ) -> Result<(Vec<u8>, usize), FetchFault>
         requires { start ≤ length self.old }
         ensures taken { Takes (R.remaining reader.old) (R.remaining reader.new) self.old self.new }
-        ensures body { IfOk result (λ found. HoldsChunkedBody self.new start found.1 found.0.items) }
+        ensures body { IfOk result (λ found.
+            HoldsChunkedBody self.new start found.1 found.0.items) }
         ensures short { IfOk result (λ found. vec_len found.0 ≤ longest_body) }
-        ensures stopped { IfErr result (StopsInChunkedBody (R.remaining reader.new) self.new start) }
+        ensures stopped { IfErr result
+            (StopsInChunkedBody (R.remaining reader.new) self.new start) }
     {
         let (body, trailer) = match self.read_chunks(alloc, reader, start) {
             Ok(found) => found,

@@ -32,7 +32,8 @@ unfolding members_from
 whole quoting [] = refl
 whole quoting (octet ∷ text) = first (ends_member quoting octet) octet (members_from Outside text) (members_from (quoting_after quoting octet) text)
   where
-    first : (ends : Bool) (octet : ℕ) (behind within : List (List ℕ)) → onto_front [] (elim ends [ true ↦ [] ∷ behind | false ↦ onto_first octet within ]) ≡ elim ends [ true ↦ [] ∷ behind | false ↦ onto_first octet within ]
+    first : (ends : Bool) (octet : ℕ) (behind within : List (List ℕ)) →
+        onto_front [] (elim ends [ true ↦ [] ∷ behind | false ↦ onto_first octet within ]) ≡ elim ends [ true ↦ [] ∷ behind | false ↦ onto_first octet within ]
     first true octet behind within = refl
     first false octet behind [] = refl
     first false octet behind (part ∷ parts) = refl
@@ -43,7 +44,8 @@ IsCutTo-start text = record { same = whole Outside text }
 
 -- the equations of `members_from`: an octet that ends no member, one that does, and the end of the
 -- text
-pub inside_member : (quoting : Quoting) (octet : ℕ) (text : List ℕ) → ends_member quoting octet ≡ false → members_from quoting (octet ∷ text) ≡ onto_first octet (members_from (quoting_after quoting octet) text)
+pub inside_member : (quoting : Quoting) (octet : ℕ) (text : List ℕ) → ends_member quoting octet ≡ false →
+    members_from quoting (octet ∷ text) ≡ onto_first octet (members_from (quoting_after quoting octet) text)
 unfolding members_from
 inside_member quoting octet text no_end = rw (no_end, members_from) refl
 
@@ -56,7 +58,8 @@ unfolding members_from
 last_member quoting = refl
 
 -- an octet that ends no member
-pub IsCutTo-more : (text : List ℕ) (place : ℕ) (quoting : Quoting) → place < length text → ends_member quoting (get_or text place 0) ≡ false → IsCutTo text place quoting → IsCutTo text (place + 1) (quoting_after quoting (get_or text place 0))
+pub IsCutTo-more : (text : List ℕ) (place : ℕ) (quoting : Quoting) → place < length text → ends_member quoting (get_or text place 0) ≡ false →
+    IsCutTo text place quoting → IsCutTo text (place + 1) (quoting_after quoting (get_or text place 0))
 IsCutTo-more text place quoting inside no_end cut =
     let octet = get_or text place 0 in
     let front = take place text in
@@ -75,7 +78,8 @@ abbrev pub cut_at : List ℕ → ℕ → List (List ℕ)
 cut_at text end = take end text ∷ cond (ltb end (length text)) (members (drop (end + 1) text)) []
 
 -- the loop stops at the octet that ends the first member
-pub cut_at_comma : (text : List ℕ) (place : ℕ) (quoting : Quoting) → place < length text → ends_member quoting (get_or text place 0) ≡ true → IsCutTo text place quoting → members text ≡ cut_at text place
+pub cut_at_comma : (text : List ℕ) (place : ℕ) (quoting : Quoting) → place < length text → ends_member quoting (get_or text place 0) ≡ true →
+    IsCutTo text place quoting → members text ≡ cut_at text place
 cut_at_comma text place quoting inside here cut =
     let octet = get_or text place 0 in
     let front = take place text in

@@ -13,13 +13,15 @@ use Rattle.http_lists.proofs.Cuts.{inside_member, at_end, last_member}
 -- ---- what is cut are members
 
 -- an octet that ends no member before the first
-longer : (quoting : Quoting) (octet : ℕ) (text : List ℕ) (parts : List (List ℕ)) → ends_member quoting octet ≡ false → HasMembers (quoting_after quoting octet) text parts
+longer : (quoting : Quoting) (octet : ℕ) (text : List ℕ) (parts : List (List ℕ)) → ends_member quoting octet ≡ false →
+    HasMembers (quoting_after quoting octet) text parts
     → HasMembers quoting (octet ∷ text) (onto_first octet parts)
 longer quoting octet text parts no_end (one member whole) = one (octet ∷ member) (rw no_end whole)
 longer quoting octet text parts no_end (more member whole out others) = more (octet ∷ member) (rw no_end whole) out others
 
 -- a comma outside quoted strings
-comma_first : (quoting : Quoting) (octet : ℕ) (text : List ℕ) (parts : List (List ℕ)) → ends_member quoting octet ≡ true → HasMembers Outside text parts → HasMembers quoting (octet ∷ text) ([] ∷ parts)
+comma_first : (quoting : Quoting) (octet : ℕ) (text : List ℕ) (parts : List (List ℕ)) → ends_member quoting octet ≡ true → HasMembers Outside text parts →
+    HasMembers quoting (octet ∷ text) ([] ∷ parts)
 comma_first Outside octet text parts here others =
     subst (λ (o : ℕ). HasMembers Outside (o ∷ text) ([] ∷ parts)) (sym (eqb-true octet comma here)) (more [] refl refl others)
 comma_first Inside octet text parts here others = cc
@@ -30,11 +32,14 @@ pub made : (quoting : Quoting) (text : List ℕ) → HasMembers quoting text (me
 made quoting [] = rw last_member (one [] refl)
 made quoting (octet ∷ text) = by_cases (ends_member quoting octet) refl (made Outside text) (made (quoting_after quoting octet) text)
   where
-    by_cases : (ends : Bool) → ends_member quoting octet ≡ ends → HasMembers Outside text (members text) → HasMembers (quoting_after quoting octet) text (members_from (quoting_after quoting octet) text)
+    by_cases : (ends : Bool) → ends_member quoting octet ≡ ends → HasMembers Outside text (members text) →
+        HasMembers (quoting_after quoting octet) text (members_from (quoting_after quoting octet) text)
         → HasMembers quoting (octet ∷ text) (members_from quoting (octet ∷ text))
-    by_cases true here behind within = subst (HasMembers quoting (octet ∷ text)) (sym (at_end quoting octet text here)) (comma_first quoting octet text (members text) here behind)
+    by_cases true here behind within = subst (HasMembers quoting (octet ∷ text)) (sym (at_end quoting octet text here))
+        (comma_first quoting octet text (members text) here behind)
     by_cases false no_end behind within =
-        subst (HasMembers quoting (octet ∷ text)) (sym (inside_member quoting octet text no_end)) (longer quoting octet text (members_from (quoting_after quoting octet) text) no_end within)
+        subst (HasMembers quoting (octet ∷ text)) (sym (inside_member quoting octet text no_end))
+        (longer quoting octet text (members_from (quoting_after quoting octet) text) no_end within)
 
 -- ---- there are no others
 
@@ -53,7 +58,8 @@ one_member quoting (octet ∷ member) whole =
 -- the first member of a list ends at the comma after it
 first_member : (quoting : Quoting) (member value : List ℕ) → is_unbroken quoting member ≡ true → quoting_behind quoting member ≡ Outside
     → members_from quoting (member ++ comma ∷ value) ≡ member ∷ members value
-first_member quoting [] value whole out = subst (λ (q : Quoting). members_from q (comma ∷ value) ≡ [] ∷ members value) (sym out) (at_end Outside comma value refl)
+first_member quoting [] value whole out = subst (λ (q : Quoting). members_from q (comma ∷ value) ≡ [] ∷ members value) (sym out)
+    (at_end Outside comma value refl)
 first_member quoting (octet ∷ member) value whole out =
     let parts = no_end_from (ends_member quoting octet) _ whole in
     inside_member quoting octet (member ++ comma ∷ value) parts.0 ∙ ap (onto_first octet) (first_member (quoting_after quoting octet) member value parts.1 out)

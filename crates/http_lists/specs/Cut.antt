@@ -18,6 +18,8 @@ is_unbroken quoting (octet ∷ text) = not (ends_member quoting octet) && is_unb
 -- A value, given the state of its first octet, has these members: one member, which is all of it;
 -- or a member that ends outside quoted strings, a comma, and a rest that has the others.
 pub data HasMembers : Quoting → List ℕ → List (List ℕ) → Type 0 where
-  one : {quoting : Quoting} → (member : List ℕ) → is_unbroken quoting member ≡ true → HasMembers quoting member (member ∷ [])
-  more : {quoting : Quoting} → (member : List ℕ) {value : List ℕ} {others : List (List ℕ)} → is_unbroken quoting member ≡ true → quoting_behind quoting member ≡ Outside
+  one : {quoting : Quoting} → (member : List ℕ) → is_unbroken quoting member ≡ true →
+      HasMembers quoting member (member ∷ [])
+  more : {quoting : Quoting} → (member : List ℕ) {value : List ℕ} {others : List (List ℕ)} →
+      is_unbroken quoting member ≡ true → quoting_behind quoting member ≡ Outside
       → HasMembers Outside value others → HasMembers quoting (member ++ comma ∷ value) (member ∷ others)

@@ -9,5 +9,6 @@ ghost use Rattle.http_lists.specs.Members.{members};
 /// The function does nothing; its contract states the law.
 pub fn members_are_exact()
     ensures made { (value : List ℕ) → HasMembers Outside value (members value) }
-    ensures alone { (value : List ℕ) (parts : List (List ℕ)) → HasMembers Outside value parts → parts ≡ members value }
+    ensures alone { (value : List ℕ) (parts : List (List ℕ)) → HasMembers Outside value parts →
+        parts ≡ members value }
 {}

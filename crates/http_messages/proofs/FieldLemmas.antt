@@ -21,7 +21,8 @@ module _ (fields : List Field) (i : ℕ) (within : i < length fields) (field : F
   here = get_or-map field_text fields i field (field_text field) within ∙ ap field_text (sym is)
 
   -- one more field that passes
-  pub all_more : (p : FieldText → Bool) → list_all p (take i (map field_text fields)) ≡ true → p (field_text field) ≡ true → list_all p (take (i + 1) (map field_text fields)) ≡ true
+  pub all_more : (p : FieldText → Bool) → list_all p (take i (map field_text fields)) ≡ true → p (field_text field) ≡ true →
+      list_all p (take (i + 1) (map field_text fields)) ≡ true
   all_more p before now =
       list_all_more p (map field_text fields) i (field_text field) inside ∙ and_from _ _ before (ap p here ∙ now)
 
@@ -30,8 +31,10 @@ module _ (fields : List Field) (i : ℕ) (within : i < length fields) (field : F
   all_fails p now = list_all_at p (map field_text fields) i (field_text field) inside (ap p here ∙ now)
 
   -- one more line in the sum
-  pub sum_more : sum_by line_length (take (i + 1) (map field_text fields)) ≡ sum_by line_length (take i (map field_text fields)) + line_length (field_text field)
-  sum_more = sum_by_more line_length (map field_text fields) i (field_text field) inside ∙ ap (λ f. sum_by line_length (take i (map field_text fields)) + line_length f) here
+  pub sum_more : sum_by line_length (take (i + 1) (map field_text fields)) ≡ sum_by line_length (take i (map field_text fields)) + line_length
+      (field_text field)
+  sum_more = sum_by_more line_length (map field_text fields) i (field_text field) inside
+      ∙ ap (λ f. sum_by line_length (take i (map field_text fields)) + line_length f) here
 
   -- the sum with this line is at most that of all lines
   pub sum_over : sum_by line_length (take i (map field_text fields)) + line_length (field_text field) ≤ sum_by line_length (map field_text fields)

@@ -25,12 +25,14 @@ made : ℕ → List (List ℕ × List ℕ) → AnswerHead
 made status fields = record { status = status; fields = fields }
 
 -- the parts that the places cover are those of the head
-head_is : (window : List ℕ) (headers : List HeaderSpan) (r : ResponseSpans) (h : ResponseHead) → IsResponseAt window headers r h → head_at window headers r ≡ parts_of h
+head_is : (window : List ℕ) (headers : List HeaderSpan) (r : ResponseSpans) (h : ResponseHead) → IsResponseAt window headers r h →
+    head_at window headers r ≡ parts_of h
 unfolding made
 head_is window headers r h is = ap (λ s. made s (fields_of window (take r.headers headers))) is.code ∙ ap (made (status_code h)) is.fields
 
 -- a head has no more fields than there was room for
-few_fields : (window : List ℕ) (headers : List HeaderSpan) (r : ResponseSpans) (h : ResponseHead) → AreFieldsAt window headers r.headers h.fields → length headers ≡ most_fields → length h.fields ≤ most_fields
+few_fields : (window : List ℕ) (headers : List HeaderSpan) (r : ResponseSpans) (h : ResponseHead) → AreFieldsAt window headers r.headers h.fields →
+    length headers ≡ most_fields → length h.fields ≤ most_fields
 few_fields window headers r h fields room =
     let written : length (take r.headers headers) ≡ length h.fields =
     sym (length-map (take r.headers headers) (header_bytes window)) ∙ ap length fields ∙ length-map h.fields name_and_value in
@@ -42,7 +44,8 @@ record StandsAt (octets : List ℕ) (start : ℕ) (r : ResponseSpans) (h : Respo
   reads : ReadsResponse (drop start octets) h (drop (start + r.len) octets)
 
 -- the head that the parser found in the window stands at `start`
-stands : (octets : List ℕ) (start : ℕ) (headers : List HeaderSpan) (r : ResponseSpans) (h : ResponseHead) → length headers ≡ most_fields → IsResponseAt (head_window start octets) headers r h → StandsAt octets start r h
+stands : (octets : List ℕ) (start : ℕ) (headers : List HeaderSpan) (r : ResponseSpans) (h : ResponseHead) → length headers ≡ most_fields →
+    IsResponseAt (head_window start octets) headers r h → StandsAt octets start r h
 stands octets start headers r h room is =
     let rest : List ℕ = drop start octets in
     let window : List ℕ = head_window start octets in
@@ -59,7 +62,8 @@ stands octets start headers r h room is =
     }
 
 -- what the parts at the places say is what the head says
-pub head_says : (octets : List ℕ) (start : ℕ) (headers : List HeaderSpan) (r : ResponseSpans) (outcome : Result ToldText FetchFault) → length headers ≡ most_fields → IsResponseOf (head_window start octets) headers r → is_interim r.code ≡ false → start + r.len ≤ length octets
+pub head_says : (octets : List ℕ) (start : ℕ) (headers : List HeaderSpan) (r : ResponseSpans) (outcome : Result ToldText FetchFault) →
+    length headers ≡ most_fields → IsResponseOf (head_window start octets) headers r → is_interim r.code ≡ false → start + r.len ≤ length octets
     → told (head_at (head_window start octets) headers r) ≡ outcome → PassesInterim octets start → HeadSays octets start (start + r.len) outcome
 head_says octets start headers r outcome room (h, is) final inside says passes =
     let at : StandsAt octets start r h = stands octets start headers r h room is in
@@ -85,7 +89,8 @@ passes_more octets more start passes = record {
 }
 
 -- what a head says stays
-says_more : (octets more : List ℕ) (start end : ℕ) (outcome : Result ToldText FetchFault) → HeadSays octets start end outcome → HeadSays (octets ++ more) start end outcome
+says_more : (octets more : List ℕ) (start end : ℕ) (outcome : Result ToldText FetchFault) → HeadSays octets start end outcome →
+    HeadSays (octets ++ more) start end outcome
 says_more octets more start end outcome says = record {
   interim = passes_more octets more start says.interim;
   head = says.head;
@@ -100,18 +105,21 @@ says_more octets more start end outcome says = record {
   says = says.says;
 }
 
-says_taken : (before after : Option (List ℕ)) (old new : List ℕ) (start end : ℕ) (outcome : Result ToldText FetchFault) → Takes before after old new → HeadSays old start end outcome → HeadSays new start end outcome
+says_taken : (before after : Option (List ℕ)) (old new : List ℕ) (start end : ℕ) (outcome : Result ToldText FetchFault) → Takes before after old new →
+    HeadSays old start end outcome → HeadSays new start end outcome
 says_taken before after old new start end outcome taken says =
     subst (λ octets. HeadSays octets start end outcome) (sym taken.1) (says_more old taken.0 start end outcome says)
 
-pub passes_taken : (before after : Option (List ℕ)) (old new : List ℕ) (start : ℕ) → Takes before after old new → PassesInterim old start → PassesInterim new start
+pub passes_taken : (before after : Option (List ℕ)) (old new : List ℕ) (start : ℕ) → Takes before after old new → PassesInterim old start →
+    PassesInterim new start
 passes_taken before after old new start taken passes =
     subst (λ octets. PassesInterim octets start) (sym taken.1) (passes_more old taken.0 start passes)
 
 -- a head that is refused for what it says, and one after which the rest is read
 
 -- a head that was refused for what it says
-pub refused : (reader : Option (List ℕ)) (octets : List ℕ) (start end : ℕ) (fault : FetchFault) → (fault ≡ NoMemory) ⊎ HeadSays octets start end (Err fault) → ReadsOn reader reader octets (Err fault)
+pub refused : (reader : Option (List ℕ)) (octets : List ℕ) (start end : ℕ) (fault : FetchFault) → (fault ≡ NoMemory) ⊎ HeadSays octets start end (Err fault) →
+    ReadsOn reader reader octets (Err fault)
 refused reader octets start end fault why = record {
   octets = octets;
   taken = takes_none reader octets;
@@ -122,7 +130,8 @@ refused reader octets start end fault why = record {
 }
 
 -- a head, and the rest that was read after it
-pub rest_read : (before after : Option (List ℕ)) (old : List ℕ) (start end : ℕ) (t : ToldText) (result : Result AnswerText FetchFault) → HeadSays old start end (Ok t) → ReadsRest t before after old end result → ReadsOn before after old result
+pub rest_read : (before after : Option (List ℕ)) (old : List ℕ) (start end : ℕ) (t : ToldText) (result : Result AnswerText FetchFault) →
+    HeadSays old start end (Ok t) → ReadsRest t before after old end result → ReadsOn before after old result
 rest_read before after old start end t (Ok answer) says rest = record {
   octets = rest.octets;
   taken = rest.taken;
@@ -160,10 +169,12 @@ all_joined P (y ∷ xs) x all h = (all.0, all_joined P xs x all.1 h)
 
 texts_joined : (heads : List ResponseHead) (h : ResponseHead) → flat_map print_response (heads ++ h ∷ []) ≡ flat_map print_response heads ++ print_response h
 texts_joined [] h = append-nil (print_response h)
-texts_joined (g ∷ heads) h = ap (λ t. print_response g ++ t) (texts_joined heads h) ∙ sym (append_assoc (print_response g) (flat_map print_response heads) (print_response h))
+texts_joined (g ∷ heads) h = ap (λ t. print_response g ++ t) (texts_joined heads h)
+    ∙ sym (append_assoc (print_response g) (flat_map print_response heads) (print_response h))
 
 -- an interim head is passed over
-pub one_more : (octets : List ℕ) (start : ℕ) (headers : List HeaderSpan) (r : ResponseSpans) → length headers ≡ most_fields → IsResponseOf (head_window start octets) headers r → start + r.len ≤ length octets
+pub one_more : (octets : List ℕ) (start : ℕ) (headers : List HeaderSpan) (r : ResponseSpans) → length headers ≡ most_fields →
+    IsResponseOf (head_window start octets) headers r → start + r.len ≤ length octets
     → is_interim r.code ≡ true → PassesInterim octets start → PassesInterim octets (start + r.len)
 one_more octets start headers r room (h, is) inside interim passes =
     let at : StandsAt octets start r h = stands octets start headers r h room is in
@@ -171,11 +182,13 @@ one_more octets start headers r room (h, is) inside interim passes =
     let after : List ℕ = drop (start + r.len) octets in
     let whole : octets ≡ (front ++ print_response h) ++ after =
     sym (take-append-drop start octets) ∙ ap (λ t. front ++ t) at.reads.1 ∙ sym (append_assoc front (print_response h) after) in
-    let size : length (front ++ print_response h) ≡ start + r.len = omega (arith, length-append front (print_response h), length-take start octets, passes.within, is.len) in
+    let size : length (front ++ print_response h) ≡ start + r.len =
+    omega (arith, length-append front (print_response h), length-take start octets, passes.within, is.len) in
     record {
       heads = passes.heads ++ h ∷ [];
       interim = all_joined IsInterim passes.heads h passes.interim (at.short, ap is_interim (sym is.code) ∙ interim);
-      text = ap (take (start + r.len)) whole ∙ take_at (front ++ print_response h) after (start + r.len) size ∙ ap (λ t. t ++ print_response h) passes.text ∙ sym (texts_joined passes.heads h);
+      text = ap (take (start + r.len)) whole ∙ take_at (front ++ print_response h) after (start + r.len) size ∙ ap (λ t. t ++ print_response h) passes.text
+          ∙ sym (texts_joined passes.heads h);
       within = inside;
     }
 
@@ -189,22 +202,35 @@ some_octets octets headers r (h, is) =
     let ended : List ℕ = told ++ print_end h.line_end in
     let whole : length (print_response h) ≡ length ended + length (print_section h.fields h.last) = length-append ended (print_section h.fields h.last) in
     let version : length (print_version h.minor) ≡ 8 = refl in
-    omega (arith, is.len, whole, length-append told (print_end h.line_end), length-append coded (print_reason h.reason), length-append line (32 ∷ h.digits), length-append (print_blank h.blank) (print_version h.minor), version)
+    omega (
+      arith,
+      is.len,
+      whole,
+      length-append told (print_end h.line_end),
+      length-append coded (print_reason h.reason),
+      length-append line (32 ∷ h.digits),
+      length-append (print_blank h.blank) (print_version h.minor),
+      version,
+    )
 
 -- The reading of heads
 
 -- a fault while a head was read
-pub head_stops : (reader_old reader : Option (List ℕ)) (old octets : List ℕ) (start : ℕ) (fault : FetchFault) → Takes reader_old reader old octets → PassesInterim octets start → IsHeadFault fault
+pub head_stops : (reader_old reader : Option (List ℕ)) (old octets : List ℕ) (start : ℕ) (fault : FetchFault) → Takes reader_old reader old octets →
+    PassesInterim octets start → IsHeadFault fault
     → (fault ≡ BadHead → NeverHasResponse (head_window start octets)) → (fault ≡ HeadTooLong → IsLongResponse (head_window start octets))
-    → (IsReadFault fault → IsOpenResponse (drop start octets)) → (fault ≡ EndOfInput → IsAtEnd reader) → (fault ≡ TooManyTurns → 70000 ≤ length octets) → ReadsOn reader_old reader old (Err fault)
+    → (IsReadFault fault → IsOpenResponse (drop start octets)) → (fault ≡ EndOfInput → IsAtEnd reader) → (fault ≡ TooManyTurns → 70000 ≤ length octets) →
+    ReadsOn reader_old reader old (Err fault)
 head_stops reader_old reader old octets start fault taken passes kind bad long opened ended spent = record {
   octets = octets;
   taken = taken;
   outcome = inl (start, passes, stops fault kind bad long opened ended spent);
 }
   where
-    stops : (fault : FetchFault) → IsHeadFault fault → (fault ≡ BadHead → NeverHasResponse (head_window start octets)) → (fault ≡ HeadTooLong → IsLongResponse (head_window start octets))
-        → (IsReadFault fault → IsOpenResponse (drop start octets)) → (fault ≡ EndOfInput → IsAtEnd reader) → (fault ≡ TooManyTurns → 70000 ≤ length octets) → StopsAtHead reader octets start fault
+    stops : (fault : FetchFault) → IsHeadFault fault → (fault ≡ BadHead → NeverHasResponse (head_window start octets)) →
+        (fault ≡ HeadTooLong → IsLongResponse (head_window start octets))
+        → (IsReadFault fault → IsOpenResponse (drop start octets)) → (fault ≡ EndOfInput → IsAtEnd reader) → (fault ≡ TooManyTurns → 70000 ≤ length octets) →
+        StopsAtHead reader octets start fault
     stops Io kind bad long opened ended spent = opened refl
     stops EndOfInput kind bad long opened ended spent = (opened refl, ended refl)
     stops BadHead kind bad long opened ended spent = bad refl
@@ -218,12 +244,17 @@ head_stops reader_old reader old octets start fault taken passes kind bad long o
     stops NoMemory kind bad long opened ended spent = tt
 
 -- two takings in a row are one
-pub takes_then : (old middle new : List ℕ) (before between after : Option (List ℕ)) → Takes before between old middle → Takes between after middle new → Takes before after old new
-takes_then old middle new before between after (first, first_is, first_read) (second, second_is, second_read) =
-    (first ++ second, second_is ∙ ap (λ t. t ++ second) first_is ∙ append_assoc old first second, Consumes-trans before between after first second first_read second_read)
+pub takes_then : (old middle new : List ℕ) (before between after : Option (List ℕ)) → Takes before between old middle → Takes between after middle new →
+    Takes before after old new
+takes_then old middle new before between after (first, first_is, first_read) (second, second_is, second_read) = (
+  first ++ second,
+  second_is ∙ ap (λ t. t ++ second) first_is ∙ append_assoc old first second,
+  Consumes-trans before between after first second first_read second_read,
+)
 
 -- what was taken before is part of what was taken in all
-pub read_on : (before between after : Option (List ℕ)) (old middle : List ℕ) (result : Result AnswerText FetchFault) → Takes before between old middle → ReadsOn between after middle result → ReadsOn before after old result
+pub read_on : (before between after : Option (List ℕ)) (old middle : List ℕ) (result : Result AnswerText FetchFault) → Takes before between old middle →
+    ReadsOn between after middle result → ReadsOn before after old result
 read_on before between after old middle result taken reads = record {
   octets = reads.octets;
   taken = takes_then old middle reads.octets before between after taken reads.taken;

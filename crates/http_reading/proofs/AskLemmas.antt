@@ -22,7 +22,8 @@ made : List ℕ → List ℕ → ℕ → List (List ℕ × List ℕ) → AskHead
 made method target minor fields = record { method = method; target = target; minor = minor; fields = fields }
 
 -- the parts that the places cover are those of the head
-head_is : (window : List ℕ) (headers : List HeaderSpan) (r : RequestSpans) (h : RequestHead) → IsRequestAt window headers r h → head_at window headers r ≡ parts_of h
+head_is : (window : List ℕ) (headers : List HeaderSpan) (r : RequestSpans) (h : RequestHead) → IsRequestAt window headers r h →
+    head_at window headers r ≡ parts_of h
 unfolding made
 head_is window headers r h is =
     ap (λ m. made m (span_bytes window r.path) r.version (fields_of window (take r.headers headers))) is.method
@@ -31,14 +32,16 @@ head_is window headers r h is =
     ∙ ap (made h.method h.target h.minor) is.fields
 
 -- a head has no more fields than there was room for
-few_fields : (window : List ℕ) (headers : List HeaderSpan) (r : RequestSpans) (h : RequestHead) → AreFieldsAt window headers r.headers h.fields → length headers ≡ most_fields → length h.fields ≤ most_fields
+few_fields : (window : List ℕ) (headers : List HeaderSpan) (r : RequestSpans) (h : RequestHead) → AreFieldsAt window headers r.headers h.fields →
+    length headers ≡ most_fields → length h.fields ≤ most_fields
 few_fields window headers r h fields room =
     let written : length (take r.headers headers) ≡ length h.fields =
     sym (length-map (take r.headers headers) (header_bytes window)) ∙ ap length fields ∙ length-map h.fields name_and_value in
     omega (arith, written, length-take r.headers headers, room)
 
 -- a head in the window is a front of the octets, and says what its parts say
-pub front_says : (octets : List ℕ) (headers : List HeaderSpan) (r : RequestSpans) (outcome : Result Ask FetchFault) → length headers ≡ most_fields → IsRequestOf (head_window 0 octets) headers r
+pub front_says : (octets : List ℕ) (headers : List HeaderSpan) (r : RequestSpans) (outcome : Result Ask FetchFault) → length headers ≡ most_fields →
+    IsRequestOf (head_window 0 octets) headers r
     → Says (head_at (head_window 0 octets) headers r) outcome → FrontSays octets outcome
 front_says octets headers r outcome room (h, is) says =
     let window : List ℕ = head_window 0 octets in
@@ -63,7 +66,8 @@ front_says octets headers r outcome room (h, is) says =
 -- the fault of reading a head, by its kind
 pub head_stops : (reader : Option (List ℕ)) (octets : List ℕ) (fault : FetchFault) → IsHeadFault fault
     → (fault ≡ BadHead → NeverHasRequest (head_window 0 octets)) → (fault ≡ HeadTooLong → IsLongRequest (head_window 0 octets))
-    → (IsReadFault fault → IsOpenRequest octets) → (fault ≡ EndOfInput → IsAtEnd reader) → (fault ≡ TooManyTurns → 70000 ≤ length octets) → StopsInAsk reader octets fault
+    → (IsReadFault fault → IsOpenRequest octets) → (fault ≡ EndOfInput → IsAtEnd reader) → (fault ≡ TooManyTurns → 70000 ≤ length octets) →
+    StopsInAsk reader octets fault
 head_stops reader octets Io kind bad long opened ended spent = opened refl
 head_stops reader octets EndOfInput kind bad long opened ended spent = (opened refl, ended refl)
 head_stops reader octets BadHead kind bad long opened ended spent = inl (bad refl)
@@ -77,7 +81,8 @@ head_stops reader octets TooManyTurns kind bad long opened ended spent = (opened
 head_stops reader octets NoMemory kind bad long opened ended spent = tt
 
 -- the fault that a whole head has
-says_stops : (reader : Option (List ℕ)) (octets : List ℕ) (fault : FetchFault) → IsTrue (is_ask_fault fault) → FrontSays octets (Err fault) → StopsInAsk reader octets fault
+says_stops : (reader : Option (List ℕ)) (octets : List ℕ) (fault : FetchFault) → IsTrue (is_ask_fault fault) → FrontSays octets (Err fault) →
+    StopsInAsk reader octets fault
 says_stops reader octets BadHead kind front = inr front
 says_stops reader octets (BadTarget f) kind front = front
 says_stops reader octets MethodNotServed kind front = front
@@ -95,9 +100,11 @@ pub few_read : (old new : List ℕ) → old ≡ [] → length new ≤ max (lengt
 few_read old new none few = let empty : length old ≡ 0 = ap length none in omega (arith, empty, few)
 
 -- what a whole head says is what reading returns
-pub head_read : (reader_old reader_new : Option (List ℕ)) (octets : List ℕ) (headers : List HeaderSpan) (r : RequestSpans) (result : Result Ask FetchFault) → Takes reader_old reader_new [] octets
+pub head_read : (reader_old reader_new : Option (List ℕ)) (octets : List ℕ) (headers : List HeaderSpan) (r : RequestSpans) (result : Result Ask FetchFault) →
+    Takes reader_old reader_new [] octets
     → length octets ≤ longest_read → length headers ≡ most_fields → IsRequestOf (head_window 0 octets) headers r
-    → MatchResult result (λ ask. Says (head_at (head_window 0 octets) headers r) (Ok ask)) (λ fault. (fault ≡ NoMemory) ⊎ Says (head_at (head_window 0 octets) headers r) (Err fault))
+    → MatchResult result (λ ask. Says (head_at (head_window 0 octets) headers r) (Ok ask))
+    (λ fault. (fault ≡ NoMemory) ⊎ Says (head_at (head_window 0 octets) headers r) (Err fault))
     → IfErr result (λ fault. IsTrue (is_ask_fault fault)) → ReadsAsk reader_old reader_new result
 head_read reader_old reader_new octets headers r (Ok ask) taken few room is says kind = record {
   octets = octets;

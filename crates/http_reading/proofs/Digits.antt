@@ -20,7 +20,8 @@ below_ten : (octet : ℕ) → is_ascii_digit octet ≡ true → digit_value octe
 below_ten octet digit = grind (arith, nat_tests)
 
 -- one more digit, counted up to the cap; `most` is the greatest number of 64 bits
-pub number_more : (text : List ℕ) (place cap most number : ℕ) → place < length text → cap ≤ most → is_ascii_digit (get_or text place 0) ≡ true → number ≡ min (digits_value 10 (take place text)) cap
+pub number_more : (text : List ℕ) (place cap most number : ℕ) → place < length text → cap ≤ most → is_ascii_digit (get_or text place 0) ≡ true →
+    number ≡ min (digits_value 10 (take place text)) cap
     → min cap (min (min (number * 10) most + (get_or text place 0 - 48)) most) ≡ min (digits_value 10 (take (place + 1) text)) cap
 number_more text place cap most number inside fits digit so_far =
     let more = digits_value_more 10 text place inside in
@@ -44,7 +45,8 @@ short_fits text digits short =
 pub length_of-short : (text : List ℕ) → length text ≤ 19 → number_up_to 18446744073709551615 text ≡ length_of text
 length_of-short text short = by_cases (is_digits text) refl
   where
-    by_cases : (digits : Bool) → is_digits text ≡ digits → cond digits (Some (min (digits_value 10 text) 18446744073709551615)) None ≡ cond (digits && leb (length text) 19) (Some (digits_value 10 text)) None
+    by_cases : (digits : Bool) → is_digits text ≡ digits → cond digits (Some (min (digits_value 10 text) 18446744073709551615)) None ≡ cond
+        (digits && leb (length text) 19) (Some (digits_value 10 text)) None
     by_cases false here = refl
     by_cases true here =
         let fits = short_fits text (and_parts _ _ here).1 short in

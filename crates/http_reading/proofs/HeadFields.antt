@@ -32,7 +32,8 @@ skip_ows-rest : (text : List ℕ) → (front : List ℕ) × (front ++ skip_ows t
 skip_ows-rest [] = ([], refl)
 skip_ows-rest (octet ∷ text) = by_test (skip_ows-rest text) (is_ows octet) refl
   where
-    by_test : (front : List ℕ) × (front ++ skip_ows text ≡ text) → (blank : Bool) → is_ows octet ≡ blank → (front : List ℕ) × (front ++ skip_ows (octet ∷ text) ≡ octet ∷ text)
+    by_test : (front : List ℕ) × (front ++ skip_ows text ≡ text) → (blank : Bool) → is_ows octet ≡ blank → (front : List ℕ)
+        × (front ++ skip_ows (octet ∷ text) ≡ octet ∷ text)
     by_test (front, same) true blank = (octet ∷ front, rw blank (ap (λ (t : List ℕ). octet ∷ t) same))
     by_test later false no_blank = ([], rw no_blank refl)
 
@@ -73,7 +74,8 @@ is_trimmed-trim_ows text = and_from _ _ (not_from_false _ (trim_ows-first text))
 
 -- ---- a kept field's line is no longer than all of them
 
-pub line_within : (options : List (List ℕ)) (fields : List (List ℕ × List ℕ)) (place : ℕ) (d : List ℕ × List ℕ) → place < length fields → is_kept options (get_or fields place d) ≡ true
+pub line_within : (options : List (List ℕ)) (fields : List (List ℕ × List ℕ)) (place : ℕ) (d : List ℕ × List ℕ) → place < length fields →
+    is_kept options (get_or fields place d) ≡ true
     → line_length (kept_text (get_or fields place d)) ≤ lines_length (kept_by options fields)
 line_within options [] place d inside is = absurd (omega arith)
 line_within options (field ∷ fields) zero d inside is =
@@ -86,7 +88,8 @@ line_within options (field ∷ fields) (suc place) d inside is = by_test (line_w
         → line_length (kept_text (get_or fields place d)) ≤ lines_length (kept_by options (field ∷ fields))
     by_test later true kept =
         let lines = sum_by-cons line_length (kept_text field) (kept_by options fields) in
-        let first : kept_by options (field ∷ fields) ≡ kept_text field ∷ kept_by options fields = ap (map kept_text) (cond-true (is_kept options field) _ _ kept) in
+        let first : kept_by options (field ∷ fields) ≡ kept_text field ∷ kept_by options fields =
+        ap (map kept_text) (cond-true (is_kept options field) _ _ kept) in
         omega (arith, later, lines, ap lines_length first)
     by_test later false dropped =
         let first : kept_by options (field ∷ fields) ≡ kept_by options fields = ap (map kept_text) (cond-false (is_kept options field) _ _ dropped) in
@@ -103,7 +106,8 @@ field_holds field is short =
     (name_holds field.name is.name short, AllPass-trim_ows grammar.is_value_byte field.raw is.raw, is_trimmed-trim_ows field.raw)
 
 -- the kept fields of a head of the grammar can be held, where they are few enough
-pub CanBeKept-head : (head : List Field) (fields : List (List ℕ × List ℕ)) → All IsField head → fields ≡ map name_and_value head → are_few_fields (kept fields) ≡ true → CanBeKept fields
+pub CanBeKept-head : (head : List Field) (fields : List (List ℕ × List ℕ)) → All IsField head → fields ≡ map name_and_value head →
+    are_few_fields (kept fields) ≡ true → CanBeKept fields
 CanBeKept-head head fields are same few k d inside is =
     let within : k < length head = omega (arith, ap length same, length-map head name_and_value) in
     let lines = line_within (options_of fields) fields k d inside is in

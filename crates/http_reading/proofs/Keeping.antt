@@ -26,14 +26,16 @@ module _ (options : List (List ℕ)) (window : List ℕ) (headers : List HeaderS
       ∙ ap (map kept_text) (cond-true (is_kept options (header_bytes window (get_or headers place d))) _ _ kept)
 
   -- it is dropped
-  pub kept_from-dropped : is_kept options (header_bytes window (get_or headers place d)) ≡ false → kept_from options window headers place ≡ kept_from options window headers (place + 1)
+  pub kept_from-dropped : is_kept options (header_bytes window (get_or headers place d)) ≡ false →
+      kept_from options window headers place ≡ kept_from options window headers (place + 1)
   kept_from-dropped dropped =
       at_drop_more (λ (hs : List HeaderSpan). kept_by options (fields_of window hs)) headers place d inside
       ∙ ap (map kept_text) (cond-false (is_kept options (header_bytes window (get_or headers place d))) _ _ dropped)
 
 -- a kept field of a head whose kept fields can be held
 pub held_at : (window : List ℕ) (headers : List HeaderSpan) (place : ℕ) (d : HeaderSpan) → place < length headers → CanBeKept (fields_of window headers)
-    → is_kept (options_of (fields_of window headers)) (header_bytes window (get_or headers place d)) ≡ true → CanBeHeld (header_bytes window (get_or headers place d))
+    → is_kept (options_of (fields_of window headers)) (header_bytes window (get_or headers place d)) ≡ true →
+    CanBeHeld (header_bytes window (get_or headers place d))
 held_at window headers place d inside can kept =
     let pair = header_bytes window (get_or headers place d) in
     let same : get_or (fields_of window headers) place pair ≡ pair = get_or-map (header_bytes window) headers place d pair inside in
@@ -46,7 +48,8 @@ have_room count octets fields = leb (length fields) count && leb (lines_length f
 
 -- ---- the fields so far, and those that are still to be kept
 
-pub same_pushed : (fields : List Field) (field : Field) (text : FieldText) (rest all : List FieldText) → field_text field ≡ text → map field_text fields ++ text ∷ rest ≡ all
+pub same_pushed : (fields : List Field) (field : Field) (text : FieldText) (rest all : List FieldText) → field_text field ≡ text →
+    map field_text fields ++ text ∷ rest ≡ all
     → map field_text (fields ++ field ∷ []) ++ rest ≡ all
 same_pushed fields field text rest all is same =
     ap (λ (ts : List FieldText). ts ++ rest) (map-append field_text fields (field ∷ []))
@@ -62,7 +65,8 @@ held_pushed fields field held is =
     ∙ and_from _ _ held (and_from _ _ is refl)
 
 -- a kept field without a blank at an end may stand in a response
-pub may_stand : (options : List (List ℕ)) (pair : List ℕ × List ℕ) (text : FieldText) → text ≡ kept_text pair → is_kept options pair ≡ true → is_trimmed pair.1 ≡ true → is_kept_field text ≡ true
+pub may_stand : (options : List (List ℕ)) (pair : List ℕ × List ℕ) (text : FieldText) → text ≡ kept_text pair → is_kept options pair ≡ true →
+    is_trimmed pair.1 ≡ true → is_kept_field text ≡ true
 may_stand options pair text is kept trimmed =
     let parts = and_parts (not (is_dropped_name (lowercase pair.0))) _ kept in
     ap is_kept_field is ∙ and_from _ _ parts.0 trimmed

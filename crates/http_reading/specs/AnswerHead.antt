@@ -49,7 +49,13 @@ pub record ToldText : Type 0 where
 
 -- what a head says, with this end of its body
 abbrev pub told_with : AnswerHead → Option Framing → ToldText
-told_with h framing = record { status = h.status; fields = kept h.fields; age = age h.fields; stamp = stamp h.fields; framing = framing }
+told_with h framing = record {
+  status = h.status;
+  fields = kept h.fields;
+  age = age h.fields;
+  stamp = stamp h.fields;
+  framing = framing;
+}
 
 -- the end of a body that is there, or the fault of its fields
 abbrev pub some_framing : Result Framing FetchFault → Result (Option Framing) FetchFault
@@ -75,7 +81,13 @@ told h =
 
 -- what a contract sees of `Told`
 abbrev pub told_text : Told → ToldText
-told_text t = record { status = t.status; fields = map field_text t.fields.items; age = t.age; stamp = t.stamp; framing = t.framing }
+told_text t = record {
+  status = t.status;
+  fields = map field_text t.fields.items;
+  age = t.age;
+  stamp = t.stamp;
+  framing = t.framing;
+}
 
 -- with 204 and 304 there is no body
 abbrev pub fits_status : ℕ → Option Framing → Bool

@@ -46,7 +46,8 @@ pub record HeadSays (octets : List ℕ) (start end : ℕ) (outcome : Result Told
 -- of the input ends with all octets (RFC 9112, section 6.3)
 abbrev pub SpellsBody : Option Framing → List ℕ → ℕ → ℕ → List ℕ → Type 0
 SpellsBody None octets start end body = (end ≡ start) × (body ≡ [])
-SpellsBody (Some (Length n)) octets start end body = (end ≡ start + n) × (end ≤ length octets) × (body ≡ take n (drop start octets))
+SpellsBody (Some (Length n)) octets start end body = (end ≡ start + n) × (end ≤ length octets)
+    × (body ≡ take n (drop start octets))
 SpellsBody (Some Chunked) octets start end body = HoldsChunkedBody octets start end body
 SpellsBody (Some ToEnd) octets start end body = (end ≡ length octets) × (body ≡ drop start octets)
 
@@ -86,17 +87,23 @@ StopsInBody (Some Chunked) reader octets start fault = StopsInChunkedBody reader
 StopsInBody (Some ToEnd) reader octets start fault = StopsBeforeEnd octets start fault
 
 -- the octets read grew by what was taken; they spell the body, or the fault says why they do not
-pub record ReadsBody (framing : Option Framing) (reader_old reader_new : Option (List ℕ)) (old : List ℕ) (start : ℕ) (result : Result (List ℕ) FetchFault) : Type 0 where
+pub record ReadsBody (framing : Option Framing) (reader_old reader_new : Option (List ℕ)) (old : List ℕ) (start : ℕ)
+    (result : Result (List ℕ) FetchFault) : Type 0 where
   pub octets : List ℕ
   pub taken : Takes reader_old reader_new old octets
-  pub outcome : MatchResult result (λ body. (end : ℕ) × SpellsBody framing octets start end body × EndsWithInput framing reader_new) (λ fault. (fault ≡ NoMemory) ⊎ StopsInBody framing reader_new octets start fault)
+  pub outcome : MatchResult result (λ body. (end : ℕ) × SpellsBody framing octets start end body
+      × EndsWithInput framing reader_new)
+      (λ fault. (fault ≡ NoMemory) ⊎ StopsInBody framing reader_new octets start fault)
   pub short : IfOk result (λ body. length body ≤ longest_body)
 
 -- the same, with the response of the head and the body
-pub record ReadsRest (told : ToldText) (reader_old reader_new : Option (List ℕ)) (old : List ℕ) (start : ℕ) (result : Result AnswerText FetchFault) : Type 0 where
+pub record ReadsRest (told : ToldText) (reader_old reader_new : Option (List ℕ)) (old : List ℕ) (start : ℕ)
+    (result : Result AnswerText FetchFault) : Type 0 where
   pub octets : List ℕ
   pub taken : Takes reader_old reader_new old octets
-  pub outcome : MatchResult result (λ answer. (end : ℕ) × SpellsBody told.framing octets start end answer.body × EndsWithInput told.framing reader_new × (answer ≡ answer_of told answer.body)) (λ fault. (fault ≡ NoMemory) ⊎ StopsInBody told.framing reader_new octets start fault)
+  pub outcome : MatchResult result (λ answer. (end : ℕ) × SpellsBody told.framing octets start end answer.body
+      × EndsWithInput told.framing reader_new × (answer ≡ answer_of told answer.body))
+      (λ fault. (fault ≡ NoMemory) ⊎ StopsInBody told.framing reader_new octets start fault)
 
 -- why reading stopped in a response: at a head, by what a head says, in the body, or for want of
 -- memory
@@ -104,15 +111,18 @@ abbrev pub StopsInAnswer : Option (List ℕ) → List ℕ → FetchFault → Typ
 StopsInAnswer reader octets fault =
     ((start : ℕ) × PassesInterim octets start × StopsAtHead reader octets start fault)
     ⊎ ((start : ℕ) × (end : ℕ) × HeadSays octets start end (Err fault))
-    ⊎ ((start : ℕ) × (end : ℕ) × (t : ToldText) × HeadSays octets start end (Ok t) × StopsInBody t.framing reader octets end fault)
+    ⊎ ((start : ℕ) × (end : ℕ) × (t : ToldText) × HeadSays octets start end (Ok t)
+    × StopsInBody t.framing reader octets end fault)
     ⊎ (fault ≡ NoMemory)
 
 -- the octets read grew by what was taken; they begin with the response, or the fault says why they
 -- do not
-pub record ReadsOn (reader_old reader_new : Option (List ℕ)) (old : List ℕ) (result : Result AnswerText FetchFault) : Type 0 where
+pub record ReadsOn (reader_old reader_new : Option (List ℕ)) (old : List ℕ) (result : Result AnswerText FetchFault) :
+    Type 0 where
   pub octets : List ℕ
   pub taken : Takes reader_old reader_new old octets
-  pub outcome : MatchResult result (λ answer. (end : ℕ) × (a : SpellsAnswer octets end answer) × EndsWithInput a.told.framing reader_new) (StopsInAnswer reader_new octets)
+  pub outcome : MatchResult result (λ answer. (end : ℕ) × (a : SpellsAnswer octets end answer)
+      × EndsWithInput a.told.framing reader_new) (StopsInAnswer reader_new octets)
 
 -- the contract of `read_answer`: the same, where nothing was read before
 abbrev pub ReadsAnswer : Option (List ℕ) → Option (List ℕ) → Result AnswerText FetchFault → Type 0

@@ -72,7 +72,13 @@ abbrev pub ask_for : List (List ℕ × List ℕ) → List ℕ → Result Ask Fet
 ask_for fields key =
     if has_credentials fields then Err Credentials
     else (if ask_has_body fields then Err BadBody
-    else Ok record { key = key; only_if_cached = only_if_cached fields; no_cache = no_cache fields; member = member fields })
+    else Ok record {
+      key = key;
+      only_if_cached = only_if_cached fields;
+      no_cache = no_cache fields;
+      member =
+          member fields;
+    })
 
 -- the same, or the fault of the target
 abbrev pub asked : List (List ℕ × List ℕ) → Result (List ℕ) KeyFault → Result Ask FetchFault

@@ -19,7 +19,8 @@ has_leading_zero text = (slice_index text 0 == 48) && nat_lt 1 (length text)
 -- digits without a leading zero, whose number is from `least` to `most`
 abbrev pub is_plain_number : ℕ → ℕ → List ℕ → Bool
 is_plain_number least most text =
-    is_digits text && not (has_leading_zero text) && nat_le least (digits_value 10 text) && nat_le (digits_value 10 text) most
+    is_digits text && not (has_leading_zero text) && nat_le least (digits_value 10 text)
+    && nat_le (digits_value 10 text) most
 
 -- the number of such digits
 abbrev pub plain_number : ℕ → ℕ → List ℕ → Option ℕ

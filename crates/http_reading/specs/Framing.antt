@@ -25,7 +25,8 @@ length_of value = if is_length value then Some (digits_value 10 value) else None
 -- text of digits (RFC 9112, section 6.3, item 5)
 abbrev pub length_told : List (List ℕ) → Result (Option ℕ) BadLength
 length_told [] = Ok None
-length_told (value ∷ others) = if is_length value && list_all (λ other. bytes_eq other value) others then Ok (Some (digits_value 10 value)) else Err (record {})
+length_told (value ∷ others) = if is_length value && list_all (λ other. bytes_eq other value) others
+    then Ok (Some (digits_value 10 value)) else Err (record {})
 
 -- the length by the `content-length` fields (RFC 9110, section 8.6)
 abbrev pub content_length : List (List ℕ × List ℕ) → Result (Option ℕ) BadLength

@@ -67,7 +67,8 @@ fn read_final<R: Read>(
     requires inside { start + head.len ≤ length intake }
     requires last { head_rules.is_interim head.code ≡ false }
     requires room { length headers.now ≡ most_fields }
-    ensures { PassesInterim intake start → ReadsOn (R.remaining reader.old) (R.remaining reader.new) intake result }
+    ensures { PassesInterim intake start →
+        ReadsOn (R.remaining reader.old) (R.remaining reader.new) intake result }
 {
     match tell(alloc, intake.window(start), head, headers) {
         Ok(told) => read_told(alloc, reader, intake, start + head.len, told),
@@ -85,7 +86,8 @@ fn read_told<R: Read>(
 ) -> Result<Answer, FetchFault>
     requires start { start ≤ length intake }
     requires fit { IsTrue (is_fit (told_text told)) }
-    ensures { ReadsRest (told_text told) (R.remaining reader.old) (R.remaining reader.new) intake start result }
+    ensures { ReadsRest (told_text told) (R.remaining reader.old)
+        (R.remaining reader.new) intake start result }
 {
     match read_body(alloc, reader, intake, start, told.framing) {
         Ok(body) => answer_of(alloc, told, body),

@@ -58,7 +58,8 @@ fn judge(
     requires { IsRequestWithin window.now headers.now head }
     ensures says { MatchResult result
         (λ ask. head_rules.Says (head_at window.now headers.now head) (Ok ask))
-        (λ fault. (fault ≡ FetchFault.NoMemory) ⊎ head_rules.Says (head_at window.now headers.now head) (Err fault)) }
+        (λ fault. (fault ≡ FetchFault.NoMemory)
+        ⊎ head_rules.Says (head_at window.now headers.now head) (Err fault)) }
     ensures faults { IfErr result (λ fault. IsTrue (head_rules.is_ask_fault fault)) }
 {
     let (headers, _) = headers.split_at(head.headers);

@@ -18,7 +18,8 @@ pub(crate) fn read_body<R: Read>(
     framing: Option<Framing>,
 ) -> Result<Body, FetchFault>
     requires { start ≤ length intake }
-    ensures { ReadsBody framing (R.remaining reader.old) (R.remaining reader.new) intake start result }
+    ensures { ReadsBody framing (R.remaining reader.old)
+        (R.remaining reader.new) intake start result }
 {
     match framing {
         None => Ok(Body::empty()),
@@ -35,7 +36,8 @@ fn read_framed<R: Read>(
     framing: Framing,
 ) -> Result<Body, FetchFault>
     requires { start ≤ length intake }
-    ensures { ReadsBody (Some framing) (R.remaining reader.old) (R.remaining reader.new) intake start result }
+    ensures { ReadsBody (Some framing) (R.remaining reader.old)
+        (R.remaining reader.new) intake start result }
 {
     match framing {
         Framing::Length(length) => held(intake.read_body_of(alloc, reader, start, length)),
@@ -51,7 +53,8 @@ fn read_framed<R: Read>(
 /// owners.
 fn held(read: Result<Vec<u8>, FetchFault>) -> Result<Body, FetchFault>
     ensures { MatchResult read
-        (λ octets. MatchResult result (λ body. body ≡ octets.items) (λ fault. fault ≡ FetchFault.NoMemory))
+        (λ octets. MatchResult result (λ body. body ≡ octets.items) (λ fault.
+        fault ≡ FetchFault.NoMemory))
         (λ fault. result ≡ Err fault) }
 {
     match read {

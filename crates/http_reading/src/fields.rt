@@ -24,7 +24,8 @@ pub fn count_named(window: &[u8], headers: &[HeaderSpan], name: &[u8]) -> usize
 
 /// The value of the first field with this name, ignoring case. `None`: there is no such field.
 pub fn first_named<'w>(window: &'w [u8], headers: &[HeaderSpan], name: &[u8]) -> Option<&'w [u8]>
-    ensures { option_copied result ≡ first_of (values_named name.now (fields_of window.now headers.now)) }
+    ensures { option_copied result
+        ≡ first_of (values_named name.now (fields_of window.now headers.now)) }
 {
     all_named(window, headers, name).next()
 }
@@ -32,7 +33,8 @@ pub fn first_named<'w>(window: &'w [u8], headers: &[HeaderSpan], name: &[u8]) ->
 /// The value of the only field with this name, ignoring case. `None`: there is no such field, or
 /// there are several.
 pub fn only_named<'w>(window: &'w [u8], headers: &[HeaderSpan], name: &[u8]) -> Option<&'w [u8]>
-    ensures { option_copied result ≡ only_of (values_named name.now (fields_of window.now headers.now)) }
+    ensures { option_copied result
+        ≡ only_of (values_named name.now (fields_of window.now headers.now)) }
 {
     let mut values = all_named(window, headers, name);
     let value = values.next()?;

@@ -43,7 +43,8 @@ pub fn kept_fields(
     ensures kept { IfOk result (λ made. map field_text made.items
         ≡ spec.kept (fields_of window.now headers.now)) }
     // A response may hold all of them.
-    ensures writable { IfOk result (λ made. IsTrue (list_all is_kept_field (map field_text made.items)
+    ensures writable { IfOk result (λ made.
+        IsTrue (list_all is_kept_field (map field_text made.items)
         && are_few_fields (map field_text made.items))) }
     ensures too_long { IsErrOf result FetchFault.HeadTooLong
         ↔ (are_few_fields (spec.kept (fields_of window.now headers.now)) ≡ false) }

@@ -42,7 +42,8 @@ pub(crate) fn tell(
     requires head { IsResponseOf window.now headers.now head }
     ensures says { MatchResult result
         (λ it. head_rules.told (head_at window.now headers.now head) ≡ Ok (told_text it))
-        (λ fault. (fault ≡ FetchFault.NoMemory) ⊎ (head_rules.told (head_at window.now headers.now head) ≡ Err fault)) }
+        (λ fault. (fault ≡ FetchFault.NoMemory)
+        ⊎ (head_rules.told (head_at window.now headers.now head) ≡ Err fault)) }
     ensures fit { IfOk result (λ it. IsTrue (head_rules.is_fit (told_text it))) }
 {
     let (headers, _) = headers.split_at(head.headers);

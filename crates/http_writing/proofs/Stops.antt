@@ -7,7 +7,8 @@ use Rattle.values_plain.specs.Writing.{AppendsProperFront, Writes}
 use Rattle.values_plain.proofs.Laws.{writes_stop}
 
 -- the piece failed, so nothing after it was written
-pub stops : {E : Type 0} (P : E → Type 0) (a c : Option (List ℕ)) (piece rest : List ℕ) (r : Result (Unit {0}) E) → IsErrAnd r P → AppendsProperFront a c piece → Writes a c r (piece ++ rest)
+pub stops : {E : Type 0} (P : E → Type 0) (a c : Option (List ℕ)) (piece rest : List ℕ) (r : Result (Unit {0}) E) → IsErrAnd r P →
+    AppendsProperFront a c piece → Writes a c r (piece ++ rest)
 stops P a c piece rest r failed front =
     let fault = err_from_is_err_and r failed in
     writes_stop a c piece rest r fault.0 fault.1 front

@@ -33,4 +33,5 @@ told_length a = if has_no_body a.status then None else Some (length a.body)
 -- the text of a response that a cache with this name writes
 abbrev pub answer_text : AnswerText → List ℕ → List ℕ
 answer_text a via =
-    first_lines a.status a.fields ++ (number_lines a.age a.stamp (told_length a) ++ (last_lines via ++ (crlf ++ a.body)))
+    first_lines a.status a.fields
+    ++ (number_lines a.age a.stamp (told_length a) ++ (last_lines via ++ (crlf ++ a.body)))

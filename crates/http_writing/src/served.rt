@@ -75,7 +75,8 @@ fn write_parts<W: Write>(
       age = age;
       stamp = stamp;
       body = body.now;
-    } in Writes (W.contents writer.old) (W.contents writer.new) result (answer_text answer via.now) }
+    } in Writes (W.contents writer.old) (W.contents writer.new) result
+        (answer_text answer via.now) }
     ensures fault { IfErr result (λ fault. fault ≡ FetchFault.Io) }
 {
     write_first_lines(writer, status, fields)?;

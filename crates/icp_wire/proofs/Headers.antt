@@ -23,12 +23,14 @@ pub length-after_version : (size number : ℕ) (options option_data sender paylo
 length-after_version size number options option_data sender payload = simp length-append (omega arith)
 
 pub header_cut : (rest : List ℕ) → IsOctets rest → 18 ≤ length rest
-    → rest ≡ after_version (big_number 2 rest) (big_number 4 (drop 2 rest)) (take 4 (drop 6 rest)) (take 4 (drop 10 rest)) (take 4 (drop 14 rest)) (drop 18 rest)
+    → rest ≡ after_version (big_number 2 rest) (big_number 4 (drop 2 rest)) (take 4 (drop 6 rest)) (take 4 (drop 10 rest)) (take 4 (drop 14 rest))
+    (drop 18 rest)
 header_cut rest fits long =
     let size = big_bytes 2 (big_number 2 rest) in
     let number = big_bytes 4 (big_number 4 (drop 2 rest)) in
     let first : rest ≡ size ++ drop 2 rest = cut_number 2 rest fits (omega arith) in
-    let second : drop 2 rest ≡ number ++ drop 6 rest = cut_number 4 (drop 2 rest) (IsOctets-drop 2 rest fits) (omega (arith, length-drop 2 rest)) ∙ ap (λ (t : List ℕ). number ++ t) (drop-drop 4 2 rest) in
+    let second : drop 2 rest ≡ number ++ drop 6 rest = cut_number 4 (drop 2 rest) (IsOctets-drop 2 rest fits) (omega (arith, length-drop 2 rest))
+    ∙ ap (λ (t : List ℕ). number ++ t) (drop-drop 4 2 rest) in
     first
     ∙ ap (λ (t : List ℕ). size ++ t)
     (second ∙ ap (λ (t : List ℕ). number ++ t)
@@ -59,5 +61,6 @@ header_again size number options option_data sender payload small fits four_opti
     record {
       size_is = ap (big_number 2) whole ∙ big_number-big_bytes 2 size (big_bytes 4 number ++ addresses) small;
       number_is = ap (big_number 4) behind_size ∙ big_number-big_bytes 4 number addresses fits;
-      payload_is = sym (drop-drop 16 2 (after_version size number options option_data sender payload)) ∙ ap (drop 16) behind_size ∙ sym (drop-drop 12 4 (big_bytes 4 number ++ addresses)) ∙ ap (drop 12) behind_number ∙ far;
+      payload_is = sym (drop-drop 16 2 (after_version size number options option_data sender payload)) ∙ ap (drop 16) behind_size
+          ∙ sym (drop-drop 12 4 (big_bytes 4 number ++ addresses)) ∙ ap (drop 12) behind_number ∙ far;
     }

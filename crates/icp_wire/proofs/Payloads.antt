@@ -42,7 +42,8 @@ required false fault e = absurd cc
 nothing : (rest : List ℕ) (fault : IcpFault) → cond (eqb (length rest) 0) None (Some fault) ≡ None → rest ≡ []
 nothing rest fault e = nil_from_length rest (eqb-true _ _ (required (eqb (length rest) 0) fault e))
 
-object_stands : (rest : List ℕ) (cut : Option (List ℕ × List ℕ)) → IsOctets rest → split_counted rest ≡ cut → object_fault cut ≡ None → (length (counted_text cut) < 2 ^ 16) × (rest ≡ counted (counted_text cut))
+object_stands : (rest : List ℕ) (cut : Option (List ℕ × List ℕ)) → IsOctets rest → split_counted rest ≡ cut → object_fault cut ≡ None →
+    (length (counted_text cut) < 2 ^ 16) × (rest ≡ counted (counted_text cut))
 object_stands rest None fits is e = absurd cc
 object_stands rest (Some parts) fits is e =
     let front = split_counted-Some rest parts.0 parts.1 fits is in
@@ -57,11 +58,14 @@ four_before : (payload url rest : List ℕ) → drop 4 payload ≡ url ++ 0 ∷ 
 four_before payload url rest spelled =
     omega (arith, length-take 4 payload, length-drop 4 payload, ap length spelled, length-append url (0 ∷ rest))
 
-query_parts : (payload url rest : List ℕ) → drop 4 payload ≡ url ++ 0 ∷ rest → cond (eqb (length rest) 0) None (Some Trailing) ≡ None → payload ≡ take 4 payload ++ url ++ 0 ∷ []
+query_parts : (payload url rest : List ℕ) → drop 4 payload ≡ url ++ 0 ∷ rest → cond (eqb (length rest) 0) None (Some Trailing) ≡ None →
+    payload ≡ take 4 payload ++ url ++ 0 ∷ []
 query_parts payload url rest spelled e =
-    sym (take-append-drop 4 payload) ∙ ap (λ (t : List ℕ). take 4 payload ++ t) (plain_spells (drop 4 payload) url rest spelled e) ∙ sym (append_assoc (take 4 payload) url (0 ∷ []))
+    sym (take-append-drop 4 payload) ∙ ap (λ (t : List ℕ). take 4 payload ++ t) (plain_spells (drop 4 payload) url rest spelled e)
+    ∙ sym (append_assoc (take 4 payload) url (0 ∷ []))
 
-pub payload_spells : (op : IcpOp) (payload : List ℕ) → IsOctets payload → payload_fault op payload ≡ None → IsPayload op (url_in op payload) (object_in op payload) payload
+pub payload_spells : (op : IcpOp) (payload : List ℕ) → IsOctets payload → payload_fault op payload ≡ None →
+    IsPayload op (url_in op payload) (object_in op payload) payload
 payload_spells Query payload fits e =
     let ended = is_ended Query payload e in
     let url = url_in Query payload in
@@ -86,22 +90,26 @@ pub record IsRead (op : IcpOp) (url object payload : List ℕ) : Type 0 where
   pub url_is : url_in op payload ≡ url
   pub object_is : object_in op payload ≡ object
 
-text_read : (op : IcpOp) (url object rest payload : List ℕ) → from_url op payload ≡ url ++ 0 ∷ rest → ¬ Contains url 0 → rest_fault op rest ≡ None → object_behind op rest ≡ object → IsRead op url object payload
+text_read : (op : IcpOp) (url object rest payload : List ℕ) → from_url op payload ≡ url ++ 0 ∷ rest → ¬ Contains url 0 → rest_fault op rest ≡ None →
+    object_behind op rest ≡ object → IsRead op url object payload
 unfolding payload_fault
 text_read op url object rest payload text none no_fault behind =
     let before : before_first is_zero (from_url op payload) ≡ url = ap (before_first is_zero) text ∙ before-append url rest none in
     let after : after_first is_zero (from_url op payload) ≡ rest = ap (after_first is_zero) text ∙ after-append url rest none in
-    let there : is_none (position is_zero (from_url op payload)) ≡ false = ap (λ (t : List ℕ). is_none (position is_zero t)) text ∙ position-append url rest none in
+    let there : is_none (position is_zero (from_url op payload)) ≡ false = ap (λ (t : List ℕ). is_none (position is_zero t)) text
+    ∙ position-append url rest none in
     record { no_fault = rw (there, after) no_fault; url_is = before; object_is = ap (object_behind op) after ∙ behind }
 
 pub payload_again : (op : IcpOp) (url object payload : List ℕ) → IsPayload op url object payload → ¬ Contains url 0 → IsRead op url object payload
 payload_again Query url object payload (requester, four, empty, spelled) none =
-    text_read Query url object [] payload (ap (drop 4) (spelled ∙ append_assoc requester url (0 ∷ [])) ∙ drop_at requester (url ++ 0 ∷ []) 4 four) none refl (sym empty)
+    text_read Query url object [] payload (ap (drop 4) (spelled ∙ append_assoc requester url (0 ∷ [])) ∙ drop_at requester (url ++ 0 ∷ []) 4 four) none refl
+    (sym empty)
 payload_again Hit url object payload (empty, spelled) none = text_read Hit url object [] payload spelled none refl (sym empty)
 payload_again Miss url object payload (empty, spelled) none = text_read Miss url object [] payload spelled none refl (sym empty)
 payload_again Error url object payload (empty, spelled) none = text_read Error url object [] payload spelled none refl (sym empty)
 payload_again MissNoFetch url object payload (empty, spelled) none = text_read MissNoFetch url object [] payload spelled none refl (sym empty)
 payload_again Denied url object payload (empty, spelled) none = text_read Denied url object [] payload spelled none refl (sym empty)
 payload_again HitObj url object payload (small, spelled) none =
-    let cut : split_counted (counted object) ≡ Some (object, []) = ap split_counted (sym (append-nil (counted object))) ∙ split_counted-counted object [] small in
+    let cut : split_counted (counted object) ≡ Some (object, []) = ap split_counted (sym (append-nil (counted object)))
+    ∙ split_counted-counted object [] small in
     text_read HitObj url object (counted object) payload spelled none (rw cut refl) (rw cut refl)

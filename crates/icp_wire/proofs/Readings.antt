@@ -19,7 +19,8 @@ use Rattle.icp_wire.proofs.Headers.{after_version, header_cut, header_again, len
 
 -- ---- opcodes
 
-found_here : {X : Type 0} (test : X → Bool) (passed : Bool) (y : X) (others : Option X) (x : X) → test y ≡ passed → cond passed (Some y) others ≡ Some x → (others ≡ Some x → test x ≡ true) → test x ≡ true
+found_here : {X : Type 0} (test : X → Bool) (passed : Bool) (y : X) (others : Option X) (x : X) → test y ≡ passed → cond passed (Some y) others ≡ Some x →
+    (others ≡ Some x → test x ≡ true) → test x ≡ true
 found_here test true y others x is e later = let same : y ≡ x = cc in ap test (sym same) ∙ is
 found_here test false y others x is e later = later e
 
@@ -117,7 +118,8 @@ read_of octets message spelled =
     let s = spelled in
     let short : length octets ≤ 16384 = s.short in
     let behind : drop 2 octets ≡ after_version (length octets) message.number s.options s.option_data s.sender s.payload = ap (drop 2) s.parts in
-    let again = header_again (length octets) message.number s.options s.option_data s.sender s.payload (omega arith) s.number s.four_options s.four_option_data s.four_sender in
+    let again = header_again (length octets) message.number s.options s.option_data s.sender s.payload (omega arith) s.number s.four_options s.four_option_data
+    s.four_sender in
     let payload = payload_again message.op message.url message.object s.payload s.is_payload s.no_zero in
     let op_is : op_of (opcode_field octets) ≡ Some message.op = ap (λ (t : List ℕ). op_of (slice_index t 0)) s.parts ∙ op_of-opcode message.op in
     let version_is : version_field octets ≡ version = ap (λ (t : List ℕ). slice_index t 1) s.parts in
@@ -125,7 +127,8 @@ read_of octets message spelled =
     let number_is : number_field octets ≡ message.number = ap (big_number 4) (sym (drop-drop 2 2 octets) ∙ ap (drop 2) behind) ∙ again.number_is in
     let payload_is : payload_field octets ≡ s.payload = sym (drop-drop 18 2 octets) ∙ ap (drop 18) behind ∙ again.payload_is in
     let size : length octets ≡ 2 + (6 + (length s.options + length s.option_data + length s.sender + length s.payload)) =
-    ap length s.parts ∙ ap (λ (n : ℕ). suc (suc n)) (length-after_version (length octets) message.number s.options s.option_data s.sender s.payload) ∙ omega arith in
+    ap length s.parts ∙ ap (λ (n : ℕ). suc (suc n)) (length-after_version (length octets) message.number s.options s.option_data s.sender s.payload)
+    ∙ omega arith in
     let no_fault : first_fault octets ≡ None = rw (
       le-ltb (length octets) 20 (omega (arith, s.four_options, s.four_option_data, s.four_sender)),
       le-ltb 16384 (length octets) short,

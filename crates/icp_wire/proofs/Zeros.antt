@@ -56,7 +56,8 @@ after-append url rest none =
 pub position-append : (url rest : List ℕ) → ¬ Contains url 0 → is_none (position is_zero (url ++ 0 ∷ rest)) ≡ false
 position-append url rest none =
     let whole = url ++ 0 ∷ rest in
-    let inside : ltb (position_or_len is_zero whole) (length whole) ≡ true = lt-ltb _ _ (omega (arith, zero_place url rest none, length-append url (0 ∷ rest))) in
+    let inside : ltb (position_or_len is_zero whole) (length whole) ≡ true = lt-ltb _ _ (omega (arith, zero_place url rest none, length-append url (0 ∷ rest)))
+    in
     rw inside refl
 
 not_true : (test : Bool) → ¬ (test ≡ true) → test ≡ false
@@ -66,8 +67,10 @@ not_true false never = refl
 -- a search for a zero octet finds the first
 pub found_first : (text : List ℕ) (r : Option ℕ) → IsFirstByte (is_byte 0) text r → r ≡ position is_zero text
 found_first text None nowhere =
-    let last = position_or_len_is is_zero text (length text) 0 (omega arith) (λ k before. not_true _ (nowhere k (omega arith) before)) (λ past. absurd (omega (arith, past))) in
+    let last = position_or_len_is is_zero text (length text) 0 (omega arith) (λ k before. not_true _ (nowhere k (omega arith) before))
+    (λ past. absurd (omega (arith, past))) in
     rw (last, le-ltb (length text) (length text) (omega arith)) refl
 found_first text (Some place) (first, passes) =
-    let same = position_or_len_is is_zero text place 0 (omega (arith, first.high)) (λ k before. not_true _ (first.before k (omega arith) before)) (λ inside. passes) in
+    let same = position_or_len_is is_zero text place 0 (omega (arith, first.high)) (λ k before. not_true _ (first.before k (omega arith) before))
+    (λ inside. passes) in
     rw (same, lt-ltb place (length text) first.high) refl

@@ -51,7 +51,8 @@ pub record Spells (octets : List ℕ) (message : Icp) : Type 0 where
   pub four_option_data : length option_data ≡ 4
   pub four_sender : length sender ≡ 4
   pub is_payload : IsPayload message.op message.url message.object payload
-  pub parts : octets ≡ opcode message.op ∷ version ∷ (big_bytes 2 (length octets) ++ big_bytes 4 message.number ++ options ++ option_data ++ sender ++ payload)
+  pub parts : octets ≡ opcode message.op ∷ version
+      ∷ (big_bytes 2 (length octets) ++ big_bytes 4 message.number ++ options ++ option_data ++ sender ++ payload)
   pub no_zero : ¬ Contains message.url 0
   pub number : message.number < 2 ^ 32
   pub short : length octets ≤ longest_message

@@ -19,7 +19,8 @@ written_payload op url = url ++ 0 ∷ []
 -- a header and its payload
 abbrev pub written_with : IcpOp → ℕ → List ℕ → List ℕ
 written_with op number payload =
-    opcode op ∷ version ∷ (big_bytes 2 (header_length + length payload) ++ big_bytes 4 number ++ unset ++ unset ++ unset ++ payload)
+    opcode op ∷ version ∷ (big_bytes 2 (header_length + length payload) ++ big_bytes 4 number ++ unset ++ unset ++ unset
+    ++ payload)
 
 -- the octets of a message that has no object
 abbrev pub written : Icp → List ℕ

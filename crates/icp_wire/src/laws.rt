@@ -14,5 +14,6 @@ pub fn grammar_is_exact()
 /// A law: the octets that are written for a message that fits spell it, so `decode` reads back what
 /// `encode` wrote.
 pub fn written_is_spelled()
-    ensures { (message : Icp) → Fits message → message.number < 2 ^ 32 → Spells (written message) message }
+    ensures { (message : Icp) → Fits message → message.number < 2 ^ 32 →
+        Spells (written message) message }
 {}

@@ -22,7 +22,8 @@ pub fn decode(alloc: Global, octets: &[u8]) -> Result<Icp, IcpFault>
     ensures read { (message : Icp) → Spells octets.now message →
         MatchResult result (λ found. found ≡ message) (λ fault. fault ≡ IcpFault.NoMemory) }
     // A fault that is given is the first of the octets.
-    ensures refused { IfErr result (λ fault. fault ≢ IcpFault.NoMemory → first_fault octets.now ≡ Some fault) }
+    ensures refused { IfErr result (λ fault. fault ≢ IcpFault.NoMemory →
+        first_fault octets.now ≡ Some fault) }
     // `NoMemory` comes only if the octets have no fault.
     ensures memory { result ≡ Err IcpFault.NoMemory → first_fault octets.now ≡ None }
 {
@@ -31,7 +32,8 @@ pub fn decode(alloc: Global, octets: &[u8]) -> Result<Icp, IcpFault>
 
 /// The message at the offsets of a datagram, if it has no fault.
 fn read(alloc: Global, octets: &[u8]) -> Result<Icp, IcpFault>
-    ensures ok { IfOk result (λ message. (first_fault octets.now ≡ None) × Holds octets.now message) }
+    ensures ok { IfOk result (λ message. (first_fault octets.now ≡ None)
+        × Holds octets.now message) }
     ensures err { IfErr result (λ fault. (first_fault octets.now ≡ Some fault)
         ⊎ ((first_fault octets.now ≡ None) × (fault ≡ IcpFault.NoMemory))) }
 {
@@ -61,7 +63,8 @@ struct Header<'a> {
 fn split_header(octets: &[u8]) -> Result<Header<'_>, IcpFault>
     ensures { MatchResult result
         (λ header. (op_of_code (opcode_field octets.now) ≡ Some header.op)
-        × (header.number ≡ number_field octets.now) × (header.payload.now ≡ payload_field octets.now)
+        × (header.number ≡ number_field octets.now)
+        × (header.payload.now ≡ payload_field octets.now)
         × (first_fault octets.now ≡ payload_fault header.op header.payload.now))
         (λ fault. first_fault octets.now ≡ Some fault) }
 {
@@ -130,7 +133,8 @@ fn from_url(op: IcpOp, payload: &[u8]) -> &[u8]
 fn split_url(text: &[u8]) -> Option<(&[u8], &[u8])>
     ensures { MatchOption result (position is_zero text.now ≡ None)
         (λ parts. IsSome (position is_zero text.now)
-        × (parts.0.now ≡ before_first is_zero text.now) × (parts.1.now ≡ after_first is_zero text.now)) }
+        × (parts.0.now ≡ before_first is_zero text.now)
+        × (parts.1.now ≡ after_first is_zero text.now)) }
 {
     let end = first_zero(text)?;
     Some((&text[..end], &text[end + 1..]))

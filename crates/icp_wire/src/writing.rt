@@ -52,7 +52,8 @@ fn written_length(op: IcpOp, url: &[u8]) -> usize
 
 /// A header with zero options, option data and sender host address.
 fn header(op: IcpOp, length: u16, number: u32) -> [u8; HEADER_LENGTH]
-    ensures { result ≡ opcode op ∷ version ∷ (big_bytes 2 length ++ big_bytes 4 number ++ unset ++ unset ++ unset) }
+    ensures { result ≡ opcode op ∷ version
+        ∷ (big_bytes 2 length ++ big_bytes 4 number ++ unset ++ unset ++ unset) }
 {
     let mut header = [0; HEADER_LENGTH];
     header[0] = opcode_of(op);

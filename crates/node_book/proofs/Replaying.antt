@@ -25,14 +25,16 @@ replays_more g old (x ∷ xs) middle e new (next, first, rest) steps = (next, fi
 
 -- a book with one step more behind the others
 book_with : (roster : Tables) (id : ℕ) (opening before after : NodeState (Unit {0})) (es : List NodeEntry) (e : NodeEntry) →
-    IsBook roster id before opening es → length es < 4096 → Steps (setting roster id) before e.event tt e.outcome after → IsBook roster id after opening (es ++ e ∷ [])
+    IsBook roster id before opening es → length es < 4096 → Steps (setting roster id) before e.event tt e.outcome after →
+    IsBook roster id after opening (es ++ e ∷ [])
 book_with roster id opening before after es e book few steps = record {
   most = subst (λ n. n ≤ 4096) (sym (length-append es (e ∷ []))) (omega arith);
   replay = replays_more (setting roster id) opening es before e after book.replay steps;
 }
 
 -- the same of a node before and after a step
-pub book_more : {S : Type 0} (before after : NodeText (Unit {0}) S) (opening : NodeState (Unit {0})) (es all : List NodeEntry) (e : NodeEntry) (event : Event (Unit {0})) →
+pub book_more : {S : Type 0} (before after : NodeText (Unit {0}) S) (opening : NodeState (Unit {0})) (es all : List NodeEntry) (e : NodeEntry)
+    (event : Event (Unit {0})) →
     IsBook before.roster before.id before.state opening es → length es < 4096 → all ≡ es ++ e ∷ [] → e.event ≡ event → IsSameMember before after →
     ((key_of : List ℕ → Option (List ℕ)) → GivesKeys key_of → Steps (setting_of before key_of) before.state event tt e.outcome after.state) →
     IsBook after.roster after.id after.state opening all
@@ -44,8 +46,10 @@ book_more before after opening es all e event book few more same_event same step
     (subst (λ l. IsBook before.roster before.id after.state opening l) (sym more) here))
 
 -- an entry behind the others, of a step that the node has taken
-pub is_applied : {S : Type 0} {honest : Type 0} {may_find : FloorMap → Type 0} {have_risen : Type 0} {before after : BookView S} {seat place : ℕ} {event : Event (Unit {0})} {told : Result (Reply (Unit {0})) BookFault} (e : NodeEntry) →
-    after.entries ≡ before.entries ++ e ∷ [] → e ≡ record { seat = seat; place = place; event = event; outcome = e.outcome } → after.opening ≡ before.opening → IsToldOf e.outcome told →
+pub is_applied : {S : Type 0} {honest : Type 0} {may_find : FloorMap → Type 0} {have_risen : Type 0} {before after : BookView S} {seat place : ℕ}
+    {event : Event (Unit {0})} {told : Result (Reply (Unit {0})) BookFault} (e : NodeEntry) →
+    after.entries ≡ before.entries ++ e ∷ [] → e ≡ record { seat = seat; place = place; event = event; outcome = e.outcome } → after.opening ≡ before.opening →
+    IsToldOf e.outcome told →
     TakesStep honest may_find have_risen before.node event e.outcome after.node → IsApplied honest may_find have_risen before after seat place event told
 is_applied {before} e behind made opening told takes = record {
   outcome = e.outcome;

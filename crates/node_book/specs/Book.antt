@@ -25,10 +25,12 @@ pub record BookView (S : Type 0) : Type 0 where
 -- outcome, and they lead to the second.
 abbrev pub Replays : Setting → NodeState (Unit {0}) → List NodeEntry → NodeState (Unit {0}) → Type 0
 Replays g old [] new = new ≡ old
-Replays g old (e ∷ es) new = (middle : NodeState (Unit {0})) × Steps g old e.event tt e.outcome middle × Replays g middle es new
+Replays g old (e ∷ es) new = (middle : NodeState (Unit {0})) × Steps g old e.event tt e.outcome middle
+    × Replays g middle es new
 
 -- The entries lead from the opening state to the node's state, and are at most 4,096.
-pub record IsBook (roster : Tables) (id : ℕ) (state opening : NodeState (Unit {0})) (entries : List NodeEntry) : Type 0 where
+pub record IsBook (roster : Tables) (id : ℕ) (state opening : NodeState (Unit {0})) (entries : List NodeEntry) :
+    Type 0 where
   pub most : length entries ≤ 4096
   pub replay : Replays (setting roster id) opening entries state
 
@@ -40,9 +42,12 @@ IsToldOf (Err fault) told = told ≡ Err (faults.Step fault)
 
 -- One entry stands behind the others, with the outcome that is told. The node has taken that step,
 -- and its store is as the step leaves it. [Book 1]
-pub record IsApplied {S : Type 0} (honest : Type 0) (may_find : FloorMap → Type 0) (have_risen : Type 0) (before after : BookView S) (seat place : ℕ) (e : Event (Unit {0})) (told : Result (Reply (Unit {0})) BookFault) : Type 0 where
+pub record IsApplied {S : Type 0} (honest : Type 0) (may_find : FloorMap → Type 0) (have_risen : Type 0)
+    (before after : BookView S) (seat place : ℕ) (e : Event (Unit {0})) (told : Result (Reply (Unit {0})) BookFault) :
+    Type 0 where
   pub outcome : Result (Reply (Unit {0})) StepFault
-  pub entries : after.entries ≡ before.entries ++ record { seat = seat; place = place; event = e; outcome = outcome } ∷ []
+  pub entries : after.entries ≡ before.entries ++ record { seat = seat; place = place; event = e; outcome = outcome }
+      ∷ []
   pub opening : after.opening ≡ before.opening
   pub told_of : IsToldOf outcome told
   pub step : TakesStep honest may_find have_risen before.node e outcome after.node

@@ -82,7 +82,8 @@ impl<S: FloorStore> NodeBook<S> {
     /// Opens a book without entries. It copies the node's state; if there is no memory for the
     /// copy, the node comes back.
     pub fn open(alloc: Global, node: Node<(), S>) -> Result<NodeBook<S>, (Node<(), S>, AllocError)>
-        ensures opened { IfOk result (λ book. book ≡ record { node = node; opening = node.state; entries = [] }) }
+        ensures opened { IfOk result (λ book.
+            book ≡ record { node = node; opening = node.state; entries = [] }) }
         ensures given_back { IfErr result (λ refused. refused.0 ≡ node) }
     {
         match node.state() {
@@ -106,10 +107,13 @@ impl<S: FloorStore> NodeBook<S> {
     /// first; `NoMemory` if there is no memory for an entry. Faults that are entered: `Step` with
     /// the fault of the step; `ReplyLost` if the reply could not be copied.
     pub fn apply(&mut self, seat: u8, place: u64, event: Event<()>) -> Result<Reply<()>, BookFault>
-        ensures full { 4096 ≤ length self.old.entries → (result ≡ Err faults.ShiftFull) × (self.new ≡ self.old) }
-        ensures applied { length self.old.entries < 4096 → (result ≡ Err faults.NoMemory) × (self.new ≡ self.old)
+        ensures full { 4096 ≤ length self.old.entries → (result ≡ Err faults.ShiftFull)
+            × (self.new ≡ self.old) }
+        ensures applied { length self.old.entries < 4096 → (result ≡ Err faults.NoMemory)
+            × (self.new ≡ self.old)
             ⊎ IsApplied (S.is_honest self.new.node.store) (S.may_find self.new.node.store)
-            (HaveRisen (S.failed self.old.node.store) (S.failed self.new.node.store)) self.old self.new seat place event result }
+            (HaveRisen (S.failed self.old.node.store) (S.failed self.new.node.store))
+            self.old self.new seat place event result }
         ensures asks { IfOk result (AnswersAsk event) }
     {
         match room_for(self.alloc, &mut self.entries, &event) {
@@ -180,7 +184,8 @@ fn room_for(
     ensures full { 4096 ≤ vec_len entries.old → result ≡ Err faults.ShiftFull }
     ensures few { vec_len entries.old < 4096 → IfErr result (λ fault. fault ≡ faults.NoMemory) }
     ensures copy { IfOk result (λ copy. copy ≡ event.now) }
-    ensures room { IfOk result (λ _. (vec_len entries.old < 4096) × (vec_len entries.new < vec_capacity entries.new)) }
+    ensures room { IfOk result (λ _. (vec_len entries.old < 4096)
+        × (vec_len entries.new < vec_capacity entries.new)) }
     ensures same { entries.new.items ≡ entries.old.items }
 {
     if entries.len() >= MOST_ENTRIES {
@@ -203,7 +208,13 @@ fn stepped<N: Stepper>(
     entered: Event<()>,
 ) -> (NodeEntry, Result<Reply<()>, BookFault>)
     requires same { entered ≡ event }
-    ensures entry { result.0 ≡ record { seat = seat; place = place; event = event; outcome = result.0.outcome } }
+    ensures entry { result.0 ≡ record {
+      seat = seat;
+      place = place;
+      event = event;
+      outcome =
+          result.0.outcome;
+    } }
     ensures takes { N.takes node.old event result.0.outcome node.new }
     ensures told { IsToldOf result.0.outcome result.1 }
     ensures asks { IfOk result.1 (AnswersAsk event) }

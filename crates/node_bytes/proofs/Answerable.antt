@@ -32,20 +32,38 @@ room Denied url object payload is = without_object url object payload is
 room HitObj url object payload is = omega (arith, ap length is.1, length-append url (0 ∷ counted object))
 
 -- the octets of a header's parts and of a payload
-size_of : (code version : ℕ) (front options option_data sender payload : List ℕ) → length (code ∷ version ∷ (front ++ options ++ option_data ++ sender ++ payload)) ≡ 2 + length front + length options + length option_data + length sender + length payload
+size_of : (code version : ℕ) (front options option_data sender payload : List ℕ) →
+    length (code ∷ version ∷ (front ++ options ++ option_data ++ sender ++ payload)) ≡ 2 + length front + length options + length option_data + length
+    sender + length payload
 size_of code version front options option_data sender payload =
-    omega (arith, length-append (front ++ options ++ option_data ++ sender) payload, length-append (front ++ options ++ option_data) sender, length-append (front ++ options) option_data, length-append front options)
+    omega (
+      arith,
+      length-append (front ++ options ++ option_data ++ sender) payload,
+      length-append (front ++ options ++ option_data) sender,
+      length-append (front ++ options) option_data,
+      length-append front options,
+    )
 
-short_answer : (code number count : ℕ) (url : List ℕ) → 21 + length url ≤ 16384 → length (code ∷ 2 ∷ (big_bytes 2 count ++ big_bytes 4 number ++ icp_text.unset ++ icp_text.unset ++ icp_text.unset ++ (url ++ 0 ∷ []))) ≤ 16384
+short_answer : (code number count : ℕ) (url : List ℕ) → 21 + length url ≤ 16384 →
+    length (code ∷ 2 ∷ (big_bytes 2 count ++ big_bytes 4 number ++ icp_text.unset ++ icp_text.unset ++ icp_text.unset ++ (url ++ 0 ∷ []))) ≤ 16384
 short_answer code number count url short = omega (arith, short, length-append url (0 ∷ []))
 
 -- the URL of an ICP message that octets spell can be repeated by an answer
 pub icp_is_answerable : (octets : List ℕ) (message : Icp) → icp.Spells octets message → icp_text.Fits (icp_message Miss message.number message.url)
 icp_is_answerable octets message spells =
     let whole : length octets ≡ 2 + 6 + length spells.options + length spells.option_data + length spells.sender + length spells.payload =
-    ap length spells.parts ∙ size_of (icp.opcode message.op) 2 (big_bytes 2 (length octets) ++ big_bytes 4 message.number) spells.options spells.option_data spells.sender spells.payload in
+    ap length spells.parts ∙ size_of (icp.opcode message.op) 2 (big_bytes 2 (length octets) ++ big_bytes 4 message.number) spells.options spells.option_data
+    spells.sender spells.payload in
     let fits : 21 + length message.url ≤ 16384 =
-    omega (arith, whole, room message.op message.url message.object spells.payload spells.is_payload, spells.short, spells.four_options, spells.four_option_data, spells.four_sender) in
+    omega (
+      arith,
+      whole,
+      room message.op message.url message.object spells.payload spells.is_payload,
+      spells.short,
+      spells.four_options,
+      spells.four_option_data,
+      spells.four_sender,
+    ) in
     record {
       op = λ e. cc;
       object = refl;
@@ -54,7 +72,8 @@ icp_is_answerable octets message spells =
     }
 
 -- the octet of OPCODE and RESPONSE
-opcode_octet : (octets : List ℕ) (message : Htcp) (spells : htcp.Spells octets message) → get_or octets 6 0 ≡ spells.section.opcode * 16 + spells.section.response
+opcode_octet : (octets : List ℕ) (message : Htcp) (spells : htcp.Spells octets message) → get_or octets 6 0 ≡ spells.section.opcode *
+    16 + spells.section.response
 opcode_octet octets message spells = ap (λ (t : List ℕ). get_or t 6 0) spells.parts
 
 four_bits : (c : Content) (section : htcp.Data) → htcp.IsContent c section → section.opcode < 16 → HasOpcode c

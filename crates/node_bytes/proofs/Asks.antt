@@ -47,9 +47,11 @@ module _ {X : Type 0} (g : Setting) where
   unfolding read_origin
   read_origin_fits s p now mark =
       either (λ (r : Stepped X). Answers p.asker r.outcome) (nat_le 3 p.reads) (give_up s p None 503) _ (serves p.asker (Status 503))
-      (either (λ (r : Stepped X). Answers p.asker r.outcome) (has_origin g.roster p.ask.key) (begin_read s p now mark) (give_up s p None 502) (begin_read_fits s p now mark) (serves p.asker (Status 502)))
+      (either (λ (r : Stepped X). Answers p.asker r.outcome) (has_origin g.roster p.ask.key) (begin_read s p now mark) (give_up s p None 502)
+      (begin_read_fits s p now mark) (serves p.asker (Status 502)))
 
-  ask_around_fits : (s : NodeState X) (asker : Option ℕ) (ask : Ask) (block now : ℕ) (mark : X) (round : RoundText) (peers : List Peer) → Answers asker (ask_around g s asker ask block now mark round peers).outcome
+  ask_around_fits : (s : NodeState X) (asker : Option ℕ) (ask : Ask) (block now : ℕ) (mark : X) (round : RoundText) (peers : List Peer) →
+      Answers asker (ask_around g s asker ask block now mark round peers).outcome
   unfolding ask_around begin_round
   ask_around_fits s asker ask block now mark round [] = read_origin_fits _ _ now mark
   ask_around_fits s asker ask block now mark round (peer ∷ peers) = begins asker _ _ refl refl
@@ -61,10 +63,13 @@ module _ {X : Type 0} (g : Setting) where
   not_held_fits : (s : NodeState X) (asker : Option ℕ) (ask : Ask) (now : ℕ) (mark : X) → Answers asker (not_held g s asker ask now mark).outcome
   unfolding not_held
   not_held_fits s asker ask now mark =
-      either (λ (r : Stepped X). Answers asker r.outcome) (is_cached_only g asker ask) (replies s (serving None asker (Status 504))) _ (serves asker (Status 504))
-      (either (λ (r : Stepped X). Answers asker r.outcome) (is_busy s) (refuses s Busy) (begin_ask g s asker ask now mark) tt (begin_ask_fits s asker ask now mark))
+      either (λ (r : Stepped X). Answers asker r.outcome) (is_cached_only g asker ask) (replies s (serving None asker (Status 504))) _
+      (serves asker (Status 504))
+      (either (λ (r : Stepped X). Answers asker r.outcome) (is_busy s) (refuses s Busy) (begin_ask g s asker ask now mark) tt
+      (begin_ask_fits s asker ask now mark))
 
-  by_copy_fits : (s : NodeState X) (asker : Option ℕ) (ask : Ask) (now : ℕ) (mark : X) (c : Option (WebCopy X)) → Answers asker (by_copy g s asker ask now mark c).outcome
+  by_copy_fits : (s : NodeState X) (asker : Option ℕ) (ask : Ask) (now : ℕ) (mark : X) (c : Option (WebCopy X)) →
+      Answers asker (by_copy g s asker ask now mark c).outcome
   unfolding by_copy
   by_copy_fits s asker ask now mark None = not_held_fits s asker ask now mark
   by_copy_fits s asker ask now mark (Some c) = serves asker _
@@ -78,18 +83,22 @@ module _ {X : Type 0} (g : Setting) where
   client_step s ask now mark true = tt
   client_step s ask now mark false = ask_comes_fits s None ask now mark
 
-  member_step : (s : NodeState X) (asker : ℕ) (ask : Ask) (now : ℕ) (mark : X) (closed : Bool) → Answers (Some asker) (step_if g s (event.PeerAsk asker ask now) mark closed).outcome
+  member_step : (s : NodeState X) (asker : ℕ) (ask : Ask) (now : ℕ) (mark : X) (closed : Bool) →
+      Answers (Some asker) (step_if g s (event.PeerAsk asker ask now) mark closed).outcome
   unfolding step_if open_step
   member_step s asker ask now mark true = tt
   member_step s asker ask now mark false = ask_comes_fits s (Some asker) ask now mark
 
-  pub asks_are_answered : (s : NodeState X) (e : Event X) (mark : X) (reply : Reply X) (next : NodeState X) → Steps g s e mark (Ok reply) next → AnswersAsk e reply
+  pub asks_are_answered : (s : NodeState X) (e : Event X) (mark : X) (reply : Reply X) (next : NodeState X) → Steps g s e mark (Ok reply) next →
+      AnswersAsk e reply
   unfolding step
   asks_are_answered s (event.Client ask now) mark reply next is = subst (λ r. Answers None r.outcome) is (client_step s ask now mark s.closed)
-  asks_are_answered s (event.PeerAsk asker ask now) mark reply next is = subst (λ r. Answers (Some asker) r.outcome) is (member_step s asker ask now mark s.closed)
+  asks_are_answered s (event.PeerAsk asker ask now) mark reply next is = subst (λ r. Answers (Some asker) r.outcome) is
+      (member_step s asker ask now mark s.closed)
   asks_are_answered s _ mark reply next is = tt
 
 -- what any outcome answers
-pub outcomes_answer : {X : Type 0} (g : Setting) (s : NodeState X) (e : Event X) (mark : X) (outcome : Result (Reply X) StepFault) (next : NodeState X) → Steps g s e mark outcome next → IfOk outcome (AnswersAsk e)
+pub outcomes_answer : {X : Type 0} (g : Setting) (s : NodeState X) (e : Event X) (mark : X) (outcome : Result (Reply X) StepFault) (next : NodeState X) →
+    Steps g s e mark outcome next → IfOk outcome (AnswersAsk e)
 outcomes_answer g s e mark (Ok reply) next steps = asks_are_answered g s e mark reply next steps
 outcomes_answer g s e mark (Err fault) next steps = tt

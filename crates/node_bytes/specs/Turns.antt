@@ -31,12 +31,14 @@ ToldAfter (Ok reply) result = (result ≡ Ok (turn_of reply)) ⊎ (result ≡ Er
 ToldAfter (Err fault) result = result ≡ Err fault
 
 -- One step with an event, taken by this relation between what stood before and after it.
-abbrev pub StepsOnce : {N : Type 0} → (N → Event (Unit {0}) → Result (Reply (Unit {0})) StepFault → N → Type 0) → Event (Unit {0}) → N → N → Result Turn StepFault → Type 0
+abbrev pub StepsOnce : {N : Type 0} → (N → Event (Unit {0}) → Result (Reply (Unit {0})) StepFault → N → Type 0) →
+    Event (Unit {0}) → N → N → Result Turn StepFault → Type 0
 StepsOnce takes e before after result =
     (outcome : Result (Reply (Unit {0})) StepFault) × takes before e outcome after × ToldAfter outcome result
 
 -- Without an event no step is taken, and nothing is to be done.
-abbrev pub MeetsEvent : {N : Type 0} → (N → Event (Unit {0}) → Result (Reply (Unit {0})) StepFault → N → Type 0) → Option (Event (Unit {0})) → N → N → Result Turn StepFault → Type 0
+abbrev pub MeetsEvent : {N : Type 0} → (N → Event (Unit {0}) → Result (Reply (Unit {0})) StepFault → N → Type 0) →
+    Option (Event (Unit {0})) → N → N → Result Turn StepFault → Type 0
 MeetsEvent takes None before after result = (after ≡ before) × (result ≡ Ok idle)
 MeetsEvent takes (Some e) before after result = StepsOnce takes e before after result
 
@@ -46,7 +48,8 @@ WantsMemoryBefore before after result = (after ≡ before) × (result ≡ Err No
 
 -- Octets arrived: one step with the event that they make, or none if they make none. Memory may be
 -- lacking only if they make one.
-abbrev pub MeetsOctets : {N : Type 0} → (N → Event (Unit {0}) → Result (Reply (Unit {0})) StepFault → N → Type 0) → Udp → Address → List ℕ → ℕ → N → N → Result Turn StepFault → Type 0
+abbrev pub MeetsOctets : {N : Type 0} → (N → Event (Unit {0}) → Result (Reply (Unit {0})) StepFault → N → Type 0) →
+    Udp → Address → List ℕ → ℕ → N → N → Result Turn StepFault → Type 0
 MeetsOctets takes by from octets now before after result =
     ((e : Option (Event (Unit {0}))) × IsEventOf by from octets now e × MeetsEvent takes e before after result)
     ⊎ (WantsMemoryBefore before after result × (HasFault by octets → ⊥))

@@ -10,6 +10,7 @@ ghost use Rattle.node_bytes.specs.Stepping.{AnswersAsk};
 /// A request is served at once, and the step does nothing else; or it waits for what the step
 /// begins.
 pub fn asks_are_answered<T>()
-    ensures { (g : Setting) (s : NodeState T) (e : Event T) (mark : T) (reply : Reply T) (next : NodeState T) →
+    ensures { (g : Setting) (s : NodeState T) (e : Event T) (mark : T) (reply : Reply T)
+        (next : NodeState T) →
         Steps g s e mark (Ok reply) next → AnswersAsk e reply }
 {}

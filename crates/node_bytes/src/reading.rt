@@ -15,7 +15,8 @@ use std::alloc::{AllocError, Global};
 /// `NoMemory` comes only if the octets spell a message.
 pub fn read_icp(alloc: Global, octets: &[u8]) -> Result<Received, IcpFault>
     ensures ok { IfOk result (IsIcp octets.now) }
-    ensures err { IfErr result (λ fault. fault ≢ IcpFault.NoMemory → icp_faults.first_fault octets.now ≡ Some fault) }
+    ensures err { IfErr result (λ fault. fault ≢ IcpFault.NoMemory →
+        icp_faults.first_fault octets.now ≡ Some fault) }
     ensures memory { result ≡ Err IcpFault.NoMemory → icp_faults.first_fault octets.now ≡ None }
 {
     match icp_wire::decode(alloc, octets) {
@@ -29,7 +30,8 @@ pub fn read_icp(alloc: Global, octets: &[u8]) -> Result<Received, IcpFault>
 /// `NoMemory` comes only if the octets spell a message.
 pub fn read_htcp(alloc: Global, octets: &[u8]) -> Result<Received, HtcpFault>
     ensures ok { IfOk result (IsHtcp octets.now) }
-    ensures err { IfErr result (λ fault. fault ≢ HtcpFault.NoMemory → htcp_faults.first_fault octets.now ≡ Some fault) }
+    ensures err { IfErr result (λ fault. fault ≢ HtcpFault.NoMemory →
+        htcp_faults.first_fault octets.now ≡ Some fault) }
     ensures memory { result ≡ Err HtcpFault.NoMemory → htcp_faults.first_fault octets.now ≡ None }
 {
     match htcp_wire::decode(alloc, octets) {

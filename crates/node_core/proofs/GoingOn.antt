@@ -39,7 +39,8 @@ module _ {X : Type 0} {roster : Tables} {id : ℕ} {held : Held X} {pending : Li
   }
 
   -- and after the request at a place has become another of its block
-  pub changed_node : (place : ℕ) (p q : Pending X) → slice_get pending place ≡ Some p → q.block ≡ p.block → IsNode roster id held pending next closed → IsNode roster id held (changed q pending) next closed
+  pub changed_node : (place : ℕ) (p q : Pending X) → slice_get pending place ≡ Some p → q.block ≡ p.block → IsNode roster id held pending next closed →
+      IsNode roster id held (changed q pending) next closed
   changed_node place p q there same is =
       let read = get_or_from_slice_get pending place p p there in
       let taken = is.taken place p (slice_get_within pending place p there) in
@@ -79,7 +80,8 @@ pub leads_by : {X : Type 0} (to by : Stepped X) (s next : NodeState X) (out : Re
 leads_by to by s next out same h = subst (λ t. Leads t s out next) (sym same) h
 
 -- a request goes where its round says
-pub goes : {X : Type 0} (g : Setting) (s : NodeState X) (p : Pending X) (now : ℕ) (mark : X) (chosen : Source) → choice_of p.round (floor s.floors p.ask.key) p.tried ≡ chosen → go_on g s p now mark ≡ go_to g s p now mark chosen
+pub goes : {X : Type 0} (g : Setting) (s : NodeState X) (p : Pending X) (now : ℕ) (mark : X) (chosen : Source) →
+    choice_of p.round (floor s.floors p.ask.key) p.tried ≡ chosen → go_on g s p now mark ≡ go_to g s p now mark chosen
 unfolding go_on
 goes g s p now mark chosen is = ap (go_to g s p now mark) is
 
@@ -89,12 +91,14 @@ record IsChosenBy (o : Option RoundText) (floor : ℕ) (tried : List ℕ) (to : 
   pub is : o ≡ Some round
   pub chosen : choice round floor tried ≡ to
 
-chosen_by : (o : Option RoundText) (floor : ℕ) (tried : List ℕ) (peer : ℕ) (cached : Bool) → choice_of o floor tried ≡ source.Peer peer cached → IsChosenBy o floor tried (source.Peer peer cached)
+chosen_by : (o : Option RoundText) (floor : ℕ) (tried : List ℕ) (peer : ℕ) (cached : Bool) → choice_of o floor tried ≡ source.Peer peer cached →
+    IsChosenBy o floor tried (source.Peer peer cached)
 chosen_by None floor tried peer cached e = cc
 chosen_by (Some r) floor tried peer cached e = record { round = r; is = refl; chosen = e }
 
 -- a request that goes to the peer that was chosen can go on
-pub peer_can_go_on : {X : Type 0} (p : Pending X) (floor peer now : ℕ) (cached : Bool) → CanGoOn p → is_idle p.fetch ≡ true → choice_of p.round floor p.tried ≡ source.Peer peer cached → CanGoOn (fetching p p.reads (AtPeer peer now))
+pub peer_can_go_on : {X : Type 0} (p : Pending X) (floor peer now : ℕ) (cached : Bool) → CanGoOn p → is_idle p.fetch ≡ true →
+    choice_of p.round floor p.tried ≡ source.Peer peer cached → CanGoOn (fetching p p.reads (AtPeer peer now))
 peer_can_go_on p floor peer now cached go idle e =
     let by = chosen_by p.round floor p.tried peer cached e in
     let follows = each_choice_follows by.round floor p.tried peer cached by.chosen in

@@ -20,7 +20,8 @@ use Rattle.node_core.proofs.Outcomes.{leads_may_close}
 pub key_is : (key_of : List ℕ → Option (List ℕ)) (text : List ℕ) (key : Option (List ℕ)) → GivesKeys key_of → HasKeyOf text key → key_of text ≡ key
 key_is key_of text key gives has = gives text has.0 has.1 ∙ sym has.2
 
-module _ {X : Type 0} (g : Setting) (s : NodeState X) (from : Address) (trans : ℕ) (desired : Bool) (spec : Specifier) (key : Option (List ℕ)) (out : Result (Reply X) StepFault) (next : NodeState X) (is : g.key_of spec.uri ≡ key) where
+module _ {X : Type 0} (g : Setting) (s : NodeState X) (from : Address) (trans : ℕ) (desired : Bool) (spec : Specifier) (key : Option (List ℕ))
+    (out : Result (Reply X) StepFault) (next : NodeState X) (is : g.key_of spec.uri ≡ key) where
   pub without_number : number_in_text spec.request_headers PurgeNumber ≡ Ok None → Leads (plain_clr g s from trans desired key) s out next
       → MayClose (htcp_clr g s from trans desired spec) s (purge_meant g from trans spec) out next
   unfolding htcp_clr clr_by_line

@@ -25,7 +25,8 @@ use Rattle.node_core.specs.View.{NodeText}
 use Rattle.node_core.specs.Leads.{Leads, MayClose}
 
 -- a method that closes no node also keeps the weaker word of those that may
-pub leads_may_close : {X : Type 0} (to : Stepped X) (s : NodeState X) (purge : Option (List ℕ × ℕ)) (out : Result (Reply X) StepFault) (next : NodeState X) → Leads to s out next → MayClose to s purge out next
+pub leads_may_close : {X : Type 0} (to : Stepped X) (s : NodeState X) (purge : Option (List ℕ × ℕ)) (out : Result (Reply X) StepFault) (next : NodeState X) →
+    Leads to s out next → MayClose to s purge out next
 leads_may_close to s purge (Ok reply) next h = h
 leads_may_close to s purge (Err fault.NoMemory) next h = inl h
 leads_may_close to s purge (Err fault.StoreFault) next h = absurd h
@@ -37,11 +38,13 @@ leads_may_close to s purge (Err fault.Busy) next h = h
 pub leads_by : {X : Type 0} (to by : Stepped X) (s next : NodeState X) (out : Result (Reply X) StepFault) → to ≡ by → Leads by s out next → Leads to s out next
 leads_by to by s next out e h = subst (λ t. Leads t s out next) (sym e) h
 
-pub may_close_by : {X : Type 0} (to by : Stepped X) (s next : NodeState X) (purge : Option (List ℕ × ℕ)) (out : Result (Reply X) StepFault) → to ≡ by → MayClose by s purge out next → MayClose to s purge out next
+pub may_close_by : {X : Type 0} (to by : Stepped X) (s next : NodeState X) (purge : Option (List ℕ × ℕ)) (out : Result (Reply X) StepFault) → to ≡ by →
+    MayClose by s purge out next → MayClose to s purge out next
 may_close_by to by s next purge out e h = subst (λ t. MayClose t s purge out next) (sym e) h
 
 -- a fault of the store closes the node
-pub closes : {X : Type 0} (to : Stepped X) (s next : NodeState X) (key : List ℕ) (n : ℕ) (f : FloorFault) → IsClosed s key n next → MayClose to s (Some (key, n)) (Err (step_fault_of f)) next
+pub closes : {X : Type 0} (to : Stepped X) (s next : NodeState X) (key : List ℕ) (n : ℕ) (f : FloorFault) → IsClosed s key n next →
+    MayClose to s (Some (key, n)) (Err (step_fault_of f)) next
 closes to s next key n floor_fault.NoMemory h = inr h
 closes to s next key n floor_fault.StoreFault h = h
 closes to s next key n floor_fault.FloorsFull h = h
@@ -52,7 +55,8 @@ opens : {X : Type 0} (g : Setting) (s : NodeState X) (e : Event X) (mark : X) �
 unfolding step step_if
 opens g s e mark is_open = ap (step_if g s e mark) is_open
 
-pub steps_may_close : {X : Type 0} (g : Setting) (s : NodeState X) (e : Event X) (mark : X) (out : Result (Reply X) StepFault) (next : NodeState X) → s.closed ≡ false → MayClose (open_step g s mark e) s (purge_in g e) out next → Steps g s e mark out next
+pub steps_may_close : {X : Type 0} (g : Setting) (s : NodeState X) (e : Event X) (mark : X) (out : Result (Reply X) StepFault) (next : NodeState X) →
+    s.closed ≡ false → MayClose (open_step g s mark e) s (purge_in g e) out next → Steps g s e mark out next
 steps_may_close g s e mark (Ok reply) next is_open h = opens g s e mark is_open ∙ h
 steps_may_close g s e mark (Err fault.NoMemory) next is_open (inl h) = inl (is_open, h)
 steps_may_close g s e mark (Err fault.NoMemory) next is_open (inr h) = inr (is_open, h)
@@ -61,7 +65,8 @@ steps_may_close g s e mark (Err fault.Closed) next is_open h = opens g s e mark 
 steps_may_close g s e mark (Err fault.UnknownSerial) next is_open h = opens g s e mark is_open ∙ h
 steps_may_close g s e mark (Err fault.Busy) next is_open h = opens g s e mark is_open ∙ h
 
-pub steps : {X : Type 0} (g : Setting) (s : NodeState X) (e : Event X) (mark : X) (out : Result (Reply X) StepFault) (next : NodeState X) → s.closed ≡ false → Leads (open_step g s mark e) s out next → Steps g s e mark out next
+pub steps : {X : Type 0} (g : Setting) (s : NodeState X) (e : Event X) (mark : X) (out : Result (Reply X) StepFault) (next : NodeState X) → s.closed ≡ false →
+    Leads (open_step g s mark e) s out next → Steps g s e mark out next
 steps g s e mark out next is_open h = steps_may_close g s e mark out next is_open (leads_may_close _ s (purge_in g e) out next h)
 
 -- a closed node
@@ -70,21 +75,25 @@ unfolding step step_if
 closed_steps g s e mark is_closed = ap (step_if g s e mark) is_closed
 
 -- what a crash at a raise leaves, if the floors in memory were raised too
-pub found_either : (stored before after found : FloorMap) (key : List ℕ) (n : ℕ) → stored ≡ before → after ≡ raised before key n → IsBeforeOrAfter stored key n found → (found ≡ before) ⊎ (found ≡ after)
+pub found_either : (stored before after found : FloorMap) (key : List ℕ) (n : ℕ) → stored ≡ before → after ≡ raised before key n →
+    IsBeforeOrAfter stored key n found → (found ≡ before) ⊎ (found ≡ after)
 found_either stored before after found key n e raise (inl same) = inl (same ∙ e)
 found_either stored before after found key n e raise (inr (room, new)) = inr (new ∙ ap (λ f. raised f key n) e ∙ sym raise)
 
 -- the same for an equal node
-pub keeps_by : {X S : Type 0} (honest : S → Type 0) (may_find : S → FloorMap → Type 0) (before now after : NodeText X S) (out : Result (Reply X) StepFault) → now ≡ after →
+pub keeps_by : {X S : Type 0} (honest : S → Type 0) (may_find : S → FloorMap → Type 0) (before now after : NodeText X S) (out : Result (Reply X) StepFault) →
+    now ≡ after →
     KeepsStore (honest after.store) (may_find after.store) before after out → KeepsStore (honest now.store) (may_find now.store) before now out
 keeps_by honest may_find before now after out e h = subst (λ v. KeepsStore (honest v.store) (may_find v.store) before v out) (sym e) h
 
 -- no rule leads to a fault of the store
-pub without_fault : {X : Type 0} (honest risen : Type 0) (to : Stepped X) (s next : NodeState X) (out : Result (Reply X) StepFault) → Leads to s out next → FailsWithCause honest risen out
+pub without_fault : {X : Type 0} (honest risen : Type 0) (to : Stepped X) (s next : NodeState X) (out : Result (Reply X) StepFault) → Leads to s out next →
+    FailsWithCause honest risen out
 without_fault honest risen to s next out h is_fault _ = absurd (subst (λ o. Leads to s o next) is_fault h)
 
 -- nor does a rule that takes the keys of texts as a parameter
-pub without_fault_by : {X : Type 0} (honest risen : Type 0) (to : (List ℕ → Option (List ℕ)) → Stepped X) (s next : NodeState X) (out : Result (Reply X) StepFault) →
+pub without_fault_by : {X : Type 0} (honest risen : Type 0) (to : (List ℕ → Option (List ℕ)) → Stepped X) (s next : NodeState X)
+    (out : Result (Reply X) StepFault) →
     ((k : List ℕ → Option (List ℕ)) → GivesKeys k → Leads (to k) s out next) → FailsWithCause honest risen out
 without_fault_by honest risen to s next out h = without_fault honest risen (to key_of) s next out (h key_of gives_keys)
 
@@ -113,5 +122,6 @@ caused X floor_fault.FloorsFull out risen is store bad full e = absurd (full is)
 
 -- the same for an equal node
 pub fails_by : {X S : Type 0} (honest : S → Type 0) (failed : S → ℕ) (before : ℕ) (now after : NodeText X S) (out : Result (Reply X) StepFault) → now ≡ after →
-    FailsWithCause (honest after.store) (HaveRisen before (failed after.store)) out → FailsWithCause (honest now.store) (HaveRisen before (failed now.store)) out
+    FailsWithCause (honest after.store) (HaveRisen before (failed after.store)) out → FailsWithCause (honest now.store) (HaveRisen before (failed now.store))
+    out
 fails_by honest failed before now after out e h = subst (λ v. FailsWithCause (honest v.store) (HaveRisen before (failed v.store)) out) (sym e) h

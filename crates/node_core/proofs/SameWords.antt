@@ -30,7 +30,8 @@ either false word = refl
 pub of_both : (word : Said) (heard : SaidWithStamp) → heard ≡ record { member = word; foreign = word } → (p : Peer) → said_by heard p ≡ word
 of_both word heard is p = ap (λ h. said_by h p) is ∙ either (is_foreign_id p.id) word
 
-module _ {X : Type 0} (g : Setting) (s : NodeState X) (from : Address) (trans now : ℕ) (mark : X) (one other : Peer → Said) (same : (p : Peer) → one p ≡ other p) where
+module _ {X : Type 0} (g : Setting) (s : NodeState X) (from : Address) (trans now : ℕ) (mark : X) (one other : Peer → Said)
+    (same : (p : Peer) → one p ≡ other p) where
   by_peer : (p : Pending X) (peer : Option Peer) → told_by g s p one now mark peer ≡ told_by g s p other now mark peer
   unfolding told_by
   by_peer p None = refl
@@ -45,21 +46,26 @@ module _ {X : Type 0} (g : Setting) (s : NodeState X) (from : Address) (trans no
   unfolding htcp_told
   told_alike = to_ask udp.Htcp _
 
-module _ {X : Type 0} (g : Setting) (s : NodeState X) (from : Address) (trans now : ℕ) (mark : X) (heard : SaidWithStamp) (out : Result (Reply X) StepFault) (next : NodeState X) where
-  alike : (other : Peer → Said) → ((p : Peer) → said_by heard p ≡ other p) → Leads (htcp_told g s from trans (said_by heard) now mark) s out next → Leads (htcp_told g s from trans other now mark) s out next
+module _ {X : Type 0} (g : Setting) (s : NodeState X) (from : Address) (trans now : ℕ) (mark : X) (heard : SaidWithStamp) (out : Result (Reply X) StepFault)
+    (next : NodeState X) where
+  alike : (other : Peer → Said) → ((p : Peer) → said_by heard p ≡ other p) → Leads (htcp_told g s from trans (said_by heard) now mark) s out next →
+      Leads (htcp_told g s from trans other now mark) s out next
   alike other same h = subst (λ to. Leads to s out next) (told_alike g s from trans now mark (said_by heard) other same) h
 
-  pub no_tst : (opcode : ℕ) → (opcode == 1) ≡ true → heard ≡ record { member = said.NoFetch; foreign = said.NoFetch } → Leads (htcp_told g s from trans (said_by heard) now mark) s out next
+  pub no_tst : (opcode : ℕ) → (opcode == 1) ≡ true → heard ≡ record { member = said.NoFetch; foreign = said.NoFetch } →
+      Leads (htcp_told g s from trans (said_by heard) now mark) s out next
       → Leads (tst_refused g s from trans opcode now mark) s out next
   unfolding tst_refused
   no_tst opcode is of h = rw is (alike (λ p. said.NoFetch) (of_both said.NoFetch heard of) h)
 
-  pub miss : (cache : List ℕ) → heard ≡ record { member = said.Miss; foreign = said.Miss } → Leads (htcp_told g s from trans (said_by heard) now mark) s out next
+  pub miss : (cache : List ℕ) → heard ≡ record { member = said.Miss; foreign = said.Miss } →
+      Leads (htcp_told g s from trans (said_by heard) now mark) s out next
       → MayClose (htcp_comes g s from trans now mark (content.TstMiss cache)) s (purge_in_content g from trans (content.TstMiss cache)) out next
   unfolding htcp_comes
   miss cache of h = leads_may_close _ s None out next (alike (λ p. said.Miss) (of_both said.Miss heard of) h)
 
-  pub hit : (detail : Detail) → ((p : Peer) → said_by heard p ≡ tst_hit_said detail.cache_headers p) → Leads (htcp_told g s from trans (said_by heard) now mark) s out next
+  pub hit : (detail : Detail) → ((p : Peer) → said_by heard p ≡ tst_hit_said detail.cache_headers p) →
+      Leads (htcp_told g s from trans (said_by heard) now mark) s out next
       → MayClose (htcp_comes g s from trans now mark (content.TstHit detail)) s (purge_in_content g from trans (content.TstHit detail)) out next
   unfolding htcp_comes
   hit detail of h = leads_may_close _ s None out next (alike (tst_hit_said detail.cache_headers) of h)

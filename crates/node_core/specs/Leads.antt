@@ -16,7 +16,8 @@ Leads to s (Err f) next = to ≡ record { state = next; outcome = Err f }
 
 -- The method does what the rule says, or an allocation failed, or the store of floors failed.
 -- Either failure may close the node if the event brings a purge.
-abbrev pub MayClose : {X : Type 0} → Stepped X → NodeState X → Option (List ℕ × ℕ) → Result (Reply X) StepFault → NodeState X → Type 0
+abbrev pub MayClose : {X : Type 0} → Stepped X → NodeState X → Option (List ℕ × ℕ) → Result (Reply X) StepFault →
+    NodeState X → Type 0
 MayClose to s purge (Ok reply) next = to ≡ record { state = next; outcome = Ok reply }
 MayClose to s purge (Err fault.NoMemory) next = (next ≡ s) ⊎ ClosesOn s purge next
 MayClose to s purge (Err fault.StoreFault) next = ClosesOn s purge next

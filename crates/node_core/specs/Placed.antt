@@ -19,7 +19,15 @@ empty_answer = record { status = 200; fields = []; age = None; stamp = None; bod
 
 -- A copy of it, requested at time 0 and fresh for 60 seconds.
 abbrev pub empty_copy : {X : Type 0} → List ℕ → ℕ → X → WebCopy X
-empty_copy key stamp tag = record { key = key; stamp = stamp; asked = 0; lifetime = 60; answer = empty_answer; tag = tag }
+empty_copy key stamp tag = record {
+  key = key;
+  stamp = stamp;
+  asked = 0;
+  lifetime = 60;
+  answer = empty_answer;
+  tag =
+      tag;
+}
 
 -- What the store did with the copy.
 abbrev pub put_as : Put → Placed
@@ -37,8 +45,10 @@ module _ {X : Type 0} (limits : Limits) (s : NodeState X) (key : List ℕ) (stam
 
   -- the result
   abbrev pub placed_as : Placed
-  placed_as = if nat_lt placed_stamp (floor s.floors key) then placed.Old else put_as (put_answer (store_of limits s.copies) placed_copy)
+  placed_as = if nat_lt placed_stamp (floor s.floors key) then placed.Old
+      else put_as (put_answer (store_of limits s.copies) placed_copy)
 
   -- the state after it
   abbrev pub with_placed : NodeState X
-  with_placed = if nat_lt placed_stamp (floor s.floors key) then s else with_copies s (after_put (store_of limits s.copies) placed_copy).copies
+  with_placed = if nat_lt placed_stamp (floor s.floors key) then s
+      else with_copies s (after_put (store_of limits s.copies) placed_copy).copies

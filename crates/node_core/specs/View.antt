@@ -29,7 +29,8 @@ HasLimits held limits = (held.limit_count ≡ limits.copies) × (held.limit_byte
 
 -- The id is a member's; the store of copies has the roster's limits; each block is taken once; a
 -- closed node has no pending request.
-pub record IsNode {X : Type 0} (roster : Tables) (id : ℕ) (held : Held X) (pending : List (Pending X)) (next : ℕ) (closed : Bool) : Type 0 where
+pub record IsNode {X : Type 0} (roster : Tables) (id : ℕ) (held : Held X) (pending : List (Pending X)) (next : ℕ)
+    (closed : Bool) : Type 0 where
   pub member : is_member roster id ≡ true
   pub limits : HasLimits held roster.limits
   pub first : 1 ≤ next

@@ -112,7 +112,8 @@ impl<T: Copy + Drop, S: FloorStore> Node<T, S> {
     /// The place of the request whose last fetch has this serial, if it is for this key.
     fn place_of_fetch(&self, serial: u32, key: &Key) -> Option<usize>
         ensures place { IfSome result (λ place. place < length self.now.state.pending) }
-        ensures found { option_and_then (slice_get self.now.state.pending) result ≡ find (arrivals.is_fetch serial key.now) self.now.state.pending }
+        ensures found { option_and_then (slice_get self.now.state.pending) result
+            ≡ find (arrivals.is_fetch serial key.now) self.now.state.pending }
     {
         let place = self.pending.of_fetch(serial)?;
         if self.pending.ask(place).ask.key == *key {
@@ -135,8 +136,11 @@ impl<T: Copy + Drop, S: FloorStore> Node<T, S> {
     ) -> Result<Reply<T>, StepFault>
         requires place { place < length self.old.state.pending }
         ensures same { IsSameNode self.old self.new }
-        ensures leads { (key_of : List ℕ → Option (List ℕ)) → IfSome (slice_get self.old.state.pending place) (λ p.
-            Leads (arrivals.use_answer (setting_of self.old key_of) self.old.state p stamp asked answer tag now) self.old.state result self.new.state) }
+        ensures leads { (key_of : List ℕ → Option (List ℕ)) →
+            IfSome (slice_get self.old.state.pending place) (λ p.
+            Leads (arrivals.use_answer (setting_of self.old key_of)
+            self.old.state p stamp asked answer tag now)
+            self.old.state result self.new.state) }
     {
         let key = self.pending.ask(place).ask.key.copy(self.alloc)?;
         let life = lifetime(&answer, self.roster.limits().default_lifetime);
@@ -164,10 +168,13 @@ impl<T: Copy + Drop, S: FloorStore> Node<T, S> {
     /// Counts the peer of the request at a place as tried, and goes on with the request.
     fn try_on(&mut self, place: usize, peer: u8, now: u64, mark: T) -> Result<Reply<T>, StepFault>
         requires place { place < length self.old.state.pending }
-        requires fetch { IfSome (slice_get self.old.state.pending place) (λ p. (asked : ℕ) × (p.fetch ≡ AtPeer peer asked)) }
+        requires fetch { IfSome (slice_get self.old.state.pending place) (λ p. (asked : ℕ)
+            × (p.fetch ≡ AtPeer peer asked)) }
         ensures same { IsSameNode self.old self.new }
-        ensures leads { (key_of : List ℕ → Option (List ℕ)) → IfSome (slice_get self.old.state.pending place) (λ p.
-            Leads (arrivals.try_on (setting_of self.old key_of) self.old.state p peer now mark) self.old.state result self.new.state) }
+        ensures leads { (key_of : List ℕ → Option (List ℕ)) →
+            IfSome (slice_get self.old.state.pending place) (λ p.
+            Leads (arrivals.try_on (setting_of self.old key_of) self.old.state p peer now mark)
+            self.old.state result self.new.state) }
     {
         let ask = self.pending.ask(place);
         let tried = with_one_more(self.alloc, ask.tried.as_slice(), peer)?;
@@ -189,10 +196,14 @@ impl<T: Copy + Drop, S: FloorStore> Node<T, S> {
         mark: T,
     ) -> Result<Reply<T>, StepFault>
         requires place { place < length self.old.state.pending }
-        requires fetch { IfSome (slice_get self.old.state.pending place) (λ p. p.fetch ≡ AtPeer peer asked) }
+        requires fetch { IfSome (slice_get self.old.state.pending place) (λ p.
+            p.fetch ≡ AtPeer peer asked) }
         ensures same { IsSameNode self.old self.new }
-        ensures leads { (key_of : List ℕ → Option (List ℕ)) → IfSome (slice_get self.old.state.pending place) (λ p.
-            Leads (arrivals.peer_gave (setting_of self.old key_of) self.old.state p peer asked stamp answer tag now mark) self.old.state result self.new.state) }
+        ensures leads { (key_of : List ℕ → Option (List ℕ)) →
+            IfSome (slice_get self.old.state.pending place) (λ p.
+            Leads (arrivals.peer_gave (setting_of self.old key_of)
+            self.old.state p peer asked stamp answer tag now mark)
+            self.old.state result self.new.state) }
     {
         let floor = self.floors.floor(&self.pending.ask(place).ask.key);
         if floor <= stamp && !is_gateway_fault(answer.status()) {
@@ -215,10 +226,14 @@ impl<T: Copy + Drop, S: FloorStore> Node<T, S> {
         mark: T,
     ) -> Result<Reply<T>, StepFault>
         requires place { place < length self.old.state.pending }
-        requires fetch { IfSome (slice_get self.old.state.pending place) (λ p. p.fetch ≡ AtOrigin stamp asked read_mark) }
+        requires fetch { IfSome (slice_get self.old.state.pending place) (λ p.
+            p.fetch ≡ AtOrigin stamp asked read_mark) }
         ensures same { IsSameNode self.old self.new }
-        ensures leads { (key_of : List ℕ → Option (List ℕ)) → IfSome (slice_get self.old.state.pending place) (λ p.
-            Leads (arrivals.origin_gave (setting_of self.old key_of) self.old.state p stamp asked read_mark answer now mark) self.old.state result self.new.state) }
+        ensures leads { (key_of : List ℕ → Option (List ℕ)) →
+            IfSome (slice_get self.old.state.pending place) (λ p.
+            Leads (arrivals.origin_gave (setting_of self.old key_of)
+            self.old.state p stamp asked read_mark answer now mark)
+            self.old.state result self.new.state) }
     {
         let ask = self.pending.ask(place);
         if self.floors.floor(&ask.ask.key) <= stamp {
@@ -243,7 +258,10 @@ impl<T: Copy + Drop, S: FloorStore> Node<T, S> {
     ) -> Result<Reply<T>, StepFault>
         ensures same { IsSameNode self.old self.new }
         ensures leads { (key_of : List ℕ → Option (List ℕ)) →
-            Leads (arrivals.peer_answer_to (setting_of self.old key_of) self.old.state peer stamp answer tag now mark (find (arrivals.is_fetch serial key.now) self.old.state.pending)) self.old.state result self.new.state }
+            Leads (arrivals.peer_answer_to
+            (setting_of self.old key_of) self.old.state peer stamp answer tag now mark
+            (find (arrivals.is_fetch serial key.now) self.old.state.pending))
+            self.old.state result self.new.state }
     {
         let Some(place) = self.place_of_fetch(serial, key) else {
             return Err(StepFault::UnknownSerial);
@@ -269,7 +287,9 @@ impl<T: Copy + Drop, S: FloorStore> Node<T, S> {
     ) -> Result<Reply<T>, StepFault>
         ensures same { IsSameNode self.old self.new }
         ensures leads { (key_of : List ℕ → Option (List ℕ)) →
-            Leads (arrivals.peer_answer (setting_of self.old key_of) self.old.state serial peer key.now answer tag now mark) self.old.state result self.new.state }
+            Leads (arrivals.peer_answer (setting_of self.old key_of)
+            self.old.state serial peer key.now answer tag now mark)
+            self.old.state result self.new.state }
     {
         if is_foreign(peer) {
             return Err(StepFault::UnknownSerial);
@@ -291,7 +311,9 @@ impl<T: Copy + Drop, S: FloorStore> Node<T, S> {
     ) -> Result<Reply<T>, StepFault>
         ensures same { IsSameNode self.old self.new }
         ensures leads { (key_of : List ℕ → Option (List ℕ)) →
-            Leads (arrivals.foreign_answer (setting_of self.old key_of) self.old.state serial peer key.now answer tag now mark) self.old.state result self.new.state }
+            Leads (arrivals.foreign_answer
+            (setting_of self.old key_of) self.old.state serial peer key.now answer tag now mark)
+            self.old.state result self.new.state }
     {
         if !is_foreign(peer) {
             return Err(StepFault::UnknownSerial);
@@ -310,7 +332,9 @@ impl<T: Copy + Drop, S: FloorStore> Node<T, S> {
     ) -> Result<Reply<T>, StepFault>
         ensures same { IsSameNode self.old self.new }
         ensures leads { (key_of : List ℕ → Option (List ℕ)) →
-            Leads (arrivals.origin_answer (setting_of self.old key_of) self.old.state serial key.now answer now mark) self.old.state result self.new.state }
+            Leads (arrivals.origin_answer (setting_of self.old key_of)
+            self.old.state serial key.now answer now mark)
+            self.old.state result self.new.state }
     {
         let Some(place) = self.place_of_fetch(serial, key) else {
             return Err(StepFault::UnknownSerial);
@@ -335,7 +359,8 @@ impl<T: Copy + Drop, S: FloorStore> Node<T, S> {
     ) -> Result<Reply<T>, StepFault>
         ensures same { IsSameNode self.old self.new }
         ensures leads { (key_of : List ℕ → Option (List ℕ)) →
-            Leads (arrivals.fetch_failed (setting_of self.old key_of) self.old.state serial now mark) self.old.state result self.new.state }
+            Leads (arrivals.fetch_failed (setting_of self.old key_of)
+            self.old.state serial now mark) self.old.state result self.new.state }
     {
         let Some(place) = self.pending.of_fetch(serial) else {
             return Err(StepFault::UnknownSerial);
@@ -357,10 +382,13 @@ impl<T: Copy + Drop, S: FloorStore> Node<T, S> {
         mark: T,
     ) -> Result<Reply<T>, StepFault>
         requires place { place < length self.old.state.pending }
-        requires can_go_on { IfSome (slice_get self.old.state.pending place) (λ p. CanGoOn (arrivals.with_round p round)) }
+        requires can_go_on { IfSome (slice_get self.old.state.pending place) (λ p.
+            CanGoOn (arrivals.with_round p round)) }
         ensures same { IsSameNode self.old self.new }
-        ensures leads { (key_of : List ℕ → Option (List ℕ)) → IfSome (slice_get self.old.state.pending place) (λ p.
-            Leads (arrivals.round_moves (setting_of self.old key_of) self.old.state (arrivals.with_round p round) now mark) self.old.state result self.new.state) }
+        ensures leads { (key_of : List ℕ → Option (List ℕ)) →
+            IfSome (slice_get self.old.state.pending place) (λ p.
+            Leads (arrivals.round_moves (setting_of self.old key_of) self.old.state
+            (arrivals.with_round p round) now mark) self.old.state result self.new.state) }
     {
         let progress = with_round(self.alloc, self.pending.ask(place), round)?;
         if is_idle(&progress.fetch) {
@@ -380,7 +408,8 @@ impl<T: Copy + Drop, S: FloorStore> Node<T, S> {
     ) -> Result<Reply<T>, StepFault>
         ensures same { IsSameNode self.old self.new }
         ensures leads { (key_of : List ℕ → Option (List ℕ)) →
-            Leads (arrivals.round_expired (setting_of self.old key_of) self.old.state serial now mark) self.old.state result self.new.state }
+            Leads (arrivals.round_expired (setting_of self.old key_of)
+            self.old.state serial now mark) self.old.state result self.new.state }
     {
         let Some(place) = self.pending.of_round(serial) else {
             return Err(StepFault::UnknownSerial);

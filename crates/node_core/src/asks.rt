@@ -55,7 +55,9 @@ impl<T: Copy + Drop, S: FloorStore> Node<T, S> {
     ) -> Result<Reply<T>, StepFault>
         requires { self.old.state.closed ≡ false }
         ensures same { IsSameNode self.old self.new }
-        ensures leads { (key_of : List ℕ → Option (List ℕ)) → Leads (asks.ask_comes (setting_of self.old key_of) self.old.state asker ask now mark) self.old.state result self.new.state }
+        ensures leads { (key_of : List ℕ → Option (List ℕ)) →
+            Leads (asks.ask_comes (setting_of self.old key_of) self.old.state asker ask now mark)
+            self.old.state result self.new.state }
     {
         match self.copy_to_serve(&ask, now)? {
             Some(copy) => Ok(self.serve_held(asker, &ask.key, copy, now)),
@@ -66,8 +68,10 @@ impl<T: Copy + Drop, S: FloorStore> Node<T, S> {
     /// Serves a copy that is held, which becomes the most recent.
     fn serve_held(&mut self, asker: Option<u8>, key: &Key, copy: WebCopy<T>, now: u64) -> Reply<T>
         ensures same { IsSameNode self.old self.new }
-        ensures state { self.new.state ≡ state.with_copies self.old.state (to_front key.now self.old.state.copies) }
-        ensures reply { result ≡ state.serving None asker (Served.Copy copy (state.served_age copy now)) }
+        ensures state { self.new.state
+            ≡ state.with_copies self.old.state (to_front key.now self.old.state.copies) }
+        ensures reply { result ≡ state.serving None asker
+            (Served.Copy copy (state.served_age copy now)) }
     {
         self.copies.refresh(key);
         let age = served_age(&copy, now);
@@ -84,7 +88,9 @@ impl<T: Copy + Drop, S: FloorStore> Node<T, S> {
     ) -> Result<Reply<T>, StepFault>
         requires { self.old.state.closed ≡ false }
         ensures same { IsSameNode self.old self.new }
-        ensures leads { (key_of : List ℕ → Option (List ℕ)) → Leads (asks.not_held (setting_of self.old key_of) self.old.state asker ask now mark) self.old.state result self.new.state }
+        ensures leads { (key_of : List ℕ → Option (List ℕ)) →
+            Leads (asks.not_held (setting_of self.old key_of) self.old.state asker ask now mark)
+            self.old.state result self.new.state }
     {
         if self.is_cached_only(asker, &ask) {
             return Ok(serves(self.alloc, None, asker, Served::Status(504)));
@@ -98,7 +104,8 @@ impl<T: Copy + Drop, S: FloorStore> Node<T, S> {
     /// Whether a request is answered from the store alone: it bears `only-if-cached` (RFC 9111,
     /// section 5.2.1.7), or a sibling sent it (RFC 2187, section 2).
     fn is_cached_only(&self, asker: Option<u8>, ask: &Ask) -> bool
-        ensures { (key_of : List ℕ → Option (List ℕ)) → result ≡ asks.is_cached_only (setting_of self.now key_of) asker ask.now }
+        ensures { (key_of : List ℕ → Option (List ℕ)) →
+            result ≡ asks.is_cached_only (setting_of self.now key_of) asker ask.now }
     {
         ask.only_if_cached || is_siblings_ask(&self.roster, self.id, asker)
     }
@@ -121,7 +128,9 @@ impl<T: Copy + Drop, S: FloorStore> Node<T, S> {
         requires open { self.old.state.closed ≡ false }
         requires block { self.old.state.next ≤ 134217727 }
         ensures same { IsSameNode self.old self.new }
-        ensures leads { (key_of : List ℕ → Option (List ℕ)) → Leads (asks.begin_ask (setting_of self.old key_of) self.old.state asker ask now mark) self.old.state result self.new.state }
+        ensures leads { (key_of : List ℕ → Option (List ℕ)) →
+            Leads (asks.begin_ask (setting_of self.old key_of) self.old.state asker ask now mark)
+            self.old.state result self.new.state }
     {
         if ask.no_cache {
             return self.begin_with_read(asker, ask, now, mark);
@@ -147,7 +156,11 @@ impl<T: Copy + Drop, S: FloorStore> Node<T, S> {
         requires block { self.old.state.next ≤ 134217727 }
         ensures same { IsSameNode self.old self.new }
         ensures leads { (key_of : List ℕ → Option (List ℕ)) →
-            Leads (read_origin_rule (setting_of self.old key_of) (state.adding (asks.takes_block self.old.state) (asks.new_ask self.old.state.next asker ask None)) (asks.new_ask self.old.state.next asker ask None) None now mark) self.old.state result self.new.state }
+            Leads (read_origin_rule (setting_of self.old key_of)
+            (state.adding (asks.takes_block self.old.state)
+            (asks.new_ask self.old.state.next asker ask None))
+            (asks.new_ask self.old.state.next asker ask None) None now mark)
+            self.old.state result self.new.state }
     {
         if !has_origin(&self.roster, &ask.key) {
             self.next += 1;
@@ -176,7 +189,9 @@ impl<T: Copy + Drop, S: FloorStore> Node<T, S> {
         requires answers { round.answers ≡ [] }
         ensures same { IsSameNode self.old self.new }
         ensures leads { (key_of : List ℕ → Option (List ℕ)) →
-            Leads (asks.begin_round (setting_of self.old key_of) (asks.takes_block self.old.state) asker ask self.old.state.next round) self.old.state result self.new.state }
+            Leads (asks.begin_round (setting_of self.old key_of)
+            (asks.takes_block self.old.state) asker ask self.old.state.next round)
+            self.old.state result self.new.state }
     {
         let serial = serial_of(self.next, 0);
         let send = queries(self.alloc, &self.roster, serial, &ask.key, round.asked())?;
@@ -211,16 +226,17 @@ impl<T: Copy + Drop, S: FloorStore> Node<T, S> {
           fetch = fetch;
         }) }
         ensures same { IsSameNode self.old self.new }
-        ensures ok { OnOk result (self.new.state ≡ state.adding (asks.takes_block self.old.state) (record {
-          block = self.old.state.next;
-          asker = asker;
-          ask = ask;
-          round = round;
-          tried = [];
-          fetches = fetches;
-          reads = reads;
-          fetch = fetch;
-        })) }
+        ensures ok { OnOk result (self.new.state
+            ≡ state.adding (asks.takes_block self.old.state) (record {
+              block = self.old.state.next;
+              asker = asker;
+              ask = ask;
+              round = round;
+              tried = [];
+              fetches = fetches;
+              reads = reads;
+              fetch = fetch;
+            })) }
         ensures err { OnErr result (self.new.state ≡ self.old.state) }
     {
         let pending = Pending {

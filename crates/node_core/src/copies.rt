@@ -45,7 +45,8 @@ fn is_good<T>(floor: u32, now: u64, copy: &WebCopy<T>) -> bool
 
 /// The copy, if it may be served at this floor and time.
 fn if_good<T>(floor: u32, now: u64, copy: Option<&WebCopy<T>>) -> Option<&WebCopy<T>>
-    ensures { option_map (λ c. c.now) result ≡ state.if_good floor now (option_map (λ c. c.now) copy.entry) }
+    ensures { option_map (λ c. c.now) result
+        ≡ state.if_good floor now (option_map (λ c. c.now) copy.entry) }
 {
     match copy {
         Some(copy) if is_good(floor, now, copy) => Some(copy),
@@ -94,7 +95,9 @@ impl<T: Copy + Drop, S: FloorStore> Node<T, S> {
     ) -> Result<WebCopy<T>, AllocError>
         ensures same { IsSameNode self.old self.new }
         ensures ok { IfOk result (λ served. served ≡ copy) }
-        ensures state { OnOk result (self.new.state ≡ state.with_copies self.old.state (stored self.old.roster.limits copy life self.old.state.copies)) }
+        ensures state { OnOk result (self.new.state
+            ≡ state.with_copies self.old.state
+            (stored self.old.roster.limits copy life self.old.state.copies)) }
         ensures err { IfErr result (λ _. self.new.state ≡ self.old.state) }
     {
         if life.is_none() {

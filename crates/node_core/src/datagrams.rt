@@ -34,10 +34,14 @@ impl<T: Copy + Drop, S: FloorStore> Node<T, S> {
     ) -> Result<Reply<T>, StepFault>
         requires { self.old.state.closed ≡ false }
         ensures same { IsSameMember self.old self.new }
-        ensures store { KeepsStore (S.is_honest self.new.store) (S.may_find self.new.store) self.old self.new result }
-        ensures cause { FailsWithCause (S.is_honest self.new.store) (HaveRisen (S.failed self.old.store) (S.failed self.new.store)) result }
+        ensures store { KeepsStore (S.is_honest self.new.store)
+            (S.may_find self.new.store) self.old self.new result }
+        ensures cause { FailsWithCause (S.is_honest self.new.store)
+            (HaveRisen (S.failed self.old.store) (S.failed self.new.store)) result }
         ensures leads { (key_of : List ℕ → Option (List ℕ)) → GivesKeys key_of →
-            MayClose (datagrams.datagram (setting_of self.old key_of) self.old.state from now mark message) self.old.state (purge_in_message (setting_of self.old key_of) from message) result self.new.state }
+            MayClose (datagrams.datagram (setting_of self.old key_of)
+            self.old.state from now mark message) self.old.state
+            (purge_in_message (setting_of self.old key_of) from message) result self.new.state }
     {
         match message.into_message() {
             Message::Icp(message) => self.icp(from, message, now, mark),
@@ -51,7 +55,9 @@ impl<T: Copy + Drop, S: FloorStore> Node<T, S> {
         requires answerable { IsSendable (messages.icp ops.Miss message.number message.url) }
         ensures same { IsSameNode self.old self.new }
         ensures leads { (key_of : List ℕ → Option (List ℕ)) → GivesKeys key_of →
-            Leads (datagrams.icp_comes (setting_of self.old key_of) self.old.state from message now mark message.op) self.old.state result self.new.state }
+            Leads (datagrams.icp_comes (setting_of self.old key_of)
+            self.old.state from message now mark message.op)
+            self.old.state result self.new.state }
     {
         match message.op {
             IcpOp::Query => self.icp_query(from, message, now),
@@ -77,10 +83,15 @@ impl<T: Copy + Drop, S: FloorStore> Node<T, S> {
         requires open { self.old.state.closed ≡ false }
         requires opcode { HasOpcode content }
         ensures same { IsSameMember self.old self.new }
-        ensures store { KeepsStore (S.is_honest self.new.store) (S.may_find self.new.store) self.old self.new result }
-        ensures cause { FailsWithCause (S.is_honest self.new.store) (HaveRisen (S.failed self.old.store) (S.failed self.new.store)) result }
+        ensures store { KeepsStore (S.is_honest self.new.store)
+            (S.may_find self.new.store) self.old self.new result }
+        ensures cause { FailsWithCause (S.is_honest self.new.store)
+            (HaveRisen (S.failed self.old.store) (S.failed self.new.store)) result }
         ensures leads { (key_of : List ℕ → Option (List ℕ)) → GivesKeys key_of →
-            MayClose (datagrams.htcp_comes (setting_of self.old key_of) self.old.state from trans now mark content) self.old.state (purge_in_content (setting_of self.old key_of) from trans content) result self.new.state }
+            MayClose (datagrams.htcp_comes
+            (setting_of self.old key_of) self.old.state from trans now mark content)
+            self.old.state (purge_in_content (setting_of self.old key_of) from trans content)
+            result self.new.state }
     {
         match content {
             Content::NopAsk { desired } => {
@@ -119,7 +130,8 @@ impl<T: Copy + Drop, S: FloorStore> Node<T, S> {
     ) -> Result<Reply<T>, StepFault>
         ensures same { IsSameNode self.old self.new }
         ensures leads { (key_of : List ℕ → Option (List ℕ)) →
-            Leads (datagrams.tst_refused (setting_of self.old key_of) self.old.state from trans opcode now mark) self.old.state result self.new.state }
+            Leads (datagrams.tst_refused (setting_of self.old key_of)
+            self.old.state from trans opcode now mark) self.old.state result self.new.state }
     {
         if opcode == TST {
             self.htcp_told(from, trans, SaidWithStamp::of(Said::NoFetch), now, mark)

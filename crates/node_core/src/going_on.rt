@@ -72,10 +72,13 @@ impl<T: Copy + Drop, S: FloorStore> Node<T, S> {
     ) -> Result<Reply<T>, StepFault>
         requires place { place < length self.old.state.pending }
         requires idle { state.is_idle progress.fetch ≡ true }
-        requires can_go_on { IfSome (slice_get self.old.state.pending place) (λ p. CanGoOn (with_progress p progress)) }
+        requires can_go_on { IfSome (slice_get self.old.state.pending place) (λ p.
+            CanGoOn (with_progress p progress)) }
         ensures same { IsSameNode self.old self.new }
-        ensures leads { (key_of : List ℕ → Option (List ℕ)) → IfSome (slice_get self.old.state.pending place) (λ p.
-            Leads (fetching.go_on (setting_of self.old key_of) self.old.state (with_progress p progress) now mark) self.old.state result self.new.state) }
+        ensures leads { (key_of : List ℕ → Option (List ℕ)) →
+            IfSome (slice_get self.old.state.pending place) (λ p.
+            Leads (fetching.go_on (setting_of self.old key_of) self.old.state
+            (with_progress p progress) now mark) self.old.state result self.new.state) }
     {
         let floor = self.floors.floor(&self.pending.ask(place).ask.key);
         match source_of(&progress.round, floor, progress.tried.as_slice()) {
@@ -101,10 +104,15 @@ impl<T: Copy + Drop, S: FloorStore> Node<T, S> {
     ) -> Result<Reply<T>, StepFault>
         requires place { place < length self.old.state.pending }
         requires serial { progress.fetches < 31 }
-        requires can_go_on { IfSome (slice_get self.old.state.pending place) (λ p. CanGoOn (fetching.fetching (with_progress p progress) progress.reads (AtPeer peer now))) }
+        requires can_go_on { IfSome (slice_get self.old.state.pending place) (λ p.
+            CanGoOn (fetching.fetching (with_progress p progress) progress.reads
+            (AtPeer peer now))) }
         ensures same { IsSameNode self.old self.new }
-        ensures leads { (key_of : List ℕ → Option (List ℕ)) → IfSome (slice_get self.old.state.pending place) (λ p.
-            Leads (fetching.ask_peer (setting_of self.old key_of) self.old.state (with_progress p progress) peer cached now) self.old.state result self.new.state) }
+        ensures leads { (key_of : List ℕ → Option (List ℕ)) →
+            IfSome (slice_get self.old.state.pending place) (λ p.
+            Leads (fetching.ask_peer (setting_of self.old key_of) self.old.state
+            (with_progress p progress) peer cached now)
+            self.old.state result self.new.state) }
     {
         let ask = self.pending.ask(place);
         let asked = Ask {
@@ -139,10 +147,14 @@ impl<T: Copy + Drop, S: FloorStore> Node<T, S> {
     ) -> Result<Reply<T>, StepFault>
         requires place { place < length self.old.state.pending }
         requires idle { state.is_idle progress.fetch ≡ true }
-        requires can_go_on { IfSome (slice_get self.old.state.pending place) (λ p. CanGoOn (with_progress p progress)) }
+        requires can_go_on { IfSome (slice_get self.old.state.pending place) (λ p.
+            CanGoOn (with_progress p progress)) }
         ensures same { IsSameNode self.old self.new }
-        ensures leads { (key_of : List ℕ → Option (List ℕ)) → IfSome (slice_get self.old.state.pending place) (λ p.
-            Leads (fetching.read_origin (setting_of self.old key_of) self.old.state (with_progress p progress) (Some p.block) now mark) self.old.state result self.new.state) }
+        ensures leads { (key_of : List ℕ → Option (List ℕ)) →
+            IfSome (slice_get self.old.state.pending place) (λ p.
+            Leads (fetching.read_origin (setting_of self.old key_of) self.old.state
+            (with_progress p progress) (Some p.block) now mark)
+            self.old.state result self.new.state) }
     {
         if progress.reads >= MOST_READS {
             return Ok(self.give_up(place, 503));
@@ -165,10 +177,13 @@ impl<T: Copy + Drop, S: FloorStore> Node<T, S> {
         requires place { place < length self.old.state.pending }
         requires serial { progress.fetches < 31 }
         requires reads { progress.reads < 3 }
-        requires can_go_on { IfSome (slice_get self.old.state.pending place) (λ p. (stamp : ℕ) → CanGoOn (fetching.fetching (with_progress p progress) (progress.reads + 1) (AtOrigin stamp now mark))) }
+        requires can_go_on { IfSome (slice_get self.old.state.pending place) (λ p. (stamp : ℕ) →
+            CanGoOn (fetching.fetching (with_progress p progress) (progress.reads + 1)
+            (AtOrigin stamp now mark))) }
         ensures same { IsSameNode self.old self.new }
         ensures leads { IfSome (slice_get self.old.state.pending place) (λ p.
-            Leads (fetching.begin_read self.old.state (with_progress p progress) now mark) self.old.state result self.new.state) }
+            Leads (fetching.begin_read self.old.state (with_progress p progress) now mark)
+            self.old.state result self.new.state) }
     {
         let ask = self.pending.ask(place);
         let asked = origin_ask(self.alloc, &ask.ask)?;
@@ -189,7 +204,8 @@ impl<T: Copy + Drop, S: FloorStore> Node<T, S> {
         requires place { place < length self.old.state.pending }
         ensures same { IsSameNode self.old self.new }
         ensures gives_up { IfSome (slice_get self.old.state.pending place) (λ p.
-            fetching.give_up self.old.state p (Some p.block) status ≡ state.replies self.new.state result) }
+            fetching.give_up self.old.state p (Some p.block) status
+            ≡ state.replies self.new.state result) }
     {
         let ask = self.pending.end(place);
         serves(

@@ -58,7 +58,8 @@ impl<T, S: FloorStore> Node<T, S> {
     /// store has committed the node's floors.
     pub fn is_closed(&self) -> bool
         ensures value { result ≡ self.now.state.closed }
-        ensures tied { IsTied self.now.state.closed self.now.state.floors (S.is_usable self.now.store) (S.is_honest self.now.store) (S.content self.now.store) }
+        ensures tied { IsTied self.now.state.closed self.now.state.floors
+            (S.is_usable self.now.store) (S.is_honest self.now.store) (S.content self.now.store) }
     {
         self.closed
     }
@@ -80,7 +81,8 @@ impl<T, S: FloorStore> Node<T, S> {
     /// The pending request whose last fetch has this serial, if there is one. Before its first
     /// fetch, a request is found by the serial of its round. Allocates nothing.
     pub fn fetching(&self, serial: u32) -> Option<&Pending<T>>
-        ensures { option_map (λ p. p.now) result ≡ find (λ p. fetch_serial p == serial) self.now.state.pending }
+        ensures { option_map (λ p. p.now) result
+            ≡ find (λ p. fetch_serial p == serial) self.now.state.pending }
     {
         let place = self.pending.of_fetch(serial)?;
         Some(self.pending.ask(place))

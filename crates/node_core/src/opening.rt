@@ -86,10 +86,13 @@ impl<T, S: FloorStore + Drop> Node<T, S> {
         ensures no_such { is_member_of roster id ≡ false → result ≡ Err OpenFault.NoSuchNode }
         ensures such { is_member_of roster id ≡ true → result ≢ Err OpenFault.NoSuchNode }
         ensures fresh { IfOk result (λ node. node.state ≡ opened node.state.floors) }
-        ensures state { IfOk result (λ node. S.is_honest node.store → node.state ≡ opened (S.content store)) }
+        ensures state { IfOk result (λ node. S.is_honest node.store →
+            node.state ≡ opened (S.content store)) }
         ensures store { IfOk result (λ node. node.store ≡ store) }
-        ensures cause { result ≡ Err (OpenFault.Floors FloorFault.StoreFault) → S.is_usable store ≡ false }
-        ensures named { (result ≢ Err (OpenFault.Floors FloorFault.FloorsFull)) × (result ≢ Err (OpenFault.Floors FloorFault.BadTable)) }
+        ensures cause { result ≡ Err (OpenFault.Floors FloorFault.StoreFault) →
+            S.is_usable store ≡ false }
+        ensures named { (result ≢ Err (OpenFault.Floors FloorFault.FloorsFull))
+            × (result ≢ Err (OpenFault.Floors FloorFault.BadTable)) }
     {
         Node::open_over(alloc, roster, id, store, None)
     }
@@ -108,10 +111,13 @@ impl<T, S: FloorStore + Drop> Node<T, S> {
         ensures no_such { is_member_of roster id ≡ false → result ≡ Err OpenFault.NoSuchNode }
         ensures such { is_member_of roster id ≡ true → result ≢ Err OpenFault.NoSuchNode }
         ensures fresh { IfOk result (λ node. node.state ≡ opened node.state.floors) }
-        ensures state { IfOk result (λ node. S.is_honest node.store → node.state ≡ opened (S.content store)) }
+        ensures state { IfOk result (λ node. S.is_honest node.store →
+            node.state ≡ opened (S.content store)) }
         ensures store { IfOk result (λ node. node.store ≡ store) }
-        ensures cause { result ≡ Err (OpenFault.Floors FloorFault.StoreFault) → S.is_usable store ≡ false }
-        ensures named { (result ≢ Err (OpenFault.Floors FloorFault.FloorsFull)) × (result ≢ Err (OpenFault.Floors FloorFault.BadTable)) }
+        ensures cause { result ≡ Err (OpenFault.Floors FloorFault.StoreFault) →
+            S.is_usable store ≡ false }
+        ensures named { (result ≢ Err (OpenFault.Floors FloorFault.FloorsFull))
+            × (result ≢ Err (OpenFault.Floors FloorFault.BadTable)) }
     {
         Node::open_over(alloc, roster, id, store, Some(keys))
     }
@@ -128,10 +134,13 @@ impl<T, S: FloorStore + Drop> Node<T, S> {
         ensures no_such { is_member_of roster id ≡ false → result ≡ Err OpenFault.NoSuchNode }
         ensures such { is_member_of roster id ≡ true → result ≢ Err OpenFault.NoSuchNode }
         ensures fresh { IfOk result (λ node. node.state ≡ opened node.state.floors) }
-        ensures state { IfOk result (λ node. S.is_honest node.store → node.state ≡ opened (S.content store)) }
+        ensures state { IfOk result (λ node. S.is_honest node.store →
+            node.state ≡ opened (S.content store)) }
         ensures store { IfOk result (λ node. node.store ≡ store) }
-        ensures cause { result ≡ Err (OpenFault.Floors FloorFault.StoreFault) → S.is_usable store ≡ false }
-        ensures named { (result ≢ Err (OpenFault.Floors FloorFault.FloorsFull)) × (result ≢ Err (OpenFault.Floors FloorFault.BadTable)) }
+        ensures cause { result ≡ Err (OpenFault.Floors FloorFault.StoreFault) →
+            S.is_usable store ≡ false }
+        ensures named { (result ≢ Err (OpenFault.Floors FloorFault.FloorsFull))
+            × (result ≢ Err (OpenFault.Floors FloorFault.BadTable)) }
     {
         if !roster.is_member(id) {
             return Err(OpenFault::NoSuchNode);

@@ -105,8 +105,10 @@ impl<T: Copy + Drop, S: FloorStore> Node<T, S> {
         ensures same { IsSameNode self.old self.new }
         ensures closed { self.old.state.closed ≡ true → result ≡ Err PlaceFault.Closed }
         ensures open { self.old.state.closed ≡ false → result ≢ Err PlaceFault.Closed }
-        ensures placed { IfOk result (λ placed. placed ≡ spec.placed_as self.old.roster.limits self.old.state key.now stamp tag) }
-        ensures state { OnOk result (self.new.state ≡ spec.with_placed self.old.roster.limits self.old.state key.now stamp tag) }
+        ensures placed { IfOk result (λ placed.
+            placed ≡ spec.placed_as self.old.roster.limits self.old.state key.now stamp tag) }
+        ensures state { OnOk result (self.new.state
+            ≡ spec.with_placed self.old.roster.limits self.old.state key.now stamp tag) }
         ensures unchanged { OnErr result (self.new.state ≡ self.old.state) }
     {
         if self.closed {

@@ -66,10 +66,14 @@ impl<T: Copy + Drop, S: FloorStore> Node<T, S> {
     ) -> Result<Reply<T>, StepFault>
         requires { self.old.state.closed ≡ false }
         ensures same { IsSameMember self.old self.new }
-        ensures store { KeepsStore (S.is_honest self.new.store) (S.may_find self.new.store) self.old self.new result }
-        ensures cause { FailsWithCause (S.is_honest self.new.store) (HaveRisen (S.failed self.old.store) (S.failed self.new.store)) result }
+        ensures store { KeepsStore (S.is_honest self.new.store)
+            (S.may_find self.new.store) self.old self.new result }
+        ensures cause { FailsWithCause (S.is_honest self.new.store)
+            (HaveRisen (S.failed self.old.store) (S.failed self.new.store)) result }
         ensures leads { (key_of : List ℕ → Option (List ℕ)) → GivesKeys key_of →
-            MayClose (datagrams.htcp_clr (setting_of self.old key_of) self.old.state from trans desired spec.now) self.old.state (purge_meant (setting_of self.old key_of) from trans spec.now) result self.new.state }
+            MayClose (datagrams.htcp_clr (setting_of self.old key_of)
+            self.old.state from trans desired spec.now) self.old.state
+            (purge_meant (setting_of self.old key_of) from trans spec.now) result self.new.state }
     {
         let key = key_of_text(self.alloc, spec.uri.as_slice())?;
         match number_in(spec.request_headers.as_slice(), HeaderKind::PurgeNumber) {
@@ -90,7 +94,9 @@ impl<T: Copy + Drop, S: FloorStore> Node<T, S> {
     ) -> Result<Reply<T>, StepFault>
         ensures same { IsSameNode self.old self.new }
         ensures leads { (key_of : List ℕ → Option (List ℕ)) →
-            Leads (datagrams.plain_clr (setting_of self.old key_of) self.old.state from trans desired (option_map (λ k. k.now) key.entry)) self.old.state result self.new.state }
+            Leads (datagrams.plain_clr (setting_of self.old key_of)
+            self.old.state from trans desired (option_map (λ k. k.now) key.entry))
+            self.old.state result self.new.state }
     {
         if !is_known(&self.roster, self.id, Udp::Htcp, from) && !self.roster.is_master(from) {
             return Ok(refused(self.alloc, from, trans, desired)?);
@@ -119,11 +125,15 @@ impl<T: Copy + Drop, S: FloorStore> Node<T, S> {
     ) -> Result<Reply<T>, StepFault>
         requires { self.old.state.closed ≡ false }
         ensures same { IsSameMember self.old self.new }
-        ensures store { KeepsStore (S.is_honest self.new.store) (S.may_find self.new.store) self.old self.new result }
-        ensures cause { FailsWithCause (S.is_honest self.new.store) (HaveRisen (S.failed self.old.store) (S.failed self.new.store)) result }
+        ensures store { KeepsStore (S.is_honest self.new.store)
+            (S.may_find self.new.store) self.old self.new result }
+        ensures cause { FailsWithCause (S.is_honest self.new.store)
+            (HaveRisen (S.failed self.old.store) (S.failed self.new.store)) result }
         ensures leads { (key_of : List ℕ → Option (List ℕ)) →
-            let purge = datagrams.purge_of (setting_of self.old key_of) from trans (option_map (λ k. k.now) key.entry) number in
-            MayClose (datagrams.numbered_clr self.old.state from trans desired purge) self.old.state purge result self.new.state }
+            let purge = datagrams.purge_of (setting_of self.old key_of) from trans
+            (option_map (λ k. k.now) key.entry) number in
+            MayClose (datagrams.numbered_clr self.old.state from trans desired purge)
+            self.old.state purge result self.new.state }
     {
         match key {
             Some(key) if self.roster.is_master(from) && number == trans && number >= 1 => {
@@ -157,9 +167,12 @@ impl<T: Copy + Drop, S: FloorStore> Node<T, S> {
         requires open { self.old.state.closed ≡ false }
         requires number { 1 ≤ number }
         ensures same { IsSameMember self.old self.new }
-        ensures store { KeepsStore (S.is_honest self.new.store) (S.may_find self.new.store) self.old self.new result }
-        ensures cause { FailsWithCause (S.is_honest self.new.store) (HaveRisen (S.failed self.old.store) (S.failed self.new.store)) result }
-        ensures leads { MayClose (datagrams.purge self.old.state from trans desired key.now number) self.old.state (Some (key.now, number)) result self.new.state }
+        ensures store { KeepsStore (S.is_honest self.new.store)
+            (S.may_find self.new.store) self.old self.new result }
+        ensures cause { FailsWithCause (S.is_honest self.new.store)
+            (HaveRisen (S.failed self.old.store) (S.failed self.new.store)) result }
+        ensures leads { MayClose (datagrams.purge self.old.state from trans desired key.now number)
+            self.old.state (Some (key.now, number)) result self.new.state }
     {
         if !self.floors.has_room(key) {
             return Ok(refused(self.alloc, from, trans, desired)?);

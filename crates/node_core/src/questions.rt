@@ -116,7 +116,9 @@ fn has_answered(round: &Round, id: u8) -> bool
 impl<T: Copy + Drop, S: FloorStore> Node<T, S> {
     /// The opcode that answers a QUERY (RFC 2186, "ICP_OP_QUERY").
     fn query_answer(&self, from: Address, key: Option<&Key>, now: u64) -> IcpOp
-        ensures { result ≡ datagrams.icp_answer (is_known_at self.now.roster self.now.id udp.Icp from) self.now.state now (option_map (λ k. k.now) key.entry) }
+        ensures { result ≡ datagrams.icp_answer
+            (is_known_at self.now.roster self.now.id udp.Icp from) self.now.state now
+            (option_map (λ k. k.now) key.entry) }
     {
         if !is_known(&self.roster, self.id, Udp::Icp, from) {
             return IcpOp::Denied;
@@ -139,7 +141,8 @@ impl<T: Copy + Drop, S: FloorStore> Node<T, S> {
     ) -> Result<Reply<T>, StepFault>
         requires { IsSendable (messages.icp ops.Miss message.number message.url) }
         ensures { (key_of : List ℕ → Option (List ℕ)) → GivesKeys key_of →
-            Leads (datagrams.icp_query (setting_of self.now key_of) self.now.state from message now) self.now.state result self.now.state }
+            Leads (datagrams.icp_query (setting_of self.now key_of) self.now.state from message now)
+            self.now.state result self.now.state }
     {
         let key = key_of_text(self.alloc, message.url.as_slice())?;
         let op = self.query_answer(from, key.as_ref(), now);
@@ -150,7 +153,9 @@ impl<T: Copy + Drop, S: FloorStore> Node<T, S> {
     /// The stamp of the copy that a SPECIFIER means, if the copy may be served. Only GET means one.
     fn stamp_meant(&self, spec: &Specifier, now: u64) -> Result<Option<u32>, AllocError>
         ensures { (key_of : List ℕ → Option (List ℕ)) → GivesKeys key_of →
-            IfOk result (λ stamp. stamp ≡ option_map (λ c. c.stamp) (datagrams.copy_meant (setting_of self.now key_of) self.now.state spec.now now)) }
+            IfOk result (λ stamp. stamp ≡ option_map (λ c.
+            c.stamp) (datagrams.copy_meant
+            (setting_of self.now key_of) self.now.state spec.now now)) }
     {
         if spec.method.as_slice() != b"GET".as_slice() {
             return Ok(None);
@@ -174,7 +179,9 @@ impl<T: Copy + Drop, S: FloorStore> Node<T, S> {
         now: u64,
     ) -> Result<Reply<T>, StepFault>
         ensures { (key_of : List ℕ → Option (List ℕ)) → GivesKeys key_of →
-            Leads (datagrams.htcp_tst (setting_of self.now key_of) self.now.state from trans desired spec.now now) self.now.state result self.now.state }
+            Leads (datagrams.htcp_tst (setting_of self.now key_of)
+            self.now.state from trans desired spec.now now)
+            self.now.state result self.now.state }
     {
         if !desired {
             return Ok(quiet(self.alloc));
@@ -197,7 +204,8 @@ impl<T: Copy + Drop, S: FloorStore> Node<T, S> {
     ) -> Result<Reply<T>, StepFault>
         ensures same { IsSameNode self.old self.new }
         ensures leads { (key_of : List ℕ → Option (List ℕ)) → GivesKeys key_of →
-            Leads (datagrams.icp_told (setting_of self.old key_of) self.old.state from message.now now mark) self.old.state result self.new.state }
+            Leads (datagrams.icp_told (setting_of self.old key_of)
+            self.old.state from message.now now mark) self.old.state result self.new.state }
     {
         let Some(place) = self.pending.of_round(message.number) else {
             return Ok(quiet(self.alloc));
@@ -223,7 +231,8 @@ impl<T: Copy + Drop, S: FloorStore> Node<T, S> {
     ) -> Result<Reply<T>, StepFault>
         ensures same { IsSameNode self.old self.new }
         ensures leads { (key_of : List ℕ → Option (List ℕ)) →
-            Leads (datagrams.htcp_told (setting_of self.old key_of) self.old.state from trans (said_by heard) now mark) self.old.state result self.new.state }
+            Leads (datagrams.htcp_told (setting_of self.old key_of) self.old.state from trans
+            (said_by heard) now mark) self.old.state result self.new.state }
     {
         match self.pending.of_round(trans) {
             Some(place) => self.told(place, Udp::Htcp, from, heard, now, mark),
@@ -244,8 +253,10 @@ impl<T: Copy + Drop, S: FloorStore> Node<T, S> {
     ) -> Result<Reply<T>, StepFault>
         requires place { place < length self.old.state.pending }
         ensures same { IsSameNode self.old self.new }
-        ensures leads { (key_of : List ℕ → Option (List ℕ)) → IfSome (slice_get self.old.state.pending place) (λ p.
-            Leads (datagrams.told_to (setting_of self.old key_of) self.old.state by from (said_by heard) now mark (Some p)) self.old.state result self.new.state) }
+        ensures leads { (key_of : List ℕ → Option (List ℕ)) →
+            IfSome (slice_get self.old.state.pending place) (λ p.
+            Leads (datagrams.told_to (setting_of self.old key_of) self.old.state by from
+            (said_by heard) now mark (Some p)) self.old.state result self.new.state) }
     {
         let Some(round) = &self.pending.ask(place).round else {
             return Ok(quiet(self.alloc));

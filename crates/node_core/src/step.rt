@@ -65,8 +65,10 @@ impl<T: Copy + Drop, S: FloorStore> Node<T, S> {
     #[tactic(auto, using(crate::proofs::Outcomes::closed_steps))]
     pub fn step(&mut self, event: Event<T>, mark: T) -> Result<Reply<T>, StepFault>
         ensures same { IsSameMember self.old self.new }
-        ensures store { KeepsStore (S.is_honest self.new.store) (S.may_find self.new.store) self.old self.new result }
-        ensures cause { FailsWithCause (S.is_honest self.new.store) (HaveRisen (S.failed self.old.store) (S.failed self.new.store)) result }
+        ensures store { KeepsStore (S.is_honest self.new.store)
+            (S.may_find self.new.store) self.old self.new result }
+        ensures cause { FailsWithCause (S.is_honest self.new.store)
+            (HaveRisen (S.failed self.old.store) (S.failed self.new.store)) result }
         ensures steps { (key_of : List ℕ → Option (List ℕ)) → GivesKeys key_of →
             Steps (setting_of self.old key_of) self.old.state event mark result self.new.state }
     {
@@ -81,8 +83,10 @@ impl<T: Copy + Drop, S: FloorStore> Node<T, S> {
     fn open_step(&mut self, event: Event<T>, mark: T) -> Result<Reply<T>, StepFault>
         requires { self.old.state.closed ≡ false }
         ensures same { IsSameMember self.old self.new }
-        ensures store { KeepsStore (S.is_honest self.new.store) (S.may_find self.new.store) self.old self.new result }
-        ensures cause { FailsWithCause (S.is_honest self.new.store) (HaveRisen (S.failed self.old.store) (S.failed self.new.store)) result }
+        ensures store { KeepsStore (S.is_honest self.new.store)
+            (S.may_find self.new.store) self.old self.new result }
+        ensures cause { FailsWithCause (S.is_honest self.new.store)
+            (HaveRisen (S.failed self.old.store) (S.failed self.new.store)) result }
         ensures steps { (key_of : List ℕ → Option (List ℕ)) → GivesKeys key_of →
             Steps (setting_of self.old key_of) self.old.state event mark result self.new.state }
     {

@@ -23,7 +23,8 @@ found_passes (n ∷ ns) id m all is =
 same_names : (name : List ℕ) → is_name name ≡ true → IsTrue (names_cache name)
 same_names name h = h
 
-pub name_is_valid : (t : Tables) (id : ℕ) (m : Member) → are_tables t ≡ true → find (λ m. m.cache.id == id) t.members ≡ Some m → IsTrue (names_cache m.cache.name)
+pub name_is_valid : (t : Tables) (id : ℕ) (m : Member) → are_tables t ≡ true → find (λ m. m.cache.id == id) t.members ≡ Some m →
+    IsTrue (names_cache m.cache.name)
 name_is_valid t id m tables is =
     let members = (and_parts _ _ (and_parts _ _ (and_parts _ _ tables).0).0).1 in
     let valid = found_passes t.members id m members is in

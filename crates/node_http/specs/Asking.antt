@@ -62,7 +62,8 @@ block_of begun = serial_of begun / 32
 -- The response is written; or the writer failed, and a proper front of it is.
 abbrev pub IsTold : Option (List ℕ) → Option (List ℕ) → List ℕ → Result Asked ServeFault → Type 0
 IsTold old new text result =
-    MatchResult result (λ asked. (asked ≡ Answered) × Appends old new text) (λ fault. (fault ≡ Fetch Io) × AppendsProperFront old new text)
+    MatchResult result (λ asked. (asked ≡ Answered) × Appends old new text)
+    (λ fault. (fault ≡ Fetch Io) × AppendsProperFront old new text)
 
 -- This fault is returned, and a front of the refusal is written. All of it unless the writer
 -- failed, but no clause can say that: a writer counts no failures.
@@ -70,47 +71,59 @@ abbrev pub IsRefused : Option (List ℕ) → Option (List ℕ) → List ℕ → 
 IsRefused old new text fault result = (result ≡ Err fault) × AppendsFront old new text
 
 -- The reply serves the sender and does nothing else, and the response is written.
-pub record ToldAtOnce (old new : Option (List ℕ)) (via : List ℕ) (asker : Option ℕ) (reply : Reply (Unit {0})) (result : Result Asked ServeFault) : Type 0 where
+pub record ToldAtOnce (old new : Option (List ℕ)) (via : List ℕ) (asker : Option ℕ) (reply : Reply (Unit {0}))
+    (result : Result Asked ServeFault) : Type 0 where
   pub served : Served (Unit {0})
   pub alone : reply ≡ serving None asker served
   pub told : IsTold old new (serve_text asker served via) result
 
 -- Nothing is written, and what the reply says is handed on; or memory is lacking for its datagrams.
-abbrev pub HandsOn : Option (List ℕ) → Option (List ℕ) → List ℕ → Reply (Unit {0}) → ℕ → Result Asked ServeFault → Type 0
+abbrev pub HandsOn : Option (List ℕ) → Option (List ℕ) → List ℕ → Reply (Unit {0}) → ℕ → Result Asked ServeFault →
+    Type 0
 HandsOn old new via reply block result =
     ((result ≡ Ok (Waits block (turn_of reply))) × (new ≡ old))
     ⊎ IsRefused old new (status_text unavailable via) (Step NoMemory) result
 
 -- The reply serves nobody, and the sender waits for what begins.
-pub record WaitsFor (old new : Option (List ℕ)) (via : List ℕ) (reply : Reply (Unit {0})) (result : Result Asked ServeFault) : Type 0 where
+pub record WaitsFor (old new : Option (List ℕ)) (via : List ℕ) (reply : Reply (Unit {0}))
+    (result : Result Asked ServeFault) : Type 0 where
   pub begun : Begin
   pub begins : reply.begin ≡ Some begun
   pub serves : reply.serve ≡ None
   pub hands_on : HandsOn old new via reply (block_of begun) result
 
 -- One of the two.
-abbrev pub AfterReply : Option (List ℕ) → Option (List ℕ) → List ℕ → Option ℕ → Reply (Unit {0}) → Result Asked ServeFault → Type 0
-AfterReply old new via asker reply result = ToldAtOnce old new via asker reply result ⊎ WaitsFor old new via reply result
+abbrev pub AfterReply : Option (List ℕ) → Option (List ℕ) → List ℕ → Option ℕ → Reply (Unit {0}) →
+    Result Asked ServeFault → Type 0
+AfterReply old new via asker reply result = ToldAtOnce old new via asker reply result
+    ⊎ WaitsFor old new via reply result
 
 -- After a step: what its reply says is done, or it was refused.
-abbrev pub AfterStep : Option (List ℕ) → Option (List ℕ) → List ℕ → Option ℕ → Result (Reply (Unit {0})) StepFault → Result Asked ServeFault → Type 0
+abbrev pub AfterStep : Option (List ℕ) → Option (List ℕ) → List ℕ → Option ℕ → Result (Reply (Unit {0})) StepFault →
+    Result Asked ServeFault → Type 0
 AfterStep old new via asker (Ok reply) result = AfterReply old new via asker reply result
 AfterStep old new via asker (Err fault) result = IsRefused old new (status_text unavailable via) (Step fault) result
 
 -- One step with the request, taken by this relation between what stood before and after it.
-abbrev pub StepsFor : {N : Type 0} → (N → Event (Unit {0}) → Result (Reply (Unit {0})) StepFault → N → Type 0) → Option ℕ → Ask → ℕ → N → N → Option (List ℕ) → Option (List ℕ) → List ℕ → Result Asked ServeFault → Type 0
+abbrev pub StepsFor : {N : Type 0} → (N → Event (Unit {0}) → Result (Reply (Unit {0})) StepFault → N → Type 0) →
+    Option ℕ → Ask → ℕ → N → N → Option (List ℕ) → Option (List ℕ) → List ℕ → Result Asked ServeFault → Type 0
 StepsFor takes asker ask now before after old new via result =
-    (outcome : Result (Reply (Unit {0})) StepFault) × takes before (event_by asker ask now) outcome after × AfterStep old new via asker outcome result
+    (outcome : Result (Reply (Unit {0})) StepFault) × takes before (event_by asker ask now) outcome after
+    × AfterStep old new via asker outcome result
 
 -- After reading: one step with the request; or it was not read, and no step is taken.
-abbrev pub AfterRead : {N : Type 0} → (N → Event (Unit {0}) → Result (Reply (Unit {0})) StepFault → N → Type 0) → Tables → ℕ → ℕ → Result Ask FetchFault → N → N → Option (List ℕ) → Option (List ℕ) → Result Asked ServeFault → Type 0
+abbrev pub AfterRead : {N : Type 0} → (N → Event (Unit {0}) → Result (Reply (Unit {0})) StepFault → N → Type 0) →
+    Tables → ℕ → ℕ → Result Ask FetchFault → N → N → Option (List ℕ) → Option (List ℕ) → Result Asked ServeFault →
+    Type 0
 AfterRead takes roster id now (Ok ask) before after old new result =
     StepsFor takes (asker_of roster id ask.member) ask now before after old new (name_of roster id) result
 AfterRead takes roster id now (Err fault) before after old new result =
     (after ≡ before) × IsRefused old new (refusal_text (refusal_of fault) (name_of roster id)) (Fetch fault) result
 
 -- The node of this id reads a request, takes at most one step with it, and writes what it is told.
-pub record ServesAsk {N : Type 0} (takes : N → Event (Unit {0}) → Result (Reply (Unit {0})) StepFault → N → Type 0) (roster : Tables) (id now : ℕ) (before after : N) (reader_old reader_new writer_old writer_new : Option (List ℕ)) (result : Result Asked ServeFault) : Type 0 where
+pub record ServesAsk {N : Type 0} (takes : N → Event (Unit {0}) → Result (Reply (Unit {0})) StepFault → N → Type 0)
+    (roster : Tables) (id now : ℕ) (before after : N) (reader_old reader_new writer_old writer_new : Option (List ℕ))
+    (result : Result Asked ServeFault) : Type 0 where
   pub read : Result Ask FetchFault
   pub reads : ReadsAsk reader_old reader_new read
   pub answers : AfterRead takes roster id now read before after writer_old writer_new result

@@ -52,7 +52,8 @@ pub fn serve_ask<N: Stepper, R: Read, W: Write>(
 ) -> Result<Asked, ServeFault>
     requires { is_member_of roster.now id ≡ true }
     ensures { ServesAsk N.takes roster.now id now node.old node.new
-        (R.remaining reader.old) (R.remaining reader.new) (W.contents writer.old) (W.contents writer.new) result }
+        (R.remaining reader.old) (R.remaining reader.new) (W.contents writer.old)
+        (W.contents writer.new) result }
 {
     let via = name_of(roster, id);
     match read_ask(alloc, reader) {
@@ -78,7 +79,8 @@ fn answer_ask<N: Stepper, W: Write>(
     via: &[u8],
 ) -> Result<Asked, ServeFault>
     requires { IsTrue (names_cache via.now) }
-    ensures { StepsFor N.takes asker ask now node.old node.new (W.contents writer.old) (W.contents writer.new) via.now result }
+    ensures { StepsFor N.takes asker ask now node.old node.new (W.contents writer.old)
+        (W.contents writer.new) via.now result }
 {
     match node.step(event_by(asker, ask, now)) {
         Ok(reply) => answer_reply(alloc, reply, writer, via),

@@ -31,7 +31,8 @@ pub(crate) fn refusal_of(fault: FetchFault) -> Option<u16>
 /// nothing.
 pub(crate) fn refuse<W: Write>(writer: &mut W, status: Option<u16>, via: &[u8])
     requires { IsTrue (names_cache via.now) }
-    ensures { AppendsFront (W.contents writer.old) (W.contents writer.new) (refusal_text status via.now) }
+    ensures { AppendsFront (W.contents writer.old) (W.contents writer.new)
+        (refusal_text status via.now) }
 {
     if let Some(status) = status {
         // The caller returns the fault of the request, whether or not the status was written.

@@ -7,7 +7,8 @@ one : {X Y : Type 0} (h : X → Option Y) (x : X) (o : Option Y) → h x ≡ o �
 one h x None e = rw e refl
 one h x (Some y) e = rw e refl
 
-pub one_more : {X Y : Type 0} (h : X → Option Y) (xs : List X) (i : ℕ) (d : X) → i < length xs → filter_map h (take (i + 1) xs) ≡ filter_map h (take i xs) ++ option_to_list (h (get_or xs i d))
+pub one_more : {X Y : Type 0} (h : X → Option Y) (xs : List X) (i : ℕ) (d : X) → i < length xs → filter_map h (take (i + 1) xs) ≡ filter_map h (take i xs)
+    ++ option_to_list (h (get_or xs i d))
 one_more h xs i d l =
     ap (filter_map h) (take_more xs i d l)
     ∙ filter_map-append h (take i xs) (get_or xs i d ∷ [])

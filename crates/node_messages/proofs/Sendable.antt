@@ -62,25 +62,52 @@ htcp_query_fits serial key k = record {
 
 -- Answers
 
-short_answer : (code number count : ℕ) (url : List ℕ) → 21 + length url ≤ 16384 → length (code ∷ 2 ∷ (big_bytes 2 count ++ big_bytes 4 number ++ icp_text.unset ++ icp_text.unset ++ icp_text.unset ++ (url ++ 0 ∷ []))) ≤ 16384
+short_answer : (code number count : ℕ) (url : List ℕ) → 21 + length url ≤ 16384 →
+    length (code ∷ 2 ∷ (big_bytes 2 count ++ big_bytes 4 number ++ icp_text.unset ++ icp_text.unset ++ icp_text.unset ++ (url ++ 0 ∷ []))) ≤ 16384
 short_answer code number count url short = omega (arith, short, length-append url (0 ∷ []))
 
 room : (number : ℕ) (url : List ℕ) → icp_text.Fits (icp_message op.Miss number url) → 21 + length url ≤ 16384
 room number url fits = let short = fits.short in omega (arith, short, length-append url (0 ∷ []))
 
 -- an answer may bear another opcode than a miss
-pub answer_fits : (code : IcpOp) (number : ℕ) (url : List ℕ) → code ≢ op.Query → code ≢ op.HitObj → icp_text.Fits (icp_message op.Miss number url) → icp_text.Fits (icp_message code number url)
+pub answer_fits : (code : IcpOp) (number : ℕ) (url : List ℕ) → code ≢ op.Query → code ≢ op.HitObj → icp_text.Fits (icp_message op.Miss number url) →
+    icp_text.Fits (icp_message code number url)
 answer_fits op.Query number url query object fits = absurd (query refl)
-answer_fits op.Hit number url query object fits = record { op = λ e. cc; object = refl; no_zero = fits.no_zero; short = short_answer 2 number (20 + length (url ++ 0 ∷ [])) url (room number url fits) }
+answer_fits op.Hit number url query object fits = record {
+  op = λ e. cc;
+  object = refl;
+  no_zero = fits.no_zero;
+  short =
+      short_answer 2 number (20 + length (url ++ 0 ∷ [])) url (room number url fits);
+}
 answer_fits op.Miss number url query object fits = fits
-answer_fits op.Error number url query object fits = record { op = λ e. cc; object = refl; no_zero = fits.no_zero; short = short_answer 4 number (20 + length (url ++ 0 ∷ [])) url (room number url fits) }
-answer_fits op.MissNoFetch number url query object fits = record { op = λ e. cc; object = refl; no_zero = fits.no_zero; short = short_answer 21 number (20 + length (url ++ 0 ∷ [])) url (room number url fits) }
-answer_fits op.Denied number url query object fits = record { op = λ e. cc; object = refl; no_zero = fits.no_zero; short = short_answer 22 number (20 + length (url ++ 0 ∷ [])) url (room number url fits) }
+answer_fits op.Error number url query object fits = record {
+  op = λ e. cc;
+  object = refl;
+  no_zero = fits.no_zero;
+  short =
+      short_answer 4 number (20 + length (url ++ 0 ∷ [])) url (room number url fits);
+}
+answer_fits op.MissNoFetch number url query object fits = record {
+  op = λ e. cc;
+  object = refl;
+  no_zero = fits.no_zero;
+  short =
+      short_answer 21 number (20 + length (url ++ 0 ∷ [])) url (room number url fits);
+}
+answer_fits op.Denied number url query object fits = record {
+  op = λ e. cc;
+  object = refl;
+  no_zero = fits.no_zero;
+  short =
+      short_answer 22 number (20 + length (url ++ 0 ∷ [])) url (room number url fits);
+}
 answer_fits op.HitObj number url query object fits = absurd (object refl)
 
 pub hit_fits : (trans stamp : ℕ) → stamp < 2 ^ 32 → htcp_text.Fits record { minor = 0; trans = trans; content = tst_hit stamp }
 hit_fits trans stamp small = record {
   minor = refl;
   in_range = tt;
-  short = let size = length-written_with trans (htcp_text.written_data (tst_hit stamp)) in let digits = length-decimal-le 10 stamp (omega arith) (omega arith) (omega arith) in omega (arith, size, digits, length-append (decimal stamp) (13 ∷ 10 ∷ []));
+  short = let size = length-written_with trans (htcp_text.written_data (tst_hit stamp)) in let digits =
+      length-decimal-le 10 stamp (omega arith) (omega arith) (omega arith) in omega (arith, size, digits, length-append (decimal stamp) (13 ∷ 10 ∷ []));
 }

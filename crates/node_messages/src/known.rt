@@ -71,7 +71,8 @@ pub fn peer_at(roster: &Roster, by: Udp, from: Address, round: &Round) -> Option
 
 /// The peer among these that is queried by this protocol at this address.
 fn peer_in<'a>(roster: &Roster, by: Udp, from: Address, peers: &'a [Peer]) -> Option<&'a Peer>
-    ensures { option_map (λ p. p.now) result ≡ find (known.is_peer_at roster.now by from) peers.now }
+    ensures { option_map (λ p. p.now) result
+        ≡ find (known.is_peer_at roster.now by from) peers.now }
 {
     peers
         .iter()

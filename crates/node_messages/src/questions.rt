@@ -109,7 +109,8 @@ pub fn queries(
     key: &Key,
     asked: &[Peer],
 ) -> Result<Listed<Outgoing>, AllocError>
-    ensures { IfOk result (λ sent. sent ≡ filter_map (question_to roster.now serial key.now) asked.now) }
+    ensures { IfOk result (λ sent.
+        sent ≡ filter_map (question_to roster.now serial key.now) asked.now) }
 {
     let mut sent = Vec::with_capacity(alloc, asked.len())?;
     for peer in asked {

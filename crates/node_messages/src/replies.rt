@@ -91,7 +91,8 @@ pub fn tst_answer(
     trans: u32,
     stamp: Option<u32>,
 ) -> Result<Outgoing, AllocError>
-    ensures { IfOk result (λ sent. sent ≡ messages.to to (messages.htcp trans (tst_content stamp))) }
+    ensures { IfOk result (λ sent.
+        sent ≡ messages.to to (messages.htcp trans (tst_content stamp))) }
 {
     match stamp {
         Some(stamp) => hit_answer(alloc, to, trans, stamp),

@@ -75,27 +75,32 @@ is_at serial key p h =
 other_round : {X : Type 0} {s : NodeState X} (p : Pending X) (r : RoundText) → IsUnderWay s p → IsUnderWay s (with_round p r)
 other_round p r h = record { was = h.was; waits = h.waits; fetch = h.fetch; ask = h.ask; serial = h.serial }
 
-query_obeys : {X : Type 0} (g : Setting) (e : Event X) (rows : FloorMap) (serial : ℕ) (key : List ℕ) (by : Udp) (address : Address) → IsObedient g e rows (to address (query by serial key))
+query_obeys : {X : Type 0} (g : Setting) (e : Event X) (rows : FloorMap) (serial : ℕ) (key : List ℕ) (by : Udp) (address : Address) →
+    IsObedient g e rows (to address (query by serial key))
 query_obeys g e rows serial key udp.Icp address = tt
 query_obeys g e rows serial key udp.Htcp address = tt
 
 -- what holds of the first, if there is one, and of the rest
-query_first : {P : Outgoing → Type 0} (o : Option Outgoing) (rest : List Outgoing) → ((x : Outgoing) → o ≡ Some x → P x) → AllByRecursion P rest → AllByRecursion P (cons_option o rest)
+query_first : {P : Outgoing → Type 0} (o : Option Outgoing) (rest : List Outgoing) → ((x : Outgoing) → o ≡ Some x → P x) → AllByRecursion P rest →
+    AllByRecursion P (cons_option o rest)
 query_first None rest h all = all
 query_first (Some x) rest h all = (h x refl, all)
 
 raised_to : (rows : FloorMap) (key : List ℕ) (n m : ℕ) → n ≡ m → m ≤ floor (raised rows key n) key
 raised_to rows key n m same =
-    subst (λ k. m ≤ k) (sym (floor-raise rows key key n)) (subst (λ b. m ≤ cond b (max (floor rows key) n) (floor rows key)) (sym (text_same key key refl)) (omega (arith, same)))
+    subst (λ k. m ≤ k) (sym (floor-raise rows key key n)) (subst (λ b. m ≤ cond b (max (floor rows key) n) (floor rows key)) (sym (text_same key key refl))
+    (omega (arith, same)))
 
-purge_number_is : (g : Setting) (from : Address) (trans : ℕ) (key : Option (List ℕ)) (n : ℕ) (x : List ℕ × ℕ) → purge_of g from trans key n ≡ Some x → x.1 ≡ trans
+purge_number_is : (g : Setting) (from : Address) (trans : ℕ) (key : Option (List ℕ)) (n : ℕ) (x : List ℕ × ℕ) → purge_of g from trans key n ≡ Some x →
+    x.1 ≡ trans
 purge_number_is g from trans None n x e = absurd (none-some x e)
 purge_number_is g from trans (Some key) n x e =
     let (good, same) = cond_some ((is_master g.roster from && nat_eq n trans) && nat_le 1 n) (key, n) x e in
     ap (λ (y : List ℕ × ℕ). y.1) (sym same) ∙ same_number n trans (and_parts (is_master g.roster from) (nat_eq n trans) (and_parts _ (nat_le 1 n) good).0).1
 
 -- a copy that is chosen for a key is held, and not below its floor
-good_is_held : {X : Type 0} (rows : FloorMap) (copies : List (WebCopy X)) (key : List ℕ) (now : ℕ) (o : Option (WebCopy X)) (c : WebCopy X) → copy_of key copies ≡ o → if_good (floor rows key) now o ≡ Some c → IsHeldAbove rows copies key c
+good_is_held : {X : Type 0} (rows : FloorMap) (copies : List (WebCopy X)) (key : List ℕ) (now : ℕ) (o : Option (WebCopy X)) (c : WebCopy X) →
+    copy_of key copies ≡ o → if_good (floor rows key) now o ≡ Some c → IsHeldAbove rows copies key c
 good_is_held rows copies key now None c is e = absurd (none-some c e)
 good_is_held {X} rows copies key now (Some d) c is e =
     let (good, same) = cond_some (is_good (floor rows key) now d) d c e in
@@ -126,18 +131,30 @@ module _ {X : Type 0} (g : Setting) (s : NodeState X) (e : Event X) (mark : X) w
   reads_of pending outcome all = all_mapped MayStay (IsReadOf s mark outcome) (λ p h. h outcome) pending all
 
   -- requests stay pending, and at most a bare status is served
-  stays : (pending : List (Pending X)) (next : ℕ) (outcome : Outcome) → copy_served outcome ≡ None → AllByRecursion MayStay pending → ServesBareStatus outcome → AllByRecursion (IsObedient g e s.floors) (sent outcome) → IsOwnFault outcome → Does record { state = at pending next; outcome = outcome }
-  stays pending next outcome none all bare obeys plain = Stays pending next outcome none (record { reads = reads_of pending outcome all; statuses = bare; acknowledges = obeys; faults = plain })
+  stays : (pending : List (Pending X)) (next : ℕ) (outcome : Outcome) → copy_served outcome ≡ None → AllByRecursion MayStay pending → ServesBareStatus outcome →
+      AllByRecursion (IsObedient g e s.floors) (sent outcome) → IsOwnFault outcome → Does record { state = at pending next; outcome = outcome }
+  stays pending next outcome none all bare obeys plain = Stays pending next outcome none
+      (record { reads = reads_of pending outcome all; statuses = bare; acknowledges = obeys; faults = plain })
 
   -- one of them ends
-  ends : (pending : List (Pending X)) (next : ℕ) (block : ℕ) (outcome : Outcome) → copy_served outcome ≡ None → AllByRecursion MayStay pending → ServesBareStatus outcome → AllByRecursion (IsObedient g e s.floors) (sent outcome) → IsOwnFault outcome → Does record { state = at (filter (λ q. not (is_of_block block q)) pending) next; outcome = outcome }
-  ends pending next block outcome none all bare obeys plain = stays (filter (λ q. not (is_of_block block q)) pending) next outcome none (all_left MayStay _ pending all) bare obeys plain
+  ends : (pending : List (Pending X)) (next : ℕ) (block : ℕ) (outcome : Outcome) → copy_served outcome ≡ None → AllByRecursion MayStay pending →
+      ServesBareStatus outcome → AllByRecursion (IsObedient g e s.floors) (sent outcome) → IsOwnFault outcome →
+      Does record { state = at (filter (λ q. not (is_of_block block q)) pending) next; outcome = outcome }
+  ends pending next block outcome none all bare obeys plain = stays (filter (λ q. not (is_of_block block q)) pending) next outcome none
+      (all_left MayStay _ pending all) bare obeys plain
 
   -- one of them becomes this one
-  changes : (pending : List (Pending X)) (next : ℕ) (p : Pending X) (outcome : Outcome) → copy_served outcome ≡ None → AllByRecursion MayStay pending → IsReadOf s mark outcome p → ServesBareStatus outcome → AllByRecursion (IsObedient g e s.floors) (sent outcome) → IsOwnFault outcome → Does record { state = at (map (λ q. cond (is_of_block p.block q) p q) pending) next; outcome = outcome }
+  changes : (pending : List (Pending X)) (next : ℕ) (p : Pending X) (outcome : Outcome) → copy_served outcome ≡ None → AllByRecursion MayStay pending →
+      IsReadOf s mark outcome p → ServesBareStatus outcome → AllByRecursion (IsObedient g e s.floors) (sent outcome) → IsOwnFault outcome →
+      Does record { state = at (map (λ q. cond (is_of_block p.block q) p q) pending) next; outcome = outcome }
   changes pending next p outcome none all read bare obeys plain =
       Stays (map (λ q. cond (is_of_block p.block q) p q) pending) next outcome none
-      (record { reads = all_changed (IsReadOf s mark outcome) (is_of_block p.block) p pending read (reads_of pending outcome all); statuses = bare; acknowledges = obeys; faults = plain })
+      (record {
+        reads = all_changed (IsReadOf s mark outcome) (is_of_block p.block) p pending read (reads_of pending outcome all);
+        statuses = bare;
+        acknowledges = obeys;
+        faults = plain;
+      })
 
   -- nothing changes
   refused : (f : StepFault) → IsOwnFault {X = X} (Err f) → Does (refuses s f)
@@ -148,7 +165,8 @@ module _ {X : Type 0} (g : Setting) (s : NodeState X) (e : Event X) (mark : X) w
 
   -- Going on
 
-  read_origin_does : (pending : List (Pending X)) (next : ℕ) → AllByRecursion MayStay pending → (p : Pending X) (waiter : Option ℕ) (now : ℕ) → Does (read_origin g (at pending next) p waiter now mark)
+  read_origin_does : (pending : List (Pending X)) (next : ℕ) → AllByRecursion MayStay pending → (p : Pending X) (waiter : Option ℕ) (now : ℕ) →
+      Does (read_origin g (at pending next) p waiter now mark)
   unfolding read_origin begin_read
   read_origin_does pending next all p waiter now =
       branches Does (nat_le 3 p.reads) _ _ (λ _. ends pending next p.block _ refl all refl tt tt)
@@ -156,34 +174,41 @@ module _ {X : Type 0} (g : Setting) (s : NodeState X) (e : Event X) (mark : X) w
       (λ _. changes pending next _ _ refl all (inr record { stamp_seen = refl; mark_same = refl; begins = refl }) tt tt tt)
       (λ _. ends pending next p.block _ refl all refl tt tt))
 
-  go_to_does : (pending : List (Pending X)) (next : ℕ) → AllByRecursion MayStay pending → (p : Pending X) → MayStay p → (now : ℕ) (to : Source) → Does (go_to g (at pending next) p now mark to)
+  go_to_does : (pending : List (Pending X)) (next : ℕ) → AllByRecursion MayStay pending → (p : Pending X) → MayStay p → (now : ℕ) (to : Source) →
+      Does (go_to g (at pending next) p now mark to)
   unfolding go_to ask_peer
   go_to_does pending next all p may now source.Wait = changes pending next p _ refl all (may _) tt tt tt
   go_to_does pending next all p may now (source.Peer peer cached) = changes pending next _ _ refl all tt tt tt tt
   go_to_does pending next all p may now source.Origin = read_origin_does pending next all p (Some p.block) now
 
-  go_on_does : (pending : List (Pending X)) (next : ℕ) → AllByRecursion MayStay pending → (p : Pending X) → MayStay p → (now : ℕ) → Does (go_on g (at pending next) p now mark)
+  go_on_does : (pending : List (Pending X)) (next : ℕ) → AllByRecursion MayStay pending → (p : Pending X) → MayStay p → (now : ℕ) →
+      Does (go_on g (at pending next) p now mark)
   unfolding go_on
   go_on_does pending next all p may now = go_to_does pending next all p may now _
 
   -- Requests
 
-  query_to_obeys : (serial : ℕ) (key : List ℕ) (p : Peer) (c : Option Cache) (o : Outgoing) → option_map (λ (c : Cache). to (address_by p.by c) (query p.by serial key)) c ≡ Some o → IsObedient g e s.floors o
+  query_to_obeys : (serial : ℕ) (key : List ℕ) (p : Peer) (c : Option Cache) (o : Outgoing) →
+      option_map (λ (c : Cache). to (address_by p.by c) (query p.by serial key)) c ≡ Some o → IsObedient g e s.floors o
   query_to_obeys serial key p None o is = absurd (none-some o is)
   query_to_obeys serial key p (Some c) o is = subst (IsObedient g e s.floors) (same_Some _ o is) (query_obeys g e s.floors serial key p.by (address_by p.by c))
 
   queries_obey : (serial : ℕ) (key : List ℕ) (asked : List Peer) → AllByRecursion (IsObedient g e s.floors) (filter_map (question_to g.roster serial key) asked)
   queries_obey serial key [] = tt
-  queries_obey serial key (p ∷ asked) = query_first (question_to g.roster serial key p) _ (query_to_obeys serial key p (cache_of g.roster p.id)) (queries_obey serial key asked)
+  queries_obey serial key (p ∷ asked) = query_first (question_to g.roster serial key p) _ (query_to_obeys serial key p (cache_of g.roster p.id))
+      (queries_obey serial key asked)
 
   -- a new request, which is not fetching, comes behind the others
   one_more : (block : ℕ) (asker : Option ℕ) (ask : Ask) (round : Option RoundText) → AllByRecursion MayStay (s.pending ++ new_ask block asker ask round ∷ [])
   one_more block asker ask round = all_joined MayStay s.pending (new_ask block asker ask round ∷ []) all_stay ((λ outcome. tt), tt)
 
-  ask_around_does : (next : ℕ) (asker : Option ℕ) (ask : Ask) (block now : ℕ) (round : RoundText) (peers : List Peer) → Does (ask_around g (at s.pending next) asker ask block now mark round peers)
+  ask_around_does : (next : ℕ) (asker : Option ℕ) (ask : Ask) (block now : ℕ) (round : RoundText) (peers : List Peer) →
+      Does (ask_around g (at s.pending next) asker ask block now mark round peers)
   unfolding ask_around begin_round
-  ask_around_does next asker ask block now round [] = read_origin_does (s.pending ++ new_ask block asker ask None ∷ []) next (one_more block asker ask None) _ None now
-  ask_around_does next asker ask block now round (p ∷ peers) = stays (s.pending ++ new_ask block asker ask (Some round) ∷ []) next _ refl (one_more block asker ask (Some round)) tt (queries_obey (32 * block) ask.key round.asked) tt
+  ask_around_does next asker ask block now round [] = read_origin_does (s.pending ++ new_ask block asker ask None ∷ []) next (one_more block asker ask None) _
+      None now
+  ask_around_does next asker ask block now round (p ∷ peers) = stays (s.pending ++ new_ask block asker ask (Some round) ∷ []) next _ refl
+      (one_more block asker ask (Some round)) tt (queries_obey (32 * block) ask.key round.asked) tt
 
   not_held_does : (asker : Option ℕ) (ask : Ask) (now : ℕ) → Does (not_held g s asker ask now mark)
   unfolding not_held begin_ask
@@ -191,10 +216,12 @@ module _ {X : Type 0} (g : Setting) (s : NodeState X) (e : Event X) (mark : X) w
       branches Does (is_cached_only g asker ask) _ _ (λ _. stays s.pending s.next _ refl all_stay refl tt tt)
       (λ _. branches Does (is_busy s) _ _ (λ _. refused _ tt) (λ _. ask_around_does _ asker ask s.next now _ _))
 
-  by_copy_does : s.closed ≡ false → (asker : Option ℕ) (ask : Ask) (now : ℕ) (o : Option (WebCopy X)) → ((c : WebCopy X) → o ≡ Some c → IsHeldAbove s.floors s.copies ask.key c) → Does (by_copy g s asker ask now mark o)
+  by_copy_does : s.closed ≡ false → (asker : Option ℕ) (ask : Ask) (now : ℕ) (o : Option (WebCopy X)) →
+      ((c : WebCopy X) → o ≡ Some c → IsHeldAbove s.floors s.copies ask.key c) → Does (by_copy g s asker ask now mark o)
   unfolding by_copy
   by_copy_does is_open asker ask now None h = not_held_does asker ask now
-  by_copy_does is_open asker ask now (Some c) h = Serves ask.key c s.pending s.next _ is_open (h c refl) refl (record { reads = reads_of s.pending _ all_stay; statuses = tt; acknowledges = tt; faults = tt })
+  by_copy_does is_open asker ask now (Some c) h = Serves ask.key c s.pending s.next _ is_open (h c refl) refl
+      (record { reads = reads_of s.pending _ all_stay; statuses = tt; acknowledges = tt; faults = tt })
 
   ask_comes_does : s.closed ≡ false → (asker : Option ℕ) (ask : Ask) (now : ℕ) → Does (ask_comes g s asker ask now mark)
   unfolding ask_comes
@@ -210,53 +237,96 @@ module _ {X : Type 0} (g : Setting) (s : NodeState X) (e : Event X) (mark : X) w
   waits_under_way test p waits = under_way s p (waiting test p waits)
 
   module _ (is_open : s.closed ≡ false) where
-    use_answer_does : (pending : List (Pending X)) (next : ℕ) → AllByRecursion MayStay pending → (p : Pending X) (stamp asked : ℕ) (answer : AnswerText) (tag : X) (now : ℕ) → ((life : Option ℕ) → IsAnswerOf s e (new_copy p.ask.key stamp asked life answer tag)) → floor s.floors p.ask.key ≤ stamp → Does (use_answer g (at pending next) p stamp asked answer tag now)
+    use_answer_does : (pending : List (Pending X)) (next : ℕ) → AllByRecursion MayStay pending →
+        (p : Pending X) (stamp asked : ℕ) (answer : AnswerText) (tag : X) (now : ℕ) →
+        ((life : Option ℕ) → IsAnswerOf s e (new_copy p.ask.key stamp asked life answer tag)) → floor s.floors p.ask.key ≤ stamp →
+        Does (use_answer g (at pending next) p stamp asked answer tag now)
     unfolding use_answer
     use_answer_does pending next all p stamp asked answer tag now is h =
         let life : Option ℕ = lifetime answer g.roster.limits.default_lifetime in
         let others : List (Pending X) = filter (λ q. not (is_of_block p.block q)) pending in
-        Brings (new_copy p.ask.key stamp asked life answer tag) life others next _ is_open (is life) h refl (record { reads = reads_of others _ (all_left MayStay _ pending all); statuses = tt; acknowledges = tt; faults = tt })
+        Brings (new_copy p.ask.key stamp asked life answer tag) life others next _ is_open (is life) h refl
+        (record { reads = reads_of others _ (all_left MayStay _ pending all); statuses = tt; acknowledges = tt; faults = tt })
 
-    peer_gave_does : (pending : List (Pending X)) (next : ℕ) → AllByRecursion MayStay pending → (p : Pending X) (peer asked stamp : ℕ) (answer : AnswerText) (tag : X) (now : ℕ) → (is_gateway_fault answer.status ≡ false → (life : Option ℕ) → IsAnswerOf s e (new_copy p.ask.key stamp asked life answer tag)) → Does (peer_gave g (at pending next) p peer asked stamp answer tag now mark)
+    peer_gave_does : (pending : List (Pending X)) (next : ℕ) → AllByRecursion MayStay pending →
+        (p : Pending X) (peer asked stamp : ℕ) (answer : AnswerText) (tag : X) (now : ℕ) →
+        (is_gateway_fault answer.status ≡ false → (life : Option ℕ) → IsAnswerOf s e (new_copy p.ask.key stamp asked life answer tag)) →
+        Does (peer_gave g (at pending next) p peer asked stamp answer tag now mark)
     unfolding peer_gave try_on
     peer_gave_does pending next all p peer asked stamp answer tag now is =
         branches Does (nat_le (floor s.floors p.ask.key) stamp && not (is_gateway_fault answer.status)) _ _
         (λ h. use_answer_does pending next all p stamp asked answer tag now (is (both_true_not _ _ h)) (both_true _ stamp _ h))
         (λ _. go_on_does pending next all _ (λ outcome. tt) now)
 
-    origin_gave_does : (pending : List (Pending X)) (next : ℕ) → AllByRecursion MayStay pending → (p : Pending X) (stamp asked : ℕ) (read_mark : X) (answer : AnswerText) (now : ℕ) → ((life : Option ℕ) → IsAnswerOf s e (new_copy p.ask.key stamp asked life answer read_mark)) → Does (origin_gave g (at pending next) p stamp asked read_mark answer now mark)
+    origin_gave_does : (pending : List (Pending X)) (next : ℕ) → AllByRecursion MayStay pending →
+        (p : Pending X) (stamp asked : ℕ) (read_mark : X) (answer : AnswerText) (now : ℕ) →
+        ((life : Option ℕ) → IsAnswerOf s e (new_copy p.ask.key stamp asked life answer read_mark)) →
+        Does (origin_gave g (at pending next) p stamp asked read_mark answer now mark)
     unfolding origin_gave
     origin_gave_does pending next all p stamp asked read_mark answer now is =
         branches Does (nat_le (floor s.floors p.ask.key) stamp) _ _
         (λ h. use_answer_does pending next all p stamp asked answer read_mark now is (test_le _ stamp h))
         (λ _. go_on_does pending next all _ (λ outcome. tt) now)
 
-    from_peer_does : (p : Pending X) (peer stamp : ℕ) (answer : AnswerText) (tag : X) (now : ℕ) (fetch : Fetch X) → ((asked : ℕ) → fetch ≡ AtPeer peer asked → is_gateway_fault answer.status ≡ false → (life : Option ℕ) → IsAnswerOf s e (new_copy p.ask.key stamp asked life answer tag)) → Does (from_peer g s p peer stamp answer tag now mark fetch)
+    from_peer_does : (p : Pending X) (peer stamp : ℕ) (answer : AnswerText) (tag : X) (now : ℕ) (fetch : Fetch X) →
+        ((asked : ℕ) → fetch ≡ AtPeer peer asked → is_gateway_fault answer.status ≡ false → (life : Option ℕ) →
+        IsAnswerOf s e (new_copy p.ask.key stamp asked life answer tag)) → Does (from_peer g s p peer stamp answer tag now mark fetch)
     unfolding from_peer
     from_peer_does p peer stamp answer tag now (AtPeer at_peer asked) is =
-        branches Does (nat_eq at_peer peer) _ _ (λ same. peer_gave_does s.pending s.next all_stay p peer asked stamp answer tag now (is asked (ap (λ (n : ℕ). AtPeer n asked) (same_number at_peer peer same)))) (λ _. refused _ tt)
+        branches Does (nat_eq at_peer peer) _ _ (λ same. peer_gave_does s.pending s.next all_stay p peer asked stamp answer tag now
+        (is asked (ap (λ (n : ℕ). AtPeer n asked) (same_number at_peer peer same)))) (λ _. refused _ tt)
     from_peer_does p peer stamp answer tag now (AtOrigin read asked read_mark) is = refused _ tt
     from_peer_does p peer stamp answer tag now Nowhere is = refused _ tt
 
-    peer_answer_to_does : (serial : ℕ) (key : List ℕ) (peer stamp : ℕ) (answer : AnswerText) (tag : X) (now : ℕ) → ((p : Pending X) (c : WebCopy X) → IsFromPeer serial peer key stamp answer tag p c → IsAnswerTo e p c) → (o : Option (Pending X)) → find (is_fetch serial key) s.pending ≡ o → Does (peer_answer_to g s peer stamp answer tag now mark o)
+    peer_answer_to_does : (serial : ℕ) (key : List ℕ) (peer stamp : ℕ) (answer : AnswerText) (tag : X) (now : ℕ) →
+        ((p : Pending X) (c : WebCopy X) → IsFromPeer serial peer key stamp answer tag p c → IsAnswerTo e p c) → (o : Option (Pending X)) →
+        find (is_fetch serial key) s.pending ≡ o → Does (peer_answer_to g s peer stamp answer tag now mark o)
     unfolding peer_answer_to
     peer_answer_to_does serial key peer stamp answer tag now is None waits = refused _ tt
     peer_answer_to_does serial key peer stamp answer tag now is (Some p) waits =
         from_peer_does p peer stamp answer tag now p.fetch
-        (λ asked at_peer usable life. (p, waiting (is_fetch serial key) p waits, is p _ record { waits = is_at serial key p (found_passes (is_fetch serial key) s.pending p waits); fetches = at_peer; key_same = refl; stamp_same = refl; answer_same = refl; tag_same = refl; status = usable }))
+        (λ asked at_peer usable life. (
+          p,
+          waiting (is_fetch serial key) p waits,
+          is p _ record {
+            waits = is_at serial key p (found_passes (is_fetch serial key) s.pending p waits);
+            fetches = at_peer;
+            key_same = refl;
+            stamp_same =
+                refl;
+            answer_same = refl;
+            tag_same = refl;
+            status = usable;
+          },
+        ))
 
-    from_origin_does : (p : Pending X) (answer : AnswerText) (now : ℕ) (fetch : Fetch X) → ((stamp asked : ℕ) (read_mark : X) → fetch ≡ AtOrigin stamp asked read_mark → (life : Option ℕ) → IsAnswerOf s e (new_copy p.ask.key stamp asked life answer read_mark)) → Does (from_origin g s p answer now mark fetch)
+    from_origin_does : (p : Pending X) (answer : AnswerText) (now : ℕ) (fetch : Fetch X) →
+        ((stamp asked : ℕ) (read_mark : X) → fetch ≡ AtOrigin stamp asked read_mark → (life : Option ℕ) →
+        IsAnswerOf s e (new_copy p.ask.key stamp asked life answer read_mark)) → Does (from_origin g s p answer now mark fetch)
     unfolding from_origin
-    from_origin_does p answer now (AtOrigin stamp asked read_mark) is = origin_gave_does s.pending s.next all_stay p stamp asked read_mark answer now (is stamp asked read_mark refl)
+    from_origin_does p answer now (AtOrigin stamp asked read_mark) is = origin_gave_does s.pending s.next all_stay p stamp asked read_mark answer now
+        (is stamp asked read_mark refl)
     from_origin_does p answer now (AtPeer peer asked) is = refused _ tt
     from_origin_does p answer now Nowhere is = refused _ tt
 
-    origin_answer_to_does : (serial : ℕ) (key : List ℕ) (answer : AnswerText) (now : ℕ) → ((p : Pending X) (c : WebCopy X) → IsFromOrigin serial key answer p c → IsAnswerTo e p c) → (o : Option (Pending X)) → find (is_fetch serial key) s.pending ≡ o → Does (origin_answer_to g s answer now mark o)
+    origin_answer_to_does : (serial : ℕ) (key : List ℕ) (answer : AnswerText) (now : ℕ) →
+        ((p : Pending X) (c : WebCopy X) → IsFromOrigin serial key answer p c → IsAnswerTo e p c) → (o : Option (Pending X)) →
+        find (is_fetch serial key) s.pending ≡ o → Does (origin_answer_to g s answer now mark o)
     unfolding origin_answer_to
     origin_answer_to_does serial key answer now is None waits = refused _ tt
     origin_answer_to_does serial key answer now is (Some p) waits =
         from_origin_does p answer now p.fetch
-        (λ stamp asked read_mark reads life. (p, waiting (is_fetch serial key) p waits, is p _ record { waits = is_at serial key p (found_passes (is_fetch serial key) s.pending p waits); reads = reads; key_same = refl; answer_same = refl }))
+        (λ stamp asked read_mark reads life. (
+          p,
+          waiting (is_fetch serial key) p waits,
+          is p _ record {
+            waits = is_at serial key p (found_passes (is_fetch serial key) s.pending p waits);
+            reads = reads;
+            key_same = refl;
+            answer_same =
+                refl;
+          },
+        ))
 
   fails_does : (p : Pending X) (now : ℕ) (fetch : Fetch X) → Does (fails g s p now mark fetch)
   unfolding fails try_on
@@ -291,7 +361,8 @@ module _ {X : Type 0} (g : Setting) (s : NodeState X) (e : Event X) (mark : X) w
   sends_does : (to : Address) (m : Message) → IsObedient g e s.floors record { to = to; message = m } → Does (sends_back s to m)
   sends_does to m obeys = stays s.pending s.next _ refl all_stay tt (obeys, tt) tt
 
-  if_desired_does : (desired : Bool) (from : Address) (m : Message) → IsObedient g e s.floors record { to = from; message = m } → Does (if_desired s desired from m)
+  if_desired_does : (desired : Bool) (from : Address) (m : Message) → IsObedient g e s.floors record { to = from; message = m } →
+      Does (if_desired s desired from m)
   if_desired_does true from m obeys = sends_does from m obeys
   if_desired_does false from m obeys = silent
 
@@ -307,7 +378,8 @@ module _ {X : Type 0} (g : Setting) (s : NodeState X) (e : Event X) (mark : X) w
   told_by_does p h said now None = silent
   told_by_does p h said now (Some peer) = hears_does p h peer (said peer) now p.round
 
-  told_to_does : (by : Udp) (from : Address) (said : Peer → Said) (now : ℕ) (test : Pending X → Bool) (o : Option (Pending X)) → find test s.pending ≡ o → Does (told_to g s by from said now mark o)
+  told_to_does : (by : Udp) (from : Address) (said : Peer → Said) (now : ℕ) (test : Pending X → Bool) (o : Option (Pending X)) → find test s.pending ≡ o →
+      Does (told_to g s by from said now mark o)
   unfolding told_to
   told_to_does by from said now test None waits = silent
   told_to_does by from said now test (Some p) waits = told_by_does p (waits_under_way test p waits) said now _
@@ -322,40 +394,50 @@ module _ {X : Type 0} (g : Setting) (s : NodeState X) (e : Event X) (mark : X) w
 
   -- the response to a CLR that was followed is an acknowledgement
   done_does : (next : NodeState X) (from : Address) (trans : ℕ) (desired gone : Bool) → ComesFrom e from → HasRaised next.floors (purge_in g e) trans →
-      ((outcome : Outcome) → copy_served outcome ≡ None → ServesBareStatus outcome → AllByRecursion (IsObedient g e next.floors) (sent outcome) → IsOwnFault outcome → Does record { state = next; outcome = outcome }) → Does (clr_done next from trans desired gone)
+      ((outcome : Outcome) → copy_served outcome ≡ None → ServesBareStatus outcome → AllByRecursion (IsObedient g e next.floors) (sent outcome) →
+      IsOwnFault outcome → Does record { state = next; outcome = outcome }) → Does (clr_done next from trans desired gone)
   done_does next from trans true true comes raised h = h _ refl tt ((comes, raised), tt) tt
   done_does next from trans true false comes raised h = h _ refl tt ((comes, raised), tt) tt
   done_does next from trans false gone comes raised h = h _ refl tt tt tt
 
-  purge_does : (from : Address) (trans : ℕ) (desired : Bool) (key : List ℕ) (n : ℕ) → ComesFrom e from → n ≡ trans → purge_in g e ≡ Some (key, n) → Does (purge s from trans desired key n)
+  purge_does : (from : Address) (trans : ℕ) (desired : Bool) (key : List ℕ) (n : ℕ) → ComesFrom e from → n ≡ trans → purge_in g e ≡ Some (key, n) →
+      Does (purge s from trans desired key n)
   unfolding purge
   purge_does from trans desired key n comes same is =
       branches Does (is_full s.floors key) _ _ (λ _. if_desired_does desired from _ tt)
-      (λ _. done_does (purged s key n) from trans desired _ comes (subst (λ o. HasRaised (raised s.floors key n) o trans) (sym is) (same, raised_to s.floors key n trans same))
-      (λ outcome none bare obeys plain. Purges key n s.pending s.next outcome is none (record { reads = reads_of s.pending outcome all_stay; statuses = bare; acknowledges = obeys; faults = plain })))
+      (λ _. done_does (purged s key n) from trans desired _ comes
+      (subst (λ o. HasRaised (raised s.floors key n) o trans) (sym is) (same, raised_to s.floors key n trans same))
+      (λ outcome none bare obeys plain. Purges key n s.pending s.next outcome is none
+      (record { reads = reads_of s.pending outcome all_stay; statuses = bare; acknowledges = obeys; faults = plain })))
 
-  numbered_clr_does : (from : Address) (trans : ℕ) (desired : Bool) (o : Option (List ℕ × ℕ)) → ComesFrom e from → purge_in g e ≡ o → ((x : List ℕ × ℕ) → o ≡ Some x → x.1 ≡ trans) → Does (numbered_clr s from trans desired o)
+  numbered_clr_does : (from : Address) (trans : ℕ) (desired : Bool) (o : Option (List ℕ × ℕ)) → ComesFrom e from → purge_in g e ≡ o →
+      ((x : List ℕ × ℕ) → o ≡ Some x → x.1 ≡ trans) → Does (numbered_clr s from trans desired o)
   unfolding numbered_clr
   numbered_clr_does from trans desired None comes is same = if_desired_does desired from _ tt
   numbered_clr_does from trans desired (Some x) comes is same = purge_does from trans desired x.0 x.1 comes (same x refl) is
 
-  dropped_does : (key : Option (List ℕ)) (outcome : Outcome) → copy_served outcome ≡ None → ServesBareStatus outcome → AllByRecursion (IsObedient g e s.floors) (sent outcome) → IsOwnFault outcome → Does record { state = dropped s key; outcome = outcome }
+  dropped_does : (key : Option (List ℕ)) (outcome : Outcome) → copy_served outcome ≡ None → ServesBareStatus outcome →
+      AllByRecursion (IsObedient g e s.floors) (sent outcome) → IsOwnFault outcome → Does record { state = dropped s key; outcome = outcome }
   dropped_does None outcome none bare obeys plain = stays s.pending s.next outcome none all_stay bare obeys plain
-  dropped_does (Some key) outcome none bare obeys plain = Drops key s.pending s.next outcome none (record { reads = reads_of s.pending outcome all_stay; statuses = bare; acknowledges = obeys; faults = plain })
+  dropped_does (Some key) outcome none bare obeys plain = Drops key s.pending s.next outcome none
+      (record { reads = reads_of s.pending outcome all_stay; statuses = bare; acknowledges = obeys; faults = plain })
 
   dropped_floors : (key : Option (List ℕ)) → (dropped s key).floors ≡ s.floors
   dropped_floors None = refl
   dropped_floors (Some key) = refl
 
-  plain_clr_does : (from : Address) (trans : ℕ) (desired : Bool) (key : Option (List ℕ)) → ComesFrom e from → purge_in g e ≡ None → Does (plain_clr g s from trans desired key)
+  plain_clr_does : (from : Address) (trans : ℕ) (desired : Bool) (key : Option (List ℕ)) → ComesFrom e from → purge_in g e ≡ None →
+      Does (plain_clr g s from trans desired key)
   unfolding plain_clr
   plain_clr_does from trans desired key comes is =
       branches Does (is_known g.roster g.id udp.Htcp from || is_master g.roster from) _ _
       (λ _. done_does (dropped s key) from trans desired _ comes (subst (λ o. HasRaised (dropped s key).floors o trans) (sym is) tt)
-      (λ outcome none bare obeys plain. dropped_does key outcome none bare (subst (λ rows. AllByRecursion (IsObedient g e rows) (sent outcome)) (dropped_floors key) obeys) plain))
+      (λ outcome none bare obeys plain. dropped_does key outcome none bare
+      (subst (λ rows. AllByRecursion (IsObedient g e rows) (sent outcome)) (dropped_floors key) obeys) plain))
       (λ _. if_desired_does desired from _ tt)
 
-  clr_by_line_does : (from : Address) (trans : ℕ) (desired : Bool) (key : Option (List ℕ)) (line : Result (Option ℕ) HtcpFault) → ComesFrom e from → purge_in g e ≡ purge_by_line g from trans key line → Does (clr_by_line g s from trans desired key line)
+  clr_by_line_does : (from : Address) (trans : ℕ) (desired : Bool) (key : Option (List ℕ)) (line : Result (Option ℕ) HtcpFault) → ComesFrom e from →
+      purge_in g e ≡ purge_by_line g from trans key line → Does (clr_by_line g s from trans desired key line)
   unfolding clr_by_line
   clr_by_line_does from trans desired key (Ok None) comes is = plain_clr_does from trans desired key comes is
   clr_by_line_does from trans desired key (Ok (Some n)) comes is = numbered_clr_does from trans desired _ comes is (purge_number_is g from trans key n)
@@ -371,16 +453,19 @@ module _ {X : Type 0} (g : Setting) (s : NodeState X) (e : Event X) (mark : X) w
   tst_refused_does from trans opcode now =
       branches Does (nat_eq opcode 1) _ _ (λ _. htcp_told_does from trans _ now) (λ _. silent)
 
-  tst_obeys : (from : Address) (trans : ℕ) (known : Bool) (c : Option (WebCopy X)) → IsObedient g e s.floors record { to = from; message = cond known (htcp trans (tst_answer c)) (overall trans 1 5) }
+  tst_obeys : (from : Address) (trans : ℕ) (known : Bool) (c : Option (WebCopy X)) → IsObedient g e s.floors record
+      { to = from; message = cond known (htcp trans (tst_answer c)) (overall trans 1 5) }
   tst_obeys from trans true None = tt
   tst_obeys from trans true (Some c) = tt
   tst_obeys from trans false c = tt
 
-  htcp_comes_does : (from : Address) (trans now : ℕ) (content : Content) → ComesFrom e from → purge_in g e ≡ purge_in_content g from trans content → Does (htcp_comes g s from trans now mark content)
+  htcp_comes_does : (from : Address) (trans now : ℕ) (content : Content) → ComesFrom e from → purge_in g e ≡ purge_in_content g from trans content →
+      Does (htcp_comes g s from trans now mark content)
   unfolding htcp_comes htcp_tst htcp_clr
   htcp_comes_does from trans now (content.NopAsk desired) comes is = if_desired_does desired from _ tt
   htcp_comes_does from trans now content.NopAnswer comes is = silent
-  htcp_comes_does from trans now (content.TstAsk desired spec) comes is = if_desired_does desired from _ (tst_obeys from trans (is_known g.roster g.id udp.Htcp from) (copy_meant g s spec now))
+  htcp_comes_does from trans now (content.TstAsk desired spec) comes is = if_desired_does desired from _
+      (tst_obeys from trans (is_known g.roster g.id udp.Htcp from) (copy_meant g s spec now))
   htcp_comes_does from trans now (content.TstHit detail) comes is = htcp_told_does from trans _ now
   htcp_comes_does from trans now (content.TstMiss cache) comes is = htcp_told_does from trans _ now
   htcp_comes_does from trans now (content.ClrAsk desired reason spec) comes is = clr_by_line_does from trans desired _ _ comes is

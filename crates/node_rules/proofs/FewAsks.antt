@@ -75,7 +75,8 @@ module _ {X : Type 0} (g : Setting) (s : NodeState X) (mark : X) (few : FewWait 
   unfolding read_origin begin_read
   read_origin_few t h p waiter now =
       branches Few (nat_le 3 p.reads) _ _ (λ _. ended_few t p.block h)
-      (λ _. branches Few (has_origin g.roster p.ask.key) _ _ (λ _. changed_few t (fetching p (p.reads + 1) (AtOrigin (seen t.floors) now mark)) h) (λ _. ended_few t p.block h))
+      (λ _. branches Few (has_origin g.roster p.ask.key) _ _ (λ _. changed_few t (fetching p (p.reads + 1) (AtOrigin (seen t.floors) now mark)) h)
+      (λ _. ended_few t p.block h))
 
   go_to_few : (p : Pending X) (now : ℕ) (to : Source) → Few (go_to g s p now mark to)
   unfolding go_to ask_peer
@@ -89,7 +90,8 @@ module _ {X : Type 0} (g : Setting) (s : NodeState X) (mark : X) (few : FewWait 
 
   -- Requests
 
-  ask_around_few : length s.pending < 1024 → (asker : Option ℕ) (ask : Ask) (block now : ℕ) (round : RoundText) (peers : List Peer) → Few (ask_around g (takes_block s) asker ask block now mark round peers)
+  ask_around_few : length s.pending < 1024 → (asker : Option ℕ) (ask : Ask) (block now : ℕ) (round : RoundText) (peers : List Peer) →
+      Few (ask_around g (takes_block s) asker ask block now mark round peers)
   unfolding ask_around begin_round
   ask_around_few room asker ask block now round [] =
       let p : Pending X = new_ask block asker ask None in
@@ -123,20 +125,23 @@ module _ {X : Type 0} (g : Setting) (s : NodeState X) (mark : X) (few : FewWait 
       branches Few (nat_le (floor s.floors p.ask.key) stamp && not (is_gateway_fault answer.status)) _ _
       (λ _. use_answer_few p stamp asked answer tag now) (λ _. go_on_few _ now)
 
-  origin_gave_few : (p : Pending X) (stamp asked : ℕ) (read_mark : X) (answer : AnswerText) (now : ℕ) → Few (origin_gave g s p stamp asked read_mark answer now mark)
+  origin_gave_few : (p : Pending X) (stamp asked : ℕ) (read_mark : X) (answer : AnswerText) (now : ℕ) →
+      Few (origin_gave g s p stamp asked read_mark answer now mark)
   unfolding origin_gave
   origin_gave_few p stamp asked read_mark answer now =
       branches Few (nat_le (floor s.floors p.ask.key) stamp) _ _
       (λ _. use_answer_few p stamp asked answer read_mark now) (λ _. go_on_few _ now)
 
-  from_peer_few : (p : Pending X) (peer stamp : ℕ) (answer : AnswerText) (tag : X) (now : ℕ) (fetch : Fetch X) → Few (from_peer g s p peer stamp answer tag now mark fetch)
+  from_peer_few : (p : Pending X) (peer stamp : ℕ) (answer : AnswerText) (tag : X) (now : ℕ) (fetch : Fetch X) →
+      Few (from_peer g s p peer stamp answer tag now mark fetch)
   unfolding from_peer
   from_peer_few p peer stamp answer tag now (AtPeer at_peer asked) =
       branches Few (nat_eq at_peer peer) _ _ (λ _. peer_gave_few p peer asked stamp answer tag now) (λ _. few)
   from_peer_few p peer stamp answer tag now (AtOrigin read asked read_mark) = few
   from_peer_few p peer stamp answer tag now Nowhere = few
 
-  peer_answer_to_few : (peer stamp : ℕ) (answer : AnswerText) (tag : X) (now : ℕ) (o : Option (Pending X)) → Few (peer_answer_to g s peer stamp answer tag now mark o)
+  peer_answer_to_few : (peer stamp : ℕ) (answer : AnswerText) (tag : X) (now : ℕ) (o : Option (Pending X)) →
+      Few (peer_answer_to g s peer stamp answer tag now mark o)
   unfolding peer_answer_to
   peer_answer_to_few peer stamp answer tag now None = few
   peer_answer_to_few peer stamp answer tag now (Some p) = from_peer_few p peer stamp answer tag now p.fetch
@@ -206,7 +211,8 @@ module _ {X : Type 0} (g : Setting) (s : NodeState X) (mark : X) (few : FewWait 
   purge_few : (from : Address) (trans : ℕ) (desired : Bool) (key : List ℕ) (n : ℕ) → Few (purge s from trans desired key n)
   unfolding purge
   purge_few from trans desired key n =
-      branches Few (is_full s.floors key) _ _ (λ _. if_desired_few s few desired from _) (λ _. if_desired_few (purged s key n) (record { most = few.most }) desired from _)
+      branches Few (is_full s.floors key) _ _ (λ _. if_desired_few s few desired from _)
+      (λ _. if_desired_few (purged s key n) (record { most = few.most }) desired from _)
 
   numbered_clr_few : (from : Address) (trans : ℕ) (desired : Bool) (o : Option (List ℕ × ℕ)) → Few (numbered_clr s from trans desired o)
   unfolding numbered_clr
@@ -223,7 +229,8 @@ module _ {X : Type 0} (g : Setting) (s : NodeState X) (mark : X) (few : FewWait 
       branches Few (is_known g.roster g.id udp.Htcp from || is_master g.roster from) _ _
       (λ _. if_desired_few (dropped s key) (dropped_few key) desired from _) (λ _. if_desired_few s few desired from _)
 
-  clr_by_line_few : (from : Address) (trans : ℕ) (desired : Bool) (key : Option (List ℕ)) (line : Result (Option ℕ) HtcpFault) → Few (clr_by_line g s from trans desired key line)
+  clr_by_line_few : (from : Address) (trans : ℕ) (desired : Bool) (key : Option (List ℕ)) (line : Result (Option ℕ) HtcpFault) →
+      Few (clr_by_line g s from trans desired key line)
   unfolding clr_by_line
   clr_by_line_few from trans desired key (Ok None) = plain_clr_few from trans desired key
   clr_by_line_few from trans desired key (Ok (Some n)) = numbered_clr_few from trans desired _
@@ -285,8 +292,10 @@ closed_few : {X : Type 0} (s : NodeState X) (o : Option (List ℕ × ℕ)) (next
 closed_few s None next h = absurd h
 closed_few {X} s (Some x) next h = record { most = subst (λ (asks : List (Pending X)). length asks ≤ 1024) (sym h.pending) (omega arith) }
 
-pub asks_stay_few : {X : Type 0} (g : Setting) (s : NodeState X) (e : Event X) (mark : X) (outcome : Result (Reply X) StepFault) (next : NodeState X) → length s.pending ≤ 1024 → Steps g s e mark outcome next → length next.pending ≤ 1024
+pub asks_stay_few : {X : Type 0} (g : Setting) (s : NodeState X) (e : Event X) (mark : X) (outcome : Result (Reply X) StepFault) (next : NodeState X) →
+    length s.pending ≤ 1024 → Steps g s e mark outcome next → length next.pending ≤ 1024
 asks_stay_few g s e mark outcome next h steps =
     let few : FewWait s = record { most = h } in
-    let after : FewWait next = steps_case g s e mark (λ r. FewWait r.state) (step_few g s mark few e) few (λ n f closes. closed_few s (purge_in g e) n closes.1) outcome next steps in
+    let after : FewWait next = steps_case g s e mark (λ r. FewWait r.state) (step_few g s mark few e) few (λ n f closes. closed_few s (purge_in g e) n closes.1)
+    outcome next steps in
     after.most

@@ -76,7 +76,9 @@ seen-put : (rows : List (List ℕ × ℕ)) (u : List ℕ) (n : ℕ) → greatest
 seen-put [] u n = omega arith
 seen-put (row ∷ rows) u n = go (slice_cmp nat_cmp u row.0) (seen-put rows u n)
   where
-    go : (o : Ordering) → greatest (numbers (put (slice_cmp nat_cmp) u n rows)) ≤ max (greatest (numbers rows)) n → greatest (numbers (by_order o ((u, n) ∷ row ∷ rows) ((row.0, n) ∷ rows) (row ∷ put (slice_cmp nat_cmp) u n rows))) ≤ max (max row.1 (greatest (numbers rows))) n
+    go : (o : Ordering) → greatest (numbers (put (slice_cmp nat_cmp) u n rows)) ≤ max (greatest (numbers rows)) n →
+        greatest (numbers (by_order o ((u, n) ∷ row ∷ rows) ((row.0, n) ∷ rows) (row ∷ put (slice_cmp nat_cmp) u n rows))) ≤ max
+        (max row.1 (greatest (numbers rows))) n
     go Less more = omega arith
     go Equal more = omega arith
     go Greater more = omega (arith, more)

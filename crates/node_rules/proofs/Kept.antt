@@ -45,7 +45,8 @@ module _ {X : Type 0} (g : Setting) (s : NodeState X) (e : Event X) (mark : X) w
   above_kept r (Stays pending next outcome none keeps) all = all
   above_kept r (Serves key c pending next outcome is_open h e keeps) all = all_to_front (IsAbove s.floors) key s.copies all
   above_kept r (Brings c life pending next outcome is_open came h e keeps) all = all_stored (IsAbove s.floors) g.roster.limits c life s.copies h all
-  above_kept r (Purges key n pending next outcome purge none keeps) all = all_filtered (IsAbove s.floors) (IsAbove (raised s.floors key n)) _ s.copies (purge_leaves key n) all
+  above_kept r (Purges key n pending next outcome purge none keeps) all = all_filtered (IsAbove s.floors) (IsAbove (raised s.floors key n)) _ s.copies
+      (purge_leaves key n) all
   above_kept r (Drops key pending next outcome none keeps) all = all_kept (IsAbove s.floors) _ s.copies all
 
   pub store_kept : (r : Stepped X) → Effect g s e mark r → AreStored g.roster.limits s.copies → AreStored g.roster.limits r.state.copies

@@ -47,19 +47,22 @@ module _ {X : Type 0} (g : Setting) (s : NodeState X) (e : Event X) (mark : X) w
   effect_seen r (Stays pending next outcome none keeps) = omega arith
   effect_seen r (Serves key c pending next outcome is_open h is keeps) = omega arith
   effect_seen r (Brings c life pending next outcome is_open came h is keeps) = omega arith
-  effect_seen r (Purges key n pending next outcome purge none keeps) = subst (λ o. seen (raised s.floors key n) ≤ max (seen s.floors) (number_of_purge o)) (sym purge) (seen-raise s.floors key n)
+  effect_seen r (Purges key n pending next outcome purge none keeps) = subst (λ o. seen (raised s.floors key n) ≤ max (seen s.floors) (number_of_purge o))
+      (sym purge) (seen-raise s.floors key n)
   effect_seen r (Drops key pending next outcome none keeps) = omega arith
 
   effect_held : (r : Stepped X) → Effect g s e mark r → r.state.closed ≡ false → AllByRecursion (HasOrGets s e) r.state.copies
   effect_held r (Stays pending next outcome none keeps) is_open = has_held is_open
   effect_held r (Serves key c pending next outcome was_open h is keeps) is_open = all_to_front (HasOrGets s e) key s.copies (has_held is_open)
-  effect_held r (Brings c life pending next outcome was_open came h is keeps) is_open = all_stored (HasOrGets s e) g.roster.limits c life s.copies (is_open, inr came) (has_held is_open)
+  effect_held r (Brings c life pending next outcome was_open came h is keeps) is_open = all_stored (HasOrGets s e) g.roster.limits c life s.copies
+      (is_open, inr came) (has_held is_open)
   effect_held r (Purges key n pending next outcome purge none keeps) is_open = all_kept (HasOrGets s e) _ s.copies (has_held is_open)
   effect_held r (Drops key pending next outcome none keeps) is_open = all_kept (HasOrGets s e) _ s.copies (has_held is_open)
 
   effect_serves : (r : Stepped X) → Effect g s e mark r → (c : WebCopy X) → copy_served r.outcome ≡ Some c → HasOrGets s e c
   effect_serves r (Stays pending next outcome none keeps) c is = absurd (none-some c (sym none ∙ is))
-  effect_serves r (Serves key d pending next outcome is_open h e keeps) c is = subst (HasOrGets s _) (same_Some d c (sym e ∙ is)) (found (HasOrGets s _) (is_of key) s.copies d (has_held is_open) h.0)
+  effect_serves r (Serves key d pending next outcome is_open h e keeps) c is = subst (HasOrGets s _) (same_Some d c (sym e ∙ is))
+      (found (HasOrGets s _) (is_of key) s.copies d (has_held is_open) h.0)
   effect_serves r (Brings d life pending next outcome is_open came h e keeps) c is = subst (HasOrGets s _) (same_Some d c (sym e ∙ is)) (is_open, inr came)
   effect_serves r (Purges key n pending next outcome purge none keeps) c is = absurd (none-some c (sym none ∙ is))
   effect_serves r (Drops key pending next outcome none keeps) c is = absurd (none-some c (sym none ∙ is))
@@ -67,8 +70,10 @@ module _ {X : Type 0} (g : Setting) (s : NodeState X) (e : Event X) (mark : X) w
   effect_current : (r : Stepped X) → Effect g s e mark r → (c : WebCopy X) → copy_served r.outcome ≡ Some c → floor r.state.floors c.key ≤ c.stamp
   effect_current r (Stays pending next outcome none keeps) c is = absurd (none-some c (sym none ∙ is))
   effect_current r (Serves key d pending next outcome is_open h e keeps) c is =
-      subst (λ (d : WebCopy X). floor s.floors d.key ≤ d.stamp) (same_Some d c (sym e ∙ is)) (subst (λ u. floor s.floors u ≤ d.stamp) (sym (copy_key key s.copies d h.0)) h.1)
-  effect_current r (Brings d life pending next outcome is_open came h e keeps) c is = subst (λ (d : WebCopy X). floor s.floors d.key ≤ d.stamp) (same_Some d c (sym e ∙ is)) h
+      subst (λ (d : WebCopy X). floor s.floors d.key ≤ d.stamp) (same_Some d c (sym e ∙ is))
+      (subst (λ u. floor s.floors u ≤ d.stamp) (sym (copy_key key s.copies d h.0)) h.1)
+  effect_current r (Brings d life pending next outcome is_open came h e keeps) c is = subst (λ (d : WebCopy X). floor s.floors d.key ≤ d.stamp)
+      (same_Some d c (sym e ∙ is)) h
   effect_current r (Purges key n pending next outcome purge none keeps) c is = absurd (none-some c (sym none ∙ is))
   effect_current r (Drops key pending next outcome none keeps) c is = absurd (none-some c (sym none ∙ is))
 
@@ -101,19 +106,22 @@ module _ {X : Type 0} (g : Setting) (s : NodeState X) (e : Event X) (mark : X) w
           (effect_seen _ (step_does g s mark e)) (omega arith) (λ n f h. closed_on_seen (purge_in g e) n h.1) outcome next steps;
       held = steps_case g s e mark (λ r. r.state.closed ≡ false → AllByRecursion (HasOrGets s e) r.state.copies)
           (effect_held _ (step_does g s mark e)) has_held (λ n f h is_open. absurd (closing_closes g s e mark (purge_in g e) n h.1 is_open)) outcome next steps;
-      reads = steps_case g s e mark (λ r. AllByRecursion (IsReadOf s mark r.outcome) r.state.pending) keeps.reads (still_reads s mark _ s.pending (all_under_way s)) closes_reads outcome next steps;
+      reads = steps_case g s e mark (λ r. AllByRecursion (IsReadOf s mark r.outcome) r.state.pending) keeps.reads
+          (still_reads s mark _ s.pending (all_under_way s)) closes_reads outcome next steps;
       serves = steps_case g s e mark (λ r. (c : WebCopy X) → copy_served r.outcome ≡ Some c → HasOrGets s e c)
           (effect_serves _ (step_does g s mark e)) (λ c is. absurd (none-some c is)) (λ n f h c is. absurd (none-some c is)) outcome next steps;
       current = steps_case g s e mark (λ r. (c : WebCopy X) → copy_served r.outcome ≡ Some c → floor r.state.floors c.key ≤ c.stamp)
           (effect_current _ (step_does g s mark e)) (λ c is. absurd (none-some c is)) (λ n f h c is. absurd (none-some c is)) outcome next steps;
       statuses = steps_case g s e mark (λ r. ServesBareStatus r.outcome) keeps.statuses tt (λ n f h. tt) outcome next steps;
-      acknowledges = steps_case g s e mark (λ r. AllByRecursion (IsObedient g e r.state.floors) (sent r.outcome)) keeps.acknowledges tt (λ n f h. tt) outcome next steps;
+      acknowledges = steps_case g s e mark (λ r. AllByRecursion (IsObedient g e r.state.floors) (sent r.outcome)) keeps.acknowledges tt (λ n f h. tt) outcome
+          next steps;
       siblings = λ asks. sibling_begins_nothing g s e mark outcome next asks steps;
     }
 
 -- The function is one way to step
 
-own_steps : {X : Type 0} (g : Setting) (s : NodeState X) (e : Event X) (mark : X) (outcome : Result (Reply X) StepFault) → (step g s e mark).outcome ≡ outcome → IsOwnFault outcome → Steps g s e mark outcome (step g s e mark).state
+own_steps : {X : Type 0} (g : Setting) (s : NodeState X) (e : Event X) (mark : X) (outcome : Result (Reply X) StepFault) → (step g s e mark).outcome ≡ outcome →
+    IsOwnFault outcome → Steps g s e mark outcome (step g s e mark).state
 own_steps g s e mark (Ok reply) same plain = ap (λ o. record { state = (step g s e mark).state; outcome = o }) same
 own_steps g s e mark (Err fault.Closed) same plain = ap (λ o. record { state = (step g s e mark).state; outcome = o }) same
 own_steps g s e mark (Err fault.UnknownSerial) same plain = ap (λ o. record { state = (step g s e mark).state; outcome = o }) same

@@ -52,7 +52,8 @@ found_passes {A} test (y ∷ xs) x e =
     (λ passes e. subst (λ (z : A). test z ≡ true) (same_Some y x e) passes) (λ _. found_passes test xs x)) e
 
 -- if one element takes the place of some, what holds of it and of the others holds of all
-pub all_changed : {A : Type 0} (P : A → Type 0) (test : A → Bool) (x : A) (xs : List A) → P x → AllByRecursion P xs → AllByRecursion P (map (λ y. cond (test y) x y) xs)
+pub all_changed : {A : Type 0} (P : A → Type 0) (test : A → Bool) (x : A) (xs : List A) → P x → AllByRecursion P xs →
+    AllByRecursion P (map (λ y. cond (test y) x y) xs)
 all_changed P test x [] h all = tt
 all_changed P test x (y ∷ xs) h all = (branches P (test y) x y (λ _. h) (λ _. all.0), all_changed P test x xs h all.1)
 
@@ -79,5 +80,6 @@ module _ {X : Type 0} (s : NodeState X) where
   read_of mark outcome p h = read_by mark outcome p p.fetch h
 
   -- requests that were pending still read what they read
-  pub still_reads : (mark : X) (outcome : Result (Reply X) StepFault) (pending : List (Pending X)) → AllByRecursion (IsUnderWay s) pending → AllByRecursion (IsReadOf s mark outcome) pending
+  pub still_reads : (mark : X) (outcome : Result (Reply X) StepFault) (pending : List (Pending X)) → AllByRecursion (IsUnderWay s) pending →
+      AllByRecursion (IsReadOf s mark outcome) pending
   still_reads mark outcome pending all = all_mapped (IsUnderWay s) (IsReadOf s mark outcome) (read_of mark outcome) pending all

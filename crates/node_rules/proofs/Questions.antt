@@ -47,7 +47,8 @@ module _ {X : Type 0} (g : Setting) (s : NodeState X) where
       branches (Nothing s) (is_cached_only g (Some asker) ask) _ _ (λ _. plainly _ refl refl)
       (λ no. absurd (true_not_false (sym (sibling_cached_only asker ask h) ∙ no)))
 
-  by_copy_begins : (asker : ℕ) (ask : Ask) (now : ℕ) (mark : X) (o : Option (WebCopy X)) → names_sibling g.roster asker g.id ≡ true → Nothing s (by_copy g s (Some asker) ask now mark o)
+  by_copy_begins : (asker : ℕ) (ask : Ask) (now : ℕ) (mark : X) (o : Option (WebCopy X)) → names_sibling g.roster asker g.id ≡ true →
+      Nothing s (by_copy g s (Some asker) ask now mark o)
   unfolding by_copy
   by_copy_begins asker ask now mark None h = not_held_begins asker ask now mark h
   by_copy_begins asker ask now mark (Some c) h = plainly _ refl refl
@@ -92,7 +93,8 @@ module _ {X : Type 0} (g : Setting) (s : NodeState X) where
   no_purge (event.Datagram from m now) h = question_no_purge from m h
   no_purge _ h = refl
 
-  pub sibling_begins_nothing : (e : Event X) (mark : X) (outcome : Result (Reply X) StepFault) (next : NodeState X) → is_from_sibling g e ≡ true → Steps g s e mark outcome next → BeginsNothing s outcome next
+  pub sibling_begins_nothing : (e : Event X) (mark : X) (outcome : Result (Reply X) StepFault) (next : NodeState X) → is_from_sibling g e ≡ true →
+      Steps g s e mark outcome next → BeginsNothing s outcome next
   unfolding step
   sibling_begins_nothing e mark outcome next h =
       steps_case g s e mark (Nothing s) (step_if_begins e mark s.closed h) (plainly _ refl refl)

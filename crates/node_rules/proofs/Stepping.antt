@@ -22,7 +22,9 @@ module _ {X : Type 0} (g : Setting) (s : NodeState X) (e : Event X) (mark : X) w
   pub the_function_closes_no_node : (step g s e mark).state.closed ≡ s.closed
   the_function_closes_no_node = closed_kept g s e mark _ (step_does g s mark e)
 
-  pub steps_case : (P : Stepped X → Type 0) → P (step g s e mark) → P record { state = s; outcome = Err fault.NoMemory } → ((next : NodeState X) (f : StepFault) → Closes g s e next → P record { state = next; outcome = Err f }) → (outcome : Result (Reply X) StepFault) (next : NodeState X) → Steps g s e mark outcome next → P record { state = next; outcome = outcome }
+  pub steps_case : (P : Stepped X → Type 0) → P (step g s e mark) → P record { state = s; outcome = Err fault.NoMemory } →
+      ((next : NodeState X) (f : StepFault) → Closes g s e next → P record { state = next; outcome = Err f }) →
+      (outcome : Result (Reply X) StepFault) (next : NodeState X) → Steps g s e mark outcome next → P record { state = next; outcome = outcome }
   steps_case P stepped same closes (Ok reply) next is = subst P is stepped
   steps_case P stepped same closes (Err fault.Closed) next is = subst P is stepped
   steps_case P stepped same closes (Err fault.UnknownSerial) next is = subst P is stepped
@@ -40,7 +42,8 @@ module _ {X : Type 0} (g : Setting) (s : NodeState X) (e : Event X) (mark : X) w
     | inr after ↦ subst (λ rows. floor s.floors u ≤ floor rows u) (sym after.1) (raise_rises s.floors x.0 u x.1)
   ]
 
-  pub floors_never_fall : (outcome : Result (Reply X) StepFault) (next : NodeState X) (u : List ℕ) → Steps g s e mark outcome next → floor s.floors u ≤ floor next.floors u
+  pub floors_never_fall : (outcome : Result (Reply X) StepFault) (next : NodeState X) (u : List ℕ) → Steps g s e mark outcome next →
+      floor s.floors u ≤ floor next.floors u
   floors_never_fall outcome next u =
       steps_case (λ r. floor s.floors u ≤ floor r.state.floors u)
       (floors_rise g s e mark _ (step_does g s mark e) u) (omega arith) (λ n f h. closed_on_rises (purge_in g e) n u h.1) outcome next
@@ -50,12 +53,14 @@ module _ {X : Type 0} (g : Setting) (s : NodeState X) (e : Event X) (mark : X) w
   closing_closes None next h is_open = h
   closing_closes (Some x) next h is_open = true_not_false (sym h.closed ∙ is_open)
 
-  pub stays_above : (outcome : Result (Reply X) StepFault) (next : NodeState X) → AllAbove s → Steps g s e mark outcome next → next.closed ≡ false → AllAbove next
+  pub stays_above : (outcome : Result (Reply X) StepFault) (next : NodeState X) → AllAbove s → Steps g s e mark outcome next → next.closed ≡ false →
+      AllAbove next
   stays_above outcome next all =
       steps_case (λ r. r.state.closed ≡ false → AllAbove r.state)
       (λ _. above_kept g s e mark _ (step_does g s mark e) all) (λ _. all) (λ n f h is_open. absurd (closing_closes (purge_in g e) n h.1 is_open)) outcome next
 
-  pub stays_store : (outcome : Result (Reply X) StepFault) (next : NodeState X) → AreStored g.roster.limits s.copies → Steps g s e mark outcome next → next.closed ≡ false → AreStored g.roster.limits next.copies
+  pub stays_store : (outcome : Result (Reply X) StepFault) (next : NodeState X) → AreStored g.roster.limits s.copies → Steps g s e mark outcome next →
+      next.closed ≡ false → AreStored g.roster.limits next.copies
   stays_store outcome next is =
       steps_case (λ r. r.state.closed ≡ false → AreStored g.roster.limits r.state.copies)
       (λ _. store_kept g s e mark _ (step_does g s mark e) is) (λ _. is) (λ n f h is_open. absurd (closing_closes (purge_in g e) n h.1 is_open)) outcome next

@@ -18,7 +18,8 @@ use Rattle.node_rules.proofs.FloorLaws.{same_text, text_same}
 
 -- Lists
 
-pub all_filtered : {A : Type 0} (P Q : A → Type 0) (test : A → Bool) (xs : List A) → ((x : A) → P x → test x ≡ true → Q x) → AllByRecursion P xs → AllByRecursion Q (filter test xs)
+pub all_filtered : {A : Type 0} (P Q : A → Type 0) (test : A → Bool) (xs : List A) → ((x : A) → P x → test x ≡ true → Q x) → AllByRecursion P xs →
+    AllByRecursion Q (filter test xs)
 all_filtered P Q test [] h all = tt
 all_filtered P Q test (x ∷ xs) h all =
     branches (AllByRecursion Q) (test x) (x ∷ filter test xs) (filter test xs)
@@ -45,11 +46,13 @@ pub sum_filter : {A : Type 0} (f : A → ℕ) (test : A → Bool) (xs : List A) 
 sum_filter f test [] = omega arith
 sum_filter f test (x ∷ xs) =
     branches (λ ys. sum_by f ys ≤ sum_by f (x ∷ xs)) (test x) (x ∷ filter test xs) (filter test xs)
-    (λ _. omega (arith, sum_filter f test xs, sum_by-cons f x xs, sum_by-cons f x (filter test xs))) (λ _. omega (arith, sum_filter f test xs, sum_by-cons f x xs))
+    (λ _. omega (arith, sum_filter f test xs, sum_by-cons f x xs, sum_by-cons f x (filter test xs)))
+    (λ _. omega (arith, sum_filter f test xs, sum_by-cons f x xs))
 
 -- Copies
 
-pub all_fitting : {X : Type 0} (P : WebCopy X → Type 0) (count bytes : ℕ) (copies : List (WebCopy X)) → AllByRecursion P copies → AllByRecursion P (fitting count bytes copies)
+pub all_fitting : {X : Type 0} (P : WebCopy X → Type 0) (count bytes : ℕ) (copies : List (WebCopy X)) → AllByRecursion P copies →
+    AllByRecursion P (fitting count bytes copies)
 all_fitting P count bytes [] all = tt
 all_fitting P count bytes (c ∷ copies) all =
     branches (AllByRecursion P) (nat_lt 0 count && nat_le (size c) bytes) (c ∷ fitting (count - 1) (bytes - size c) copies) []
@@ -65,7 +68,10 @@ pub one_each_fitting : {X : Type 0} (count bytes : ℕ) (copies : List (WebCopy 
 one_each_fitting count bytes [] one = tt
 one_each_fitting count bytes (c ∷ copies) one =
     branches OneEach (nat_lt 0 count && nat_le (size c) bytes) (c ∷ fitting (count - 1) (bytes - size c) copies) []
-    (λ _. (all_fitting (λ (d : WebCopy _). d.key ≡ c.key → ⊥) (count - 1) (bytes - size c) copies one.0, one_each_fitting (count - 1) (bytes - size c) copies one.1)) (λ _. tt)
+    (λ _. (
+      all_fitting (λ (d : WebCopy _). d.key ≡ c.key → ⊥) (count - 1) (bytes - size c) copies one.0,
+      one_each_fitting (count - 1) (bytes - size c) copies one.1,
+    )) (λ _. tt)
 
 -- the copies of all other keys are of other keys
 pub others_apart : {X : Type 0} (u : List ℕ) (copies : List (WebCopy X)) → AllByRecursion (λ d. d.key ≡ u → ⊥) (without u copies)
@@ -84,7 +90,9 @@ pub fits_bytes : {X : Type 0} (count bytes : ℕ) (copies : List (WebCopy X)) �
 fits_bytes count bytes [] = omega arith
 fits_bytes count bytes (c ∷ copies) =
     branches (λ (cs : List (WebCopy _)). octets cs ≤ bytes) (nat_lt 0 count && nat_le (size c) bytes) (c ∷ fitting (count - 1) (bytes - size c) copies) []
-    (λ h. let room : size c ≤ bytes = second_true _ (size c) bytes h in omega (arith, fits_bytes (count - 1) (bytes - size c) copies, room, sum_by-cons size c (fitting (count - 1) (bytes - size c) copies))) (λ _. omega arith)
+    (λ h. let room : size c ≤ bytes = second_true _ (size c) bytes h in
+    omega (arith, fits_bytes (count - 1) (bytes - size c) copies, room, sum_by-cons size c (fitting (count - 1) (bytes - size c) copies)))
+    (λ _. omega arith)
 
 -- what is found passes the test
 pub found_passes : {A : Type 0} (test : A → Bool) (xs : List A) (x : A) → find test xs ≡ Some x → test x ≡ true
@@ -97,11 +105,13 @@ found_passes test (y ∷ xs) x e =
     ]) refl e
 
 -- without the element that is found, the list is smaller, in number and in any measure
-pub found_room : {A : Type 0} (f : A → ℕ) (test : A → Bool) (xs : List A) (x : A) → find test xs ≡ Some x → (length (filter (λ y. not (test y)) xs) + 1 ≤ length xs) × (f x + sum_by f (filter (λ y. not (test y)) xs) ≤ sum_by f xs)
+pub found_room : {A : Type 0} (f : A → ℕ) (test : A → Bool) (xs : List A) (x : A) → find test xs ≡ Some x →
+    (length (filter (λ y. not (test y)) xs) + 1 ≤ length xs) × (f x + sum_by f (filter (λ y. not (test y)) xs) ≤ sum_by f xs)
 found_room f test [] x e = absurd (none-some x e)
 found_room f test (y ∷ xs) x e =
     let others : List _ = filter (λ y. not (test y)) xs in
-    let P : Bool → Type 0 = λ b. cond b (Some y) (find test xs) ≡ Some x → (length (cond (not b) (y ∷ others) others) + 1 ≤ length (y ∷ xs)) × (f x + sum_by f (cond (not b) (y ∷ others) others) ≤ sum_by f (y ∷ xs)) in
+    let P : Bool → Type 0 = λ b. cond b (Some y) (find test xs) ≡ Some x → (length (cond (not b) (y ∷ others) others) + 1 ≤ length (y ∷ xs))
+    × (f x + sum_by f (cond (not b) (y ∷ others) others) ≤ sum_by f (y ∷ xs)) in
     (elim (test y) as P [
       | true ↦ λ e.
           let here : f y ≡ f x = ap f (same_Some y x e) in
@@ -115,7 +125,8 @@ pub all_kept_by : {A : Type 0} (P Q : A → Type 0) → ((x : A) → P x → Q x
 all_kept_by P Q h [] all = tt
 all_kept_by P Q h (x ∷ xs) all = (h x all.0, all_kept_by P Q h xs all.1)
 
-pub store_filtered : {X : Type 0} (limits : Limits) (test : WebCopy X → Bool) (copies : List (WebCopy X)) → AreStored limits copies → AreStored limits (filter test copies)
+pub store_filtered : {X : Type 0} (limits : Limits) (test : WebCopy X → Bool) (copies : List (WebCopy X)) → AreStored limits copies →
+    AreStored limits (filter test copies)
 store_filtered limits test copies is =
     record {
       within = (omega (arith, length_filter test copies, is.within.0), omega (arith, sum_filter size test copies, is.within.1));
@@ -124,7 +135,8 @@ store_filtered limits test copies is =
 
 -- the operations of a node's step
 
-pub all_to_front : {X : Type 0} (P : WebCopy X → Type 0) (u : List ℕ) (copies : List (WebCopy X)) → AllByRecursion P copies → AllByRecursion P (to_front u copies)
+pub all_to_front : {X : Type 0} (P : WebCopy X → Type 0) (u : List ℕ) (copies : List (WebCopy X)) → AllByRecursion P copies →
+    AllByRecursion P (to_front u copies)
 all_to_front P u copies all = go (copy_of u copies) refl
   where
     go : (o : Option (WebCopy _)) → copy_of u copies ≡ o → AllByRecursion P (in_front o (without u copies))
@@ -141,10 +153,15 @@ store_to_front limits u copies is = go (copy_of u copies) refl
         let here : c.key ≡ u = same_text c.key u (found_passes (is_of u) copies c e) in
         record {
           within = (omega (arith, room.0, is.within.0), omega (arith, room.1, is.within.1, sum_by-cons size c (without u copies)));
-          one_each = (all_kept_by (λ (d : WebCopy _). d.key ≡ u → ⊥) (λ (d : WebCopy _). d.key ≡ c.key → ⊥) (λ d n same. n (same ∙ here)) (without u copies) (others_apart u copies), one_each_filtered _ copies is.one_each);
+          one_each = (
+            all_kept_by (λ (d : WebCopy _). d.key ≡ u → ⊥) (λ (d : WebCopy _). d.key ≡ c.key → ⊥) (λ d n same. n (same ∙ here)) (without u copies)
+                (others_apart u copies),
+            one_each_filtered _ copies is.one_each,
+          );
         }
 
-pub store_put : {X : Type 0} (limits : Limits) (c : WebCopy X) (copies : List (WebCopy X)) (answer : Put) → AreStored limits copies → AreStored limits (copies_after (store_of limits copies) c answer)
+pub store_put : {X : Type 0} (limits : Limits) (c : WebCopy X) (copies : List (WebCopy X)) (answer : Put) → AreStored limits copies →
+    AreStored limits (copies_after (store_of limits copies) c answer)
 store_put limits c copies TooLarge is = is
 store_put limits c copies Kept is = is
 store_put limits c copies Stored is =
@@ -153,15 +170,18 @@ store_put limits c copies Stored is =
       one_each = one_each_fitting limits.copies limits.bytes (c ∷ without c.key copies) (others_apart c.key copies, one_each_filtered _ copies is.one_each);
     }
 
-pub store_stored : {X : Type 0} (limits : Limits) (c : WebCopy X) (life : Option ℕ) (copies : List (WebCopy X)) → AreStored limits copies → AreStored limits (stored limits c life copies)
+pub store_stored : {X : Type 0} (limits : Limits) (c : WebCopy X) (life : Option ℕ) (copies : List (WebCopy X)) → AreStored limits copies →
+    AreStored limits (stored limits c life copies)
 store_stored limits c None copies is = is
 store_stored limits c (Some life) copies is = store_put limits c copies _ is
 
-pub all_put : {X : Type 0} (P : WebCopy X → Type 0) (limits : Limits) (c : WebCopy X) (copies : List (WebCopy X)) (answer : Put) → P c → AllByRecursion P copies → AllByRecursion P (copies_after (store_of limits copies) c answer)
+pub all_put : {X : Type 0} (P : WebCopy X → Type 0) (limits : Limits) (c : WebCopy X) (copies : List (WebCopy X)) (answer : Put) → P c →
+    AllByRecursion P copies → AllByRecursion P (copies_after (store_of limits copies) c answer)
 all_put P limits c copies TooLarge p all = all
 all_put P limits c copies Kept p all = all
 all_put P limits c copies Stored p all = all_fitting P limits.copies limits.bytes (c ∷ without c.key copies) (p, all_kept P _ copies all)
 
-pub all_stored : {X : Type 0} (P : WebCopy X → Type 0) (limits : Limits) (c : WebCopy X) (life : Option ℕ) (copies : List (WebCopy X)) → P c → AllByRecursion P copies → AllByRecursion P (stored limits c life copies)
+pub all_stored : {X : Type 0} (P : WebCopy X → Type 0) (limits : Limits) (c : WebCopy X) (life : Option ℕ) (copies : List (WebCopy X)) → P c →
+    AllByRecursion P copies → AllByRecursion P (stored limits c life copies)
 all_stored P limits c None copies p all = all
 all_stored P limits c (Some life) copies p all = all_put P limits c copies _ p all

@@ -47,10 +47,12 @@ module _ {X Y : Type 0} (f : X → Y) where
   pub without-retag : (u : List ℕ) (copies : List (WebCopy X)) → without u (map (retag_copy f) copies) ≡ map (retag_copy f) (without u copies)
   without-retag u copies = filter_of_map (retag_copy f) (λ c. not (is_of u c)) copies
 
-  pub without_below-retag : (u : List ℕ) (n : ℕ) (copies : List (WebCopy X)) → without_below u n (map (retag_copy f) copies) ≡ map (retag_copy f) (without_below u n copies)
+  pub without_below-retag : (u : List ℕ) (n : ℕ) (copies : List (WebCopy X)) → without_below u n (map (retag_copy f) copies) ≡ map (retag_copy f)
+      (without_below u n copies)
   without_below-retag u n copies = filter_of_map (retag_copy f) (λ c. not (is_below u n c)) copies
 
-  in_front-retag : (o : Option (WebCopy X)) (copies : List (WebCopy X)) → in_front (option_map (retag_copy f) o) (map (retag_copy f) copies) ≡ map (retag_copy f) (in_front o copies)
+  in_front-retag : (o : Option (WebCopy X)) (copies : List (WebCopy X)) → in_front (option_map (retag_copy f) o) (map (retag_copy f) copies) ≡ map
+      (retag_copy f) (in_front o copies)
   in_front-retag None copies = refl
   in_front-retag (Some c) copies = refl
 
@@ -60,7 +62,8 @@ module _ {X Y : Type 0} (f : X → Y) where
       ∙ ap (λ cs. in_front (option_map (retag_copy f) (copy_of u copies)) cs) (without-retag u copies)
       ∙ in_front-retag (copy_of u copies) (without u copies)
 
-  fitting-retag : (count octets : ℕ) (copies : List (WebCopy X)) → fitting count octets (map (retag_copy f) copies) ≡ map (retag_copy f) (fitting count octets copies)
+  fitting-retag : (count octets : ℕ) (copies : List (WebCopy X)) → fitting count octets (map (retag_copy f) copies) ≡ map (retag_copy f)
+      (fitting count octets copies)
   fitting-retag count octets [] = refl
   fitting-retag count octets (c ∷ copies) =
       both_ways (map (retag_copy f)) (nat_lt 0 count && nat_le (size c) octets) (c ∷ fitting (count - 1) (octets - size c) copies) [] _ _
@@ -70,19 +73,22 @@ module _ {X Y : Type 0} (f : X → Y) where
   older-retag c None = refl
   older-retag c (Some held) = refl
 
-  put_answer-retag : (limits : Limits) (c : WebCopy X) (copies : List (WebCopy X)) → put_answer (store_of limits (map (retag_copy f) copies)) (retag_copy f c) ≡ put_answer (store_of limits copies) c
+  put_answer-retag : (limits : Limits) (c : WebCopy X) (copies : List (WebCopy X)) → put_answer (store_of limits (map (retag_copy f) copies))
+      (retag_copy f c) ≡ put_answer (store_of limits copies) c
   put_answer-retag limits c copies =
       ap (λ b. cond (nat_lt limits.bytes (size c)) TooLarge (cond b Kept Stored))
       (ap (is_outdone_by (retag_copy f c)) (copy_of-retag c.key copies) ∙ older-retag c (copy_of c.key copies))
 
-  copies_after-retag : (limits : Limits) (c : WebCopy X) (copies : List (WebCopy X)) (answer : Put) → copies_after (store_of limits (map (retag_copy f) copies)) (retag_copy f c) answer ≡ map (retag_copy f) (copies_after (store_of limits copies) c answer)
+  copies_after-retag : (limits : Limits) (c : WebCopy X) (copies : List (WebCopy X)) (answer : Put) →
+      copies_after (store_of limits (map (retag_copy f) copies)) (retag_copy f c) answer ≡ map (retag_copy f) (copies_after (store_of limits copies) c answer)
   copies_after-retag limits c copies TooLarge = refl
   copies_after-retag limits c copies Kept = refl
   copies_after-retag limits c copies Stored =
       ap (λ cs. fitting limits.copies limits.bytes (retag_copy f c ∷ cs)) (without-retag c.key copies)
       ∙ fitting-retag limits.copies limits.bytes (c ∷ without c.key copies)
 
-  pub stored-retag : (limits : Limits) (c : WebCopy X) (life : Option ℕ) (copies : List (WebCopy X)) → stored limits (retag_copy f c) life (map (retag_copy f) copies) ≡ map (retag_copy f) (stored limits c life copies)
+  pub stored-retag : (limits : Limits) (c : WebCopy X) (life : Option ℕ) (copies : List (WebCopy X)) →
+      stored limits (retag_copy f c) life (map (retag_copy f) copies) ≡ map (retag_copy f) (stored limits c life copies)
   stored-retag limits c None copies = refl
   stored-retag limits c (Some life) copies =
       ap (copies_after (store_of limits (map (retag_copy f) copies)) (retag_copy f c)) (put_answer-retag limits c copies)
@@ -101,20 +107,26 @@ module _ {X Y : Type 0} (f : X → Y) where
 
   -- pending requests
 
-  pub adding-retag : (pending : List (Pending X)) (p : Pending X) → map (retag_pending f) pending ++ retag_pending f p ∷ [] ≡ map (retag_pending f) (pending ++ p ∷ [])
+  pub adding-retag : (pending : List (Pending X)) (p : Pending X) → map (retag_pending f) pending ++ retag_pending f p
+      ∷ [] ≡ map (retag_pending f) (pending ++ p ∷ [])
   adding-retag pending p = map_at_end (retag_pending f) pending p
 
-  one-retag : (block : ℕ) (p q : Pending X) → cond (is_of_block block q) (retag_pending f p) (retag_pending f q) ≡ retag_pending f (cond (is_of_block block q) p q)
+  one-retag : (block : ℕ) (p q : Pending X) → cond (is_of_block block q) (retag_pending f p) (retag_pending f q) ≡ retag_pending f
+      (cond (is_of_block block q) p q)
   one-retag block p q = both_ways (retag_pending f) (is_of_block block q) p q _ _ refl refl
 
-  pub changing-retag : (pending : List (Pending X)) (p : Pending X) → map (λ (q : Pending Y). cond (is_of_block p.block q) (retag_pending f p) q) (map (retag_pending f) pending) ≡ map (retag_pending f) (map (λ q. cond (is_of_block p.block q) p q) pending)
+  pub changing-retag : (pending : List (Pending X)) (p : Pending X) → map (λ (q : Pending Y). cond (is_of_block p.block q) (retag_pending f p) q)
+      (map (retag_pending f) pending) ≡ map (retag_pending f) (map (λ q. cond (is_of_block p.block q) p q) pending)
   changing-retag [] p = refl
   changing-retag (q ∷ pending) p =
-      ap (λ (x : Pending Y). x ∷ map (λ (q : Pending Y). cond (is_of_block p.block q) (retag_pending f p) q) (map (retag_pending f) pending)) (one-retag p.block p q)
+      ap (λ (x : Pending Y). x ∷ map (λ (q : Pending Y). cond (is_of_block p.block q) (retag_pending f p) q) (map (retag_pending f) pending))
+      (one-retag p.block p q)
       ∙ ap (λ (xs : List (Pending Y)). retag_pending f (cond (is_of_block p.block q) p q) ∷ xs) (changing-retag pending p)
 
-  pub ending-retag : (pending : List (Pending X)) (block : ℕ) → filter (λ q. not (is_of_block block q)) (map (retag_pending f) pending) ≡ map (retag_pending f) (filter (λ q. not (is_of_block block q)) pending)
+  pub ending-retag : (pending : List (Pending X)) (block : ℕ) → filter (λ q. not (is_of_block block q)) (map (retag_pending f) pending) ≡ map (retag_pending f)
+      (filter (λ q. not (is_of_block block q)) pending)
   ending-retag pending block = filter_of_map (retag_pending f) (λ q. not (is_of_block block q)) pending
 
-  pub find-retag : (test : Pending Y → Bool) (s : NodeState X) → find test (map (retag_pending f) s.pending) ≡ option_map (retag_pending f) (find (λ p. test (retag_pending f p)) s.pending)
+  pub find-retag : (test : Pending Y → Bool) (s : NodeState X) → find test (map (retag_pending f) s.pending) ≡ option_map (retag_pending f)
+      (find (λ p. test (retag_pending f p)) s.pending)
   find-retag test s = find_of_map (retag_pending f) test s.pending

@@ -22,9 +22,14 @@ module _ {X Y : Type 0} (f : X → Y) (g : Setting) (s : NodeState X) where
   closes_on-retag (Some x) next h = record { closed = h.closed; pending = ap (map (retag_pending f)) h.pending; floors = h.floors }
 
   closes-retag : (e : Event X) (next : NodeState X) → Closes g s e next → Closes g (retag_state f s) (retag_event f e) (retag_state f next)
-  closes-retag e next h = (h.0, subst (λ o. ClosesOn (retag_state f s) o (retag_state f next)) (sym (purge_in-retag e)) (closes_on-retag (purge_in g e) next h.1))
+  closes-retag e next h = (
+    h.0,
+    subst (λ o. ClosesOn (retag_state f s) o (retag_state f next)) (sym (purge_in-retag e))
+        (closes_on-retag (purge_in g e) next h.1),
+  )
 
-  pub steps-retag : (e : Event X) (mark : X) (outcome : Result (Reply X) StepFault) (next : NodeState X) → Steps g s e mark outcome next → Steps g (retag_state f s) (retag_event f e) (f mark) (retag_outcome f outcome) (retag_state f next)
+  pub steps-retag : (e : Event X) (mark : X) (outcome : Result (Reply X) StepFault) (next : NodeState X) → Steps g s e mark outcome next →
+      Steps g (retag_state f s) (retag_event f e) (f mark) (retag_outcome f outcome) (retag_state f next)
   steps-retag e mark (Ok reply) next is = step-retag f g s e mark ∙ ap (retag_stepped f) is
   steps-retag e mark (Err fault.Closed) next is = step-retag f g s e mark ∙ ap (retag_stepped f) is
   steps-retag e mark (Err fault.UnknownSerial) next is = step-retag f g s e mark ∙ ap (retag_stepped f) is

@@ -29,7 +29,8 @@ not_fetching p tried = record p { tried = tried; fetch = Nowhere }
 
 -- A response as a copy. A response without a lifetime gets the lifetime 0.
 abbrev pub new_copy : {X : Type 0} → List ℕ → ℕ → ℕ → Option ℕ → AnswerText → X → WebCopy X
-new_copy key stamp asked life answer tag = record { key = key; stamp = stamp; asked = asked; lifetime = unwrap_or life 0; answer = answer; tag = tag }
+new_copy key stamp asked life answer tag =
+    record { key = key; stamp = stamp; asked = asked; lifetime = unwrap_or life 0; answer = answer; tag = tag }
 
 -- The store of a node, within the roster's limits.
 abbrev pub store_of : {X : Type 0} → Limits → List (WebCopy X) → Held X
@@ -43,7 +44,8 @@ stored limits c (Some life) copies = (after_put (store_of limits copies) c).copi
 -- The copy is stored if it may be, and served to the request, which ends.
 abbrev pub serve_new : {X : Type 0} → Setting → NodeState X → Pending X → WebCopy X → Option ℕ → ℕ → Stepped X
 serve_new g s p c life now =
-    replies (with_copies (ending s p.block) (stored g.roster.limits c life s.copies)) (serving (Some p.block) p.asker (Copy c (served_age c now)))
+    replies (with_copies (ending s p.block) (stored g.roster.limits c life s.copies))
+    (serving (Some p.block) p.asker (Copy c (served_age c now)))
 
 -- A response that is used becomes a copy. [Answer 4]
 unfoldable pub use_answer : {X : Type 0} → Setting → NodeState X → Pending X → ℕ → ℕ → AnswerText → X → ℕ → Stepped X
@@ -62,14 +64,16 @@ is_gateway_fault status = list_any (λ s. s == status) (502 ∷ 503 ∷ 504 ∷ 
 
 -- A peer's response is used unless its status is a gateway's, or its stamp is below the key's floor
 -- as it is now. [Answer 2]
-unfoldable pub peer_gave : {X : Type 0} → Setting → NodeState X → Pending X → ℕ → ℕ → ℕ → AnswerText → X → ℕ → X → Stepped X
+unfoldable pub peer_gave : {X : Type 0} → Setting → NodeState X → Pending X → ℕ → ℕ → ℕ → AnswerText → X → ℕ → X →
+    Stepped X
 peer_gave g s p peer asked stamp answer tag now mark =
     if nat_le (floor s.floors p.ask.key) stamp && not (is_gateway_fault answer.status)
     then use_answer g s p stamp asked answer tag now
     else try_on g s p peer now mark
 
 -- An origin's response is used unless the key's floor has risen above the stamp of the read. [Answer 2]
-unfoldable pub origin_gave : {X : Type 0} → Setting → NodeState X → Pending X → ℕ → ℕ → X → AnswerText → ℕ → X → Stepped X
+unfoldable pub origin_gave : {X : Type 0} → Setting → NodeState X → Pending X → ℕ → ℕ → X → AnswerText → ℕ → X →
+    Stepped X
 origin_gave g s p stamp asked read_mark answer now mark =
     if nat_le (floor s.floors p.ask.key) stamp
     then use_answer g s p stamp asked answer read_mark now
@@ -81,14 +85,16 @@ abbrev pub is_fetch : {X : Type 0} → ℕ → List ℕ → Pending X → Bool
 is_fetch serial key p = (fetch_serial p == serial) && bytes_eq p.ask.key key
 
 -- The response is used if the request is being fetched from this peer. [Refusal 1]
-unfoldable pub from_peer : {X : Type 0} → Setting → NodeState X → Pending X → ℕ → ℕ → AnswerText → X → ℕ → X → Fetch X → Stepped X
+unfoldable pub from_peer : {X : Type 0} → Setting → NodeState X → Pending X → ℕ → ℕ → AnswerText → X → ℕ → X → Fetch X →
+    Stepped X
 from_peer g s p peer stamp answer tag now mark (AtPeer at asked) =
     if at == peer then peer_gave g s p peer asked stamp answer tag now mark else unknown s
 from_peer g s p peer stamp answer tag now mark (AtOrigin read asked read_mark) = unknown s
 from_peer g s p peer stamp answer tag now mark Nowhere = unknown s
 
 -- A peer's response with this stamp comes to this request, if there is one.
-unfoldable pub peer_answer_to : {X : Type 0} → Setting → NodeState X → ℕ → ℕ → AnswerText → X → ℕ → X → Option (Pending X) → Stepped X
+unfoldable pub peer_answer_to : {X : Type 0} → Setting → NodeState X → ℕ → ℕ → AnswerText → X → ℕ → X →
+    Option (Pending X) → Stepped X
 peer_answer_to g s peer stamp answer tag now mark None = unknown s
 peer_answer_to g s peer stamp answer tag now mark (Some p) = from_peer g s p peer stamp answer tag now mark p.fetch
 
@@ -100,7 +106,8 @@ peer_answer g s serial peer key answer tag now mark =
     else peer_answer_to g s peer (unwrap_or answer.stamp 0) answer tag now mark (find (is_fetch serial key) s.pending)
 
 -- A foreign cache responds. Its stamp counts as 0. [Answer 1]
-unfoldable pub foreign_answer : {X : Type 0} → Setting → NodeState X → ℕ → ℕ → List ℕ → AnswerText → X → ℕ → X → Stepped X
+unfoldable pub foreign_answer : {X : Type 0} → Setting → NodeState X → ℕ → ℕ → List ℕ → AnswerText → X → ℕ → X →
+    Stepped X
 foreign_answer g s serial peer key answer tag now mark =
     if is_foreign_id peer
     then peer_answer_to g s peer 0 answer tag now mark (find (is_fetch serial key) s.pending)
@@ -108,18 +115,21 @@ foreign_answer g s serial peer key answer tag now mark =
 
 -- The response is used if the request is being read from the origin.
 unfoldable pub from_origin : {X : Type 0} → Setting → NodeState X → Pending X → AnswerText → ℕ → X → Fetch X → Stepped X
-from_origin g s p answer now mark (AtOrigin stamp asked read_mark) = origin_gave g s p stamp asked read_mark answer now mark
+from_origin g s p answer now mark (AtOrigin stamp asked read_mark) =
+    origin_gave g s p stamp asked read_mark answer now mark
 from_origin g s p answer now mark (AtPeer peer asked) = unknown s
 from_origin g s p answer now mark Nowhere = unknown s
 
 -- An origin's response comes to this request, if there is one.
-unfoldable pub origin_answer_to : {X : Type 0} → Setting → NodeState X → AnswerText → ℕ → X → Option (Pending X) → Stepped X
+unfoldable pub origin_answer_to : {X : Type 0} → Setting → NodeState X → AnswerText → ℕ → X → Option (Pending X) →
+    Stepped X
 origin_answer_to g s answer now mark None = unknown s
 origin_answer_to g s answer now mark (Some p) = from_origin g s p answer now mark p.fetch
 
 -- The origin responds. The stamp and the mark of the read count.
 unfoldable pub origin_answer : {X : Type 0} → Setting → NodeState X → ℕ → List ℕ → AnswerText → ℕ → X → Stepped X
-origin_answer g s serial key answer now mark = origin_answer_to g s answer now mark (find (is_fetch serial key) s.pending)
+origin_answer g s serial key answer now mark = origin_answer_to g s answer now mark
+    (find (is_fetch serial key) s.pending)
 
 -- The present fetch fails: a peer counts as tried, and a failed origin read is 502. [Answer 3]
 unfoldable pub fails : {X : Type 0} → Setting → NodeState X → Pending X → ℕ → X → Fetch X → Stepped X

@@ -41,21 +41,39 @@ takes_block s = record s { next = s.next + 1 }
 
 -- A new pending request, for which nothing has begun.
 abbrev pub new_ask : {X : Type 0} → ℕ → Option ℕ → Ask → Option RoundText → Pending X
-new_ask block asker ask round = record { block = block; asker = asker; ask = ask; round = round; tried = []; fetches = 0; reads = 0; fetch = Nowhere }
+new_ask block asker ask round =
+    record {
+      block = block;
+      asker = asker;
+      ask = ask;
+      round = round;
+      tried = [];
+      fetches = 0;
+      reads = 0;
+      fetch =
+          Nowhere;
+    }
 
 -- The query to one peer, if the roster has the peer.
 abbrev pub question_to : Tables → ℕ → List ℕ → Peer → Option Outgoing
-question_to roster serial key p = option_map (λ c. to (address_by p.by c) (query p.by serial key)) (cache_of roster p.id)
+question_to roster serial key p = option_map (λ c. to (address_by p.by c) (query p.by serial key))
+    (cache_of roster p.id)
 
 -- A round begins: the peers are queried in the roster's order. [Ask 5]
 unfoldable pub begin_round : {X : Type 0} → Setting → NodeState X → Option ℕ → Ask → ℕ → RoundText → Stepped X
 begin_round g s asker ask block round =
     let p = new_ask block asker ask (Some round) in
     replies (adding s p)
-    record { serve = None; send = filter_map (question_to g.roster (round_serial p) ask.key) round.asked; begin = Some (begin.Round (round_serial p)) }
+    record {
+      serve = None;
+      send = filter_map (question_to g.roster (round_serial p) ask.key) round.asked;
+      begin =
+          Some (begin.Round (round_serial p));
+    }
 
 -- A round begins. If nobody is to be queried, the origin is read instead. [Ask 4]
-unfoldable pub ask_around : {X : Type 0} → Setting → NodeState X → Option ℕ → Ask → ℕ → ℕ → X → RoundText → List Peer → Stepped X
+unfoldable pub ask_around : {X : Type 0} → Setting → NodeState X → Option ℕ → Ask → ℕ → ℕ → X → RoundText → List Peer →
+    Stepped X
 ask_around g s asker ask block now mark round [] =
     let p = new_ask block asker ask None in read_origin g (adding s p) p None now mark
 ask_around g s asker ask block now mark round (peer ∷ peers) = begin_round g s asker ask block round

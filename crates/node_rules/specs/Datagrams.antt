@@ -82,7 +82,8 @@ copy_meant g s spec now = if bytes_eq spec.method (codes "GET") then copy_at s n
 unfoldable pub htcp_tst : {X : Type 0} → Setting → NodeState X → Address → ℕ → Bool → Specifier → ℕ → Stepped X
 htcp_tst g s from trans desired spec now =
     if_desired s desired from
-    (if is_known g.roster g.id udp.Htcp from then htcp trans (tst_answer (copy_meant g s spec now)) else overall trans 1 5)
+    (if is_known g.roster g.id udp.Htcp from then htcp trans (tst_answer (copy_meant g s spec now))
+    else overall trans 1 5)
 
 -- Answers of peers to a round
 
@@ -92,7 +93,8 @@ peer_at g by from None = None
 peer_at g by from (Some r) = find (is_peer_at g.roster by from) r.asked
 
 -- A peer's first answer moves its round. Its later answers change nothing.
-unfoldable pub hears : {X : Type 0} → Setting → NodeState X → Pending X → Peer → Said → ℕ → X → Option RoundText → Stepped X
+unfoldable pub hears : {X : Type 0} → Setting → NodeState X → Pending X → Peer → Said → ℕ → X → Option RoundText →
+    Stepped X
 hears g s p peer said now mark None = replies s quiet
 hears g s p peer said now mark (Some r) =
     if has_answered r.answers peer.id
@@ -100,12 +102,14 @@ hears g s p peer said now mark (Some r) =
     else round_moves g s (with_round p (answered r peer.id said)) now mark
 
 -- An answer of this peer arrives, if there is one.
-unfoldable pub told_by : {X : Type 0} → Setting → NodeState X → Pending X → (Peer → Said) → ℕ → X → Option Peer → Stepped X
+unfoldable pub told_by : {X : Type 0} → Setting → NodeState X → Pending X → (Peer → Said) → ℕ → X → Option Peer →
+    Stepped X
 told_by g s p said now mark None = replies s quiet
 told_by g s p said now mark (Some peer) = hears g s p peer (said peer) now mark p.round
 
 -- An answer arrives for this request. It counts if a peer of the request's round sent it. [Reply 6]
-unfoldable pub told_to : {X : Type 0} → Setting → NodeState X → Udp → Address → (Peer → Said) → ℕ → X → Option (Pending X) → Stepped X
+unfoldable pub told_to : {X : Type 0} → Setting → NodeState X → Udp → Address → (Peer → Said) → ℕ → X →
+    Option (Pending X) → Stepped X
 told_to g s by from said now mark None = replies s quiet
 told_to g s by from said now mark (Some p) = told_by g s p said now mark (peer_at g by from p.round)
 
@@ -208,7 +212,8 @@ plain_clr g s from trans desired key =
     else clr_refused s from trans desired
 
 -- A CLR by its number line: without one, with a number, or with a bad line, which is refused. [Purge 4]
-unfoldable pub clr_by_line : {X : Type 0} → Setting → NodeState X → Address → ℕ → Bool → Option (List ℕ) → Result (Option ℕ) HtcpFault → Stepped X
+unfoldable pub clr_by_line : {X : Type 0} → Setting → NodeState X → Address → ℕ → Bool → Option (List ℕ) →
+    Result (Option ℕ) HtcpFault → Stepped X
 clr_by_line g s from trans desired key (Ok None) = plain_clr g s from trans desired key
 clr_by_line g s from trans desired key (Ok (Some n)) = numbered_clr s from trans desired (purge_of g from trans key n)
 clr_by_line g s from trans desired key (Err fault) = clr_refused s from trans desired
@@ -235,7 +240,8 @@ unfoldable pub htcp_comes : {X : Type 0} → Setting → NodeState X → Address
 htcp_comes g s from trans now mark (content.NopAsk desired) = if_desired s desired from (htcp trans content.NopAnswer)
 htcp_comes g s from trans now mark content.NopAnswer = replies s quiet
 htcp_comes g s from trans now mark (content.TstAsk desired spec) = htcp_tst g s from trans desired spec now
-htcp_comes g s from trans now mark (content.TstHit detail) = htcp_told g s from trans (tst_hit_said detail.cache_headers) now mark
+htcp_comes g s from trans now mark (content.TstHit detail) = htcp_told g s from trans
+    (tst_hit_said detail.cache_headers) now mark
 htcp_comes g s from trans now mark (content.TstMiss cache) = htcp_told g s from trans (λ p. said.Miss) now mark
 htcp_comes g s from trans now mark (content.ClrAsk desired reason spec) = htcp_clr g s from trans desired spec
 htcp_comes g s from trans now mark (content.ClrAnswer code) = replies s quiet

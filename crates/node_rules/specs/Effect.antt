@@ -123,14 +123,16 @@ pub record IsUnderWay {X : Type 0} (s : NodeState X) (p : Pending X) : Type 0 wh
 
 -- The outcome begins the origin read of this request, with the greatest number seen as its stamp,
 -- and the step's mark.
-pub record BeginsHere {X : Type 0} (s : NodeState X) (mark : X) (outcome : Result (Reply X) StepFault) (p : Pending X) (stamp : ℕ) (read_mark : X) : Type 0 where
+pub record BeginsHere {X : Type 0} (s : NodeState X) (mark : X) (outcome : Result (Reply X) StepFault) (p : Pending X)
+    (stamp : ℕ) (read_mark : X) : Type 0 where
   pub stamp_seen : stamp ≡ seen s.floors
   pub mark_same : read_mark ≡ mark
   pub begins : begun outcome ≡ Some (begin.Read (fetch_serial p) (origin_ask p.ask))
 
 -- The same of a fetch: an origin read was under way before, or begins here.
 abbrev pub IsReadFrom : {X : Type 0} → NodeState X → X → Result (Reply X) StepFault → Pending X → Fetch X → Type 0
-IsReadFrom s mark outcome p (AtOrigin stamp asked read_mark) = IsUnderWay s p ⊎ BeginsHere s mark outcome p stamp read_mark
+IsReadFrom s mark outcome p (AtOrigin stamp asked read_mark) = IsUnderWay s p
+    ⊎ BeginsHere s mark outcome p stamp read_mark
 IsReadFrom s mark outcome p (AtPeer peer asked) = Unit {0}
 IsReadFrom s mark outcome p Nowhere = Unit {0}
 
@@ -147,7 +149,8 @@ pub record IsAt {X : Type 0} (serial : ℕ) (key : List ℕ) (p : Pending X) : T
   pub key_same : p.ask.key ≡ key
 
 -- A copy from an origin's response has the stamp, the time and the mark of its read.
-pub record IsFromOrigin {X : Type 0} (serial : ℕ) (key : List ℕ) (answer : AnswerText) (p : Pending X) (c : WebCopy X) : Type 0 where
+pub record IsFromOrigin {X : Type 0} (serial : ℕ) (key : List ℕ) (answer : AnswerText) (p : Pending X) (c : WebCopy X) :
+    Type 0 where
   pub waits : IsAt serial key p
   pub reads : p.fetch ≡ AtOrigin c.stamp c.asked c.tag
   pub key_same : c.key ≡ p.ask.key
@@ -155,7 +158,8 @@ pub record IsFromOrigin {X : Type 0} (serial : ℕ) (key : List ℕ) (answer : A
 
 -- A copy from a peer's response has the time of its fetch, and the stamp and the tag that come with
 -- it.
-pub record IsFromPeer {X : Type 0} (serial peer : ℕ) (key : List ℕ) (stamp : ℕ) (answer : AnswerText) (tag : X) (p : Pending X) (c : WebCopy X) : Type 0 where
+pub record IsFromPeer {X : Type 0} (serial peer : ℕ) (key : List ℕ) (stamp : ℕ) (answer : AnswerText) (tag : X)
+    (p : Pending X) (c : WebCopy X) : Type 0 where
   pub waits : IsAt serial key p
   pub fetches : p.fetch ≡ AtPeer peer c.asked
   pub key_same : c.key ≡ p.ask.key
@@ -168,7 +172,8 @@ pub record IsFromPeer {X : Type 0} (serial peer : ℕ) (key : List ℕ) (stamp :
 -- foreign cache's counts as 0.
 abbrev pub IsAnswerTo : {X : Type 0} → Event X → Pending X → WebCopy X → Type 0
 IsAnswerTo (event.OriginAnswer serial key answer now) p c = IsFromOrigin serial key answer p c
-IsAnswerTo (event.PeerAnswer serial peer key answer tag now) p c = IsFromPeer serial peer key (unwrap_or answer.stamp 0) answer tag p c
+IsAnswerTo (event.PeerAnswer serial peer key answer tag now) p c =
+    IsFromPeer serial peer key (unwrap_or answer.stamp 0) answer tag p c
 IsAnswerTo (event.ForeignAnswer serial peer key answer tag now) p c = IsFromPeer serial peer key 0 answer tag p c
 IsAnswerTo _ p c = ⊥
 
@@ -180,7 +185,8 @@ IsAnswerOf s e c = (p : Pending _) × Contains s.pending p × IsAnswerTo e p c
 
 -- A state of these parts.
 abbrev pub state_of : {X : Type 0} → FloorMap → List (WebCopy X) → Bool → List (Pending X) → ℕ → NodeState X
-state_of rows copies closed pending next = record { floors = rows; copies = copies; pending = pending; next = next; closed = closed }
+state_of rows copies closed pending next =
+    record { floors = rows; copies = copies; pending = pending; next = next; closed = closed }
 
 -- This is the key's copy, and it is not below the floor.
 abbrev pub IsHeldAbove : {X : Type 0} → FloorMap → List (WebCopy X) → List ℕ → WebCopy X → Type 0
@@ -196,13 +202,48 @@ pub record Keeps {X : Type 0} (g : Setting) (s : NodeState X) (e : Event X) (mar
 -- What a step from this state by this event may lead to.
 pub data Effect {X : Type 0} (g : Setting) (s : NodeState X) (e : Event X) (mark : X) : Stepped X → Type 0 where
   -- floors and copies stay, and no copy is served
-  Stays : (pending : List (Pending X)) (next : ℕ) (outcome : Result (Reply X) StepFault) → copy_served outcome ≡ None → Keeps g s e mark record { state = state_of s.floors s.copies s.closed pending next; outcome = outcome } → Effect g s e mark record { state = state_of s.floors s.copies s.closed pending next; outcome = outcome }
+  Stays : (pending : List (Pending X)) (next : ℕ) (outcome : Result (Reply X) StepFault) → copy_served outcome ≡ None →
+      Keeps g s e mark record { state = state_of s.floors s.copies s.closed pending next; outcome = outcome } →
+      Effect g s e mark record { state = state_of s.floors s.copies s.closed pending next; outcome = outcome }
   -- a held copy is served by an open node, and comes to the front
-  Serves : (key : List ℕ) (c : WebCopy X) (pending : List (Pending X)) (next : ℕ) (outcome : Result (Reply X) StepFault) → s.closed ≡ false → IsHeldAbove s.floors s.copies key c → copy_served outcome ≡ Some c → Keeps g s e mark record { state = state_of s.floors (to_front key s.copies) s.closed pending next; outcome = outcome } → Effect g s e mark record { state = state_of s.floors (to_front key s.copies) s.closed pending next; outcome = outcome }
+  Serves : (key : List ℕ) (c : WebCopy X) (pending : List (Pending X)) (next : ℕ)
+      (outcome : Result (Reply X) StepFault) → s.closed ≡ false → IsHeldAbove s.floors s.copies key c →
+      copy_served outcome ≡ Some c → Keeps g s e mark record
+      { state = state_of s.floors (to_front key s.copies) s.closed pending next; outcome = outcome } →
+      Effect g s e mark record {
+        state = state_of s.floors (to_front key s.copies) s.closed pending next;
+        outcome =
+            outcome;
+      }
   -- the event brings an open node a copy not below its floor: it is served, and stored if it has a
   -- lifetime
-  Brings : (c : WebCopy X) (life : Option ℕ) (pending : List (Pending X)) (next : ℕ) (outcome : Result (Reply X) StepFault) → s.closed ≡ false → IsAnswerOf s e c → floor s.floors c.key ≤ c.stamp → copy_served outcome ≡ Some c → Keeps g s e mark record { state = state_of s.floors (stored g.roster.limits c life s.copies) s.closed pending next; outcome = outcome } → Effect g s e mark record { state = state_of s.floors (stored g.roster.limits c life s.copies) s.closed pending next; outcome = outcome }
+  Brings : (c : WebCopy X) (life : Option ℕ) (pending : List (Pending X)) (next : ℕ)
+      (outcome : Result (Reply X) StepFault) → s.closed ≡ false → IsAnswerOf s e c → floor s.floors c.key ≤ c.stamp →
+      copy_served outcome ≡ Some c → Keeps g s e mark record
+      { state = state_of s.floors (stored g.roster.limits c life s.copies) s.closed pending next; outcome = outcome } →
+      Effect g s e mark record {
+        state = state_of s.floors (stored g.roster.limits c life s.copies) s.closed pending
+            next;
+        outcome = outcome;
+      }
   -- the purge that the event brings raises its floor, and no copy stays below it
-  Purges : (key : List ℕ) (n : ℕ) (pending : List (Pending X)) (next : ℕ) (outcome : Result (Reply X) StepFault) → purge_in g e ≡ Some (key, n) → copy_served outcome ≡ None → Keeps g s e mark record { state = state_of (raised s.floors key n) (without_below key n s.copies) s.closed pending next; outcome = outcome } → Effect g s e mark record { state = state_of (raised s.floors key n) (without_below key n s.copies) s.closed pending next; outcome = outcome }
+  Purges : (key : List ℕ) (n : ℕ) (pending : List (Pending X)) (next : ℕ) (outcome : Result (Reply X) StepFault) →
+      purge_in g e ≡ Some (key, n) → copy_served outcome ≡ None →
+      Keeps g s e mark record {
+        state = state_of (raised s.floors key n) (without_below key n s.copies) s.closed pending
+            next;
+        outcome = outcome;
+      } → Effect g s e mark record {
+        state = state_of (raised s.floors key n) (without_below key n s.copies) s.closed pending next;
+        outcome =
+            outcome;
+      }
   -- a copy is dropped
-  Drops : (key : List ℕ) (pending : List (Pending X)) (next : ℕ) (outcome : Result (Reply X) StepFault) → copy_served outcome ≡ None → Keeps g s e mark record { state = state_of s.floors (without key s.copies) s.closed pending next; outcome = outcome } → Effect g s e mark record { state = state_of s.floors (without key s.copies) s.closed pending next; outcome = outcome }
+  Drops : (key : List ℕ) (pending : List (Pending X)) (next : ℕ) (outcome : Result (Reply X) StepFault) →
+      copy_served outcome ≡ None → Keeps g s e mark record
+      { state = state_of s.floors (without key s.copies) s.closed pending next; outcome = outcome } →
+      Effect g s e mark record {
+        state = state_of s.floors (without key s.copies) s.closed pending next;
+        outcome =
+            outcome;
+      }

@@ -20,7 +20,8 @@ same_udp udp.Htcp udp.Htcp = true
 
 -- The cache of an id: a member or a foreign cache.
 abbrev pub cache_of : Tables → ℕ → Option Cache
-cache_of t id = if is_foreign_id id then find (λ c. c.id == id) t.foreign else option_map (λ m. m.cache) (member_of t id)
+cache_of t id = if is_foreign_id id then find (λ c. c.id == id) t.foreign
+    else option_map (λ m. m.cache) (member_of t id)
 
 -- The cache is there, and answers this protocol at this address.
 abbrev pub is_address_of : Udp → Address → Option Cache → Bool
@@ -37,7 +38,8 @@ names t of whom = list_any (λ p. p.id == whom) (peers_of t of)
 
 -- Another member answers this protocol at this address.
 abbrev pub is_other_member : Tables → ℕ → Udp → Address → Bool
-is_other_member t id by from = list_any (λ m. not (m.cache.id == id) && same_address from (address_by by m.cache)) t.members
+is_other_member t id by from = list_any (λ m. not (m.cache.id == id) && same_address from (address_by by m.cache))
+    t.members
 
 -- A foreign cache that the node's entry names answers this protocol at this address.
 abbrev pub is_foreign_peer : Tables → ℕ → Udp → Address → Bool

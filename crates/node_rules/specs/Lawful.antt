@@ -22,7 +22,8 @@ abbrev pub HasOrGets : {X : Type 0} → NodeState X → Event X → WebCopy X �
 HasOrGets s e c = (s.closed ≡ false) × (Contains s.copies c ⊎ IsAnswerOf s e c)
 
 -- What a step with this mark keeps, from s by the event e to the next state with an outcome.
-pub record Lawful {X : Type 0} (g : Setting) (s : NodeState X) (e : Event X) (mark : X) (outcome : Result (Reply X) StepFault) (next : NodeState X) : Type 0 where
+pub record Lawful {X : Type 0} (g : Setting) (s : NodeState X) (e : Event X) (mark : X)
+    (outcome : Result (Reply X) StepFault) (next : NodeState X) : Type 0 where
   -- no floor falls
   pub floors : (key : List ℕ) → floor s.floors key ≤ floor next.floors key
   -- the greatest floor rises only by a numbered CLR of the master, and to no more than its number

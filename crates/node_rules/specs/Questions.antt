@@ -43,6 +43,7 @@ begun (Ok reply) = reply.begin
 begun (Err fault) = None
 
 -- No round and no fetch begins, and the pending requests stay the same.
-pub record BeginsNothing {X : Type 0} (s : NodeState X) (outcome : Result (Reply X) StepFault) (next : NodeState X) : Type 0 where
+pub record BeginsNothing {X : Type 0} (s : NodeState X) (outcome : Result (Reply X) StepFault) (next : NodeState X) :
+    Type 0 where
   pub begun_none : begun outcome ≡ None
   pub pending_same : next.pending ≡ s.pending

@@ -29,7 +29,8 @@ purge_by_line g from trans key (Err fault) = None
 
 -- The key and the number that a CLR of this SPECIFIER purges.
 abbrev pub purge_meant : Setting → Address → ℕ → Specifier → Option (List ℕ × ℕ)
-purge_meant g from trans spec = purge_by_line g from trans (g.key_of spec.uri) (number_in_text spec.request_headers PurgeNumber)
+purge_meant g from trans spec = purge_by_line g from trans (g.key_of spec.uri)
+    (number_in_text spec.request_headers PurgeNumber)
 
 -- The same of the content of an HTCP message.
 abbrev pub purge_in_content : Setting → Address → ℕ → Content → Option (List ℕ × ℕ)
@@ -73,6 +74,7 @@ Refuses g s e mark fault.StoreFault next = Closes g s e next
 Refuses g s e mark f next = step g s e mark ≡ record { state = next; outcome = Err f }
 
 -- In state s, the event e with this mark may have this outcome and lead to the next state.
-abbrev pub Steps : {X : Type 0} → Setting → NodeState X → Event X → X → Result (Reply X) StepFault → NodeState X → Type 0
+abbrev pub Steps : {X : Type 0} → Setting → NodeState X → Event X → X → Result (Reply X) StepFault → NodeState X →
+    Type 0
 Steps g s e mark (Ok reply) next = step g s e mark ≡ record { state = next; outcome = Ok reply }
 Steps g s e mark (Err f) next = Refuses g s e mark f next

@@ -59,7 +59,12 @@ beginning b = record { serve = None; send = []; begin = Some b }
 
 -- A reply that only serves this. Without a waiter it goes to the request of this event.
 abbrev pub serving : {X : Type 0} → Option ℕ → Option ℕ → Served X → Reply X
-serving waiter asker served = record { serve = Some record { waiter = waiter; asker = asker; served = served }; send = []; begin = None }
+serving waiter asker served = record {
+  serve = Some record { waiter = waiter; asker = asker; served = served };
+  send =
+      [];
+  begin = None;
+}
 
 -- Words of a state
 

@@ -14,9 +14,11 @@ unfoldable pub open_step : {X : Type 0} → Setting → NodeState X → X → Ev
 open_step g s mark (event.Client ask now) = ask_comes g s None ask now mark
 open_step g s mark (event.Datagram from message now) = datagram g s from now mark message
 open_step g s mark (event.PeerAsk asker ask now) = ask_comes g s (Some asker) ask now mark
-open_step g s mark (event.PeerAnswer serial peer key answer tag now) = peer_answer g s serial peer key answer tag now mark
+open_step g s mark (event.PeerAnswer serial peer key answer tag now) =
+    peer_answer g s serial peer key answer tag now mark
 open_step g s mark (event.OriginAnswer serial key answer now) = origin_answer g s serial key answer now mark
-open_step g s mark (event.ForeignAnswer serial peer key answer tag now) = foreign_answer g s serial peer key answer tag now mark
+open_step g s mark (event.ForeignAnswer serial peer key answer tag now) =
+    foreign_answer g s serial peer key answer tag now mark
 open_step g s mark (event.FetchFailed serial now) = fetch_failed g s serial now mark
 open_step g s mark (event.Expired serial now) = round_expired g s serial now mark
 

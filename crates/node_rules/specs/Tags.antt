@@ -17,7 +17,15 @@ use Rattle.node_rules.specs.State.{Stepped}
 
 module _ {X Y : Type 0} (f : X → Y) where
   abbrev pub retag_copy : WebCopy X → WebCopy Y
-  retag_copy c = record { key = c.key; stamp = c.stamp; asked = c.asked; lifetime = c.lifetime; answer = c.answer; tag = f c.tag }
+  retag_copy c = record {
+    key = c.key;
+    stamp = c.stamp;
+    asked = c.asked;
+    lifetime = c.lifetime;
+    answer = c.answer;
+    tag =
+        f c.tag;
+  }
 
   abbrev pub retag_fetch : Fetch X → Fetch Y
   retag_fetch Nowhere = Nowhere
@@ -25,10 +33,26 @@ module _ {X Y : Type 0} (f : X → Y) where
   retag_fetch (AtOrigin stamp asked mark) = AtOrigin stamp asked (f mark)
 
   abbrev pub retag_pending : Pending X → Pending Y
-  retag_pending p = record { block = p.block; asker = p.asker; ask = p.ask; round = p.round; tried = p.tried; fetches = p.fetches; reads = p.reads; fetch = retag_fetch p.fetch }
+  retag_pending p = record {
+    block = p.block;
+    asker = p.asker;
+    ask = p.ask;
+    round = p.round;
+    tried = p.tried;
+    fetches =
+        p.fetches;
+    reads = p.reads;
+    fetch = retag_fetch p.fetch;
+  }
 
   abbrev pub retag_state : NodeState X → NodeState Y
-  retag_state s = record { floors = s.floors; copies = map retag_copy s.copies; pending = map retag_pending s.pending; next = s.next; closed = s.closed }
+  retag_state s = record {
+    floors = s.floors;
+    copies = map retag_copy s.copies;
+    pending = map retag_pending s.pending;
+    next = s.next;
+    closed = s.closed;
+  }
 
   abbrev pub retag_event : Event X → Event Y
   retag_event (event.Client ask now) = event.Client ask now
@@ -36,7 +60,8 @@ module _ {X Y : Type 0} (f : X → Y) where
   retag_event (event.PeerAsk asker ask now) = event.PeerAsk asker ask now
   retag_event (event.PeerAnswer serial peer key answer tag now) = event.PeerAnswer serial peer key answer (f tag) now
   retag_event (event.OriginAnswer serial key answer now) = event.OriginAnswer serial key answer now
-  retag_event (event.ForeignAnswer serial peer key answer tag now) = event.ForeignAnswer serial peer key answer (f tag) now
+  retag_event (event.ForeignAnswer serial peer key answer tag now) =
+      event.ForeignAnswer serial peer key answer (f tag) now
   retag_event (event.FetchFailed serial now) = event.FetchFailed serial now
   retag_event (event.Expired serial now) = event.Expired serial now
 

@@ -29,42 +29,51 @@ pub fn the_function_closes_no_node<T>()
 
 /// No step lowers a floor.
 pub fn floors_never_fall<T>()
-    ensures { (g : Setting) (s : NodeState T) (e : Event T) (mark : T) (outcome : Result (Reply T) StepFault) (next : NodeState T) (key : List ℕ) →
+    ensures { (g : Setting) (s : NodeState T) (e : Event T) (mark : T)
+        (outcome : Result (Reply T) StepFault) (next : NodeState T) (key : List ℕ) →
         Steps g s e mark outcome next → floor s.floors key ≤ floor next.floors key }
 {}
 
 /// No step serves a copy below the floor of its key (`served`). If no copy is held below its floor,
 /// a step that leaves the node open leaves none below it (`stored`).
 pub fn copies_stay_above_their_floors<T>()
-    ensures stored { (g : Setting) (s : NodeState T) (e : Event T) (mark : T) (outcome : Result (Reply T) StepFault) (next : NodeState T) →
+    ensures stored { (g : Setting) (s : NodeState T) (e : Event T) (mark : T)
+        (outcome : Result (Reply T) StepFault) (next : NodeState T) →
         AllAbove s → Steps g s e mark outcome next → next.closed ≡ false → AllAbove next }
-    ensures served { (g : Setting) (s : NodeState T) (e : Event T) (mark : T) (outcome : Result (Reply T) StepFault) (next : NodeState T) →
-        Steps g s e mark outcome next → (c : WebCopy T) → copy_served outcome ≡ Some c → IsAbove next.floors c }
+    ensures served { (g : Setting) (s : NodeState T) (e : Event T) (mark : T)
+        (outcome : Result (Reply T) StepFault) (next : NodeState T) →
+        Steps g s e mark outcome next → (c : WebCopy T) → copy_served outcome ≡ Some c →
+        IsAbove next.floors c }
 {}
 
 /// A step that leaves the node open keeps the store within its limits, with at most one copy of
 /// each key.
 pub fn the_store_keeps_its_limits<T>()
-    ensures { (g : Setting) (s : NodeState T) (e : Event T) (mark : T) (outcome : Result (Reply T) StepFault) (next : NodeState T) →
-        AreStored g.roster.limits s.copies → Steps g s e mark outcome next → next.closed ≡ false → AreStored g.roster.limits next.copies }
+    ensures { (g : Setting) (s : NodeState T) (e : Event T) (mark : T)
+        (outcome : Result (Reply T) StepFault) (next : NodeState T) →
+        AreStored g.roster.limits s.copies → Steps g s e mark outcome next → next.closed ≡ false →
+        AreStored g.roster.limits next.copies }
 {}
 
 /// If at most 1,024 requests are pending, a step leaves at most 1,024.
 pub fn few_asks_wait<T>()
-    ensures { (g : Setting) (s : NodeState T) (e : Event T) (mark : T) (outcome : Result (Reply T) StepFault) (next : NodeState T) →
+    ensures { (g : Setting) (s : NodeState T) (e : Event T) (mark : T)
+        (outcome : Result (Reply T) StepFault) (next : NodeState T) →
         length s.pending ≤ 1024 → Steps g s e mark outcome next → length next.pending ≤ 1024 }
 {}
 
 /// A QUERY, a TST, and a request of a member that names this node a sibling begin nothing and leave
 /// no request waiting (RFC 2187, section 2).
 pub fn siblings_begin_nothing<T>()
-    ensures { (g : Setting) (s : NodeState T) (e : Event T) (mark : T) (outcome : Result (Reply T) StepFault) (next : NodeState T) →
+    ensures { (g : Setting) (s : NodeState T) (e : Event T) (mark : T)
+        (outcome : Result (Reply T) StepFault) (next : NodeState T) →
         is_from_sibling g e ≡ true → Steps g s e mark outcome next → BeginsNothing s outcome next }
 {}
 
 /// Every step is lawful: it keeps all that the safety of purges rests on (`specs/Lawful`).
 pub fn steps_are_lawful<T>()
-    ensures { (g : Setting) (s : NodeState T) (e : Event T) (mark : T) (outcome : Result (Reply T) StepFault) (next : NodeState T) →
+    ensures { (g : Setting) (s : NodeState T) (e : Event T) (mark : T)
+        (outcome : Result (Reply T) StepFault) (next : NodeState T) →
         Steps g s e mark outcome next → Lawful g s e mark outcome next }
 {}
 
@@ -73,6 +82,9 @@ pub fn steps_are_lawful<T>()
 pub fn nodes_never_look_at_tags<T, U>()
     ensures function { (f : T → U) (g : Setting) (s : NodeState T) (e : Event T) (mark : T) →
         step g (retag_state f s) (retag_event f e) (f mark) ≡ retag_stepped f (step g s e mark) }
-    ensures relation { (f : T → U) (g : Setting) (s : NodeState T) (e : Event T) (mark : T) (outcome : Result (Reply T) StepFault) (next : NodeState T) →
-        Steps g s e mark outcome next → Steps g (retag_state f s) (retag_event f e) (f mark) (retag_outcome f outcome) (retag_state f next) }
+    ensures relation { (f : T → U) (g : Setting) (s : NodeState T) (e : Event T) (mark : T)
+        (outcome : Result (Reply T) StepFault) (next : NodeState T) →
+        Steps g s e mark outcome next →
+        Steps g (retag_state f s) (retag_event f e) (f mark) (retag_outcome f outcome)
+        (retag_state f next) }
 {}

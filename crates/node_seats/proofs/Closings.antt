@@ -12,9 +12,11 @@ pub is_closed : {S : Type 0} (desk : DeskView S) (last : Record) (node : NodeTex
     shift ≡ record { record_of = last; node = node; count = count } →
     (node ≡ desk.book.node) × (last.opening ≡ desk.book.opening) × (last.entries ≡ desk.book.entries) × (count ≡ count_of desk) →
     IsRecordOf last node → All (Agrees desk.book.entries) seats → shift.count ≡ amount_in seats →
-    (shift.node ≡ desk.book.node) × (shift.record_of.opening ≡ desk.book.opening) × (shift.record_of.entries ≡ desk.book.entries) × (shift.count ≡ count_of desk) × Closes seats shift
+    (shift.node ≡ desk.book.node) × (shift.record_of.opening ≡ desk.book.opening) × (shift.record_of.entries ≡ desk.book.entries)
+    × (shift.count ≡ count_of desk) × Closes seats shift
 is_closed {S} desk last node count shift seats made h of_node agree counted =
-    let P : ShiftView S → Type 0 = λ s. (s.node ≡ desk.book.node) × (s.record_of.opening ≡ desk.book.opening) × (s.record_of.entries ≡ desk.book.entries) × (s.count ≡ count_of desk) × Closes seats s in
+    let P : ShiftView S → Type 0 = λ s. (s.node ≡ desk.book.node) × (s.record_of.opening ≡ desk.book.opening) × (s.record_of.entries ≡ desk.book.entries)
+    × (s.count ≡ count_of desk) × Closes seats s in
     let closes : Closes seats (record { record_of = last; node = node; count = count }) = record {
       record_of = of_node;
       agree = subst (λ es. All (Agrees es) seats) (sym h.2) agree;

@@ -9,13 +9,15 @@ use Rattle.node_book.specs.Book.{IsToldOf}
 use Rattle.node_seats.specs.Seats.{IsGiven}
 
 -- no answer of a step reads as a full book
-told_of_a_step : (outcome : Result (Reply (Unit {0})) StepFault) (answer : Result (Reply (Unit {0})) BookFault) → IsToldOf outcome answer → answer ≡ Err ShiftFull → ⊥
+told_of_a_step : (outcome : Result (Reply (Unit {0})) StepFault) (answer : Result (Reply (Unit {0})) BookFault) → IsToldOf outcome answer →
+    answer ≡ Err ShiftFull → ⊥
 told_of_a_step (Ok reply) answer (inl same) full = let bad = sym same ∙ full in absurd (cc)
 told_of_a_step (Ok reply) answer (inr lost) full = let bad = sym lost ∙ full in absurd (cc)
 told_of_a_step (Err fault) answer same full = let bad = sym same ∙ full in absurd (cc)
 
 -- a book with room does not answer that it is full
-room_is_found : (answer : Result (Reply (Unit {0})) BookFault) → (answer ≡ Err NoMemory) ⊎ ((outcome : Result (Reply (Unit {0})) StepFault) × IsToldOf outcome answer) → answer ≡ Err ShiftFull → ⊥
+room_is_found : (answer : Result (Reply (Unit {0})) BookFault) → (answer ≡ Err NoMemory)
+    ⊎ ((outcome : Result (Reply (Unit {0})) StepFault) × IsToldOf outcome answer) → answer ≡ Err ShiftFull → ⊥
 room_is_found answer (inl memory) full = let bad = sym memory ∙ full in absurd (cc)
 room_is_found answer (inr (outcome, told)) full = told_of_a_step outcome answer told full
 
@@ -25,7 +27,9 @@ given_full answer given (inl same) full = sym same ∙ full
 given_full answer given (inr (reply, was, lost)) full = let bad = sym lost ∙ full in absurd (cc)
 
 -- so a caller is told of a full book only where it has 4,096 entries
-pub full_only : (entries : ℕ) (answer given : Result (Reply (Unit {0})) BookFault) → (entries < 4096 → (answer ≡ Err NoMemory) ⊎ ((outcome : Result (Reply (Unit {0})) StepFault) × IsToldOf outcome answer)) → IsGiven answer given → given ≡ Err ShiftFull → 4096 ≤ entries
+pub full_only : (entries : ℕ) (answer given : Result (Reply (Unit {0})) BookFault) →
+    (entries < 4096 → (answer ≡ Err NoMemory) ⊎ ((outcome : Result (Reply (Unit {0})) StepFault) × IsToldOf outcome answer)) → IsGiven answer given →
+    given ≡ Err ShiftFull → 4096 ≤ entries
 full_only entries answer given applied is_given full =
     let no_room : entries < 4096 → ⊥ = λ few. room_is_found answer (applied few) (given_full answer given is_given full) in
     omega (arith, no_room)

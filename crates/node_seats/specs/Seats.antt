@@ -69,7 +69,8 @@ Called old event answer new = Leaves old event (told_of answer) new
 
 -- a node that keeps to the rules may answer the event with this outcome, in some state
 abbrev pub MayAnswer : Event (Unit {0}) → Result (Reply (Unit {0})) StepFault → Type 0
-MayAnswer event outcome = (g : Setting) × (old : NodeState (Unit {0})) × (new : NodeState (Unit {0})) × Steps g old event tt outcome new
+MayAnswer event outcome = (g : Setting) × (old : NodeState (Unit {0})) × (new : NodeState (Unit {0}))
+    × Steps g old event tt outcome new
 
 -- what is told of a call, where it is known, is an outcome that the rules allow for the event
 abbrev pub IsRightlyTold : Event (Unit {0}) → Option Told → Type 0
@@ -116,7 +117,9 @@ abbrev pub IsGiven : Result (Reply (Unit {0})) BookFault → Result (Reply (Unit
 IsGiven answer given = (given ≡ answer) ⊎ ((reply : Reply (Unit {0})) × (answer ≡ Ok reply) × (given ≡ Err ReplyLost))
 
 -- the book has applied this event for this seat, and the caller was given its answer
-pub record Posted {S : Type 0} (honest : Type 0) (may_find : FloorMap → Type 0) (have_risen : Type 0) (old new : DeskView S) (seat : ℕ) (event : Event (Unit {0})) (given : Result (Reply (Unit {0})) BookFault) : Type 0 where
+pub record Posted {S : Type 0} (honest : Type 0) (may_find : FloorMap → Type 0) (have_risen : Type 0)
+    (old new : DeskView S) (seat : ℕ) (event : Event (Unit {0})) (given : Result (Reply (Unit {0})) BookFault) :
+    Type 0 where
   pub before : new.before ≡ old.before
   pub place : ℕ
   pub answer : Result (Reply (Unit {0})) BookFault

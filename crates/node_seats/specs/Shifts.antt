@@ -52,7 +52,8 @@ IsSeatOf count number seat = (seat.seats ≡ count) × (seat.number ≡ number)
 
 -- these are all seats of a shift with this many, in the order of their numbers, from 0 on
 abbrev pub AreAll : ℕ → List SeatView → Type 0
-AreAll count seats = (length seats ≡ count) × ((k : ℕ) (d : SeatView) → k < length seats → IsSeatOf count k (slice_index_or seats k d))
+AreAll count seats = (length seats ≡ count)
+    × ((k : ℕ) (d : SeatView) → k < length seats → IsSeatOf count k (slice_index_or seats k d))
 
 -- a desk without entries, at a node and a count
 abbrev pub new_desk : {S : Type 0} → NodeText (Unit {0}) S → ℕ → DeskView S

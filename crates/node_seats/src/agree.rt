@@ -21,7 +21,8 @@ fn is_told(told: &Told, outcome: &Result<Reply<()>, StepFault>) -> bool
 
 /// Whether a call is this entry: the same event, and what was told of it.
 fn is_call_of(made: &Made, entry: &NodeEntry) -> bool
-    ensures { IsTrue result ↔ ((made.now.event ≡ entry.now.event) × IsTold made.now.told entry.now.outcome) }
+    ensures { IsTrue result ↔ ((made.now.event ≡ entry.now.event)
+        × IsTold made.now.told entry.now.outcome) }
 {
     same_event(&made.event, &entry.event) && is_told(&made.told, &entry.outcome)
 }

@@ -62,9 +62,12 @@ impl<S: FloorStore, L: Calls> Desk<S, L> {
         ensures seat { Called seat.old event result seat.new }
         ensures asks { IfOk result (AnswersAsk event) }
         ensures full { (result ≡ Err faults.ShiftFull) ↔ IsSpent self.old }
-        ensures refused { (result ≡ Err faults.ShiftFull) ⊎ (result ≡ Err faults.NoMemory) → self.new ≡ self.old }
-        ensures posted { (told : Told) → told_of result ≡ Some told → Posted (S.is_honest self.new.book.node.store) (S.may_find self.new.book.node.store)
-            (HaveRisen (S.failed self.old.book.node.store) (S.failed self.new.book.node.store)) self.old self.new seat.old.number event result }
+        ensures refused { (result ≡ Err faults.ShiftFull) ⊎ (result ≡ Err faults.NoMemory) →
+            self.new ≡ self.old }
+        ensures posted { (told : Told) → told_of result ≡ Some told →
+            Posted (S.is_honest self.new.book.node.store) (S.may_find self.new.book.node.store)
+            (HaveRisen (S.failed self.old.book.node.store) (S.failed self.new.book.node.store))
+            self.old self.new seat.old.number event result }
     {
         if self.is_spent() {
             return Err(BookFault::ShiftFull);
@@ -124,7 +127,8 @@ fn post<S: FloorStore>(
     ensures full { result.0 ≡ Err faults.ShiftFull → 4096 ≤ length book.old.entries }
     ensures posted { (told : Told) → result.1 ≡ Some told → (answer : _) × IsGiven answer result.0
         × IsApplied (S.is_honest book.new.node.store) (S.may_find book.new.node.store)
-        (HaveRisen (S.failed book.old.node.store) (S.failed book.new.node.store)) book.old book.new seat place event answer }
+        (HaveRisen (S.failed book.old.node.store) (S.failed book.new.node.store))
+        book.old book.new seat place event answer }
 {
     let answer = book.apply(seat, place, event);
     given(alloc, answer)

@@ -39,7 +39,8 @@ impl<S: FloorStore, L: Calls> SharedNode<S, L> {
         requires name { blank.name ≡ L.name }
         requires parts { (blank.parts ≡ L.parts) × (L.all ≡ L.parts) }
         requires seats { (0 < seats) × (seats ≤ L.all) }
-        ensures { MatchResult result (λ opened. (length opened.1.items ≡ seats) × IsFirstOf 0 opened.1.items) (λ refused. refused.0 ≡ book) }
+        ensures { MatchResult result (λ opened. (length opened.1.items ≡ seats)
+            × IsFirstOf 0 opened.1.items) (λ refused. refused.0 ≡ book) }
     {
         let mut row = Vec::new(alloc);
         if row.reserve(usize::from(seats)).is_err() {
@@ -108,7 +109,14 @@ pub(crate) fn seated<L: Calls>(
 fn new_seat<L: Calls>(alloc: Global, number: u8, seats: u8, share: Share<L>) -> Seat<L>
     requires number { (number < seats) × (seats ≤ L.all) }
     requires parts { share.parts ≡ parts_of L.all seats number }
-    ensures { result ≡ record { number = number; seats = seats; made = []; parts = share.parts; amount = share.amount } }
+    ensures { result ≡ record {
+      number = number;
+      seats = seats;
+      made = [];
+      parts =
+          share.parts;
+      amount = share.amount;
+    } }
 {
     Seat {
         number,

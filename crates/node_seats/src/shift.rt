@@ -76,7 +76,8 @@ pub fn close<S: FloorStore, L: Calls>(
     seats: Vec<Seat<L>>,
 ) -> Result<Shift<S, L>, Refused<S, L>>
     requires { L.all ≡ L.parts }
-    ensures { MatchResult result (λ shift. Closes seats.items shift) (λ refused. refused.1 ≡ seats) }
+    ensures { MatchResult result (λ shift. Closes seats.items shift) (λ refused.
+        refused.1 ≡ seats) }
 {
     let SharedNode { desk, seats: count } = node;
     match close_desk(desk.into_inner(), count, seats) {
@@ -98,9 +99,12 @@ fn close_desk<S: FloorStore, L: Calls>(
     seats: Vec<Seat<L>>,
 ) -> Result<Shift<S, L>, (Desk<S, L>, Vec<Seat<L>>, CloseFault)>
     requires count { (0 < count) × (count ≤ L.all) × (L.all ≡ L.parts) }
-    ensures ok { IfOk result (λ shift. (shift.node ≡ desk.book.node) × (shift.record_of.opening ≡ desk.book.opening) × (shift.record_of.entries ≡ desk.book.entries)
+    ensures ok { IfOk result (λ shift. (shift.node ≡ desk.book.node)
+        × (shift.record_of.opening ≡ desk.book.opening)
+        × (shift.record_of.entries ≡ desk.book.entries)
         × (shift.count ≡ count_of desk) × Closes seats.items shift) }
-    ensures err { IfErr result (λ refused. (refused.0 ≡ desk) × (refused.1 ≡ seats) × IsCause count desk.book.entries seats.items refused.2) }
+    ensures err { IfErr result (λ refused. (refused.0 ≡ desk) × (refused.1 ≡ seats)
+        × IsCause count desk.book.entries seats.items refused.2) }
 {
     if !are_all(seats.as_slice(), count) {
         return Err((desk, seats, CloseFault::SeatMissing));
@@ -127,7 +131,9 @@ struct ClosedDesk<S: FloorStore, L: Calls> {
 
 /// Closes the desk's book, or gives the desk back where there is no memory for the closing state.
 fn shut<S: FloorStore, L: Calls>(desk: Desk<S, L>) -> Result<ClosedDesk<S, L>, Desk<S, L>>
-    ensures ok { IfOk result (λ done. (done.node ≡ desk.book.node) × (done.last.opening ≡ desk.book.opening) × (done.last.entries ≡ desk.book.entries) × (done.count ≡ count_of desk)) }
+    ensures ok { IfOk result (λ done. (done.node ≡ desk.book.node)
+        × (done.last.opening ≡ desk.book.opening) × (done.last.entries ≡ desk.book.entries)
+        × (done.count ≡ count_of desk)) }
     ensures record_of { IfOk result (λ done. IsRecordOf done.last done.node) }
     ensures counted { IfOk result (λ done. done.calls.total ≡ done.count) }
     ensures err { IfErr result (λ back. back ≡ desk) }
@@ -218,7 +224,8 @@ impl<S: FloorStore, L: Calls> Shift<S, L> {
     /// shift is given back.
     pub fn next(self, seats: u8) -> Result<Opened<S, L>, (Shift<S, L>, AllocError)>
         requires { (0 < seats) × (seats ≤ L.all) }
-        ensures { MatchResult result (λ opened. Opens self opened.0 seats opened.2.items) (λ refused. refused.0 ≡ self) }
+        ensures { MatchResult result (λ opened.
+            Opens self opened.0 seats opened.2.items) (λ refused. refused.0 ≡ self) }
     {
         let mut row = Vec::new(self.alloc);
         if row.reserve(usize::from(seats)).is_err() {
@@ -264,7 +271,8 @@ fn desk_of<S: FloorStore, L: Calls>(
     places: Places,
 ) -> Result<Desk<S, L>, (Node<(), S>, Book<L>, Places)>
     requires { calls.total ≡ count }
-    ensures { MatchResult result (λ desk. desk ≡ new_desk node count) (λ refused. (refused.0 ≡ node) × (refused.1.total ≡ count)) }
+    ensures { MatchResult result (λ desk. desk ≡ new_desk node count) (λ refused. (refused.0 ≡ node)
+        × (refused.1.total ≡ count)) }
 {
     match NodeBook::open(alloc, node) {
         Ok(book) => Ok(Desk {

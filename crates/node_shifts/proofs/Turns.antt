@@ -8,7 +8,8 @@ use Rattle.node_seats.specs.Shifts.{ShiftView, Closes}
 use Rattle.node_shifts.specs.Shifts.{ShiftsView, IsShiftOf, IsEnded, IsAfter, IsBegun, IsTurned, IsNextOf, IsHandedOut, IsTakenOut, taken_by}
 
 -- an end closes the open shift
-pub ended_open : {S : Type 0} (old new : ShiftsView S) (shift : ShiftView S) → old.closed ≡ None → Closes old.row shift → new.closed ≡ Some shift → new.octets ≡ old.octets → new.seats ≡ old.seats → new.history ≡ old.history → new.records ≡ old.records → IsEnded old new
+pub ended_open : {S : Type 0} (old new : ShiftsView S) (shift : ShiftView S) → old.closed ≡ None → Closes old.row shift → new.closed ≡ Some shift →
+    new.octets ≡ old.octets → new.seats ≡ old.seats → new.history ≡ old.history → new.records ≡ old.records → IsEnded old new
 ended_open old new shift none closes closed octets seats history records = record {
   shift = shift;
   was = subst (λ c. IsShiftOf old.row c shift) (sym none) closes;
@@ -20,7 +21,8 @@ ended_open old new shift none closes closed octets seats history records = recor
 }
 
 -- a shift that is closed is the one that ended
-closed_one : {S : Type 0} (row : List SeatView) (closed : Option (ShiftView S)) → IsSome closed → (shift : ShiftView S) × IsShiftOf row closed shift × (closed ≡ Some shift)
+closed_one : {S : Type 0} (row : List SeatView) (closed : Option (ShiftView S)) → IsSome closed → (shift : ShiftView S) × IsShiftOf row closed shift
+    × (closed ≡ Some shift)
 closed_one row (Some shift) some = (shift, refl, refl)
 closed_one row None some = elim (true≢false (sym some)) [ ]
 
@@ -41,10 +43,14 @@ ended_closed old new some same =
 -- an end and then a beginning are a turn
 pub turned : {S : Type 0} (old mid new : ShiftsView S) → IsEnded old mid → IsBegun mid new → IsTurned old new
 turned {S} old mid new ended begun =
-    let after : IsAfter ended.shift mid new = subst (λ (c : Option (ShiftView S)). MatchOption c (new ≡ mid) (λ shift. IsAfter shift mid new)) ended.closed begun in
-    let next : IsNextOf ended.shift old.seats mid.history mid.records new.row new.history new.records = subst (λ n. IsNextOf ended.shift n mid.history mid.records new.row new.history new.records) ended.seats after.next in
-    let next : IsNextOf ended.shift old.seats old.history mid.records new.row new.history new.records = subst (λ h. IsNextOf ended.shift old.seats h mid.records new.row new.history new.records) ended.history next in
-    let next : IsNextOf ended.shift old.seats old.history old.records new.row new.history new.records = subst (λ (rs : List Record). IsNextOf ended.shift old.seats old.history rs new.row new.history new.records) ended.records next in
+    let after : IsAfter ended.shift mid new = subst (λ (c : Option (ShiftView S)). MatchOption c (new ≡ mid) (λ shift. IsAfter shift mid new)) ended.closed
+    begun in
+    let next : IsNextOf ended.shift old.seats mid.history mid.records new.row new.history new.records =
+    subst (λ n. IsNextOf ended.shift n mid.history mid.records new.row new.history new.records) ended.seats after.next in
+    let next : IsNextOf ended.shift old.seats old.history mid.records new.row new.history new.records =
+    subst (λ h. IsNextOf ended.shift old.seats h mid.records new.row new.history new.records) ended.history next in
+    let next : IsNextOf ended.shift old.seats old.history old.records new.row new.history new.records =
+    subst (λ (rs : List Record). IsNextOf ended.shift old.seats old.history rs new.row new.history new.records) ended.records next in
     record {
       shift = ended.shift;
       was = ended.was;
@@ -56,5 +62,6 @@ pub handed_out : {S : Type 0} (old new : ShiftsView S) (records : List Record) �
 handed_out old new records t same = (t.shift, t.was, same ∙ t.after.next.kept)
 
 -- the records after a turn are those that are taken out
-pub taken_out : {S : Type 0} (old mid new : ShiftsView S) (taken : Option (List Record)) → IsTurned old mid → taken ≡ taken_by mid.history mid.records → new ≡ record { row = mid.row; octets = mid.octets; closed = mid.closed; seats = mid.seats; history = mid.history; records = [] } → IsTakenOut old taken new
+pub taken_out : {S : Type 0} (old mid new : ShiftsView S) (taken : Option (List Record)) → IsTurned old mid → taken ≡ taken_by mid.history mid.records →
+    new ≡ record { row = mid.row; octets = mid.octets; closed = mid.closed; seats = mid.seats; history = mid.history; records = [] } → IsTakenOut old taken new
 taken_out old mid new taken t records after = record { turned = mid; has_turned = t; records = records; after = after }

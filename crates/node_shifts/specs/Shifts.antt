@@ -41,7 +41,8 @@ outcome_of (Err NoMemory) = Err step.NoMemory
 outcome_of (Err ReplyLost) = Err step.NoMemory
 
 -- the seat at this place, and no other, makes one call with this event, and the outcome is what it is answered
-pub record CallsInRow (place : ℕ) (event : Event (Unit {0})) (outcome : Result (Reply (Unit {0})) StepFault) (old new : List SeatView) : Type 0 where
+pub record CallsInRow (place : ℕ) (event : Event (Unit {0})) (outcome : Result (Reply (Unit {0})) StepFault)
+    (old new : List SeatView) : Type 0 where
   pub before : SeatView
   pub after : SeatView
   pub is_there : slice_get old place ≡ Some before
@@ -52,7 +53,8 @@ pub record CallsInRow (place : ℕ) (event : Event (Unit {0})) (outcome : Result
   pub row : new ≡ insert (remove old place) place after
 
 -- one call in the open shift
-pub record CallsAt {S : Type 0} (place : ℕ) (event : Event (Unit {0})) (outcome : Result (Reply (Unit {0})) StepFault) (old new : ShiftsView S) : Type 0 where
+pub record CallsAt {S : Type 0} (place : ℕ) (event : Event (Unit {0})) (outcome : Result (Reply (Unit {0})) StepFault)
+    (old new : ShiftsView S) : Type 0 where
   pub calls : CallsInRow place event outcome old.row new.row
   pub octets : new.octets ≡ old.octets + octets_of event
   pub closed : new.closed ≡ old.closed
@@ -74,7 +76,8 @@ abbrev pub history_after : History → List Record → History
 history_after history records = if keeps history (length records) then history else Dropped
 
 -- the shift after this one has this many seats, and its record is kept, or all are dropped
-pub record IsNextOf {S : Type 0} (shift : ShiftView S) (seats : ℕ) (history : History) (records : List Record) (row : List SeatView) (later : History) (after : List Record) : Type 0 where
+pub record IsNextOf {S : Type 0} (shift : ShiftView S) (seats : ℕ) (history : History) (records : List Record)
+    (row : List SeatView) (later : History) (after : List Record) : Type 0 where
   pub opens : Opens shift shift.record_of seats row
   pub kept : after ≡ kept_by history records shift.record_of
   pub afterwards : later ≡ history_after history records
@@ -128,17 +131,20 @@ abbrev pub IsReady : {S : Type 0} → ShiftsView S → ShiftsView S → Type 0
 IsReady old ready = (HasRoom old × (ready ≡ old)) ⊎ (IsOver old × IsTurned old ready)
 
 -- one call in a shift that has room; or none, where the next shift could not be opened
-pub record StepsInShifts {S : Type 0} (number : ℕ) (event : Event (Unit {0})) (old : ShiftsView S) (outcome : Result (Reply (Unit {0})) StepFault) (new : ShiftsView S) : Type 0 where
+pub record StepsInShifts {S : Type 0} (number : ℕ) (event : Event (Unit {0})) (old : ShiftsView S)
+    (outcome : Result (Reply (Unit {0})) StepFault) (new : ShiftsView S) : Type 0 where
   pub steps : ((ready : ShiftsView S) × IsReady old ready × CallsAt (place_of number old.seats) event outcome ready new)
       ⊎ (IsOver old × (outcome ≡ Err step.NoMemory) × IsLeft old new)
 
 -- some state of a node's shifts goes on so by a step with this event
 abbrev pub IsStepAt : (S : Type 0) → ℕ → Event (Unit {0}) → Result (Reply (Unit {0})) StepFault → Type 0
-IsStepAt S number event outcome = (old : ShiftsView S) × (new : ShiftsView S) × StepsInShifts number event old outcome new
+IsStepAt S number event outcome = (old : ShiftsView S) × (new : ShiftsView S)
+    × StepsInShifts number event old outcome new
 
 -- these are the records with that of the last shift, as far as the history keeps them
 abbrev pub IsHandedOut : {S : Type 0} → ShiftsView S → List Record → Type 0
-IsHandedOut {S} shifts records = (shift : ShiftView S) × IsShiftOf shifts.row shifts.closed shift × (records ≡ kept_by shifts.history shifts.records shift.record_of)
+IsHandedOut {S} shifts records = (shift : ShiftView S) × IsShiftOf shifts.row shifts.closed shift
+    × (records ≡ kept_by shifts.history shifts.records shift.record_of)
 
 -- the records that are taken out, where a history is kept
 abbrev pub taken_by : History → List Record → Option (List Record)
@@ -146,8 +152,16 @@ taken_by (UpTo most) records = Some records
 taken_by Dropped records = None
 
 -- the shift is closed and the next one is open; these are the records then, and none is left
-pub record IsTakenOut {S : Type 0} (old : ShiftsView S) (taken : Option (List Record)) (new : ShiftsView S) : Type 0 where
+pub record IsTakenOut {S : Type 0} (old : ShiftsView S) (taken : Option (List Record)) (new : ShiftsView S) :
+    Type 0 where
   pub turned : ShiftsView S
   pub has_turned : IsTurned old turned
   pub records : taken ≡ taken_by turned.history turned.records
-  pub after : new ≡ record { row = turned.row; octets = turned.octets; closed = turned.closed; seats = turned.seats; history = turned.history; records = [] }
+  pub after : new ≡ record {
+    row = turned.row;
+    octets = turned.octets;
+    closed = turned.closed;
+    seats = turned.seats;
+    history = turned.history;
+    records = [];
+  }

@@ -75,7 +75,9 @@ impl<S: FloorStore + Drop, L: Calls> Shifts<S, L> {
         requires parts { (blank.parts ≡ L.parts) × (L.all ≡ L.parts) }
         requires seats { (0 < seats) × (seats ≤ L.all) }
         ensures { MatchResult result
-            (λ made. IsFirstOf 0 made.row × (length made.row ≡ seats) × (made.octets ≡ 0) × (made.closed ≡ None) × (made.seats ≡ seats) × (made.history ≡ history) × (made.records ≡ []))
+            (λ made. IsFirstOf 0 made.row × (length made.row ≡ seats) × (made.octets ≡ 0)
+            × (made.closed ≡ None) × (made.seats ≡ seats) × (made.history ≡ history)
+            × (made.records ≡ []))
             (λ refused. refused.0 ≡ book) }
     {
         match SharedNode::open(alloc, book, seats, blank, places) {
@@ -134,7 +136,8 @@ impl<S: FloorStore + Drop, L: Calls> Shifts<S, L> {
         event: Event<()>,
     ) -> Result<Reply<()>, StepFault>
         requires { self.old.octets < 4194304 }
-        ensures calls { self.old.closed ≡ None → CallsAt (place_of number self.old.seats) event result self.old self.new }
+        ensures calls { self.old.closed ≡ None →
+            CallsAt (place_of number self.old.seats) event result self.old self.new }
         ensures asks { IfOk result (AnswersAsk event) }
     {
         let place = usize::from(number.min(self.seats - 1));
@@ -150,7 +153,8 @@ impl<S: FloorStore + Drop, L: Calls> Shifts<S, L> {
     /// opens it.
     #[tactic(auto, using(crate::proofs::Turns::turned))]
     pub fn turn(&mut self) -> Result<(), CloseFault>
-        ensures { MatchResult result (λ _. IsTurned self.old self.new) (λ _. IsLeft self.old self.new) }
+        ensures { MatchResult result (λ _. IsTurned self.old self.new) (λ _.
+            IsLeft self.old self.new) }
     {
         self.end()?;
         match self.begin() {
@@ -209,7 +213,9 @@ impl<S: FloorStore + Drop, L: Calls> Shifts<S, L> {
     /// stay then.
     #[tactic(auto, using(crate::proofs::Turns::taken_out))]
     pub fn take_records(&mut self) -> Result<Option<Vec<Record>>, CloseFault>
-        ensures { MatchResult result (λ taken. IsTakenOut self.old (option_map (λ records. records.items) taken) self.new) (λ _. IsLeft self.old self.new) }
+        ensures { MatchResult result (λ taken.
+            IsTakenOut self.old (option_map (λ records. records.items) taken) self.new) (λ _.
+            IsLeft self.old self.new) }
     {
         self.turn()?;
         let records = replace(&mut self.records, Vec::new(self.alloc));
@@ -307,7 +313,8 @@ fn open_next<S: FloorStore, L: Calls>(
     requires { (0 < seats) × (seats ≤ L.all) }
     ensures { MatchResult result
         (λ opened. IsNextOf shift seats history.old records.old.items opened.1.items history.new records.new.items)
-        (λ back. (back ≡ shift) × (history.new ≡ history.old) × (records.new.items ≡ records.old.items)) }
+        (λ back. (back ≡ shift) × (history.new ≡ history.old)
+        × (records.new.items ≡ records.old.items)) }
 {
     let is_kept = has_place(*history, records.len());
     if is_kept && records.reserve(1).is_err() {

@@ -16,7 +16,8 @@ use Rattle.node_waiting.specs.CanGoOn.{CanGoOn}
 use Rattle.node_waiting.specs.InOrder.{IsBlock, AreInOrder}
 use Rattle.node_waiting.proofs.Finding.{Ascend}
 
-pub added : {X : Type 0} (asks : List (Pending X)) (p : Pending X) → AreInOrder asks → IsBlock p.block → All (λ q. q.block < p.block) asks → CanGoOn p → AreInOrder (asks ++ p ∷ [])
+pub added : {X : Type 0} (asks : List (Pending X)) (p : Pending X) → AreInOrder asks → IsBlock p.block → All (λ q. q.block < p.block) asks → CanGoOn p →
+    AreInOrder (asks ++ p ∷ [])
 added asks p order block above go = record {
   ascend = all_pairs_push (λ x y. x.block < y.block) asks p order.ascend (λ k d l. above k d l);
   blocks = All-push (λ x. IsBlock x.block) asks p order.blocks block;
@@ -31,7 +32,8 @@ eqb_other n = grind (arith, nat_tests)
 
 -- Changes
 
-module _ {X : Type 0} (asks : List (Pending X)) (ascend : Ascend asks) (i : ℕ) (p q : Pending X) (l : i < length asks) (is : p ≡ get_or asks i p) (same : q.block ≡ p.block) where
+module _ {X : Type 0} (asks : List (Pending X)) (ascend : Ascend asks) (i : ℕ) (p q : Pending X) (l : i < length asks) (is : p ≡ get_or asks i p)
+    (same : q.block ≡ p.block) where
   block_there : (d : Pending X) → (get_or asks i d).block ≡ q.block
   block_there = at_read asks (λ x. x.block ≡ q.block) i p l is (sym same)
 
@@ -84,7 +86,8 @@ filter_all p (x ∷ xs) passes =
     ap (λ b. cond b (x ∷ filter p xs) (filter p xs)) (passes 0 x (omega arith))
     ∙ ap (λ ys. x ∷ ys) (filter_all p xs (λ k d l. passes (suc k) d (omega arith)))
 
-pub removed : {X : Type 0} (asks : List (Pending X)) (i : ℕ) (p : Pending X) → Ascend asks → i < length asks → p ≡ get_or asks i p → remove asks i ≡ ended p.block asks
+pub removed : {X : Type 0} (asks : List (Pending X)) (i : ℕ) (p : Pending X) → Ascend asks → i < length asks → p ≡ get_or asks i p →
+    remove asks i ≡ ended p.block asks
 removed [] i p ascend l is = absurd (omega arith)
 removed {X} (q ∷ asks) zero p ascend l is =
     let here : q.block ≡ p.block = sym (ap (λ (x : Pending X). x.block) is) in
@@ -113,7 +116,8 @@ order_ended asks block order = record {
 pub changed_twice : {X : Type 0} (asks : List (Pending X)) (p q : Pending X) → q.block ≡ p.block → changed q (changed p asks) ≡ changed q asks
 changed_twice [] p q same = refl
 changed_twice (x ∷ asks) p q same =
-    let here : cond (is_of_block q.block (cond (is_of_block p.block x) p x)) q (cond (is_of_block p.block x) p x) ≡ cond (is_of_block q.block x) q x = grind (arith, nat_tests) in
+    let here : cond (is_of_block q.block (cond (is_of_block p.block x) p x)) q (cond (is_of_block p.block x) p x) ≡ cond (is_of_block q.block x) q x =
+    grind (arith, nat_tests) in
     ap (λ y. y ∷ changed q (changed p asks)) here ∙ ap (λ ys. cond (is_of_block q.block x) q x ∷ ys) (changed_twice asks p q same)
 
 -- What holds of all
@@ -121,7 +125,8 @@ changed_twice (x ∷ asks) p q same =
 pub all_ended : {X : Type 0} (asks : List (Pending X)) (block bound : ℕ) → All (λ q. q.block < bound) asks → All (λ q. q.block < bound) (ended block asks)
 all_ended asks block bound below = All-filter (λ q. not (is_of_block block q)) (λ q. q.block < bound) asks below
 
-pub all_changed : {X : Type 0} (asks : List (Pending X)) (p : Pending X) (bound : ℕ) → All (λ q. q.block < bound) asks → p.block < bound → All (λ q. q.block < bound) (changed p asks)
+pub all_changed : {X : Type 0} (asks : List (Pending X)) (p : Pending X) (bound : ℕ) → All (λ q. q.block < bound) asks → p.block < bound →
+    All (λ q. q.block < bound) (changed p asks)
 all_changed asks p bound below here =
     All-map (λ q. q.block < bound) (λ q. cond (is_of_block p.block q) p q) asks (λ k d l.
     let there = below k d l in

@@ -22,7 +22,8 @@ count_le {X} p q (x ∷ xs) weaker =
     let more : (r : X → Bool) → count_by r (x ∷ xs) ≡ cond (r x) 1 0 + count_by r xs = λ r. sum_by-cons (λ x. cond (r x) 1 0) x xs in
     grind (arith, more p, more q)
 
-pub count_falls : {X : Type 0} (p q : X → Bool) (xs : List X) (x : X) → ((x : X) → q x ≡ true → p x ≡ true) → Contains xs x → p x ≡ true → q x ≡ false → count_by q xs + 1 ≤ count_by p xs
+pub count_falls : {X : Type 0} (p q : X → Bool) (xs : List X) (x : X) → ((x : X) → q x ≡ true → p x ≡ true) → Contains xs x → p x ≡ true → q x ≡ false →
+    count_by q xs + 1 ≤ count_by p xs
 count_falls p q [] x weaker (k, l, is) holds fails = absurd (omega (arith, l))
 count_falls {X} p q (y ∷ xs) x weaker (zero, l, is) holds fails =
     let le = count_le p q xs weaker in
@@ -43,7 +44,8 @@ not_asked id (AtPeer peer asked) idle = cc
 not_asked id (AtOrigin stamp asked mark) idle = cc
 
 -- a request that goes to the peer of an answer has one answer less to follow
-pub one_less : {X : Type 0} (p : Pending X) (r : RoundText) (t : FirstAnswer) (peer now floor : ℕ) → p.round ≡ Some r → is_idle p.fetch ≡ true → Contains r.answers t → t.peer.id ≡ peer → is_open floor p.tried t.peer ≡ true → untried_count (fetching p p.reads (AtPeer peer now)) + 1 ≤ untried_count p
+pub one_less : {X : Type 0} (p : Pending X) (r : RoundText) (t : FirstAnswer) (peer now floor : ℕ) → p.round ≡ Some r → is_idle p.fetch ≡ true →
+    Contains r.answers t → t.peer.id ≡ peer → is_open floor p.tried t.peer ≡ true → untried_count (fetching p p.reads (AtPeer peer now)) + 1 ≤ untried_count p
 one_less {X} p r t peer now floor round idle answered same free_to_ask =
     let answers : answers_of p.round ≡ r.answers = ap answers_of round in
     let after : Fetch X = AtPeer peer now in

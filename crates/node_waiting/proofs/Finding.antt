@@ -28,7 +28,8 @@ find_none p (x ∷ xs) fails =
     ap (λ b. cond b (Some x) (find p xs)) (fails 0 x (omega arith))
     ∙ find_none p xs (λ k d l. fails (suc k) d (omega arith))
 
-pub find_here : {X : Type 0} (p : X → Bool) (xs : List X) (i : ℕ) → i < length xs → HoldsAt (λ x. p x ≡ true) xs i → AllWithin (λ x. p x ≡ false) xs 0 i → find p xs ≡ slice_get xs i
+pub find_here : {X : Type 0} (p : X → Bool) (xs : List X) (i : ℕ) → i < length xs → HoldsAt (λ x. p x ≡ true) xs i → AllWithin (λ x. p x ≡ false) xs 0 i →
+    find p xs ≡ slice_get xs i
 find_here p [] i l here before = absurd (omega arith)
 find_here p (x ∷ xs) zero l here before = ap (λ b. cond b (Some x) (find p xs)) (here x)
 find_here p (x ∷ xs) (suc i) l here before =
@@ -58,11 +59,13 @@ module _ {X : Type 0} (asks : List (Pending X)) (ascend : Ascend asks) (block pl
         cc))
 
 -- if no request has this block, no test of requests of this block finds one
-pub absent : {X : Type 0} (asks : List (Pending X)) (block : ℕ) → IsAbsent asks block → (test : Pending X → Bool) → All (λ q. test q ≡ true → q.block ≡ block) asks → find test asks ≡ None
+pub absent : {X : Type 0} (asks : List (Pending X)) (block : ℕ) → IsAbsent asks block → (test : Pending X → Bool) →
+    All (λ q. test q ≡ true → q.block ≡ block) asks → find test asks ≡ None
 absent asks block none test only = find_none test asks (λ k d l. unless _ (λ e. none k d l (only k d l e)))
 
 -- if at most one element passes a test, a second test lets it pass or none
-pub find_both : {X : Type 0} (p t : X → Bool) (xs : List X) → AllPairs (λ x y. p x ≡ true → p y ≡ true → ⊥) xs → find (λ x. p x && t x) xs ≡ if_passes t (find p xs)
+pub find_both : {X : Type 0} (p t : X → Bool) (xs : List X) → AllPairs (λ x y. p x ≡ true → p y ≡ true → ⊥) xs →
+    find (λ x. p x && t x) xs ≡ if_passes t (find p xs)
 find_both p t [] one = refl
 find_both {X} p t (x ∷ xs) one =
     let rest = find_both p t xs (λ i j d lt l. one (suc i) (suc j) d (omega arith) (omega arith)) in
@@ -73,7 +76,8 @@ find_both {X} p t (x ∷ xs) one =
       | false ↦ λ fails. rest
     ]) refl
 
-one_passes : {X : Type 0} (asks : List (Pending X)) (block : ℕ) (test : Pending X → Bool) → Ascend asks → All (λ q. test q ≡ true → q.block ≡ block) asks → AllPairs (λ p q. test p ≡ true → test q ≡ true → ⊥) asks
+one_passes : {X : Type 0} (asks : List (Pending X)) (block : ℕ) (test : Pending X → Bool) → Ascend asks → All (λ q. test q ≡ true → q.block ≡ block) asks →
+    AllPairs (λ p q. test p ≡ true → test q ≡ true → ⊥) asks
 one_passes asks block test ascend only i j d lt l first second =
     let rise = ascend i j d lt l in
     let same = only i d (omega arith) first in
@@ -85,16 +89,20 @@ one_passes asks block test ascend only i j d lt l first second =
 only_round : {X : Type 0} (asks : List (Pending X)) (serial : ℕ) → All (λ q. (round_serial q == serial) ≡ true → q.block ≡ serial / 32) asks
 only_round asks serial k d l e = grind (arith, nat_tests)
 
-pub round_found : {X : Type 0} (asks : List (Pending X)) (serial place : ℕ) → AreInOrder asks → IsPlaceOf asks (serial / 32) place → serial % 32 ≡ 0 → slice_get asks place ≡ find (λ p. round_serial p == serial) asks
+pub round_found : {X : Type 0} (asks : List (Pending X)) (serial place : ℕ) → AreInOrder asks → IsPlaceOf asks (serial / 32) place → serial % 32 ≡ 0 →
+    slice_get asks place ≡ find (λ p. round_serial p == serial) asks
 round_found asks serial place order at even =
     sym (found asks order.ascend _ place at _ (only_round asks serial) (λ d. let here = at.is_of_it d in grind (arith, nat_tests)))
 
 pub round_absent : {X : Type 0} (asks : List (Pending X)) (serial : ℕ) → IsAbsent asks (serial / 32) → None ≡ find (λ p. round_serial p == serial) asks
 round_absent asks serial none = sym (absent asks _ none _ (only_round asks serial))
 
-pub round_where : {X : Type 0} (asks : List (Pending X)) (serial : ℕ) (o : Option (Pending X)) → AreInOrder asks → o ≡ find (λ p. round_serial p == serial) asks → (t : Pending X → Bool) → if_passes t o ≡ find (λ p. (round_serial p == serial) && t p) asks
+pub round_where : {X : Type 0} (asks : List (Pending X)) (serial : ℕ) (o : Option (Pending X)) → AreInOrder asks →
+    o ≡ find (λ p. round_serial p == serial) asks → (t : Pending X → Bool) → if_passes t o ≡ find (λ p. (round_serial p == serial) && t p) asks
 round_where asks serial o order found t =
-    ap (if_passes t) found ∙ sym (find_both (λ p. round_serial p == serial) t asks (one_passes asks (serial / 32) (λ p. round_serial p == serial) order.ascend (only_round asks serial)))
+    ap (if_passes t) found
+    ∙ sym
+    (find_both (λ p. round_serial p == serial) t asks (one_passes asks (serial / 32) (λ p. round_serial p == serial) order.ascend (only_round asks serial)))
 
 -- a serial that is not the first of a block is of no round
 pub no_round : {X : Type 0} (asks : List (Pending X)) (serial : ℕ) → serial % 32 ≢ 0 → None ≡ find (λ p. round_serial p == serial) asks
@@ -110,28 +118,36 @@ only_fetch asks serial go k d l e =
     let few = few_fetches (get_or asks k d) (go k d l) in
     grind (arith, nat_tests)
 
-pub fetch_where : {X : Type 0} (asks : List (Pending X)) (serial : ℕ) (o : Option (Pending X)) → AreInOrder asks → o ≡ find (λ p. fetch_serial p == serial) asks → (t : Pending X → Bool) → if_passes t o ≡ find (λ p. (fetch_serial p == serial) && t p) asks
+pub fetch_where : {X : Type 0} (asks : List (Pending X)) (serial : ℕ) (o : Option (Pending X)) → AreInOrder asks →
+    o ≡ find (λ p. fetch_serial p == serial) asks → (t : Pending X → Bool) → if_passes t o ≡ find (λ p. (fetch_serial p == serial) && t p) asks
 fetch_where asks serial o order found t =
-    ap (if_passes t) found ∙ sym (find_both (λ p. fetch_serial p == serial) t asks (one_passes asks (serial / 32) (λ p. fetch_serial p == serial) order.ascend (only_fetch asks serial order.can_go_on)))
+    ap (if_passes t) found
+    ∙ sym
+    (find_both (λ p. fetch_serial p == serial) t asks (one_passes asks (serial / 32) (λ p. fetch_serial p == serial) order.ascend
+    (only_fetch asks serial order.can_go_on)))
 
-pub fetch_found : {X : Type 0} (asks : List (Pending X)) (serial place : ℕ) (p : Pending X) → AreInOrder asks → IsPlaceOf asks (serial / 32) place → p ≡ get_or asks place p → p.fetches ≡ serial % 32 → slice_get asks place ≡ find (λ p. fetch_serial p == serial) asks
+pub fetch_found : {X : Type 0} (asks : List (Pending X)) (serial place : ℕ) (p : Pending X) → AreInOrder asks → IsPlaceOf asks (serial / 32) place →
+    p ≡ get_or asks place p → p.fetches ≡ serial % 32 → slice_get asks place ≡ find (λ p. fetch_serial p == serial) asks
 fetch_found {X} asks serial place p order at is same =
     let block : p.block ≡ serial / 32 = ap (λ (q : Pending X). q.block) is ∙ at.is_of_it p in
     sym (found asks order.ascend _ place at _ (only_fetch asks serial order.can_go_on)
     (at_read asks (λ q. (fetch_serial q == serial) ≡ true) place p at.in_range is (grind (arith, nat_tests))))
 
-pub fetch_other : {X : Type 0} (asks : List (Pending X)) (serial place : ℕ) (p : Pending X) → AreInOrder asks → IsPlaceOf asks (serial / 32) place → p ≡ get_or asks place p → p.fetches ≢ serial % 32 → None ≡ find (λ p. fetch_serial p == serial) asks
+pub fetch_other : {X : Type 0} (asks : List (Pending X)) (serial place : ℕ) (p : Pending X) → AreInOrder asks → IsPlaceOf asks (serial / 32) place →
+    p ≡ get_or asks place p → p.fetches ≢ serial % 32 → None ≡ find (λ p. fetch_serial p == serial) asks
 fetch_other {X} asks serial place p order at is other =
     let block : p.block ≡ serial / 32 = ap (λ (q : Pending X). q.block) is ∙ at.is_of_it p in
     sym (not_found asks order.ascend _ place at _ (only_fetch asks serial order.can_go_on)
     (at_read asks (λ q. (fetch_serial q == serial) ≡ false) place p at.in_range is (grind (arith, nat_tests))))
 
-pub fetch_absent : {X : Type 0} (asks : List (Pending X)) (serial : ℕ) → AreInOrder asks → IsAbsent asks (serial / 32) → None ≡ find (λ p. fetch_serial p == serial) asks
+pub fetch_absent : {X : Type 0} (asks : List (Pending X)) (serial : ℕ) → AreInOrder asks → IsAbsent asks (serial / 32) →
+    None ≡ find (λ p. fetch_serial p == serial) asks
 fetch_absent asks serial order none = sym (absent asks _ none _ (only_fetch asks serial order.can_go_on))
 
 -- What a binary search by blocks finds
 
-pub place_found : {X : Type 0} (asks : List (Pending X)) (block place : ℕ) → place < length asks → HoldsAt (λ q. nat_cmp q.block block ≡ Equal) asks place → IsPlaceOf asks block place
+pub place_found : {X : Type 0} (asks : List (Pending X)) (block place : ℕ) → place < length asks → HoldsAt (λ q. nat_cmp q.block block ≡ Equal) asks place →
+    IsPlaceOf asks block place
 place_found asks block place l equal = record { in_range = l; is_of_it = λ d. ranked _ block _ (sym (equal d)) }
 
 comparisons_rise : {X : Type 0} (asks : List (Pending X)) (block : ℕ) → Ascend asks → IsNonDecreasingBy (λ q. ordering_index (nat_cmp q.block block)) asks
@@ -139,7 +155,9 @@ comparisons_rise {X} asks block ascend i j d le l =
     let rise : (get_or asks i d).block ≤ (get_or asks j d).block = grind (arith, ascend i j d, λ (same : i ≡ j). ap (λ k. (get_or asks k d).block) same) in
     grind (arith, nat_tests)
 
-pub none_found : {X : Type 0} (asks : List (Pending X)) (block place : ℕ) → Ascend asks → (IsNonDecreasingBy (λ q. ordering_index (nat_cmp q.block block)) asks → IsPartitionPoint (λ q. nat_cmp q.block block ≡ Less) (λ q. nat_cmp q.block block ≡ Greater) asks place) → IsAbsent asks block
+pub none_found : {X : Type 0} (asks : List (Pending X)) (block place : ℕ) → Ascend asks →
+    (IsNonDecreasingBy (λ q. ordering_index (nat_cmp q.block block)) asks → IsPartitionPoint (λ q. nat_cmp q.block block ≡ Less)
+    (λ q. nat_cmp q.block block ≡ Greater) asks place) → IsAbsent asks block
 none_found asks block place ascend parted k d l e =
     let parts = parted (comparisons_rise asks block ascend) in
     elim (cases_lt k place) [

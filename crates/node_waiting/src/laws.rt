@@ -25,7 +25,8 @@ pub fn fetches_are_few<T>()
 pub fn new_asks_can_go_on<T>()
     ensures alone { (block : ℕ) (asker : Option ℕ) (ask : Ask) →
         let p : Pending T = new_ask block asker ask None in CanGoOn p }
-    ensures with_round { (block : ℕ) (asker : Option ℕ) (ask : Ask) (peers : List Peer) (floor : ℕ) →
+    ensures with_round { (block : ℕ) (asker : Option ℕ) (ask : Ask) (peers : List Peer)
+        (floor : ℕ) →
         let p : Pending T = new_ask block asker ask (Some (started peers floor)) in CanGoOn p }
 {}
 
@@ -33,7 +34,8 @@ pub fn new_asks_can_go_on<T>()
 /// the first, second or third time (`origin`).
 pub fn fetching_asks_can_go_on<T>()
     ensures peer { (p : Pending T) (r : RoundText) (floor peer now : ℕ) (cached : Bool) →
-        CanGoOn p → p.round ≡ Some r → is_idle p.fetch ≡ true → choice r floor p.tried ≡ source.Peer peer cached →
+        CanGoOn p → p.round ≡ Some r → is_idle p.fetch ≡ true →
+        choice r floor p.tried ≡ source.Peer peer cached →
         CanGoOn (fetching p p.reads (AtPeer peer now)) }
     ensures origin { (p : Pending T) (stamp now : ℕ) (mark : T) →
         CanGoOn p → is_idle p.fetch ≡ true → p.reads < 3 →
@@ -55,22 +57,26 @@ pub fn asks_can_go_on_after_a_fetch<T>()
 /// its round has expired.
 pub fn asks_can_go_on_with_their_rounds<T>()
     ensures answered { (p : Pending T) (r : RoundText) (id : ℕ) (said : Said) →
-        CanGoOn p → p.round ≡ Some r → length (answered r id said).answers ≤ 23 → CanGoOn (with_round p (answered r id said)) }
+        CanGoOn p → p.round ≡ Some r → length (answered r id said).answers ≤ 23 →
+        CanGoOn (with_round p (answered r id said)) }
     ensures ended { (p : Pending T) (r : RoundText) →
         CanGoOn p → p.round ≡ Some r → CanGoOn (with_round p (ended r)) }
 {}
 
 /// Of two changes of one request, the later one counts.
 pub fn later_changes_count<T>()
-    ensures { (asks : List (Pending T)) (p : Pending T) (q : Pending T) → q.block ≡ p.block → changed q (changed p asks) ≡ changed q asks }
+    ensures { (asks : List (Pending T)) (p : Pending T) (q : Pending T) → q.block ≡ p.block →
+        changed q (changed p asks) ≡ changed q asks }
 {}
 
 /// If all blocks are below a bound, they stay so as a request is added, changes or ends.
 pub fn blocks_stay_below<T>()
     ensures added { (asks : List (Pending T)) (p : Pending T) (bound : ℕ) →
-        All (λ q. q.block < bound) asks → p.block < bound → All (λ q. q.block < bound) (asks ++ p ∷ []) }
+        All (λ q. q.block < bound) asks → p.block < bound →
+        All (λ q. q.block < bound) (asks ++ p ∷ []) }
     ensures changed { (asks : List (Pending T)) (p : Pending T) (bound : ℕ) →
-        All (λ q. q.block < bound) asks → p.block < bound → All (λ q. q.block < bound) (changed p asks) }
+        All (λ q. q.block < bound) asks → p.block < bound →
+        All (λ q. q.block < bound) (changed p asks) }
     ensures ended { (asks : List (Pending T)) (block : ℕ) (bound : ℕ) →
         All (λ q. q.block < bound) asks → All (λ q. q.block < bound) (without_block block asks) }
 {}

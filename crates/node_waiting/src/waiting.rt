@@ -62,9 +62,11 @@ impl<T> PendingList<T> {
 
     /// The place of the request whose round has this serial, if there is one. Allocates nothing.
     pub fn of_round(&self, serial: u32) -> Option<usize>
-        ensures found { option_and_then (slice_get self.now) result ≡ find (λ p. round_serial p == serial) self.now }
+        ensures found { option_and_then (slice_get self.now) result
+            ≡ find (λ p. round_serial p == serial) self.now }
         ensures found_where { (test : Pending T → Bool) →
-            if_passes test (option_and_then (slice_get self.now) result) ≡ find (λ p. (round_serial p == serial) && test p) self.now }
+            if_passes test (option_and_then (slice_get self.now) result)
+            ≡ find (λ p. (round_serial p == serial) && test p) self.now }
         ensures place { IfSome result (λ place. place < length self.now) }
     {
         let place = self.of_block(serial / 32)?;
@@ -74,9 +76,11 @@ impl<T> PendingList<T> {
     /// The place of the request whose last fetch has this serial, if there is one. Before its first
     /// fetch, a request is found by the serial of its round. Allocates nothing.
     pub fn of_fetch(&self, serial: u32) -> Option<usize>
-        ensures found { option_and_then (slice_get self.now) result ≡ find (λ p. fetch_serial p == serial) self.now }
+        ensures found { option_and_then (slice_get self.now) result
+            ≡ find (λ p. fetch_serial p == serial) self.now }
         ensures found_where { (test : Pending T → Bool) →
-            if_passes test (option_and_then (slice_get self.now) result) ≡ find (λ p. (fetch_serial p == serial) && test p) self.now }
+            if_passes test (option_and_then (slice_get self.now) result)
+            ≡ find (λ p. (fetch_serial p == serial) && test p) self.now }
         ensures place { IfSome result (λ place. place < length self.now) }
     {
         let (block, fetches) = (serial / 32, serial % 32);
@@ -134,10 +138,13 @@ impl<T> PendingList<T> {
     /// The place must be below `len`, and the request must be able to go on then.
     pub fn replace(&mut self, place: usize, progress: Progress<T>) -> Progress<T>
         requires place { place < length self.old }
-        requires can_go_on { IfSome (slice_get self.old place) (λ p. CanGoOn (with_progress p progress)) }
+        requires can_go_on { IfSome (slice_get self.old place) (λ p.
+            CanGoOn (with_progress p progress)) }
         ensures before { IfSome (slice_get self.old place) (λ p. result ≡ progress_of p) }
-        ensures changed { IfSome (slice_get self.old place) (λ p. self.new ≡ changed (with_progress p progress) self.old) }
-        ensures there { IfSome (slice_get self.old place) (λ p. slice_get self.new place ≡ Some (with_progress p progress)) }
+        ensures changed { IfSome (slice_get self.old place) (λ p.
+            self.new ≡ changed (with_progress p progress) self.old) }
+        ensures there { IfSome (slice_get self.old place) (λ p.
+            slice_get self.new place ≡ Some (with_progress p progress)) }
     {
         let ask = &mut self.asks[place];
         Progress {
@@ -167,9 +174,12 @@ impl<T: Drop> PendingList<T> {
     /// Allocates nothing.
     pub fn change(&mut self, place: usize, progress: Progress<T>)
         requires place { place < length self.old }
-        requires can_go_on { IfSome (slice_get self.old place) (λ p. CanGoOn (with_progress p progress)) }
-        ensures changed { IfSome (slice_get self.old place) (λ p. self.new ≡ changed (with_progress p progress) self.old) }
-        ensures there { IfSome (slice_get self.old place) (λ p. slice_get self.new place ≡ Some (with_progress p progress)) }
+        requires can_go_on { IfSome (slice_get self.old place) (λ p.
+            CanGoOn (with_progress p progress)) }
+        ensures changed { IfSome (slice_get self.old place) (λ p.
+            self.new ≡ changed (with_progress p progress) self.old) }
+        ensures there { IfSome (slice_get self.old place) (λ p.
+            slice_get self.new place ≡ Some (with_progress p progress)) }
     {
         let _ = self.replace(place, progress);
     }

@@ -66,9 +66,14 @@ fn fresh_book<S: FloorStore + Drop>(
     floors: S,
     keys: RandomState,
 ) -> Result<Fresh<S>, StartFault>
-    ensures such { is_member roster.now id ≡ true → IfErr result (λ fault. fault ≢ starting.Open opening.NoSuchNode) }
-    ensures cause { IfErr result (λ fault. fault ≡ starting.Open (opening.Floors storing.StoreFault) → S.is_usable floors ≡ false) }
-    ensures named { IfErr result (λ fault. (fault ≢ starting.Open (opening.Floors storing.FloorsFull)) × (fault ≢ starting.Open (opening.Floors storing.BadTable))) }
+    ensures such { is_member roster.now id ≡ true →
+        IfErr result (λ fault. fault ≢ starting.Open opening.NoSuchNode) }
+    ensures cause { IfErr result (λ fault.
+        fault ≡ starting.Open (opening.Floors storing.StoreFault) →
+        S.is_usable floors ≡ false) }
+    ensures named { IfErr result (λ fault.
+        (fault ≢ starting.Open (opening.Floors storing.FloorsFull))
+        × (fault ≢ starting.Open (opening.Floors storing.BadTable))) }
 {
     let roster = roster.copy(alloc)?;
     let node = match Node::open_with_random_keys(alloc, roster, id, floors, keys) {
@@ -308,10 +313,16 @@ impl Workers {
     ) -> Result<Workers, StartFault>
         requires { (2 ≤ count) × (count ≤ 8) }
         ensures member { OnOk result (is_member roster.now id ≡ true) }
-        ensures no_such { is_member roster.now id ≡ false → IfErr result (λ fault. fault ≡ starting.Open opening.NoSuchNode) }
-        ensures such { is_member roster.now id ≡ true → IfErr result (λ fault. fault ≢ starting.Open opening.NoSuchNode) }
-        ensures cause { IfErr result (λ fault. fault ≡ starting.Open (opening.Floors storing.StoreFault) → S.is_usable ground.floors ≡ false) }
-        ensures named { IfErr result (λ fault. (fault ≢ starting.Open (opening.Floors storing.FloorsFull)) × (fault ≢ starting.Open (opening.Floors storing.BadTable))) }
+        ensures no_such { is_member roster.now id ≡ false →
+            IfErr result (λ fault. fault ≡ starting.Open opening.NoSuchNode) }
+        ensures such { is_member roster.now id ≡ true →
+            IfErr result (λ fault. fault ≢ starting.Open opening.NoSuchNode) }
+        ensures cause { IfErr result (λ fault.
+            fault ≡ starting.Open (opening.Floors storing.StoreFault) →
+            S.is_usable ground.floors ≡ false) }
+        ensures named { IfErr result (λ fault.
+            (fault ≢ starting.Open (opening.Floors storing.FloorsFull))
+            × (fault ≢ starting.Open (opening.Floors storing.BadTable))) }
     {
         if !roster.is_member(id) {
             return Err(StartFault::Open(OpenFault::NoSuchNode));

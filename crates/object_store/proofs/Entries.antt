@@ -46,12 +46,16 @@ found_in u (e ∷ es) keyed =
     ∙ ap (λ o. cond (is_of u e.1) (Some e.1) o) (found_in u es keyed.1)
 
 -- no other copy goes
-pub out_of : {X : Type 0} (u : List ℕ) (es : List (Entry X)) → AreKeyed es → OneEach (values_of es) → values_of (remove_entry (bytes_eq u) es) ≡ without u (values_of es)
+pub out_of : {X : Type 0} (u : List ℕ) (es : List (Entry X)) → AreKeyed es → OneEach (values_of es) →
+    values_of (remove_entry (bytes_eq u) es) ≡ without u (values_of es)
 out_of u [] keyed one = refl
 out_of u (e ∷ es) keyed one =
     ap (λ b. values_of (cond b es (e ∷ remove_entry (bytes_eq u) es))) (here u e keyed.0)
-    ∙ (elim (is_of u e.1) as (λ b. is_of u e.1 ≡ b → values_of (cond b es (e ∷ remove_entry (bytes_eq u) es)) ≡ cond (not b) (e.1 ∷ without u (values_of es)) (without u (values_of es))) [
-      | true ↦ λ same. sym (none_of u (values_of es) (all_kept_by (λ (d : WebCopy _). d.key ≡ e.1.key → ⊥) (λ (d : WebCopy _). d.key ≡ u → ⊥) (λ d n f. n (f ∙ sym (same_text e.1.key u same))) (values_of es) one.0))
+    ∙ (elim (is_of u e.1) as (λ b. is_of u e.1 ≡ b → values_of (cond b es (e ∷ remove_entry (bytes_eq u) es)) ≡ cond (not b) (e.1 ∷ without u (values_of es))
+    (without u (values_of es))) [
+      | true ↦ λ same. sym
+          (none_of u (values_of es) (all_kept_by (λ (d : WebCopy _). d.key ≡ e.1.key → ⊥) (λ (d : WebCopy _). d.key ≡ u → ⊥)
+          (λ d n f. n (f ∙ sym (same_text e.1.key u same))) (values_of es) one.0))
       | false ↦ λ other. ap (λ cs. e.1 ∷ cs) (out_of u es keyed.1 one.1)
     ]) refl
 
@@ -76,14 +80,17 @@ keyed_take (suc n) [] keyed = tt
 keyed_take (suc n) (e ∷ es) keyed = (keyed.0, keyed_take n es keyed.1)
 
 -- an entry that is found holds the key's copy
-found_entry : {X : Type 0} (u : List ℕ) (es : List (Entry X)) (o : Option (Entry X)) → AreKeyed es → lookup_entry (bytes_eq u) es ≡ o → copy_of u (values_of es) ≡ option_map (λ e. e.1) o
+found_entry : {X : Type 0} (u : List ℕ) (es : List (Entry X)) (o : Option (Entry X)) → AreKeyed es → lookup_entry (bytes_eq u) es ≡ o →
+    copy_of u (values_of es) ≡ option_map (λ e. e.1) o
 found_entry u es o keyed h = sym (found_in u es keyed) ∙ sym (lookup-lookup_entry (bytes_eq u) es) ∙ ap (option_map (λ (e : Entry _). e.1)) h
 
 -- the key's copy comes to the front
-pub front_of : {X : Type 0} (u : List ℕ) (es : List (Entry X)) → AreKeyed es → OneEach (values_of es) → values_of (promoted (bytes_eq u) es) ≡ to_front u (values_of es)
+pub front_of : {X : Type 0} (u : List ℕ) (es : List (Entry X)) → AreKeyed es → OneEach (values_of es) →
+    values_of (promoted (bytes_eq u) es) ≡ to_front u (values_of es)
 front_of u es keyed one = go (lookup_entry (bytes_eq u) es) refl
   where
-    go : (o : Option (Entry _)) → lookup_entry (bytes_eq u) es ≡ o → values_of (option_map_or (λ e. e ∷ remove_entry (bytes_eq u) es) o es) ≡ to_front u (values_of es)
+    go : (o : Option (Entry _)) → lookup_entry (bytes_eq u) es ≡ o → values_of (option_map_or (λ e. e ∷ remove_entry (bytes_eq u) es) o es) ≡ to_front u
+        (values_of es)
     go None h =
         let none : copy_of u (values_of es) ≡ None = found_entry u es None keyed h in
         sym (ap (λ o. in_front o (without u (values_of es))) none ∙ none_out u (values_of es) none)
@@ -99,17 +106,22 @@ keyed_front test es keyed = go (lookup_entry test es) refl
     go (Some e) h = (keyed_found test es e keyed h, keyed_out test es keyed)
 
 -- the map stays as it must be, too
-pub cached_front : {X : Type 0} (test : List ℕ → Bool) (cache : LruCache (List ℕ) (WebCopy X)) → IsCached cache → IsCached (lru_cache (promoted test cache.entries) cache.cap)
+pub cached_front : {X : Type 0} (test : List ℕ → Bool) (cache : LruCache (List ℕ) (WebCopy X)) → IsCached cache →
+    IsCached (lru_cache (promoted test cache.entries) cache.cap)
 cached_front test cache is = record { keyed = keyed_front test cache.entries is.keyed; cap = is.cap }
 
-pub cached_out : {X : Type 0} (test : List ℕ → Bool) (cache : LruCache (List ℕ) (WebCopy X)) → IsCached cache → IsCached (lru_cache (remove_entry test cache.entries) cache.cap)
+pub cached_out : {X : Type 0} (test : List ℕ → Bool) (cache : LruCache (List ℕ) (WebCopy X)) → IsCached cache →
+    IsCached (lru_cache (remove_entry test cache.entries) cache.cap)
 cached_out test cache is = record { keyed = keyed_out test cache.entries is.keyed; cap = is.cap }
 
 -- a new copy comes to the front, and its key's old one goes
-pub put_in : {X : Type 0} (cache : LruCache (List ℕ) (WebCopy X)) (c : WebCopy X) → length cache.entries ≤ cache.cap - 1 → AreKeyed cache.entries → OneEach (copies_in cache) → values_of (put_entries bytes_eq cache c.key c) ≡ c ∷ without c.key (copies_in cache)
+pub put_in : {X : Type 0} (cache : LruCache (List ℕ) (WebCopy X)) (c : WebCopy X) → length cache.entries ≤ cache.cap - 1 → AreKeyed cache.entries →
+    OneEach (copies_in cache) → values_of (put_entries bytes_eq cache c.key c) ≡ c ∷ without c.key (copies_in cache)
 put_in cache c room keyed one = go (lookup_entry (bytes_eq c.key) cache.entries) refl
   where
-    go : (o : Option (Entry _)) → lookup_entry (bytes_eq c.key) cache.entries ≡ o → values_of (option_map_or (λ e. (e.0, c) ∷ remove_entry (bytes_eq c.key) cache.entries) o ((c.key, c) ∷ take (cache.cap - 1) cache.entries)) ≡ c ∷ without c.key (copies_in cache)
+    go : (o : Option (Entry _)) → lookup_entry (bytes_eq c.key) cache.entries ≡ o →
+        values_of (option_map_or (λ e. (e.0, c) ∷ remove_entry (bytes_eq c.key) cache.entries) o ((c.key, c) ∷ take (cache.cap - 1) cache.entries)) ≡ c
+        ∷ without c.key (copies_in cache)
     go None h =
         let none : copy_of c.key (copies_in cache) ≡ None = found_entry c.key cache.entries None keyed h in
         ap (λ es. c ∷ values_of es) (take_all (cache.cap - 1) cache.entries room)
@@ -128,11 +140,13 @@ passes test (f ∷ es) e h =
 keyed_put : {X : Type 0} (cache : LruCache (List ℕ) (WebCopy X)) (c : WebCopy X) → AreKeyed cache.entries → AreKeyed (put_entries bytes_eq cache c.key c)
 keyed_put cache c keyed = go (lookup_entry (bytes_eq c.key) cache.entries) refl
   where
-    go : (o : Option (Entry _)) → lookup_entry (bytes_eq c.key) cache.entries ≡ o → AreKeyed (option_map_or (λ e. (e.0, c) ∷ remove_entry (bytes_eq c.key) cache.entries) o ((c.key, c) ∷ take (cache.cap - 1) cache.entries))
+    go : (o : Option (Entry _)) → lookup_entry (bytes_eq c.key) cache.entries ≡ o →
+        AreKeyed (option_map_or (λ e. (e.0, c) ∷ remove_entry (bytes_eq c.key) cache.entries) o ((c.key, c) ∷ take (cache.cap - 1) cache.entries))
     go None h = (refl, keyed_take (cache.cap - 1) cache.entries keyed)
     go (Some e) h = (sym (same_text c.key e.0 (passes (bytes_eq c.key) cache.entries e h)), keyed_out (bytes_eq c.key) cache.entries keyed)
 
-pub cached_put : {X : Type 0} (cache : LruCache (List ℕ) (WebCopy X)) (c : WebCopy X) → IsCached cache → IsCached (lru_cache (put_entries bytes_eq cache c.key c) cache.cap)
+pub cached_put : {X : Type 0} (cache : LruCache (List ℕ) (WebCopy X)) (c : WebCopy X) → IsCached cache →
+    IsCached (lru_cache (put_entries bytes_eq cache c.key c) cache.cap)
 cached_put cache c is = record { keyed = keyed_put cache c is.keyed; cap = is.cap }
 
 -- the last entry, and those before it
@@ -157,7 +171,8 @@ values_shown [] = refl
 values_shown (y ∷ ys) = ap (λ cs. y.1.now ∷ cs) (values_shown ys)
 
 -- a copy of another key than these stays
-stays : {X : Type 0} (keys : List (List ℕ)) (x : WebCopy X) (xs : List (WebCopy X)) → AllByRecursion (λ k. k ≡ x.key → ⊥) keys → without_each keys (x ∷ xs) ≡ x ∷ without_each keys xs
+stays : {X : Type 0} (keys : List (List ℕ)) (x : WebCopy X) (xs : List (WebCopy X)) → AllByRecursion (λ k. k ≡ x.key → ⊥) keys →
+    without_each keys (x ∷ xs) ≡ x ∷ without_each keys xs
 stays [] x xs others = refl
 stays (k ∷ keys) x xs others =
     let other : is_of k x ≡ false = not_so (is_of k x) (λ same. others.0 (sym (same_text x.key k same))) in
@@ -168,20 +183,27 @@ stays (k ∷ keys) x xs others =
     not_so true h = absurd (h refl)
     not_so false h = refl
 
-others_mapped : {X : Type 0} (k : List ℕ) (xs : List (WebCopy X)) → AllByRecursion (λ d. d.key ≡ k → ⊥) xs → AllByRecursion (λ j. j ≡ k → ⊥) (map (λ c. c.key) xs)
+others_mapped : {X : Type 0} (k : List ℕ) (xs : List (WebCopy X)) → AllByRecursion (λ d. d.key ≡ k → ⊥) xs →
+    AllByRecursion (λ j. j ≡ k → ⊥) (map (λ c. c.key) xs)
 others_mapped k [] all = tt
 others_mapped k (x ∷ xs) all = (all.0, others_mapped k xs all.1)
 
 -- without the keys of the copies that pass a test, those that do not pass are left
-pub without_passing : {X : Type 0} (test : WebCopy X → Bool) (xs : List (WebCopy X)) → OneEach xs → without_each (map (λ c. c.key) (filter test xs)) xs ≡ filter (λ c. not (test c)) xs
+pub without_passing : {X : Type 0} (test : WebCopy X → Bool) (xs : List (WebCopy X)) → OneEach xs →
+    without_each (map (λ c. c.key) (filter test xs)) xs ≡ filter (λ c. not (test c)) xs
 without_passing test [] one = refl
 without_passing test (x ∷ xs) one =
-    elim (test x) as (λ b. without_each (map (λ (c : WebCopy _). c.key) (cond b (x ∷ filter test xs) (filter test xs))) (x ∷ xs) ≡ cond (not b) (x ∷ filter (λ c. not (test c)) xs) (filter (λ c. not (test c)) xs)) [
-      | true ↦ ap (without_each (map (λ (c : WebCopy _). c.key) (filter test xs))) (rest_of x.key x xs one (text_same x.key x.key refl)) ∙ without_passing test xs one.1
-      | false ↦ stays (map (λ (c : WebCopy _). c.key) (filter test xs)) x xs (others_mapped x.key (filter test xs) (all_kept (λ (d : WebCopy _). d.key ≡ x.key → ⊥) test xs one.0)) ∙ ap (λ ys. x ∷ ys) (without_passing test xs one.1)
+    elim (test x) as (λ b. without_each (map (λ (c : WebCopy _). c.key) (cond b (x ∷ filter test xs) (filter test xs))) (x ∷ xs) ≡ cond (not b)
+    (x ∷ filter (λ c. not (test c)) xs) (filter (λ c. not (test c)) xs)) [
+      | true ↦ ap (without_each (map (λ (c : WebCopy _). c.key) (filter test xs))) (rest_of x.key x xs one (text_same x.key x.key refl))
+          ∙ without_passing test xs one.1
+      | false ↦ stays (map (λ (c : WebCopy _). c.key) (filter test xs)) x xs
+          (others_mapped x.key (filter test xs) (all_kept (λ (d : WebCopy _). d.key ≡ x.key → ⊥) test xs one.0))
+          ∙ ap (λ ys. x ∷ ys) (without_passing test xs one.1)
     ]
 
 -- the keys to come, with the next one in front
-pub without_next : {X : Type 0} (keys : List (List ℕ)) (i : ℕ) (k : List ℕ) (xs : List (WebCopy X)) → i < length keys → k ≡ get_or keys i k → without_each (drop (i + 1) keys) (without k xs) ≡ without_each (drop i keys) xs
+pub without_next : {X : Type 0} (keys : List (List ℕ)) (i : ℕ) (k : List ℕ) (xs : List (WebCopy X)) → i < length keys → k ≡ get_or keys i k →
+    without_each (drop (i + 1) keys) (without k xs) ≡ without_each (drop i keys) xs
 without_next keys i k xs l is =
     sym (ap (λ ks. without_each ks xs) (drop_more keys i k l ∙ ap (λ j. j ∷ drop (i + 1) keys) (sym is)))

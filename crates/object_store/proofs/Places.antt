@@ -30,7 +30,8 @@ none_of u (x ∷ xs) all =
 pub rest_of : {X : Type 0} (u : List ℕ) (x : WebCopy X) (xs : List (WebCopy X)) → OneEach (x ∷ xs) → is_of u x ≡ true → without u (x ∷ xs) ≡ xs
 rest_of u x xs one same =
     ap (λ b. cond (not b) (x ∷ without u xs) (without u xs)) same
-    ∙ none_of u xs (all_kept_by (λ (d : WebCopy _). d.key ≡ x.key → ⊥) (λ (d : WebCopy _). d.key ≡ u → ⊥) (λ d n e. n (e ∙ sym (same_text x.key u same))) xs one.0)
+    ∙ none_of u xs (all_kept_by (λ (d : WebCopy _). d.key ≡ x.key → ⊥) (λ (d : WebCopy _). d.key ≡ u → ⊥) (λ d n e. n (e ∙ sym (same_text x.key u same))) xs
+    one.0)
 
 -- nothing goes where the key has no copy
 pub none_out : {X : Type 0} (u : List ℕ) (xs : List (WebCopy X)) → copy_of u xs ≡ None → without u xs ≡ xs
@@ -42,12 +43,15 @@ none_out u (x ∷ xs) e =
     ]) e
 
 -- what goes with the key's copy
-pub octets_out : {X : Type 0} (u : List ℕ) (xs : List (WebCopy X)) (c : WebCopy X) → OneEach xs → copy_of u xs ≡ Some c → octets xs ≡ size c + octets (without u xs)
+pub octets_out : {X : Type 0} (u : List ℕ) (xs : List (WebCopy X)) (c : WebCopy X) → OneEach xs → copy_of u xs ≡ Some c →
+    octets xs ≡ size c + octets (without u xs)
 octets_out u [] c one e = absurd (none-some c e)
 octets_out u (x ∷ xs) c one e =
-    (elim (is_of u x) as (λ b. is_of u x ≡ b → cond b (Some x) (copy_of u xs) ≡ Some c → octets (x ∷ xs) ≡ size c + octets (cond (not b) (x ∷ without u xs) (without u xs))) [
+    (elim (is_of u x) as (λ b. is_of u x ≡ b → cond b (Some x) (copy_of u xs) ≡ Some c → octets (x ∷ xs) ≡ size c + octets
+    (cond (not b) (x ∷ without u xs) (without u xs))) [
       | true ↦ λ same e.
-          let gone : without u xs ≡ xs = none_of u xs (all_kept_by (λ (d : WebCopy _). d.key ≡ x.key → ⊥) (λ (d : WebCopy _). d.key ≡ u → ⊥) (λ d n e. n (e ∙ sym (same_text x.key u same))) xs one.0) in
+          let gone : without u xs ≡ xs = none_of u xs (all_kept_by (λ (d : WebCopy _). d.key ≡ x.key → ⊥) (λ (d : WebCopy _). d.key ≡ u → ⊥)
+          (λ d n e. n (e ∙ sym (same_text x.key u same))) xs one.0) in
           let here : size x ≡ size c = ap size (same_Some x c e) in
           let left : octets (without u xs) ≡ octets xs = ap octets gone in
           omega (arith, sum_by-cons size x xs, here, left)
@@ -66,7 +70,8 @@ none_without u (x ∷ xs) =
     ]) refl
 
 -- the count stays where the key's copy comes to the front
-pub counted_front : {X : Type 0} (most limit : ℕ) (u : List ℕ) (xs : List (WebCopy X)) (n : ℕ) (c : WebCopy X) → copy_of u xs ≡ Some c → IsCountedOf most limit xs n → IsCountedOf most limit (c ∷ without u xs) n
+pub counted_front : {X : Type 0} (most limit : ℕ) (u : List ℕ) (xs : List (WebCopy X)) (n : ℕ) (c : WebCopy X) → copy_of u xs ≡ Some c →
+    IsCountedOf most limit xs n → IsCountedOf most limit (c ∷ without u xs) n
 counted_front most limit u xs n c e is =
     let front : to_front u xs ≡ c ∷ without u xs = ap (λ o. in_front o (without u xs)) e in
     let out = octets_out u xs c is.is_store.one_each e in
@@ -77,7 +82,8 @@ counted_front most limit u xs n c e is =
     }
 
 -- the same, whether there is such a copy or not
-pub counted_to_front : {X : Type 0} (most limit : ℕ) (u : List ℕ) (xs : List (WebCopy X)) (n : ℕ) → IsCountedOf most limit xs n → IsCountedOf most limit (to_front u xs) n
+pub counted_to_front : {X : Type 0} (most limit : ℕ) (u : List ℕ) (xs : List (WebCopy X)) (n : ℕ) → IsCountedOf most limit xs n →
+    IsCountedOf most limit (to_front u xs) n
 counted_to_front most limit u xs n is = go (copy_of u xs) refl
   where
     go : (o : Option (WebCopy _)) → copy_of u xs ≡ o → IsCountedOf most limit (in_front o (without u xs)) n
@@ -85,7 +91,8 @@ counted_to_front most limit u xs n is = go (copy_of u xs) refl
     go (Some c) e = counted_front most limit u xs n c e is
 
 -- a store of which the key's copy is taken
-pub counted_out : {X : Type 0} (most limit : ℕ) (u : List ℕ) (xs : List (WebCopy X)) (n : ℕ) (c : WebCopy X) (m : ℕ) → copy_of u xs ≡ Some c → m ≡ size c → IsCountedOf most limit xs n → IsCountedOf most limit (without u xs) (n - m)
+pub counted_out : {X : Type 0} (most limit : ℕ) (u : List ℕ) (xs : List (WebCopy X)) (n : ℕ) (c : WebCopy X) (m : ℕ) → copy_of u xs ≡ Some c → m ≡ size c →
+    IsCountedOf most limit xs n → IsCountedOf most limit (without u xs) (n - m)
 counted_out most limit u xs n c m e same is =
     let out = octets_out u xs c is.is_store.one_each e in
     record {
@@ -104,16 +111,20 @@ none_cleared u n (x ∷ xs) all =
     ]) refl
 
 -- the key's copy goes exactly if it is below the number
-pub cleared : {X : Type 0} (u : List ℕ) (n : ℕ) (xs : List (WebCopy X)) → OneEach xs → without_below u n xs ≡ cond (is_older_than n (copy_of u xs)) (without u xs) xs
+pub cleared : {X : Type 0} (u : List ℕ) (n : ℕ) (xs : List (WebCopy X)) → OneEach xs → without_below u n xs ≡ cond (is_older_than n (copy_of u xs))
+    (without u xs) xs
 cleared u n [] one = refl
 cleared u n (x ∷ xs) one =
-    let others : (is_of u x ≡ true) → AllByRecursion (λ d. d.key ≡ u → ⊥) xs = λ same. all_kept_by (λ (d : WebCopy _). d.key ≡ x.key → ⊥) (λ (d : WebCopy _). d.key ≡ u → ⊥) (λ d n e. n (e ∙ sym (same_text x.key u same))) xs one.0 in
-    (elim (is_of u x) as (λ b. is_of u x ≡ b → cond (not (b && nat_lt x.stamp n)) (x ∷ without_below u n xs) (without_below u n xs) ≡ cond (is_older_than n (cond b (Some x) (copy_of u xs))) (cond (not b) (x ∷ without u xs) (without u xs)) (x ∷ xs)) [
+    let others : (is_of u x ≡ true) → AllByRecursion (λ d. d.key ≡ u → ⊥) xs = λ same. all_kept_by (λ (d : WebCopy _). d.key ≡ x.key → ⊥)
+    (λ (d : WebCopy _). d.key ≡ u → ⊥) (λ d n e. n (e ∙ sym (same_text x.key u same))) xs one.0 in
+    (elim (is_of u x) as (λ b. is_of u x ≡ b → cond (not (b && nat_lt x.stamp n)) (x ∷ without_below u n xs) (without_below u n xs) ≡ cond
+    (is_older_than n (cond b (Some x) (copy_of u xs))) (cond (not b) (x ∷ without u xs) (without u xs)) (x ∷ xs)) [
       | true ↦ λ same. by_stamp (nat_lt x.stamp n) (none_cleared u n xs (others same)) (none_of u xs (others same))
       | false ↦ λ other. ap (λ ys. x ∷ ys) (cleared u n xs one.1) ∙ in_both (is_older_than n (copy_of u xs))
     ]) refl
   where
-    by_stamp : (t : Bool) → without_below u n xs ≡ xs → without u xs ≡ xs → cond (not t) (x ∷ without_below u n xs) (without_below u n xs) ≡ cond t (without u xs) (x ∷ xs)
+    by_stamp : (t : Bool) → without_below u n xs ≡ xs → without u xs ≡ xs → cond (not t) (x ∷ without_below u n xs) (without_below u n xs) ≡ cond t
+        (without u xs) (x ∷ xs)
     by_stamp true e f = e ∙ sym f
     by_stamp false e f = ap (λ ys. x ∷ ys) e
 
@@ -132,12 +143,14 @@ all_fit count bytes (x ∷ xs) l o =
     ∙ ap (λ ys. x ∷ ys) (all_fit (count - 1) (bytes - size x) xs (omega arith) (omega (arith, sum_by-cons size x xs)))
 
 -- a list that does not fit fits as far as without its last
-pub last_over : {X : Type 0} (count bytes : ℕ) (xs : List (WebCopy X)) (y : WebCopy X) → (count < length (xs ++ y ∷ [])) ⊎ (bytes < octets (xs ++ y ∷ [])) → fitting count bytes (xs ++ y ∷ []) ≡ fitting count bytes xs
+pub last_over : {X : Type 0} (count bytes : ℕ) (xs : List (WebCopy X)) (y : WebCopy X) → (count < length (xs ++ y ∷ [])) ⊎ (bytes < octets (xs ++ y ∷ [])) →
+    fitting count bytes (xs ++ y ∷ []) ≡ fitting count bytes xs
 last_over count bytes [] y over =
     let no : (nat_lt 0 count && nat_le (size y) bytes) ≡ false = elim over [ inl o ↦ grind arith | inr o ↦ grind (arith, sum_by-cons size y []) ] in
     ap (λ b. cond b (y ∷ []) []) no
 last_over count bytes (x ∷ xs) y over =
-    (elim (nat_lt 0 count && nat_le (size x) bytes) as (λ b. (nat_lt 0 count && nat_le (size x) bytes) ≡ b → cond b (x ∷ fitting (count - 1) (bytes - size x) (xs ++ y ∷ [])) [] ≡ cond b (x ∷ fitting (count - 1) (bytes - size x) xs) []) [
+    (elim (nat_lt 0 count && nat_le (size x) bytes) as (λ b. (nat_lt 0 count && nat_le (size x) bytes) ≡ b →
+    cond b (x ∷ fitting (count - 1) (bytes - size x) (xs ++ y ∷ [])) [] ≡ cond b (x ∷ fitting (count - 1) (bytes - size x) xs) []) [
       | true ↦ λ e.
           let room : size x ≤ bytes = second_true _ (size x) bytes e in
           let some : 0 < count = grind arith in

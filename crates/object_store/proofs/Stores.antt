@@ -23,7 +23,8 @@ IsStoreOf most limit copies = IsStore (store most limit copies)
 
 -- Lists
 
-pub all_filtered : {A : Type 0} (P Q : A → Type 0) (test : A → Bool) (xs : List A) → ((x : A) → P x → test x ≡ true → Q x) → AllByRecursion P xs → AllByRecursion Q (filter test xs)
+pub all_filtered : {A : Type 0} (P Q : A → Type 0) (test : A → Bool) (xs : List A) → ((x : A) → P x → test x ≡ true → Q x) → AllByRecursion P xs →
+    AllByRecursion Q (filter test xs)
 all_filtered P Q test [] h all = tt
 all_filtered P Q test (x ∷ xs) h all =
     branches (AllByRecursion Q) (test x) (x ∷ filter test xs) (filter test xs)
@@ -43,11 +44,13 @@ pub sum_filter : {A : Type 0} (f : A → ℕ) (test : A → Bool) (xs : List A) 
 sum_filter f test [] = omega arith
 sum_filter f test (x ∷ xs) =
     branches (λ ys. sum_by f ys ≤ sum_by f (x ∷ xs)) (test x) (x ∷ filter test xs) (filter test xs)
-    (λ _. omega (arith, sum_filter f test xs, sum_by-cons f x xs, sum_by-cons f x (filter test xs))) (λ _. omega (arith, sum_filter f test xs, sum_by-cons f x xs))
+    (λ _. omega (arith, sum_filter f test xs, sum_by-cons f x xs, sum_by-cons f x (filter test xs)))
+    (λ _. omega (arith, sum_filter f test xs, sum_by-cons f x xs))
 
 -- Copies
 
-pub all_fitting : {X : Type 0} (P : WebCopy X → Type 0) (count bytes : ℕ) (copies : List (WebCopy X)) → AllByRecursion P copies → AllByRecursion P (fitting count bytes copies)
+pub all_fitting : {X : Type 0} (P : WebCopy X → Type 0) (count bytes : ℕ) (copies : List (WebCopy X)) → AllByRecursion P copies →
+    AllByRecursion P (fitting count bytes copies)
 all_fitting P count bytes [] all = tt
 all_fitting P count bytes (c ∷ copies) all =
     branches (AllByRecursion P) (nat_lt 0 count && nat_le (size c) bytes) (c ∷ fitting (count - 1) (bytes - size c) copies) []
@@ -63,7 +66,10 @@ pub one_each_fitting : {X : Type 0} (count bytes : ℕ) (copies : List (WebCopy 
 one_each_fitting count bytes [] one = tt
 one_each_fitting count bytes (c ∷ copies) one =
     branches OneEach (nat_lt 0 count && nat_le (size c) bytes) (c ∷ fitting (count - 1) (bytes - size c) copies) []
-    (λ _. (all_fitting (λ (d : WebCopy _). d.key ≡ c.key → ⊥) (count - 1) (bytes - size c) copies one.0, one_each_fitting (count - 1) (bytes - size c) copies one.1)) (λ _. tt)
+    (λ _. (
+      all_fitting (λ (d : WebCopy _). d.key ≡ c.key → ⊥) (count - 1) (bytes - size c) copies one.0,
+      one_each_fitting (count - 1) (bytes - size c) copies one.1,
+    )) (λ _. tt)
 
 -- the copies of all other keys are of other keys
 pub others_apart : {X : Type 0} (u : List ℕ) (copies : List (WebCopy X)) → AllByRecursion (λ d. d.key ≡ u → ⊥) (without u copies)
@@ -83,7 +89,9 @@ pub fits_bytes : {X : Type 0} (count bytes : ℕ) (copies : List (WebCopy X)) �
 fits_bytes count bytes [] = omega arith
 fits_bytes count bytes (c ∷ copies) =
     branches (λ (cs : List (WebCopy _)). octets cs ≤ bytes) (nat_lt 0 count && nat_le (size c) bytes) (c ∷ fitting (count - 1) (bytes - size c) copies) []
-    (λ h. let room : size c ≤ bytes = second_true _ (size c) bytes h in omega (arith, fits_bytes (count - 1) (bytes - size c) copies, room, sum_by-cons size c (fitting (count - 1) (bytes - size c) copies))) (λ _. omega arith)
+    (λ h. let room : size c ≤ bytes = second_true _ (size c) bytes h in
+    omega (arith, fits_bytes (count - 1) (bytes - size c) copies, room, sum_by-cons size c (fitting (count - 1) (bytes - size c) copies)))
+    (λ _. omega arith)
 
 -- what is found passes the test
 pub found_passes : {A : Type 0} (test : A → Bool) (xs : List A) (x : A) → find test xs ≡ Some x → test x ≡ true
@@ -96,11 +104,13 @@ found_passes test (y ∷ xs) x e =
     ]) refl e
 
 -- what is found leaves room, in number and in any measure
-pub found_room : {A : Type 0} (f : A → ℕ) (test : A → Bool) (xs : List A) (x : A) → find test xs ≡ Some x → (length (filter (λ y. not (test y)) xs) + 1 ≤ length xs) × (f x + sum_by f (filter (λ y. not (test y)) xs) ≤ sum_by f xs)
+pub found_room : {A : Type 0} (f : A → ℕ) (test : A → Bool) (xs : List A) (x : A) → find test xs ≡ Some x →
+    (length (filter (λ y. not (test y)) xs) + 1 ≤ length xs) × (f x + sum_by f (filter (λ y. not (test y)) xs) ≤ sum_by f xs)
 found_room f test [] x e = absurd (none-some x e)
 found_room f test (y ∷ xs) x e =
     let others : List _ = filter (λ y. not (test y)) xs in
-    let P : Bool → Type 0 = λ b. cond b (Some y) (find test xs) ≡ Some x → (length (cond (not b) (y ∷ others) others) + 1 ≤ length (y ∷ xs)) × (f x + sum_by f (cond (not b) (y ∷ others) others) ≤ sum_by f (y ∷ xs)) in
+    let P : Bool → Type 0 = λ b. cond b (Some y) (find test xs) ≡ Some x → (length (cond (not b) (y ∷ others) others) + 1 ≤ length (y ∷ xs))
+    × (f x + sum_by f (cond (not b) (y ∷ others) others) ≤ sum_by f (y ∷ xs)) in
     (elim (test y) as P [
       | true ↦ λ e.
           let here : f y ≡ f x = ap f (same_Some y x e) in
@@ -114,7 +124,8 @@ pub all_kept_by : {A : Type 0} (P Q : A → Type 0) → ((x : A) → P x → Q x
 all_kept_by P Q h [] all = tt
 all_kept_by P Q h (x ∷ xs) all = (h x all.0, all_kept_by P Q h xs all.1)
 
-pub store_filtered : {X : Type 0} (most limit : ℕ) (test : WebCopy X → Bool) (copies : List (WebCopy X)) → IsStoreOf most limit copies → IsStoreOf most limit (filter test copies)
+pub store_filtered : {X : Type 0} (most limit : ℕ) (test : WebCopy X → Bool) (copies : List (WebCopy X)) → IsStoreOf most limit copies →
+    IsStoreOf most limit (filter test copies)
 store_filtered most limit test copies is =
     record {
       within = (omega (arith, length_filter test copies, is.within.0), omega (arith, sum_filter size test copies, is.within.1));
@@ -124,7 +135,8 @@ store_filtered most limit test copies is =
 -- the operations of a node's step
 
 -- moving a copy to the front keeps a store
-pub store_to_front : {X : Type 0} (most limit : ℕ) (u : List ℕ) (copies : List (WebCopy X)) → IsStoreOf most limit copies → IsStoreOf most limit (to_front u copies)
+pub store_to_front : {X : Type 0} (most limit : ℕ) (u : List ℕ) (copies : List (WebCopy X)) → IsStoreOf most limit copies →
+    IsStoreOf most limit (to_front u copies)
 store_to_front most limit u copies is = go (copy_of u copies) refl
   where
     go : (o : Option (WebCopy _)) → copy_of u copies ≡ o → IsStoreOf most limit (in_front o (without u copies))
@@ -134,11 +146,16 @@ store_to_front most limit u copies is = go (copy_of u copies) refl
         let here : c.key ≡ u = same_text c.key u (found_passes (is_of u) copies c e) in
         record {
           within = (omega (arith, room.0, is.within.0), omega (arith, room.1, is.within.1, sum_by-cons size c (without u copies)));
-          one_each = (all_kept_by (λ (d : WebCopy _). d.key ≡ u → ⊥) (λ (d : WebCopy _). d.key ≡ c.key → ⊥) (λ d n same. n (same ∙ here)) (without u copies) (others_apart u copies), one_each_filtered _ copies is.one_each);
+          one_each = (
+            all_kept_by (λ (d : WebCopy _). d.key ≡ u → ⊥) (λ (d : WebCopy _). d.key ≡ c.key → ⊥) (λ d n same. n (same ∙ here)) (without u copies)
+                (others_apart u copies),
+            one_each_filtered _ copies is.one_each,
+          );
         }
 
 -- so does a put
-pub store_put : {X : Type 0} (most limit : ℕ) (c : WebCopy X) (copies : List (WebCopy X)) (answer : Put) → IsStoreOf most limit copies → IsStoreOf most limit (copies_after (store most limit copies) c answer)
+pub store_put : {X : Type 0} (most limit : ℕ) (c : WebCopy X) (copies : List (WebCopy X)) (answer : Put) → IsStoreOf most limit copies →
+    IsStoreOf most limit (copies_after (store most limit copies) c answer)
 store_put most limit c copies TooLarge is = is
 store_put most limit c copies Kept is = is
 store_put most limit c copies Stored is =
@@ -151,11 +168,13 @@ store_put most limit c copies Stored is =
 front : {X : Type 0} (count bytes : ℕ) (copies : List (WebCopy X)) → take (length (fitting count bytes copies)) copies ≡ fitting count bytes copies
 front count bytes [] = refl
 front count bytes (c ∷ copies) =
-    branches (λ (cs : List (WebCopy _)). take (length cs) (c ∷ copies) ≡ cs) (nat_lt 0 count && nat_le (size c) bytes) (c ∷ fitting (count - 1) (bytes - size c) copies) []
+    branches (λ (cs : List (WebCopy _)). take (length cs) (c ∷ copies) ≡ cs) (nat_lt 0 count && nat_le (size c) bytes)
+    (c ∷ fitting (count - 1) (bytes - size c) copies) []
     (λ _. ap (λ cs. c ∷ cs) (front (count - 1) (bytes - size c) copies)) (λ _. refl)
 
 -- no longer front is within the limits
-no_longer : {X : Type 0} (count bytes : ℕ) (copies : List (WebCopy X)) (n : ℕ) → n ≤ length copies → IsWithin count bytes (take n copies) → n ≤ length (fitting count bytes copies)
+no_longer : {X : Type 0} (count bytes : ℕ) (copies : List (WebCopy X)) (n : ℕ) → n ≤ length copies → IsWithin count bytes (take n copies) →
+    n ≤ length (fitting count bytes copies)
 no_longer count bytes [] n few within = few
 no_longer count bytes (c ∷ copies) zero few within = omega arith
 no_longer count bytes (c ∷ copies) (suc n) few within =

@@ -9,4 +9,5 @@ use Rattle.object_store.specs.contracts.store.Store.{the_row}
 -- the same store, with the copy of the key in front
 abbrev pub EndsInFront : (T : RattleType) → MutBor (Held T.Denot) → List ℕ → Fml
 EndsInFront T s key =
-    follows_so (the_row T) (the_row T) s.ghost_name none (λ _ _. ⊤) (λ n. n ≡ with_copies s.now (to_front key s.now.copies))
+    follows_so (the_row T) (the_row T) s.ghost_name none (λ _ _. ⊤)
+    (λ n. n ≡ with_copies s.now (to_front key s.now.copies))

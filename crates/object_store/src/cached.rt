@@ -33,8 +33,10 @@ pub(crate) fn put_first<T: Drop>(
     requires cached { IsCached cache.old }
     requires one_each { OneEach (copies_in cache.old) }
     requires octets { octets ≡ octets_in (copies_in cache.old) }
-    ensures copies { OnOk result (copies_in cache.new ≡ copy ∷ without_key copy.key (copies_in cache.old)) }
-    ensures octets { IfOk result (λ others. others ≡ octets_in (without_key copy.key (copies_in cache.old))) }
+    ensures copies { OnOk result (copies_in cache.new ≡ copy
+        ∷ without_key copy.key (copies_in cache.old)) }
+    ensures octets { IfOk result (λ others.
+        others ≡ octets_in (without_key copy.key (copies_in cache.old))) }
     ensures cached { OnOk result (IsCached cache.new) }
     ensures err { OnErr result (cache.new ≡ cache.old) }
     ensures returned { IfErr result (λ refused. refused.0 ≡ copy) }
@@ -87,7 +89,9 @@ pub(crate) fn keys_below<T>(
     cache: &LruCache<Key, WebCopy<T>, Hashing>,
     stamp: u32,
 ) -> Result<Vec<Key>, AllocError>
-    ensures { IfOk result (λ keys. keys.items ≡ map (λ c. c.key) (filter (λ c. nat_lt c.stamp stamp) (copies_in cache.now))) }
+    ensures { IfOk result (λ keys.
+        keys.items ≡ map (λ c. c.key) (filter (λ c.
+        nat_lt c.stamp stamp) (copies_in cache.now))) }
 {
     let mut keys = Vec::new(alloc);
     for (_, copy) in cache.iter() {

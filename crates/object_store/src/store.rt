@@ -241,7 +241,8 @@ impl<T: Drop> Store<T> {
         requires size { octets ≡ size_of_copy copy }
         requires fits { octets ≤ self.old.limit_bytes }
         ensures ok { OnOk result (self.new ≡ with_copies self.old
-            (fitting self.old.limit_count self.old.limit_bytes (copy ∷ without_key copy.key self.old.copies))) }
+            (fitting self.old.limit_count self.old.limit_bytes
+            (copy ∷ without_key copy.key self.old.copies))) }
         ensures err { OnErr result (self.new ≡ self.old) }
         ensures returned { IfErr result (λ refused. refused.0 ≡ copy) }
     {
@@ -271,7 +272,8 @@ impl<T: Drop> Store<T> {
     /// Drops the copy of the key if its stamp is less than this. Returns whether it dropped one.
     pub fn clear_below(&mut self, key: &Key, stamp: u32) -> bool
         ensures answer { result ≡ is_older_than stamp (copy_by_key key.now self.old.copies) }
-        ensures removed { self.new ≡ with_copies self.old (without_below key.now stamp self.old.copies) }
+        ensures removed { self.new ≡ with_copies self.old
+            (without_below key.now stamp self.old.copies) }
     {
         // (This read opens the invariant of the store for the proof. It does nothing at run time.)
         let _ = &self.limit_count;

@@ -16,7 +16,8 @@ found : (p : FirstAnswer → Bool) (ts : List FirstAnswer) (t : FirstAnswer) →
 found p [] t is = cc
 found p (s ∷ ts) t is = by_cases (p s) refl is (found p ts t)
   where
-    by_cases : (passes : Bool) → p s ≡ passes → cond passes (Some s) (find p ts) ≡ Some t → (find p ts ≡ Some t → Contains ts t × (p t ≡ true)) → Contains (s ∷ ts) t × (p t ≡ true)
+    by_cases : (passes : Bool) → p s ≡ passes → cond passes (Some s) (find p ts) ≡ Some t → (find p ts ≡ Some t → Contains ts t × (p t ≡ true)) →
+        Contains (s ∷ ts) t × (p t ≡ true)
     by_cases true passes here further =
         let same : s ≡ t = cc in
         ((0, omega arith, same), subst (λ (x : FirstAnswer). p x ≡ true) same passes)
@@ -31,18 +32,29 @@ module _ (r : RoundText) (floor : ℕ) (tried : List ℕ) (id : ℕ) (only : Boo
       let parts = and_parts (is_open floor tried t.peer) (is_hit floor t.said) there.1 in
       record { answer = t; answered = there.0; peer = cc; sibling = cc; untried = parts.0; useful = inl parts.1 }
 
-  after_a_miss : (o : Option FirstAnswer) → find (is_parent_miss floor tried) r.answers ≡ o → from_parent o ≡ source.Peer id only → FollowsAnswer r floor tried id only
+  after_a_miss : (o : Option FirstAnswer) → find (is_parent_miss floor tried) r.answers ≡ o → from_parent o ≡ source.Peer id only →
+      FollowsAnswer r floor tried id only
   after_a_miss None is goes = cc
   after_a_miss (Some t) is goes =
       let there = found (is_parent_miss floor tried) r.answers t is in
       let parts = and_parts (is_open floor tried t.peer) (is_parent t.peer.role && is_miss t.said) there.1 in
-      record { answer = t; answered = there.0; peer = cc; sibling = cc; untried = parts.0; useful = inr (and_parts (is_parent t.peer.role) (is_miss t.said) parts.1) }
+      record {
+        answer = t;
+        answered = there.0;
+        peer = cc;
+        sibling = cc;
+        untried = parts.0;
+        useful =
+            inr (and_parts (is_parent t.peer.role) (is_miss t.said) parts.1);
+      }
 
-  without_a_hit : (over : Bool) → cond over (from_parent (find (is_parent_miss floor tried) r.answers)) source.Wait ≡ source.Peer id only → FollowsAnswer r floor tried id only
+  without_a_hit : (over : Bool) → cond over (from_parent (find (is_parent_miss floor tried) r.answers)) source.Wait ≡ source.Peer id only →
+      FollowsAnswer r floor tried id only
   without_a_hit true goes = after_a_miss (find (is_parent_miss floor tried) r.answers) refl goes
   without_a_hit false goes = cc
 
-  by_hit : (o : Option FirstAnswer) → find (is_good_hit floor tried) r.answers ≡ o → from_hit r floor tried o ≡ source.Peer id only → FollowsAnswer r floor tried id only
+  by_hit : (o : Option FirstAnswer) → find (is_good_hit floor tried) r.answers ≡ o → from_hit r floor tried o ≡ source.Peer id only →
+      FollowsAnswer r floor tried id only
   by_hit (Some t) is goes = after_a_hit t is goes
   by_hit None is goes = without_a_hit (is_over r) goes
 

@@ -9,11 +9,13 @@ use Rattle.values_tables.specs.declared.plain.Tables.{Tables}
 use Rattle.roster.specs.Lookups.{peers_in, peers_of}
 use Rattle.roster.specs.Judged.{IsRoster}
 
-first_or_later : (same : Bool) (m : Member) (later : Option Member) → length m.peers ≤ 23 → length (peers_in later) ≤ 23 → length (peers_in (cond same (Some m) later)) ≤ 23
+first_or_later : (same : Bool) (m : Member) (later : Option Member) → length m.peers ≤ 23 → length (peers_in later) ≤ 23 →
+    length (peers_in (cond same (Some m) later)) ≤ 23
 first_or_later true m later here there = here
 first_or_later false m later here there = there
 
-few_of_members : (members : List Member) (id : ℕ) → list_any (λ m. nat_lt 23 (length m.peers)) members ≡ false → length (peers_in (find (λ m. m.cache.id == id) members)) ≤ 23
+few_of_members : (members : List Member) (id : ℕ) → list_any (λ m. nat_lt 23 (length m.peers)) members ≡ false →
+    length (peers_in (find (λ m. m.cache.id == id) members)) ≤ 23
 few_of_members [] id few = omega arith
 few_of_members (m ∷ members) id few =
     let parts = or_parts (nat_lt 23 (length m.peers)) (list_any (λ m. nat_lt 23 (length m.peers)) members) few in

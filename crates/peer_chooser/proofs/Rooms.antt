@@ -54,7 +54,8 @@ first_waits q asked answers said silent =
     let others = awaited_no_more asked answers t in
     omega (arith, more_peers answers q asked, more_peers (answers ++ t ∷ []) q asked, others, waits_not answers t, silent_waits answers q silent)
 
-pub awaited_less : (asked : List Peer) (answers : List FirstAnswer) (id : ℕ) (p : Peer) (said : Said) → has_answered answers id ≡ false → find (λ q. q.id == id) asked ≡ Some p
+pub awaited_less : (asked : List Peer) (answers : List FirstAnswer) (id : ℕ) (p : Peer) (said : Said) → has_answered answers id ≡ false →
+    find (λ q. q.id == id) asked ≡ Some p
     → awaited_count asked (answers ++ record { peer = p; said = said } ∷ []) + 1 ≤ awaited_count asked answers
 awaited_less [] answers id p said silent found = cc
 awaited_less (q ∷ asked) answers id p said silent found = by_cases (q.id == id) refl found (awaited_less asked answers id p said silent)
@@ -65,14 +66,16 @@ awaited_less (q ∷ asked) answers id p said silent found = by_cases (q.id == id
     by_cases true same here further =
         let is : q ≡ p = cc in
         let silent_q : has_answered answers q.id ≡ false = rw (eqb-true q.id id same) silent in
-        subst (λ (r : Peer). awaited_count (q ∷ asked) (answers ++ record { peer = r; said = said } ∷ []) + 1 ≤ awaited_count (q ∷ asked) answers) is (first_waits q asked answers said silent_q)
+        subst (λ (r : Peer). awaited_count (q ∷ asked) (answers ++ record { peer = r; said = said } ∷ []) + 1 ≤ awaited_count (q ∷ asked) answers) is
+        (first_waits q asked answers said silent_q)
     by_cases false other later further =
         let t : FirstAnswer = record { peer = p; said = said } in
         let here = waits_no_more answers t q in
         let others = further later in
         omega (arith, more_peers answers q asked, more_peers (answers ++ t ∷ []) q asked, here, others)
 
-awaited_parts : (answers : List FirstAnswer) (id : ℕ) (others : Option Peer) (p : Peer) → cond (has_answered answers id) None others ≡ Some p → (has_answered answers id ≡ false) × (others ≡ Some p)
+awaited_parts : (answers : List FirstAnswer) (id : ℕ) (others : Option Peer) (p : Peer) → cond (has_answered answers id) None others ≡ Some p →
+    (has_answered answers id ≡ false) × (others ≡ Some p)
 awaited_parts answers id others p is = by_cases (has_answered answers id) is
   where
     by_cases : (has : Bool) → cond has None others ≡ Some p → (has ≡ false) × (others ≡ Some p)
@@ -85,9 +88,11 @@ awaited_parts answers id others p is = by_cases (has_answered answers id) is
 abbrev pub seen : List Peer → ℕ → List FirstAnswer → ℕ → Bool → RoundText
 seen asked asked_count answers answer_count expired = record { asked = take asked_count asked; answers = take answer_count answers; expired = expired }
 
-module _ (asked : List Peer) (asked_count : ℕ) (answers : List FirstAnswer) (answer_count : ℕ) (expired : Bool) (id : ℕ) (p : Peer) (said : Said) (room : HasRoom asked asked_count answers answer_count)
+module _ (asked : List Peer) (asked_count : ℕ) (answers : List FirstAnswer) (answer_count : ℕ) (expired : Bool) (id : ℕ) (p : Peer) (said : Said)
+    (room : HasRoom asked asked_count answers answer_count)
     (is : awaited (seen asked asked_count answers answer_count expired) id ≡ Some p) where
-  less : awaited_count (take asked_count asked) (take answer_count answers ++ record { peer = p; said = said } ∷ []) + 1 ≤ awaited_count (take asked_count asked) (take answer_count answers)
+  less : awaited_count (take asked_count asked) (take answer_count answers ++ record { peer = p; said = said } ∷ []) + 1 ≤ awaited_count
+      (take asked_count asked) (take answer_count answers)
   less =
       let parts = awaited_parts (take answer_count answers) id (find (λ q. q.id == id) (take asked_count asked)) p is in
       awaited_less (take asked_count asked) (take answer_count answers) id p said parts.0 parts.1
@@ -105,7 +110,9 @@ module _ (asked : List Peer) (asked_count : ℕ) (answers : List FirstAnswer) (a
     room = rw (take_more_set answers answer_count record { peer = p; said = said } within) (omega (arith, less, room.room));
   }
 
-  pub seen_more : seen asked asked_count (set answers answer_count record { peer = p; said = said }) (answer_count + 1) expired ≡ answered (seen asked asked_count answers answer_count expired) id said
+  pub seen_more : seen asked asked_count (set answers answer_count record { peer = p; said = said }) (answer_count + 1) expired ≡ answered
+      (seen asked asked_count answers answer_count expired) id said
   seen_more =
-      ap (λ (ts : List FirstAnswer). record { asked = take asked_count asked; answers = ts; expired = expired }) (take_more_set answers answer_count record { peer = p; said = said } within)
+      ap (λ (ts : List FirstAnswer). record { asked = take asked_count asked; answers = ts; expired = expired })
+      (take_more_set answers answer_count record { peer = p; said = said } within)
       ∙ sym (ap (with_answer (seen asked asked_count answers answer_count expired) said) is)

@@ -88,7 +88,8 @@ fn good_hit<'a>(answers: &'a [FirstAnswer], floor: u32, tried: &[u8]) -> Option<
 
 /// The first parent's miss to arrive that may be followed.
 fn parent_miss<'a>(answers: &'a [FirstAnswer], floor: u32, tried: &[u8]) -> Option<&'a FirstAnswer>
-    ensures { option_map (λ t. t.now) result ≡ find (spec.is_parent_miss floor tried.now) answers.now }
+    ensures { option_map (λ t. t.now) result
+        ≡ find (spec.is_parent_miss floor tried.now) answers.now }
 {
     answers.iter().find(|t| is_parent_miss(floor, tried, **t))
 }

@@ -173,7 +173,8 @@ fn peers_of(roster: &Roster, id: u8) -> &[Peer]
 
 /// The peer with this id, if it was asked and has not answered.
 fn awaited(asked: &[Peer], answers: &[FirstAnswer], id: u8) -> Option<Peer>
-    ensures { result ≡ (if has_answered_in answers.now id then None else find (λ p. p.id == id) asked.now) }
+    ensures { result ≡ (if has_answered_in answers.now id then None
+        else find (λ p. p.id == id) asked.now) }
 {
     if has_answered(answers, id) {
         None

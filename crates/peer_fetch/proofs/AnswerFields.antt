@@ -43,7 +43,8 @@ kept_lines_are : (fields : List FieldText) → flat_map pair_line (map pair_of f
 kept_lines_are [] = refl
 kept_lines_are (f ∷ fields) = ap (λ (t : List ℕ). kept_line f ++ t) (kept_lines_are fields)
 
-own_lines : (age stamp len : Option ℕ) (via tail : List ℕ) → flat_map pair_line (own_pairs age stamp len via) ++ tail ≡ number_lines age stamp len ++ (last_lines via ++ tail)
+own_lines : (age stamp len : Option ℕ) (via tail : List ℕ) → flat_map pair_line (own_pairs age stamp len via) ++ tail ≡ number_lines age stamp len
+    ++ (last_lines via ++ tail)
 own_lines age stamp len via tail =
     let A : Pairs = number_pairs (codes "age") age in
     let S : Pairs = number_pairs (codes "x-purge-stamp") stamp in
@@ -66,7 +67,8 @@ pub answer_lines : (fields : List FieldText) (age stamp len : Option ℕ) (via t
     → flat_map pair_line (answer_pairs fields age stamp len via) ++ tail ≡ kept_lines fields ++ (number_lines age stamp len ++ (last_lines via ++ tail))
 answer_lines fields age stamp len via tail =
     let own : Pairs = own_pairs age stamp len via in
-    ap (λ (t : List ℕ). t ++ tail) (flat_map-append pair_line (map pair_of fields) own ∙ ap (λ (t : List ℕ). t ++ flat_map pair_line own) (kept_lines_are fields))
+    ap (λ (t : List ℕ). t ++ tail) (flat_map-append pair_line (map pair_of fields) own ∙ ap (λ (t : List ℕ). t ++ flat_map pair_line own)
+    (kept_lines_are fields))
     ∙ append_assoc (kept_lines fields) (flat_map pair_line own) tail
     ∙ ap (λ (t : List ℕ). kept_lines fields ++ t) (own_lines age stamp len via tail)
 
@@ -121,10 +123,12 @@ answer_plain fields age stamp len via plain a s l name =
 not_dropped : (name : List ℕ) (place : ℕ) → place < 14 → is_dropped_name name ≡ false → bytes_eq name (get_or dropped_names place []) ≡ false
 not_dropped name place within other = elim (cases_Bool (bytes_eq name (get_or dropped_names place []))) [
   | inr is ↦ is
-  | inl same ↦ let bad : is_dropped_name name ≡ true = list_any_at (bytes_eq name) dropped_names place [] within same in let clash : true ≡ false = sym bad ∙ other in cc
+  | inl same ↦ let bad : is_dropped_name name ≡ true = list_any_at (bytes_eq name) dropped_names place [] within same in
+      let clash : true ≡ false = sym bad ∙ other in cc
 ]
 
-kept_unnamed : (word : List ℕ) (place : ℕ) → place < 14 → word ≡ get_or dropped_names place [] → lowercase word ≡ word → (fields : List FieldText) → AllByRecursion IsPlainField fields → values_named word (map pair_of fields) ≡ []
+kept_unnamed : (word : List ℕ) (place : ℕ) → place < 14 → word ≡ get_or dropped_names place [] → lowercase word ≡ word → (fields : List FieldText) →
+    AllByRecursion IsPlainField fields → values_named word (map pair_of fields) ≡ []
 kept_unnamed word place within is lower [] plain = refl
 kept_unnamed word place within is lower (f ∷ fields) (this, others) =
     let apart : is_named word (pair_of f) ≡ false =
@@ -151,12 +155,15 @@ own_say (Some a) None (Some l) via = record { options = refl; coding = refl; age
 own_say (Some a) (Some s) None via = record { options = refl; coding = refl; ages = refl; stamps = refl; lengths = refl }
 own_say (Some a) (Some s) (Some l) via = record { options = refl; coding = refl; ages = refl; stamps = refl; lengths = refl }
 
-pub pairs_say : (fields : List FieldText) (age stamp len : Option ℕ) (via : List ℕ) → AllByRecursion IsPlainField fields → SaysOwn (answer_pairs fields age stamp len via) age stamp len
+pub pairs_say : (fields : List FieldText) (age stamp len : Option ℕ) (via : List ℕ) → AllByRecursion IsPlainField fields →
+    SaysOwn (answer_pairs fields age stamp len via) age stamp len
 pairs_say fields age stamp len via plain =
     let own : Pairs = own_pairs age stamp len via in
     let says = own_say age stamp len via in
-    let behind : (word : List ℕ) (place : ℕ) → place < 14 → word ≡ get_or dropped_names place [] → lowercase word ≡ word → values_named word (answer_pairs fields age stamp len via) ≡ values_named word own =
-    λ word place within is lower. values_both word (map pair_of fields) own ∙ ap (λ vs. vs ++ values_named word own) (kept_unnamed word place within is lower fields plain) in
+    let behind : (word : List ℕ) (place : ℕ) → place < 14 → word ≡ get_or dropped_names place [] → lowercase word ≡ word →
+    values_named word (answer_pairs fields age stamp len via) ≡ values_named word own =
+    λ word place within is lower. values_both word (map pair_of fields) own ∙ ap (λ vs. vs ++ values_named word own)
+    (kept_unnamed word place within is lower fields plain) in
     record {
       options = behind (codes "connection") 0 (omega arith) refl refl ∙ says.options;
       coding = behind (codes "transfer-encoding") 7 (omega arith) refl refl ∙ says.coding;
@@ -181,7 +188,8 @@ own_dropped (Some a) (Some s) None via = refl
 own_dropped (Some a) (Some s) (Some l) via = refl
 
 kept_both : (options : List (List ℕ)) (xs ys : Pairs) → kept_by options (xs ++ ys) ≡ kept_by options xs ++ kept_by options ys
-kept_both options xs ys = ap (map kept_text) (filter-append (is_kept options) xs ys) ∙ map-append kept_text (filter (is_kept options) xs) (filter (is_kept options) ys)
+kept_both options xs ys = ap (map kept_text) (filter-append (is_kept options) xs ys) ∙ map-append kept_text (filter (is_kept options) xs)
+    (filter (is_kept options) ys)
 
 field_made : List ℕ → List ℕ → FieldText
 field_made name value = record { name = name; value = value }
@@ -207,7 +215,8 @@ kept_fields_again [] plain = refl
 kept_fields_again (f ∷ fields) (this, others) =
     rw (is_kept_again f this) (ap₂ (λ (x : FieldText) (xs : List FieldText). x ∷ xs) (kept_again f this) (kept_fields_again fields others))
 
-pub kept_back : (fields : List FieldText) (age stamp len : Option ℕ) (via : List ℕ) → AllByRecursion IsPlainField fields → kept (answer_pairs fields age stamp len via) ≡ fields
+pub kept_back : (fields : List FieldText) (age stamp len : Option ℕ) (via : List ℕ) → AllByRecursion IsPlainField fields →
+    kept (answer_pairs fields age stamp len via) ≡ fields
 kept_back fields age stamp len via plain =
     let own : Pairs = own_pairs age stamp len via in
     ap (λ options. kept_by options (answer_pairs fields age stamp len via)) (pairs_say fields age stamp len via plain).options

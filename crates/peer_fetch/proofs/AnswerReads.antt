@@ -29,7 +29,8 @@ framed_itself true n = tt
 framed_itself false n = tt
 
 -- An input that begins with the text of a response, of which some octets were taken
-module _ (a : AnswerText) (via rest octets left input : List ℕ) (p : Parts a) (name : is_name via ≡ true) (input_at : input ≡ answer_text a via ++ rest) (taken : input ≡ octets ++ left) where
+module _ (a : AnswerText) (via rest octets left input : List ℕ) (p : Parts a) (name : is_name via ≡ true) (input_at : input ≡ answer_text a via ++ rest)
+    (taken : input ≡ octets ++ left) where
   behind : List ℕ
   behind = a.body ++ rest
 
@@ -56,7 +57,8 @@ module _ (a : AnswerText) (via rest octets left input : List ℕ) (p : Parts a) 
   starts_at : (start : ℕ) → PassesInterim octets start → start ≡ 0
   starts_at start passes =
       let at : input ≡ flat_map print_response passes.heads ++ (drop start octets ++ left) =
-      taken ∙ ap (λ (t : List ℕ). t ++ left) (sym (take-append-drop start octets) ∙ ap (λ (t : List ℕ). t ++ drop start octets) passes.text) ∙ append_assoc (flat_map print_response passes.heads) (drop start octets) left in
+      taken ∙ ap (λ (t : List ℕ). t ++ left) (sym (take-append-drop start octets) ∙ ap (λ (t : List ℕ). t ++ drop start octets) passes.text)
+      ∙ append_assoc (flat_map print_response passes.heads) (drop start octets) left in
       let none = no_interim passes.heads (drop start octets ++ left) passes.interim at in
       let size = ap length (passes.text ∙ ap (flat_map print_response) none) in
       let within = passes.within in
@@ -67,9 +69,11 @@ module _ (a : AnswerText) (via rest octets left input : List ℕ) (p : Parts a) 
   says_same : (start end : ℕ) (outcome : Result ToldText FetchFault) → HeadSays octets start end outcome → outcome ≡ Ok (told_of a)
   says_same start end outcome s =
       let at : input ≡ flat_map print_response s.interim.heads ++ (print_response s.head ++ (drop end octets ++ left)) =
-      taken ∙ ap (λ (t : List ℕ). t ++ left) (says_text octets start end outcome s) ∙ regroup (flat_map print_response s.interim.heads) (print_response s.head) (drop end octets) left in
+      taken ∙ ap (λ (t : List ℕ). t ++ left) (says_text octets start end outcome s) ∙ regroup (flat_map print_response s.interim.heads) (print_response s.head)
+      (drop end octets) left in
       let none = no_interim s.interim.heads _ s.interim.interim at in
-      let front : input ≡ print_response s.head ++ (drop end octets ++ left) = at ∙ ap (λ hs. flat_map print_response hs ++ (print_response s.head ++ (drop end octets ++ left))) none in
+      let front : input ≡ print_response s.head ++ (drop end octets ++ left) =
+      at ∙ ap (λ hs. flat_map print_response hs ++ (print_response s.head ++ (drop end octets ++ left))) none in
       let one = response_unique input (head_of a via) s.head behind _ whole (s.short.valid, front) in
       sym s.says ∙ ap (λ h. told (parts_of h)) (sym one.0) ∙ tells
     where
@@ -77,7 +81,8 @@ module _ (a : AnswerText) (via rest octets left input : List ℕ) (p : Parts a) 
       regroup a b c d = simp append_assoc
 
   same_head : (start end : ℕ) (t : ToldText) → HeadSays octets start end (Ok t) → SameHead start end 0 (length (head_text a via)) t (told_of a)
-  same_head start end t s = head_once octets left start end 0 (length (head_text a via)) t (told_of a) s (head_says a via behind (octets ++ left) p name (sym taken ∙ head_at))
+  same_head start end t s = head_once octets left start end 0 (length (head_text a via)) t (told_of a) s
+      (head_says a via behind (octets ++ left) p name (sym taken ∙ head_at))
 
   -- Why a head was refused
 
@@ -89,22 +94,26 @@ module _ (a : AnswerText) (via rest octets left input : List ℕ) (p : Parts a) 
 
   window_is : input ≡ window ++ tail
   unfolding window tail
-  window_is = taken ∙ ap (λ (t : List ℕ). t ++ left) (sym (take-append-drop longest_head octets)) ∙ append_assoc (take longest_head octets) (drop longest_head octets) left
+  window_is = taken ∙ ap (λ (t : List ℕ). t ++ left) (sym (take-append-drop longest_head octets))
+      ∙ append_assoc (take longest_head octets) (drop longest_head octets) left
 
   never : ¬ (NeverHasResponse window)
   never none = none tail (head_of a via) behind (subst (λ (t : List ℕ). ReadsResponse t (head_of a via) behind) window_is whole)
 
   ended : (left ≡ []) → HasNoResponse octets → ⊥
-  ended none has = has (head_of a via) behind (subst (λ (t : List ℕ). ReadsResponse t (head_of a via) behind) (taken ∙ ap (λ (t : List ℕ). octets ++ t) none ∙ append-nil octets) whole)
+  ended none has = has (head_of a via) behind (subst (λ (t : List ℕ). ReadsResponse t (head_of a via) behind)
+      (taken ∙ ap (λ (t : List ℕ). octets ++ t) none ∙ append-nil octets) whole)
 
   long : IsLongResponse window → ⊥
   long (inl (full, none, may)) =
       let short = head_short a via p name in
       let begins = front_of_front (head_text a via) behind window tail (sym head_at ∙ window_is) (omega arith) in
-      none (head_of a via) _ (subst (λ (t : List ℕ). ReadsResponse t (head_of a via) (drop (length (head_text a via)) window)) (sym begins) (head_reads a via (drop (length (head_text a via)) window) p name))
+      none (head_of a via) _ (subst (λ (t : List ℕ). ReadsResponse t (head_of a via) (drop (length (head_text a via)) window)) (sym begins)
+      (head_reads a via (drop (length (head_text a via)) window) p name))
   long (inr (front, after, cut, h, reads, over)) =
       let at : input ≡ front ++ (after ++ tail) = window_is ∙ ap (λ (t : List ℕ). t ++ tail) cut ∙ append_assoc front after tail in
-      let few = response_longer front (after ++ tail) behind h (head_of a via) reads (subst (λ (t : List ℕ). ReadsResponse t (head_of a via) behind) at whole) in
+      let few = response_longer front (after ++ tail) behind h (head_of a via) reads (subst (λ (t : List ℕ). ReadsResponse t (head_of a via) behind) at whole)
+      in
       let room = pairs_few a via p in
       omega (arith, few, room, over)
 
@@ -113,7 +122,8 @@ module _ (a : AnswerText) (via rest octets left input : List ℕ) (p : Parts a) 
   spent none many =
       let short = head_short a via p name in
       let begins = front_of_front (head_text a via) behind octets left (sym head_at ∙ taken) (omega (arith, short, many)) in
-      none (head_of a via) _ (subst (λ (t : List ℕ). ReadsResponse t (head_of a via) (drop (length (head_text a via)) octets)) (sym begins) (head_reads a via (drop (length (head_text a via)) octets) p name))
+      none (head_of a via) _ (subst (λ (t : List ℕ). ReadsResponse t (head_of a via) (drop (length (head_text a via)) octets)) (sym begins)
+      (head_reads a via (drop (length (head_text a via)) octets) p name))
 
   text_length : length (answer_text a via) ≡ length (head_text a via) + length a.body
   text_length =
@@ -140,7 +150,8 @@ module _ (a : AnswerText) (via rest octets left input : List ℕ) (p : Parts a) 
   unfolding behind
   room = let size = ap length head_at ∙ length-append (head_text a via) behind in omega (arith, size, length-append a.body rest)
 
-  length_stops : (fault : FetchFault) → StopsBefore (length a.body) (Some left) octets (length (head_text a via)) fault → StopsInAnswerText (answer_text a via) fault
+  length_stops : (fault : FetchFault) → StopsBefore (length a.body) (Some left) octets (length (head_text a via)) fault →
+      StopsInAnswerText (answer_text a via) fault
   length_stops Io stops = inl refl
   length_stops NoMemory stops = inr (inl refl)
   length_stops TooManyTurns stops = inr (inr (refl, omega (arith, text_length, stops.0.1, stops.1)))
@@ -155,7 +166,8 @@ module _ (a : AnswerText) (via rest octets left input : List ℕ) (p : Parts a) 
   length_stops Credentials stops = absurd stops
   length_stops BadBody stops = absurd stops
 
-  body_stops : (b : Bool) (fault : FetchFault) → StopsInBody (cond b None (Some (Length (length a.body)))) (Some left) octets (length (head_text a via)) fault → StopsInAnswerText (answer_text a via) fault
+  body_stops : (b : Bool) (fault : FetchFault) → StopsInBody (cond b None (Some (Length (length a.body)))) (Some left) octets (length (head_text a via)) fault →
+      StopsInAnswerText (answer_text a via) fault
   body_stops true fault stops = absurd stops
   body_stops false fault stops = length_stops fault stops
 
@@ -172,20 +184,25 @@ module _ (a : AnswerText) (via rest octets left input : List ℕ) (p : Parts a) 
   pub ok_says : (read : AnswerText) (end : ℕ) → SpellsAnswer octets end read → read ≡ a
   ok_says read end spelled =
       let same = same_head spelled.start spelled.body_start spelled.told spelled.head in
-      let ends : EndsItself spelled.told.framing = subst (λ (t : ToldText). EndsItself t.framing) same.tells (framed_itself (has_no_body a.status) (length a.body)) in
-      let written : SpellsAnswer (octets ++ left) (length (answer_text a via)) a = subst (λ (t : List ℕ). SpellsAnswer t (length (answer_text a via)) a) (sym input_at ∙ taken) (answer_spelled_by a via rest p name) in
+      let ends : EndsItself spelled.told.framing = subst (λ (t : ToldText). EndsItself t.framing) same.tells
+      (framed_itself (has_no_body a.status) (length a.body)) in
+      let written : SpellsAnswer (octets ++ left) (length (answer_text a via)) a = subst (λ (t : List ℕ). SpellsAnswer t (length (answer_text a via)) a)
+      (sym input_at ∙ taken) (answer_spelled_by a via rest p name) in
       sym (answer_once octets left end (length (answer_text a via)) read a spelled ends written).1
 
 abbrev pub ReadsBack : AnswerText → List ℕ → Result AnswerText FetchFault → Type 0
 ReadsBack a text result = MatchResult result (λ read. read ≡ a) (StopsInAnswerText text)
 
-reads_by : (a : AnswerText) (via rest octets : List ℕ) (reader : Option (List ℕ)) (result : Result AnswerText FetchFault) → Parts a → is_name via ≡ true → Takes (Some (answer_text a via ++ rest)) reader [] octets
-    → MatchResult result (λ answer. (end : ℕ) × (s : SpellsAnswer octets end answer) × EndsWithInput s.told.framing reader) (StopsInAnswer reader octets) → ReadsBack a (answer_text a via) result
+reads_by : (a : AnswerText) (via rest octets : List ℕ) (reader : Option (List ℕ)) (result : Result AnswerText FetchFault) → Parts a → is_name via ≡ true →
+    Takes (Some (answer_text a via ++ rest)) reader [] octets
+    → MatchResult result (λ answer. (end : ℕ) × (s : SpellsAnswer octets end answer) × EndsWithInput s.told.framing reader) (StopsInAnswer reader octets) →
+    ReadsBack a (answer_text a via) result
 reads_by a via rest octets None result p name taken outcome = absurd taken.2
 reads_by a via rest octets (Some left) (Ok read) p name (piece, same, consumed) outcome =
     ok_says a via rest octets left (answer_text a via ++ rest) p name refl (consumed ∙ ap (λ (t : List ℕ). t ++ left) (sym same)) read outcome.0 outcome.1
 reads_by a via rest octets (Some left) (Err fault) p name (piece, same, consumed) outcome =
     fault_stops a via rest octets left (answer_text a via ++ rest) p name refl (consumed ∙ ap (λ (t : List ℕ). t ++ left) (sym same)) fault outcome
 
-pub answer_reads : (a : AnswerText) (via rest : List ℕ) (reader : Option (List ℕ)) (result : Result AnswerText FetchFault) → IsWritableAnswer a → is_name via ≡ true → ReadsAnswer (Some (answer_text a via ++ rest)) reader result → ReadsBack a (answer_text a via) result
+pub answer_reads : (a : AnswerText) (via rest : List ℕ) (reader : Option (List ℕ)) (result : Result AnswerText FetchFault) → IsWritableAnswer a →
+    is_name via ≡ true → ReadsAnswer (Some (answer_text a via ++ rest)) reader result → ReadsBack a (answer_text a via) result
 answer_reads a via rest reader result writable name reads = reads_by a via rest reads.octets reader result (parts a writable) name reads.taken reads.outcome

@@ -19,7 +19,8 @@ no_interim : (octets : List ℕ) → PassesInterim octets 0
 no_interim octets = record { heads = []; interim = tt; text = refl; within = omega arith }
 
 -- what a head in front of any octets says
-pub head_says : (a : AnswerText) (via rest octets : List ℕ) → Parts a → is_name via ≡ true → octets ≡ head_text a via ++ rest → HeadSays octets 0 (length (head_text a via)) (Ok (told_of a))
+pub head_says : (a : AnswerText) (via rest octets : List ℕ) → Parts a → is_name via ≡ true → octets ≡ head_text a via ++ rest →
+    HeadSays octets 0 (length (head_text a via)) (Ok (told_of a))
 head_says a via rest octets p name is =
     let H : List ℕ = head_text a via in
     let reads : ReadsResponse (H ++ rest) (head_of a via) rest = head_reads a via rest p name in
@@ -39,7 +40,8 @@ head_says a via rest octets p name is =
     }
 
 -- the body after the head
-body_by : (b : Bool) (body rest octets : List ℕ) (start end : ℕ) → (b ≡ true → body ≡ []) → drop start octets ≡ body ++ rest → end ≡ start + length body → end ≤ length octets
+body_by : (b : Bool) (body rest octets : List ℕ) (start end : ℕ) → (b ≡ true → body ≡ []) → drop start octets ≡ body ++ rest → end ≡ start + length body →
+    end ≤ length octets
     → SpellsBody (cond b None (Some (Length (length body)))) octets start end body
 body_by true body rest octets start end empty behind end_is inside =
     let none : body ≡ [] = empty refl in
@@ -48,7 +50,8 @@ body_by true body rest octets start end empty behind end_is inside =
 body_by false body rest octets start end empty behind end_is inside =
     (end_is, inside, sym (ap (take (length body)) behind ∙ take_at body rest (length body) refl))
 
-pub answer_spelled_by : (a : AnswerText) (via rest : List ℕ) → Parts a → is_name via ≡ true → SpellsAnswer (answer_text a via ++ rest) (length (answer_text a via)) a
+pub answer_spelled_by : (a : AnswerText) (via rest : List ℕ) → Parts a → is_name via ≡ true →
+    SpellsAnswer (answer_text a via ++ rest) (length (answer_text a via)) a
 answer_spelled_by a via rest p name =
     let H : List ℕ = head_text a via in
     let octets : List ℕ = answer_text a via ++ rest in
@@ -65,5 +68,6 @@ answer_spelled_by a via rest p name =
       answer_is = refl;
     }
 
-pub answer_spelled : (a : AnswerText) (via rest : List ℕ) → IsWritableAnswer a → is_name via ≡ true → SpellsAnswer (answer_text a via ++ rest) (length (answer_text a via)) a
+pub answer_spelled : (a : AnswerText) (via rest : List ℕ) → IsWritableAnswer a → is_name via ≡ true →
+    SpellsAnswer (answer_text a via ++ rest) (length (answer_text a via)) a
 answer_spelled a via rest writable name = answer_spelled_by a via rest (parts a writable) name

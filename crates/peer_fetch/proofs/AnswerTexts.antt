@@ -104,9 +104,11 @@ pub head_reads : (a : AnswerText) (via rest : List ℕ) → Parts a → is_name 
 head_reads a via rest p name =
     let low = p.low in
     let high = p.high in
-    let shape : head_text a via ++ rest ≡ status_line a.status ++ (flat_map pair_line (pairs_of a via) ++ (crlf ++ rest)) = regroup (status_line a.status) (flat_map pair_line (pairs_of a via)) rest in
+    let shape : head_text a via ++ rest ≡ status_line a.status ++ (flat_map pair_line (pairs_of a via) ++ (crlf ++ rest)) =
+    regroup (status_line a.status) (flat_map pair_line (pairs_of a via)) rest in
     subst (λ (t : List ℕ). ReadsResponse t (head_of a via) rest) (sym shape)
-    (response_reads a.status (pairs_of a via) rest (three_digits a.status (omega arith) (omega arith)) (digits_all a.status (omega arith)) (pairs_plain a via p name))
+    (response_reads a.status (pairs_of a via) rest (three_digits a.status (omega arith) (omega arith)) (digits_all a.status (omega arith))
+    (pairs_plain a via p name))
   where
     regroup : (s f t : List ℕ) → (s ++ (f ++ crlf)) ++ t ≡ s ++ (f ++ (crlf ++ t))
     regroup s f t = simp append_assoc
@@ -123,7 +125,8 @@ number_short name (Some n) small =
 kept_short : (fields : List FieldText) → length (kept_lines fields) ≡ lines_length fields
 kept_short [] = refl
 kept_short (f ∷ fields) =
-    let whole : length (kept_line f ++ kept_lines fields) ≡ length (kept_line f) + length (kept_lines fields) = length-append (kept_line f) (kept_lines fields) in
+    let whole : length (kept_line f ++ kept_lines fields) ≡ length (kept_line f) + length (kept_lines fields) =
+    length-append (kept_line f) (kept_lines fields) in
     let line : length (kept_line f) ≡ length f.name + length f.value + 4 = length-field_line f.name f.value in
     whole ∙ ap₂ (λ (x y : ℕ). x + y) line (kept_short fields) ∙ sym (sum_by-cons line_length f fields)
 
@@ -145,7 +148,8 @@ head_short a via p name =
     let status_size : length (decimal a.status ++ (codes " " ++ crlf)) ≡ length (decimal a.status) + 3 = length-append (decimal a.status) (codes " " ++ crlf) in
     let digits = three_digits a.status (omega arith) (omega arith) in
     let s_size : length s ≡ 15 = omega (arith, status_size, digits) in
-    let few : lines_length a.fields ≤ 16000 = leb-true (lines_length a.fields) 16000 (and_parts (nat_le (length a.fields) 56) (nat_le (lines_length a.fields) 16000) p.few).1 in
+    let few : lines_length a.fields ≤ 16000 = leb-true (lines_length a.fields) 16000
+    (and_parts (nat_le (length a.fields) 56) (nat_le (lines_length a.fields) 16000) p.few).1 in
     let kept_size = kept_short a.fields in
     let A_size = number_short (codes "age") a.age (omega arith) in
     let S_size = number_short (codes "x-purge-stamp") a.stamp stamp_small in
@@ -153,7 +157,8 @@ head_short a via p name =
     let l_size = last_short via (name_text via name) in
     let n_size : length n ≡ length A + length (S ++ L) = length-append A (S ++ L) in
     let SL_size = length-append S L in
-    let lines : length (flat_map pair_line (pairs_of a via) ++ crlf) ≡ length (k ++ (n ++ (l ++ crlf))) = ap length (answer_lines a.fields a.age a.stamp (told_length a) via crlf) in
+    let lines : length (flat_map pair_line (pairs_of a via) ++ crlf) ≡ length (k ++ (n ++ (l ++ crlf))) =
+    ap length (answer_lines a.fields a.age a.stamp (told_length a) via crlf) in
     let one = length-append k (n ++ (l ++ crlf)) in
     let two = length-append n (l ++ crlf) in
     let three = length-append l crlf in
@@ -195,7 +200,8 @@ stamp_back None small = refl
 stamp_back (Some n) small = plain_back 0 4294967295 n (omega arith) small (omega arith)
 
 framing_back : (b : Bool) (n : ℕ) → n ≤ 65536
-    → cond b (Ok None) (some_framing (framing_told (Ok false) (length_told (option_to_list (option_map decimal (cond b None (Some n))))))) ≡ Ok (cond b None (Some (Length n)))
+    → cond b (Ok None) (some_framing (framing_told (Ok false) (length_told (option_to_list (option_map decimal (cond b None (Some n))))))) ≡ Ok
+    (cond b None (Some (Length n)))
 framing_back true n fits = refl
 framing_back false n fits = rw (length_back n fits, le-leb n 65536 fits) refl
 
@@ -205,7 +211,8 @@ told_made status fields age stamp framing = record { status = status; fields = f
 final_is : (status : ℕ) → 200 ≤ status → status ≤ 599 → is_final status ≡ true
 final_is status low high = rw (le-leb 200 status low, le-leb status 599 high) refl
 
-told_by : (a : AnswerText) (pairs : List (List ℕ × List ℕ)) → Parts a → SaysOwn pairs a.age a.stamp (told_length a) → kept pairs ≡ a.fields → told (record { status = a.status; fields = pairs }) ≡ Ok (told_of a)
+told_by : (a : AnswerText) (pairs : List (List ℕ × List ℕ)) → Parts a → SaysOwn pairs a.age a.stamp (told_length a) → kept pairs ≡ a.fields →
+    told (record { status = a.status; fields = pairs }) ≡ Ok (told_of a)
 unfolding told_made
 told_by a pairs p says kept_is =
     let coded : framing pairs ≡ framing_told (Ok false) (length_told (option_to_list (option_map decimal (told_length a)))) =
@@ -227,4 +234,5 @@ head_tells a via p name =
     let code : digits_value 10 (decimal a.status) ≡ a.status = value_back a.status (omega arith) in
     let read = fields_read (pairs_of a via) (pairs_plain a via p name) in
     ap₂ (λ (s : ℕ) (fs : List (List ℕ × List ℕ)). told (record { status = s; fields = fs })) code read
-    ∙ told_by a (pairs_of a via) p (pairs_say a.fields a.age a.stamp (told_length a) via p.fields) (kept_back a.fields a.age a.stamp (told_length a) via p.fields)
+    ∙ told_by a (pairs_of a via) p (pairs_say a.fields a.age a.stamp (told_length a) via p.fields)
+    (kept_back a.fields a.age a.stamp (told_length a) via p.fields)

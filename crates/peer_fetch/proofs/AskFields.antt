@@ -50,7 +50,8 @@ ask_pairs authority only fresh via m =
 
 -- Their lines
 
-control_lines : (only fresh : Bool) (rest : Pairs) → flat_map pair_line (control_pairs only fresh ++ rest) ≡ cache_control_line only fresh ++ flat_map pair_line rest
+control_lines : (only fresh : Bool) (rest : Pairs) → flat_map pair_line (control_pairs only fresh ++ rest) ≡ cache_control_line only fresh
+    ++ flat_map pair_line rest
 control_lines true true rest = refl
 control_lines true false rest = refl
 control_lines false true rest = refl
@@ -81,7 +82,8 @@ pub part_visible : (key : List ℕ) → list_all is_visible key ≡ true → lis
 part_visible key visible =
     let P : ℕ → Type 0 = λ b. is_visible b ≡ true in
     let rest : List ℕ = drop (length http_prefix) key in
-    list_all-from_AllPass is_visible (key_authority key) (All-take P (authority_len rest) rest (All-drop P (length http_prefix) key (AllPass-from_list_all is_visible key visible)))
+    list_all-from_AllPass is_visible (key_authority key)
+    (All-take P (authority_len rest) rest (All-drop P (length http_prefix) key (AllPass-from_list_all is_visible key visible)))
 
 name_octet_visible : (b : ℕ) → is_name_octet b ≡ true → is_visible b ≡ true
 name_octet_visible b h = grind (arith, nat_tests)
@@ -98,7 +100,8 @@ name_text via is =
     record {
       some = ltb-true 0 (length via) sizes.0;
       short = leb-true (length via) 32 sizes.1;
-      visible = list_all-from_AllPass is_visible via (All-weaker (λ b. is_name_octet b ≡ true) (λ b. is_visible b ≡ true) name_octet_visible via (AllPass-from_list_all is_name_octet via outer.1));
+      visible = list_all-from_AllPass is_visible via (All-weaker (λ b. is_name_octet b ≡ true) (λ b. is_visible b ≡ true) name_octet_visible via
+          (AllPass-from_list_all is_name_octet via outer.1));
     }
 
 pub via_plain : (via : List ℕ) → IsNameText via → IsPlainPair (via_pair via)
@@ -108,12 +111,14 @@ via_plain via name =
     let value : List ℕ = front ++ via in
     let some = name.some in
     let size : length value ≡ 4 + length via = length-append front via in
-    let last : get_or value (length value - 1) 0 ≡ get_or via (length value - 1 - 4) 0 = get_or-append_right front via 4 (length value - 1) 0 refl (omega arith) in
+    let last : get_or value (length value - 1) 0 ≡ get_or via (length value - 1 - 4) 0 = get_or-append_right front via 4 (length value - 1) 0 refl (omega arith)
+    in
     let within : length value - 1 - 4 < length via = omega arith in
     let seen : is_visible (get_or via (length value - 1 - 4) 0) ≡ true = AllPass-from_list_all is_visible via name.visible (length value - 1 - 4) 0 within in
     record {
       name = via_token;
-      value = All-cons P 49 (46 ∷ 49 ∷ 32 ∷ via) refl (All-cons P 46 (49 ∷ 32 ∷ via) refl (All-cons P 49 (32 ∷ via) refl (All-cons P 32 via refl (visible_value via name.visible))));
+      value = All-cons P 49 (46 ∷ 49 ∷ 32 ∷ via) refl
+          (All-cons P 46 (49 ∷ 32 ∷ via) refl (All-cons P 49 (32 ∷ via) refl (All-cons P 32 via refl (visible_value via name.visible))));
       trimmed = ap (λ (b : ℕ). not (is_blank b)) last ∙ visible_no_blank (get_or via (length value - 1 - 4) 0) seen;
     }
 
@@ -133,7 +138,8 @@ member_plain : (m : Option ℕ) → IsMember m → ArePlain (number_pairs (codes
 member_plain None is = tt
 member_plain (Some n) is = (visible_pair (codes "x-purge-member") (decimal n) member_token (decimal_visible n (omega arith)), tt)
 
-pub ask_plain : (authority : List ℕ) (only fresh : Bool) (via : List ℕ) (m : Option ℕ) → list_all is_visible authority ≡ true → IsNameText via → IsMember m → ArePlain (ask_pairs authority only fresh via m)
+pub ask_plain : (authority : List ℕ) (only fresh : Bool) (via : List ℕ) (m : Option ℕ) → list_all is_visible authority ≡ true → IsNameText via → IsMember m →
+    ArePlain (ask_pairs authority only fresh via m)
 ask_plain authority only fresh via m visible name is =
     (visible_pair (codes "host") authority host_token visible, control_plain only fresh _ (close_plain, (via_plain via name, member_plain m is)))
 

@@ -19,8 +19,10 @@ says_once h x y a b = says_by_once (first_fault h) h x y a b
 -- two fronts of one input that are heads are one front, and say one thing
 pub fronts_once : (input a r b q : List ℕ) (x y : Result Ask FetchFault) → input ≡ a ++ r → input ≡ b ++ q → SpellsHead a x → SpellsHead b y → (r ≡ q) × (x ≡ y)
 fronts_once input a r b q x y first second here there =
-    let one : ReadsRequest input here.head r = subst (λ (t : List ℕ). ReadsRequest t here.head r) (sym first) (ReadsRequest-append a here.head [] r here.reads) in
-    let other : ReadsRequest input there.head q = subst (λ (t : List ℕ). ReadsRequest t there.head q) (sym second) (ReadsRequest-append b there.head [] q there.reads) in
+    let one : ReadsRequest input here.head r = subst (λ (t : List ℕ). ReadsRequest t here.head r) (sym first) (ReadsRequest-append a here.head [] r here.reads)
+    in
+    let other : ReadsRequest input there.head q = subst (λ (t : List ℕ). ReadsRequest t there.head q) (sym second)
+    (ReadsRequest-append b there.head [] q there.reads) in
     let same = request_unique input here.head there.head r q one other in
     (same.1, says_once (parts_of there.head) x y (subst (λ (h : RequestHead). Says (parts_of h) x) same.0 here.says) there.says)
 

@@ -21,7 +21,8 @@ front_of_front a r b q same fits =
     ∙ ap (λ (t : List ℕ). t ++ drop (length a) b) (sym (take-append-le (length a) b q fits) ∙ ap (take (length a)) (sym same) ∙ take_at a r (length a) refl)
 
 -- An input that begins with the head of a request, of which some octets were taken
-module _ (input text rest octets left : List ℕ) (ask : Ask) (input_is : input ≡ text ++ rest) (taken : input ≡ octets ++ left) (spells : SpellsHead text (Ok ask)) where
+module _ (input text rest octets left : List ℕ) (ask : Ask) (input_is : input ≡ text ++ rest) (taken : input ≡ octets ++ left)
+    (spells : SpellsHead text (Ok ask)) where
   whole : ReadsRequest input spells.head rest
   whole = subst (λ (t : List ℕ). ReadsRequest t spells.head rest) (sym input_is) (ReadsRequest-append text spells.head [] rest spells.reads)
 
@@ -42,26 +43,30 @@ module _ (input text rest octets left : List ℕ) (ask : Ask) (input_is : input 
 
   window_is : input ≡ window ++ tail
   unfolding window tail
-  window_is = taken ∙ ap (λ (t : List ℕ). t ++ left) (sym (take-append-drop longest_head octets)) ∙ append_assoc (take longest_head octets) (drop longest_head octets) left
+  window_is = taken ∙ ap (λ (t : List ℕ). t ++ left) (sym (take-append-drop longest_head octets))
+      ∙ append_assoc (take longest_head octets) (drop longest_head octets) left
 
   never : ¬ (NeverHasRequest window)
   never none = none tail spells.head rest (subst (λ (t : List ℕ). ReadsRequest t spells.head rest) window_is whole)
 
   ended : (left ≡ []) → HasNoRequest octets → ⊥
-  ended none has = has spells.head rest (subst (λ (t : List ℕ). ReadsRequest t spells.head rest) (taken ∙ ap (λ (t : List ℕ). octets ++ t) none ∙ append-nil octets) whole)
+  ended none has = has spells.head rest (subst (λ (t : List ℕ). ReadsRequest t spells.head rest)
+      (taken ∙ ap (λ (t : List ℕ). octets ++ t) none ∙ append-nil octets) whole)
 
   -- octets that are longer than a head hold the whole of it
   spent : HasNoRequest octets → most_turns ≤ length octets → ⊥
   spent none many =
       let short = spells.short in
       let begins = front_of_front text rest octets left (sym input_is ∙ taken) (omega arith) in
-      none spells.head _ (subst (λ (t : List ℕ). ReadsRequest t spells.head (drop (length text) octets)) (sym begins) (ReadsRequest-append text spells.head [] (drop (length text) octets) spells.reads))
+      none spells.head _ (subst (λ (t : List ℕ). ReadsRequest t spells.head (drop (length text) octets)) (sym begins)
+      (ReadsRequest-append text spells.head [] (drop (length text) octets) spells.reads))
 
   long : IsLongRequest window → ⊥
   long (inl (full, none, may)) =
       let short = spells.short in
       let begins = front_of_front text rest window tail (sym input_is ∙ window_is) (omega arith) in
-      none spells.head _ (subst (λ (t : List ℕ). ReadsRequest t spells.head (drop (length text) window)) (sym begins) (ReadsRequest-append text spells.head [] (drop (length text) window) spells.reads))
+      none spells.head _ (subst (λ (t : List ℕ). ReadsRequest t spells.head (drop (length text) window)) (sym begins)
+      (ReadsRequest-append text spells.head [] (drop (length text) window) spells.reads))
   long (inr (front, behind, cut, h, reads, over)) =
       let at : input ≡ front ++ (behind ++ tail) = window_is ∙ ap (λ (t : List ℕ). t ++ tail) cut ∙ append_assoc front behind tail in
       let few = request_longer front (behind ++ tail) rest h spells.head reads (subst (λ (t : List ℕ). ReadsRequest t spells.head rest) at whole) in
@@ -89,7 +94,8 @@ module _ (input text rest octets left : List ℕ) (ask : Ask) (input_is : input 
 abbrev pub ReadsBack : Ask → Result Ask FetchFault → Type 0
 ReadsBack ask result = MatchResult result (λ read. read ≡ ask) StopsInAskText
 
-reads_by : (text rest octets : List ℕ) (reader : Option (List ℕ)) (ask : Ask) (result : Result Ask FetchFault) → SpellsHead text (Ok ask) → Takes (Some (text ++ rest)) reader [] octets
+reads_by : (text rest octets : List ℕ) (reader : Option (List ℕ)) (ask : Ask) (result : Result Ask FetchFault) → SpellsHead text (Ok ask) →
+    Takes (Some (text ++ rest)) reader [] octets
     → MatchResult result (λ ask. FrontSays octets (Ok ask)) (StopsInAsk reader octets) → ReadsBack ask result
 reads_by text rest octets None ask result spells taken outcome = absurd taken.2
 reads_by text rest octets (Some left) ask (Ok read) spells (piece, same, consumed) outcome =
@@ -97,5 +103,6 @@ reads_by text rest octets (Some left) ask (Ok read) spells (piece, same, consume
 reads_by text rest octets (Some left) ask (Err fault) spells (piece, same, consumed) outcome =
     fault_stops (text ++ rest) text rest octets left ask refl (consumed ∙ ap (λ (t : List ℕ). t ++ left) (sym same)) spells fault outcome
 
-pub ask_reads : (text rest : List ℕ) (reader : Option (List ℕ)) (ask : Ask) (result : Result Ask FetchFault) → SpellsHead text (Ok ask) → ReadsAsk (Some (text ++ rest)) reader result → ReadsBack ask result
+pub ask_reads : (text rest : List ℕ) (reader : Option (List ℕ)) (ask : Ask) (result : Result Ask FetchFault) → SpellsHead text (Ok ask) →
+    ReadsAsk (Some (text ++ rest)) reader result → ReadsBack ask result
 ask_reads text rest reader ask result spells reads = reads_by text rest reads.octets reader ask result spells reads.taken reads.outcome

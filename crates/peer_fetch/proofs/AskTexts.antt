@@ -34,7 +34,8 @@ own_key ask writable = key_reads writable.url ask.key writable.key
 abbrev pub pairs_of : Ask → List ℕ → List (List ℕ × List ℕ)
 pairs_of ask via = ask_pairs (key_authority ask.key) ask.only_if_cached ask.no_cache via ask.member
 
-text_is : (form : AskForm) (ask : Ask) (via rest : List ℕ) → ask_text form ask via ++ rest ≡ request_line (target form ask.key) ++ (flat_map pair_line (pairs_of ask via) ++ (crlf ++ rest))
+text_is : (form : AskForm) (ask : Ask) (via rest : List ℕ) → ask_text form ask via ++ rest ≡ request_line (target form ask.key)
+    ++ (flat_map pair_line (pairs_of ask via) ++ (crlf ++ rest))
 text_is form ask via rest =
     let r : List ℕ = request_line (target form ask.key) in
     let h : List ℕ = field_line (codes "host") (key_authority ask.key) in
@@ -53,7 +54,8 @@ pairs_plain ask via writable name =
     ask_plain (key_authority ask.key) ask.only_if_cached ask.no_cache via ask.member (part_visible ask.key plain.visible) (name_text via name) writable.member
 
 -- anything may follow the text
-pub text_reads : (form : AskForm) (ask : Ask) (via rest : List ℕ) → IsWritableAsk ask → is_name via ≡ true → ReadsRequest (ask_text form ask via ++ rest) (request_of (target form ask.key) (pairs_of ask via)) rest
+pub text_reads : (form : AskForm) (ask : Ask) (via rest : List ℕ) → IsWritableAsk ask → is_name via ≡ true →
+    ReadsRequest (ask_text form ask via ++ rest) (request_of (target form ask.key) (pairs_of ask via)) rest
 text_reads form ask via rest writable name =
     let is : IsTargetOf ask.key (target form ask.key) = target_is form ask.key (own_key ask writable) in
     subst (λ (t : List ℕ). ReadsRequest t (request_of (target form ask.key) (pairs_of ask via)) rest) (sym (text_is form ask via rest))
@@ -146,7 +148,8 @@ head_with target fields = record { method = codes "GET"; target = target; minor 
 ask_with : List ℕ → Bool → Bool → Option ℕ → Ask
 ask_with key only fresh m = record { key = key; only_if_cached = only; no_cache = fresh; member = m }
 
-asked_is : (ask : Ask) (pairs : List (List ℕ × List ℕ)) → SaysAsk pairs (key_authority ask.key) ask.only_if_cached ask.no_cache ask.member → IsMember ask.member → Ok ask ≡ asked pairs (Ok ask.key)
+asked_is : (ask : Ask) (pairs : List (List ℕ × List ℕ)) → SaysAsk pairs (key_authority ask.key) ask.only_if_cached ask.no_cache ask.member →
+    IsMember ask.member → Ok ask ≡ asked pairs (Ok ask.key)
 unfolding ask_with
 asked_is ask pairs says is =
     let made : ask_with ask.key (only_if_cached pairs) (no_cache pairs) (member pairs) ≡ ask_with ask.key ask.only_if_cached ask.no_cache ask.member =
@@ -155,20 +158,24 @@ asked_is ask pairs says is =
     ∙ ap (ask_with ask.key ask.only_if_cached ask.no_cache) (says.member_is ∙ member_back ask.member is) in
     rw (says.credentials, says.body) (ap Ok (sym made))
 
-says_by : (ask : Ask) (text : List ℕ) (pairs : List (List ℕ × List ℕ)) → IsTargetOf ask.key text → SaysAsk pairs (key_authority ask.key) ask.only_if_cached ask.no_cache ask.member → IsWritableAsk ask → Says (head_with text pairs) (Ok ask)
+says_by : (ask : Ask) (text : List ℕ) (pairs : List (List ℕ × List ℕ)) → IsTargetOf ask.key text →
+    SaysAsk pairs (key_authority ask.key) ask.only_if_cached ask.no_cache ask.member → IsWritableAsk ask → Says (head_with text pairs) (Ok ask)
 says_by ask text pairs is says writable =
     let url_is : url_by (host pairs) text ≡ ask.key = ap (λ named. url_by named text) says.host_is ∙ is.url in
     rw says.host_is (Ok ask.key, subst (λ (t : List ℕ). HasKey t (Ok ask.key)) (sym url_is) (own_key ask writable), asked_is ask pairs says writable.member)
 
-pub text_says : (form : AskForm) (ask : Ask) (via : List ℕ) → IsWritableAsk ask → is_name via ≡ true → Says (parts_of (request_of (target form ask.key) (pairs_of ask via))) (Ok ask)
+pub text_says : (form : AskForm) (ask : Ask) (via : List ℕ) → IsWritableAsk ask → is_name via ≡ true →
+    Says (parts_of (request_of (target form ask.key) (pairs_of ask via))) (Ok ask)
 text_says form ask via writable name =
     subst (λ fields. Says (head_with (target form ask.key) fields) (Ok ask)) (sym (fields_read (pairs_of ask via) (pairs_plain ask via writable name)))
-    (says_by ask (target form ask.key) (pairs_of ask via) (target_is form ask.key (own_key ask writable)) (pairs_say (key_authority ask.key) ask.only_if_cached ask.no_cache via ask.member) writable)
+    (says_by ask (target form ask.key) (pairs_of ask via) (target_is form ask.key (own_key ask writable))
+    (pairs_say (key_authority ask.key) ask.only_if_cached ask.no_cache via ask.member) writable)
 
 pub ask_spelled : (form : AskForm) (ask : Ask) (via : List ℕ) → IsWritableAsk ask → is_name via ≡ true → SpellsAsk (ask_text form ask via) ask
 ask_spelled form ask via writable name = record {
   head = request_of (target form ask.key) (pairs_of ask via);
-  reads = subst (λ (t : List ℕ). ReadsRequest t (request_of (target form ask.key) (pairs_of ask via)) []) (append-nil (ask_text form ask via)) (text_reads form ask via [] writable name);
+  reads = subst (λ (t : List ℕ). ReadsRequest t (request_of (target form ask.key) (pairs_of ask via)) []) (append-nil (ask_text form ask via))
+      (text_reads form ask via [] writable name);
   short = text_short form ask via writable name;
   few = pairs_few ask via;
   says = text_says form ask via writable name;

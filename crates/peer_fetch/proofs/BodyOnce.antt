@@ -46,9 +46,11 @@ EndsItself (Some ToEnd) = ⊥
 split_at : (octets : List ℕ) (start at : ℕ) → start ≤ at → drop start octets ≡ take (at - start) (drop start octets) ++ drop at octets
 split_at octets start at forward =
     let place : start + (at - start) ≡ at = omega arith in
-    sym (take-append-drop (at - start) (drop start octets)) ∙ ap (λ (t : List ℕ). take (at - start) (drop start octets) ++ t) (drop-drop (at - start) start octets ∙ ap (λ (k : ℕ). drop k octets) place)
+    sym (take-append-drop (at - start) (drop start octets)) ∙ ap (λ (t : List ℕ). take (at - start) (drop start octets) ++ t)
+    (drop-drop (at - start) start octets ∙ ap (λ (k : ℕ). drop k octets) place)
 
-chunked_text : (octets : List ℕ) (start end : ℕ) (body : List ℕ) → HoldsChunkedBody octets start end body → ChunkedText (drop start octets) (drop end octets) body
+chunked_text : (octets : List ℕ) (start end : ℕ) (body : List ℕ) → HoldsChunkedBody octets start end body →
+    ChunkedText (drop start octets) (drop end octets) body
 chunked_text octets start end body holds =
     let up_to = holds.chunks.chunks in
     let last = holds.chunks.last in
@@ -78,7 +80,8 @@ pub record StandsIn (octets : List ℕ) (start end : ℕ) : Type 0 where
   pub forward : start ≤ end
   pub within : end ≤ length octets
 
-body_stands : (f : Option Framing) (octets : List ℕ) (start end : ℕ) (body : List ℕ) → start ≤ length octets → EndsItself f → SpellsBody f octets start end body → StandsIn octets start end
+body_stands : (f : Option Framing) (octets : List ℕ) (start end : ℕ) (body : List ℕ) → start ≤ length octets → EndsItself f →
+    SpellsBody f octets start end body → StandsIn octets start end
 body_stands None octets start end body inside ends spells = let is = spells.0 in record { forward = omega arith; within = omega arith }
 body_stands (Some (Length n)) octets start end body inside ends spells = let is = spells.0 in record { forward = omega arith; within = spells.1 }
 body_stands (Some Chunked) octets start end body inside ends spells =
@@ -88,7 +91,8 @@ body_stands (Some Chunked) octets start end body inside ends spells =
     record { forward = omega arith; within = spells.section.within }
 body_stands (Some ToEnd) octets start end body inside ends spells = absurd ends
 
-body_text : (f : Option Framing) (octets : List ℕ) (start end : ℕ) (body : List ℕ) → EndsItself f → SpellsBody f octets start end body → BodyText f (drop start octets) (drop end octets) body
+body_text : (f : Option Framing) (octets : List ℕ) (start end : ℕ) (body : List ℕ) → EndsItself f → SpellsBody f octets start end body →
+    BodyText f (drop start octets) (drop end octets) body
 body_text None octets start end body ends spells = (spells.1, ap (λ (k : ℕ). drop k octets) (sym spells.0))
 body_text (Some (Length n)) octets start end body ends (end_is, within, body_is) =
     let count : end - start ≡ n = omega arith in
@@ -137,7 +141,8 @@ chunk_shape c rest = regroup (print_chunk_line c.line) c.octets rest
     regroup : (a b r : List ℕ) → (a ++ b ++ crlf_bytes) ++ r ≡ a ++ (b ++ (crlf_bytes ++ r))
     regroup a b r = simp append_assoc
 
-chunks_once : (cs ds : List ChunkText) (l k : ChunkLine) (r q : List ℕ) → AllByRecursion IsChunk cs → AllByRecursion IsChunk ds → IsChunkLine l → IsChunkLine k → 0 ≡ chunk_size l → 0 ≡ chunk_size k
+chunks_once : (cs ds : List ChunkText) (l k : ChunkLine) (r q : List ℕ) → AllByRecursion IsChunk cs → AllByRecursion IsChunk ds → IsChunkLine l →
+    IsChunkLine k → 0 ≡ chunk_size l → 0 ≡ chunk_size k
     → flat_map print_chunk cs ++ (print_chunk_line l ++ r) ≡ flat_map print_chunk ds ++ (print_chunk_line k ++ q) → (body_of cs ≡ body_of ds) × (r ≡ q)
 chunks_once [] [] l k r q a b x y none zero_is same =
     (refl, (chunk_line_unique (print_chunk_line l ++ r) l k r q (x, refl) (y, same)).1)
@@ -160,7 +165,8 @@ chunks_once (c ∷ cs) (d ∷ ds) l k r q (this, others) (that, more) x y none z
     let Q : List ℕ = flat_map print_chunk ds ++ (print_chunk_line k ++ q) in
     let left = append_assoc (print_chunk c) (flat_map print_chunk cs) (print_chunk_line l ++ r) ∙ chunk_shape c R in
     let right = append_assoc (print_chunk d) (flat_map print_chunk ds) (print_chunk_line k ++ q) ∙ chunk_shape d Q in
-    let lines = chunk_line_unique (print_chunk_line c.line ++ (c.octets ++ (crlf_bytes ++ R))) c.line d.line _ (d.octets ++ (crlf_bytes ++ Q)) (this.line, refl) (that.line, sym left ∙ same ∙ right) in
+    let lines = chunk_line_unique (print_chunk_line c.line ++ (c.octets ++ (crlf_bytes ++ R))) c.line d.line _ (d.octets ++ (crlf_bytes ++ Q)) (this.line, refl)
+    (that.line, sym left ∙ same ∙ right) in
     let sizes : length c.octets ≡ length d.octets = this.size ∙ ap chunk_size lines.0 ∙ sym that.size in
     let bodies = same_front c.octets (crlf_bytes ++ R) d.octets (crlf_bytes ++ Q) sizes lines.1 in
     let behind = append_cancel_left crlf_bytes R Q bodies.1 in
@@ -169,11 +175,14 @@ chunks_once (c ∷ cs) (d ∷ ds) l k r q (this, others) (that, more) x y none z
 
 chunked_once : (input rest body : List ℕ) (other third : List ℕ) → ChunkedText input rest body → ChunkedText input other third → (body ≡ third) × (rest ≡ other)
 chunked_once input rest body other third a b =
-    let chunks = chunks_once a.chunks b.chunks a.line b.line (print_section a.fields a.end ++ rest) (print_section b.fields b.end ++ other) a.each b.each a.line_valid b.line_valid a.nothing b.nothing (sym a.text ∙ b.text) in
-    let section = section_unique (print_section a.fields a.end ++ rest) a.fields b.fields a.end b.end rest other (a.fields_valid, refl) (b.fields_valid, chunks.1) in
+    let chunks = chunks_once a.chunks b.chunks a.line b.line (print_section a.fields a.end ++ rest) (print_section b.fields b.end ++ other) a.each b.each
+    a.line_valid b.line_valid a.nothing b.nothing (sym a.text ∙ b.text) in
+    let section = section_unique (print_section a.fields a.end ++ rest) a.fields b.fields a.end b.end rest other (a.fields_valid, refl)
+    (b.fields_valid, chunks.1) in
     (a.body_is ∙ chunks.0 ∙ sym b.body_is, section.2)
 
-text_once : (f : Option Framing) (input rest body other third : List ℕ) → BodyText f input rest body → BodyText f input other third → (body ≡ third) × (rest ≡ other)
+text_once : (f : Option Framing) (input rest body other third : List ℕ) → BodyText f input rest body → BodyText f input other third →
+    (body ≡ third) × (rest ≡ other)
 text_once None input rest body other third a b = (a.0 ∙ sym b.0, sym a.1 ∙ b.1)
 text_once (Some (Length n)) input rest body other third a b = same_front body rest third other (a.0 ∙ sym b.0) (sym a.1 ∙ b.1)
 text_once (Some Chunked) input rest body other third a b = chunked_once input rest body other third a b
@@ -187,9 +196,11 @@ body_once f octets more start end last body other inside ends here there =
     let whole = length-append octets more in
     let first : StandsIn octets start end = body_stands f octets start end body inside ends here in
     let second : StandsIn (octets ++ more) start last = body_stands f (octets ++ more) start last other (omega (arith, whole)) ends there in
-    let shown : BodyText f (drop start octets ++ more) (drop end octets ++ more) body = body_more f (drop start octets) (drop end octets) body more (body_text f octets start end body ends here) in
+    let shown : BodyText f (drop start octets ++ more) (drop end octets ++ more) body = body_more f (drop start octets) (drop end octets) body more
+    (body_text f octets start end body ends here) in
     let again : BodyText f (drop start octets ++ more) (drop last (octets ++ more)) other =
-    subst (λ (t : List ℕ). BodyText f t (drop last (octets ++ more)) other) (drop-append-le start octets more inside) (body_text f (octets ++ more) start last other ends there) in
+    subst (λ (t : List ℕ). BodyText f t (drop last (octets ++ more)) other) (drop-append-le start octets more inside)
+    (body_text f (octets ++ more) start last other ends there) in
     let same = text_once f (drop start octets ++ more) (drop end octets ++ more) body (drop last (octets ++ more)) other shown again in
     let a = first.within in
     let b = second.within in

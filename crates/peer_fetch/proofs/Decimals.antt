@@ -33,7 +33,8 @@ pub decimal_visible : (n : ℕ) → n < 2 ^ 64 → list_all is_visible (decimal 
 decimal_visible n small = digits_visible (decimal n) (digits_all n small)
 
 pub digits_is : (n : ℕ) → n < 2 ^ 64 → is_digits (decimal n) ≡ true
-digits_is n small = and_from (nat_lt 0 (length (decimal n))) (list_all is_ascii_digit (decimal n)) (lt-ltb 0 (length (decimal n)) (decimal_nonempty n small)) (digits_all n small)
+digits_is n small = and_from (nat_lt 0 (length (decimal n))) (list_all is_ascii_digit (decimal n)) (lt-ltb 0 (length (decimal n)) (decimal_nonempty n small))
+    (digits_all n small)
 
 -- 0 is written alone, and no other number begins with it
 no_zero_first : (n : ℕ) → n < 2 ^ 64 → has_leading_zero (decimal n) ≡ false

@@ -31,10 +31,12 @@ section_cut fields last =
     append-nil (print_section fields last) ∙ ap (λ (t : List ℕ). flat_map print_field fields ++ t) (end_cut last)
     ∙ sym (append_assoc (flat_map print_field fields) (end_front last) (10 ∷ []))
 
-section_longer : (fields gs : List Field) (last end : LineEnd) (more q : List ℕ) → All IsField fields → Section (gs, end) (lines_front fields last ++ more) q → length fields ≤ length gs
+section_longer : (fields gs : List Field) (last end : LineEnd) (more q : List ℕ) → All IsField fields → Section (gs, end) (lines_front fields last ++ more) q →
+    length fields ≤ length gs
 unfolding lines_front
 section_longer fields gs last end more q valid section =
-    let skipped = Section_skip fields gs end (lines_front fields last ++ more) (end_front last ++ more) q (valid, append_assoc (flat_map print_field fields) (end_front last) more) section in
+    let skipped = Section_skip fields gs end (lines_front fields last ++ more) (end_front last ++ more) q
+    (valid, append_assoc (flat_map print_field fields) (end_front last) more) section in
     let size = ap length skipped.1 ∙ length-append fields skipped.0 in
     omega (arith, size)
 
@@ -62,7 +64,8 @@ request_whole : (h : RequestHead) (rest : List ℕ) (text : List ℕ) → ReadsR
 unfolding request_with
 request_whole h rest text reads = reads.1 ∙ print_request-append h rest
 
-pub request_longer : (front more q : List ℕ) (h k : RequestHead) → ReadsRequest (front ++ 10 ∷ []) h [] → ReadsRequest (front ++ more) k q → length h.fields ≤ length k.fields
+pub request_longer : (front more q : List ℕ) (h k : RequestHead) → ReadsRequest (front ++ 10 ∷ []) h [] → ReadsRequest (front ++ more) k q →
+    length h.fields ≤ length k.fields
 request_longer front more q h k cut whole =
     let lines : List ℕ = lines_front h.fields h.last in
     let at : front ++ 10 ∷ [] ≡ request_with h lines ++ 10 ∷ [] =
@@ -70,7 +73,8 @@ request_longer front more q h k cut whole =
     let front_is : front ≡ request_with h lines = append_cancel_right front (request_with h lines) (10 ∷ []) at in
     let text_is : front ++ more ≡ request_with h (lines ++ more) = ap (λ (t : List ℕ). t ++ more) front_is ∙ request_with-append h lines more in
     let pieces = request_pieces (front ++ more) k q whole in
-    let starts : RequestStart (request_tree h).0 (front ++ more) (lines ++ more) = subst (λ (t : List ℕ). RequestStart (request_tree h).0 t (lines ++ more)) (sym text_is) (request_starts h (lines ++ more) cut.0) in
+    let starts : RequestStart (request_tree h).0 (front ++ more) (lines ++ more) = subst (λ (t : List ℕ). RequestStart (request_tree h).0 t (lines ++ more))
+    (sym text_is) (request_starts h (lines ++ more) cut.0) in
     let same = RequestStart_deterministic.unique (request_tree h).0 (request_tree k).0 (front ++ more) (lines ++ more) pieces.0 starts pieces.1 in
     section_longer h.fields k.fields h.last k.last more q cut.0.fields (subst (λ (t : List ℕ). Section (k.fields, k.last) t q) (sym same.1) pieces.2)
 
@@ -112,7 +116,8 @@ response_whole : (h : ResponseHead) (rest : List ℕ) (text : List ℕ) → Read
 unfolding response_with
 response_whole h rest text reads = reads.1 ∙ print_response-append h rest
 
-pub response_longer : (front more q : List ℕ) (h k : ResponseHead) → ReadsResponse (front ++ 10 ∷ []) h [] → ReadsResponse (front ++ more) k q → length h.fields ≤ length k.fields
+pub response_longer : (front more q : List ℕ) (h k : ResponseHead) → ReadsResponse (front ++ 10 ∷ []) h [] → ReadsResponse (front ++ more) k q →
+    length h.fields ≤ length k.fields
 response_longer front more q h k cut whole =
     let lines : List ℕ = lines_front h.fields h.last in
     let at : front ++ 10 ∷ [] ≡ response_with h lines ++ 10 ∷ [] =
@@ -121,8 +126,10 @@ response_longer front more q h k cut whole =
     let text_is : front ++ more ≡ response_with h (lines ++ more) = ap (λ (t : List ℕ). t ++ more) front_is ∙ response_with-append h lines more in
     let pieces = response_pieces (front ++ more) k q whole in
     let starts = response_starts h (lines ++ more) cut.0 in
-    let begins : ResponseStart starts.0 (front ++ more) (lines ++ more) = subst (λ (t : List ℕ). ResponseStart starts.0 t (lines ++ more)) (sym text_is) starts.1 in
+    let begins : ResponseStart starts.0 (front ++ more) (lines ++ more) = subst (λ (t : List ℕ). ResponseStart starts.0 t (lines ++ more)) (sym text_is)
+    starts.1 in
     let same = ResponseStart_deterministic.unique starts.0 pieces.0.0 (front ++ more) (lines ++ more) pieces.2.0 begins pieces.2.1 in
     let fields_are : pieces.0.1.0 ≡ k.fields = ap (λ (r : ResponseHead). r.fields) pieces.1 in
-    let few = section_longer h.fields pieces.0.1.0 h.last pieces.0.1.1 more q cut.0.fields (subst (λ (t : List ℕ). Section pieces.0.1 t q) (sym same.1) pieces.2.2) in
+    let few = section_longer h.fields pieces.0.1.0 h.last pieces.0.1.1 more q cut.0.fields
+    (subst (λ (t : List ℕ). Section pieces.0.1 t q) (sym same.1) pieces.2.2) in
     omega (arith, few, ap length fields_are)

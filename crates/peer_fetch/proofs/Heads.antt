@@ -26,14 +26,16 @@ visible_ascii b h = grind (arith, nat_tests)
 
 pub visible_utf8 : (text : List ℕ) → list_all is_visible text ≡ true → IsUtf8 text
 visible_utf8 text visible =
-    IsUtf8-from_ascii text (IsAscii-from_all text (All-weaker (λ b. is_visible b ≡ true) (λ b. b < 128) visible_ascii text (AllPass-from_list_all is_visible text visible)))
+    IsUtf8-from_ascii text
+    (IsAscii-from_all text (All-weaker (λ b. is_visible b ≡ true) (λ b. b < 128) visible_ascii text (AllPass-from_list_all is_visible text visible)))
 
 -- A request
 
 abbrev pub request_of : List ℕ → List (List ℕ × List ℕ) → RequestHead
 request_of target pairs = record { blank = []; method = codes "GET"; target = target; minor = 1; line_end = grammar.crlf; fields = map field_of pairs; last = grammar.crlf }
 
-request_valid : (target : List ℕ) (pairs : List (List ℕ × List ℕ)) → list_all is_visible target ≡ true → 0 < length target → ArePlain pairs → IsRequestHead (request_of target pairs)
+request_valid : (target : List ℕ) (pairs : List (List ℕ × List ℕ)) → list_all is_visible target ≡ true → 0 < length target → ArePlain pairs →
+    IsRequestHead (request_of target pairs)
 request_valid target pairs visible some plain = record {
   method = get_token;
   target = (some, All-weaker (λ b. is_visible b ≡ true) (λ b. is_uri_byte b ≡ true) visible_uri_byte target (AllPass-from_list_all is_visible target visible));
@@ -43,8 +45,10 @@ request_valid target pairs visible some plain = record {
 }
 
 -- the lines of the pairs and an empty line are the section
-section_is : (pairs : List (List ℕ × List ℕ)) (rest : List ℕ) → flat_map pair_line pairs ++ (crlf ++ rest) ≡ print_section (map field_of pairs) grammar.crlf ++ rest
-section_is pairs rest = ap (λ (t : List ℕ). t ++ (crlf ++ rest)) (sym (fields_print pairs)) ∙ sym (append_assoc (flat_map print_field (map field_of pairs)) crlf rest)
+section_is : (pairs : List (List ℕ × List ℕ)) (rest : List ℕ) → flat_map pair_line pairs ++ (crlf ++ rest) ≡ print_section (map field_of pairs) grammar.crlf
+    ++ rest
+section_is pairs rest = ap (λ (t : List ℕ). t ++ (crlf ++ rest)) (sym (fields_print pairs))
+    ∙ sym (append_assoc (flat_map print_field (map field_of pairs)) crlf rest)
 
 pub request_reads : (target : List ℕ) (pairs : List (List ℕ × List ℕ)) (rest : List ℕ) → list_all is_visible target ≡ true → 0 < length target → ArePlain pairs
     → ReadsRequest (request_line target ++ (flat_map pair_line pairs ++ (crlf ++ rest))) (request_of target pairs) rest
@@ -59,9 +63,18 @@ request_reads target pairs rest visible some plain =
 -- A response
 
 abbrev pub response_of : ℕ → List (List ℕ × List ℕ) → ResponseHead
-response_of status pairs = record { blank = []; minor = 1; digits = decimal status; reason = Some []; line_end = grammar.crlf; fields = map field_of pairs; last = grammar.crlf }
+response_of status pairs = record {
+  blank = [];
+  minor = 1;
+  digits = decimal status;
+  reason = Some [];
+  line_end = grammar.crlf;
+  fields = map field_of pairs;
+  last = grammar.crlf;
+}
 
-response_valid : (status : ℕ) (pairs : List (List ℕ × List ℕ)) → length (decimal status) ≡ 3 → list_all is_ascii_digit (decimal status) ≡ true → ArePlain pairs → IsResponseHead (response_of status pairs)
+response_valid : (status : ℕ) (pairs : List (List ℕ × List ℕ)) → length (decimal status) ≡ 3 → list_all is_ascii_digit (decimal status) ≡ true →
+    ArePlain pairs → IsResponseHead (response_of status pairs)
 response_valid status pairs three digits plain = record {
   minor = omega arith;
   digits = (three, AllPass-from_list_all is_ascii_digit (decimal status) digits);
@@ -69,7 +82,8 @@ response_valid status pairs three digits plain = record {
   fields = fields_valid pairs plain;
 }
 
-pub response_reads : (status : ℕ) (pairs : List (List ℕ × List ℕ)) (rest : List ℕ) → length (decimal status) ≡ 3 → list_all is_ascii_digit (decimal status) ≡ true → ArePlain pairs
+pub response_reads : (status : ℕ) (pairs : List (List ℕ × List ℕ)) (rest : List ℕ) → length (decimal status) ≡ 3 →
+    list_all is_ascii_digit (decimal status) ≡ true → ArePlain pairs
     → ReadsResponse (status_line status ++ (flat_map pair_line pairs ++ (crlf ++ rest))) (response_of status pairs) rest
 response_reads status pairs rest three digits plain =
     let section : List ℕ = print_section (map field_of pairs) grammar.crlf ++ rest in (

@@ -182,7 +182,8 @@ spelled_again text key u scheme_is authority form n short =
     let query : List ℕ = framed_text (63 ∷ []) (uri_query u) [] in
     let shown : Shown (uri_data u) 47 = shown_tail form.tail (uri_data u) form.is_tail in
     let path_is : uri_path u ≡ path_of (uri_data u) =
-    ap (λ s. cond (not (length (uri_data u) == 0) || is_some s) (path_of (uri_data u)) []) scheme_is ∙ shows_path (length (uri_data u) == 0) (path_of (uri_data u)) in
+    ap (λ s. cond (not (length (uri_data u) == 0) || is_some s) (path_of (uri_data u)) []) scheme_is
+    ∙ shows_path (length (uri_data u) == 0) (path_of (uri_data u)) in
     let parts : key ≡ (http_prefix ++ w) ++ shown.text =
     n.key_is ∙ append_assoc (http_prefix ++ lowercase (host_of authority) ++ port_text n.port) (uri_path u) query
     ∙ ap (λ front. front ++ (uri_path u ++ query)) (append_assoc http_prefix (lowercase (host_of authority)) (port_text n.port))
@@ -221,7 +222,8 @@ spells_by text key None (inr (u, spells, e)) short = elim (cases_Bool (is_http (
 ]
 
 -- the outcome that a key's text has is the key
-own_by : (key : List ℕ) (fault : Option KeyFault) → ((outcome : Result (List ℕ) KeyFault) → HasKeyBy fault key outcome → outcome ≡ Ok key) → (v : Uri) → Spells key v → HasKeyBy fault key (Ok key)
+own_by : (key : List ℕ) (fault : Option KeyFault) → ((outcome : Result (List ℕ) KeyFault) → HasKeyBy fault key outcome → outcome ≡ Ok key) → (v : Uri) →
+    Spells key v → HasKeyBy fault key (Ok key)
 own_by key (Some fault) own v spells = sym (own (Err fault) refl)
 own_by key None own v spells = inr (v, spells, sym (own (key_of_uri v) (inr (v, spells, refl))))
 

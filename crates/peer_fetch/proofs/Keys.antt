@@ -18,7 +18,8 @@ use Rattle.url_key.specs.Key.{HasKey, HasKeyBy, early_fault, key_of_uri, key_of_
 
 abbrev outcome_by : Option (List ℕ) → Option (List ℕ) → List ℕ → Result (List ℕ) KeyFault
 outcome_by scheme authority kept =
-    cond (is_http scheme) (key_of_authority (unwrap_or authority []) (cond (not (length kept == 0) || is_some scheme) (path_of kept) []) (query_of kept)) (Err NotHttp)
+    cond (is_http scheme) (key_of_authority (unwrap_or authority []) (cond (not (length kept == 0) || is_some scheme) (path_of kept) []) (query_of kept))
+    (Err NotHttp)
 
 same_uri : (text : List ℕ) (u v : Uri) → Spells text u → Spells text v → key_of_uri u ≡ key_of_uri v
 same_uri text u v x y =
@@ -79,7 +80,8 @@ begins_by host port path query key is = record {
       ∙ append_assoc http_prefix (lowercase host) (port_text port ++ (path ++ framed_text (codes "?") query []));
 }
 
-begins_host : (host : List ℕ) (port : Option ℕ) (path : List ℕ) (query : Option (List ℕ)) (key : List ℕ) → Ok key ≡ key_of_host host port path query → IsHttpText key
+begins_host : (host : List ℕ) (port : Option ℕ) (path : List ℕ) (query : Option (List ℕ)) (key : List ℕ) → Ok key ≡ key_of_host host port path query →
+    IsHttpText key
 begins_host [] port path query key e = cc
 begins_host (b ∷ host) None path query key e = cc
 begins_host (b ∷ host) (Some n) path query key e = begins_by (b ∷ host) n path query key (within_key (canonical_text (b ∷ host) n path query) key e)

@@ -56,7 +56,8 @@ path_by text key has (u, spells, keeps) =
     let found : IsHttpUri text = uri_by text key (early_fault text) has in
     let scheme_is : uri_scheme u ≡ Some (codes "http") = (Spells_unique text u found.uri spells found.spells).0 ∙ found.scheme in
     let path_is : uri_path u ≡ path_of (uri_data u) =
-    ap (λ s. cond (not (length (uri_data u) == 0) || is_some s) (path_of (uri_data u)) []) scheme_is ∙ shows_path (length (uri_data u) == 0) (path_of (uri_data u)) in
+    ap (λ s. cond (not (length (uri_data u) == 0) || is_some s) (path_of (uri_data u)) []) scheme_is
+    ∙ shows_path (length (uri_data u) == 0) (path_of (uri_data u)) in
     let begins = tail_of text (uri_scheme u) (uri_authority u) (uri_data u) scheme_is spells.1 in
     let query : List ℕ = framed_text (codes "?") (uri_query u) [] in
     let whole : key_path key ≡ path_of (uri_data u) ++ query = keeps.path ∙ ap (λ (p : List ℕ). p ++ query) path_is in
@@ -108,6 +109,7 @@ target_is Origin key has =
     record {
       some = path.some;
       short = omega (arith, path_short key, short);
-      visible = list_all-from_AllPass is_visible (key_path key) (All-drop P (authority_len rest) rest (All-drop P (length http_prefix) key (AllPass-from_list_all is_visible key plain.visible)));
+      visible = list_all-from_AllPass is_visible (key_path key)
+          (All-drop P (authority_len rest) rest (All-drop P (length http_prefix) key (AllPass-from_list_all is_visible key plain.visible)));
       url = rw (origin_first (key_path key) path) whole;
     }

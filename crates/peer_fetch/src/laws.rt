@@ -15,35 +15,42 @@ ghost use Rattle.peer_fetch.specs.Reading.{StopsInAskText, StopsInAnswerText};
 
 /// A law: the text of a request, in either form of its target, spells that request.
 pub fn written_asks_are_spelled()
-    ensures { (form : AskForm) (ask : Ask) (via : List ℕ) → IsWritableAsk ask → IsTrue (names_cache via) →
+    ensures { (form : AskForm) (ask : Ask) (via : List ℕ) → IsWritableAsk ask →
+        IsTrue (names_cache via) →
         SpellsAsk (ask_text form ask via) ask }
 {}
 
 /// A law: the head of a request makes one request or has one first fault, and no such head is a
 /// proper front of another.
 pub fn asks_have_no_proper_front()
-    ensures { (octets more : List ℕ) (said other : Result Ask FetchFault) → SpellsHead octets said → SpellsHead (octets ++ more) other →
+    ensures { (octets more : List ℕ) (said other : Result Ask FetchFault) → SpellsHead octets said →
+        SpellsHead (octets ++ more) other →
         (more ≡ []) × (said ≡ other) }
 {}
 
 /// A law: an input that begins with the text of a request is read as that request, whatever
 /// follows, or reading fails with `Io` or `NoMemory`.
 pub fn written_asks_are_read_back()
-    ensures { (form : AskForm) (ask : Ask) (via rest : List ℕ) (reader : Option (List ℕ)) (result : Result Ask FetchFault) → IsWritableAsk ask → IsTrue (names_cache via) →
+    ensures { (form : AskForm) (ask : Ask) (via rest : List ℕ) (reader : Option (List ℕ))
+        (result : Result Ask FetchFault) → IsWritableAsk ask → IsTrue (names_cache via) →
         let input = ask_text form ask via ++ rest in
-        ReadsAsk (Some input) reader result → MatchResult result (λ read. read ≡ ask) StopsInAskText }
+        ReadsAsk (Some input) reader result →
+        MatchResult result (λ read. read ≡ ask) StopsInAskText }
 {}
 
 /// A law: the text of a response spells that response, whatever follows.
 pub fn written_answers_are_spelled()
-    ensures { (answer : AnswerText) (via rest : List ℕ) → IsWritableAnswer answer → IsTrue (names_cache via) →
+    ensures { (answer : AnswerText) (via rest : List ℕ) → IsWritableAnswer answer →
+        IsTrue (names_cache via) →
         SpellsAnswer (answer_text answer via ++ rest) (length (answer_text answer via)) answer }
 {}
 
 /// A law: octets spell at most one response, with one end, whatever follows, unless its body goes
 /// up to the end of the input.
 pub fn answers_have_no_proper_front()
-    ensures { (octets more : List ℕ) (end last : ℕ) (answer other : AnswerText) (spelled : SpellsAnswer octets end answer) → spelled.told.framing ≢ Some ToEnd → SpellsAnswer (octets ++ more) last other →
+    ensures { (octets more : List ℕ) (end last : ℕ) (answer other : AnswerText)
+        (spelled : SpellsAnswer octets end answer) → spelled.told.framing ≢ Some ToEnd →
+        SpellsAnswer (octets ++ more) last other →
         (last ≡ end) × (other ≡ answer) }
 {}
 
@@ -51,7 +58,10 @@ pub fn answers_have_no_proper_front()
 /// follows, or reading fails with `Io` or `NoMemory`, or with `TooManyTurns` where the text has
 /// more than 70,000 octets.
 pub fn written_answers_are_read_back()
-    ensures { (answer : AnswerText) (via rest : List ℕ) (reader : Option (List ℕ)) (result : Result AnswerText FetchFault) → IsWritableAnswer answer → IsTrue (names_cache via) →
+    ensures { (answer : AnswerText) (via rest : List ℕ) (reader : Option (List ℕ))
+        (result : Result AnswerText FetchFault) → IsWritableAnswer answer →
+        IsTrue (names_cache via) →
         let input = answer_text answer via ++ rest in
-        ReadsAnswer (Some input) reader result → MatchResult result (λ read. read ≡ answer) (StopsInAnswerText (answer_text answer via)) }
+        ReadsAnswer (Some input) reader result →
+        MatchResult result (λ read. read ≡ answer) (StopsInAnswerText (answer_text answer via)) }
 {}

@@ -29,10 +29,12 @@ abbrev mark_of : ℕ → ℕ → Purge → Purge
 mark_of number id p = cond (is_numbered number p) (marked_by id p) p
 
 -- a mark that is there already changes nothing
-mark_same : (xs : List Purge) (number id : ℕ) (p : Purge) → AllPairs (λ a b. a.number < b.number) xs → find (is_numbered number) xs ≡ Some p → with_id id p.marked ≡ p.marked → map (mark_of number id) xs ≡ xs
+mark_same : (xs : List Purge) (number id : ℕ) (p : Purge) → AllPairs (λ a b. a.number < b.number) xs → find (is_numbered number) xs ≡ Some p →
+    with_id id p.marked ≡ p.marked → map (mark_of number id) xs ≡ xs
 mark_same [] number id p ascend e same = refl
 mark_same (x ∷ xs) number id p ascend e same =
-    (elim (is_numbered number x) as (λ b. is_numbered number x ≡ b → cond b (Some x) (find (is_numbered number) xs) ≡ Some p → cond b (marked_by id x) x ∷ map (mark_of number id) xs ≡ x ∷ xs) [
+    (elim (is_numbered number x) as (λ b. is_numbered number x ≡ b → cond b (Some x) (find (is_numbered number) xs) ≡ Some p →
+    cond b (marked_by id x) x ∷ map (mark_of number id) xs ≡ x ∷ xs) [
       | true ↦ λ passes h.
           let here : x ≡ p = cc in
           let number_is : x.number ≡ number = test_is x.number number passes in
@@ -52,10 +54,13 @@ module _ (members : List ℕ) (purges : PurgeList) (id number : ℕ) (p : Purge)
   news_by_some : is_news members id (pending_at purges number) ≡ is_news members id (Some p)
   news_by_some = ap (is_news members id) (sym is)
 
-  counted_by : (b : Bool) → are_among members (with_id id p.marked) ≡ b → counted members purges id (Some p) ≡ cond b record { purges = without_purge purges p.number; done = Some p.number } record { purges = with_mark purges p.number id; done = None }
-  counted_by b e = ap (λ c. cond c record { purges = without_purge purges p.number; done = Some p.number } record { purges = with_mark purges p.number id; done = None }) e
+  counted_by : (b : Bool) → are_among members (with_id id p.marked) ≡ b → counted members purges id (Some p) ≡ cond b record
+      { purges = without_purge purges p.number; done = Some p.number } record { purges = with_mark purges p.number id; done = None }
+  counted_by b e = ap (λ c. cond c record { purges = without_purge purges p.number; done = Some p.number } record
+      { purges = with_mark purges p.number id; done = None }) e
 
-  pub done_is : (known : Bool) → known ≡ is_among id p.marked → (known ≡ true → with_id id p.marked ≡ p.marked) → are_among members (with_id id p.marked) ≡ true → IsNews members purges id number news.Done
+  pub done_is : (known : Bool) → known ≡ is_among id p.marked → (known ≡ true → with_id id p.marked ≡ p.marked) →
+      are_among members (with_id id p.marked) ≡ true → IsNews members purges id number news.Done
   done_is true known again all = (
     by_some ∙ counted_by true all ∙ ap (λ n. record { purges = without_purge purges n; done = Some n }) at_number,
     news_by_some ∙ ap (λ b. not b || are_among members p.marked) (sym known) ∙ ap (are_among members) (sym (again refl)) ∙ all,
@@ -65,10 +70,12 @@ module _ (members : List ℕ) (purges : PurgeList) (id number : ℕ) (p : Purge)
     news_by_some ∙ ap (λ b. not b || are_among members p.marked) (sym known),
   )
 
-  pub nothing_is : AreNumbered purges → is_among id p.marked ≡ true → with_id id p.marked ≡ p.marked → are_among members (with_id id p.marked) ≡ false → IsNews members purges id number news.Nothing
+  pub nothing_is : AreNumbered purges → is_among id p.marked ≡ true → with_id id p.marked ≡ p.marked → are_among members (with_id id p.marked) ≡ false →
+      IsNews members purges id number news.Nothing
   nothing_is are known again some = (
     by_some ∙ counted_by false some ∙ ap (λ n. record { purges = with_mark purges n id; done = None }) at_number
-        ∙ ap (λ ps. record { purges = record { last = purges.last; pending = ps }; done = None }) (mark_same purges.pending number id p are.ascend (sym is) again),
+        ∙ ap (λ ps. record { purges = record { last = purges.last; pending = ps }; done = None })
+        (mark_same purges.pending number id p are.ascend (sym is) again),
     news_by_some ∙ ap (λ b. not b || are_among members p.marked) known ∙ ap (are_among members) (sym again) ∙ some,
   )
 
@@ -80,7 +87,8 @@ module _ (members : List ℕ) (purges : PurgeList) (id number : ℕ) (p : Purge)
   )
 
 -- no purge is pending under a number that was not given
-pub not_given : (members : List ℕ) (purges : PurgeList) (id number : ℕ) → AreNumbered purges → purges.last < number → IsNews members purges id number news.Nothing
+pub not_given : (members : List ℕ) (purges : PurgeList) (id number : ℕ) → AreNumbered purges → purges.last < number →
+    IsNews members purges id number news.Nothing
 not_given members purges id number are l =
     let none : pending_at purges number ≡ None = absent purges.pending number (λ k d h e. let given = are.given k d h in absurd (omega arith)) in
     (ap (counted members purges id) none, ap (is_news members id) none)

@@ -13,6 +13,7 @@ pub record BookView (S : Type 0) : Type 0 where
   pub entries : List MasterEntry
 
 -- the master has made the call with this outcome, and one entry for it stands behind the others [Book 2]
-pub record IsEntered {S : Type 0} (was now : Witness) (before after : BookView S) (place : ℕ) (c : MasterCall) (out : Result MasterAnswer MasterFault) : Type 0 where
+pub record IsEntered {S : Type 0} (was now : Witness) (before after : BookView S) (place : ℕ) (c : MasterCall)
+    (out : Result MasterAnswer MasterFault) : Type 0 where
   pub entries : after.entries ≡ before.entries ++ record { place = place; call = c; answer = out } ∷ []
   pub called : IsCalled was now before.master after.master c out

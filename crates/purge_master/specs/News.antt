@@ -10,10 +10,12 @@ use Rattle.purge_master.specs.declared.news.News.TheVariants as news
 -- more, and the purge is done
 abbrev pub IsNews : List ℕ → PurgeList → ℕ → ℕ → News → Type 0
 IsNews members purges id number news.Nothing =
-    (counted members purges id (pending_at purges number) ≡ unchanged purges) × (is_news members id (pending_at purges number) ≡ false)
+    (counted members purges id (pending_at purges number) ≡ unchanged purges)
+    × (is_news members id (pending_at purges number) ≡ false)
 IsNews members purges id number news.Mark =
     (counted members purges id (pending_at purges number) ≡ record { purges = with_mark purges number id; done = None })
     × (is_news members id (pending_at purges number) ≡ true) × Misses purges number id
 IsNews members purges id number news.Done =
-    (counted members purges id (pending_at purges number) ≡ record { purges = without_purge purges number; done = Some number })
+    (counted members purges id (pending_at purges number) ≡ record
+    { purges = without_purge purges number; done = Some number })
     × (is_news members id (pending_at purges number) ≡ true)

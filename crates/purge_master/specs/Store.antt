@@ -26,15 +26,22 @@ witness is_honest may_find failed = record { is_honest = is_honest; may_find = m
 -- they are now. After a call that failed, the store is as it was, or a crash leaves the purges from
 -- before the call or from after it. `StoreFault` comes only if the count of failures has risen or
 -- stands at its maximum.
-pub record KeepsStore {S : Type 0} (was now : Witness) (before after : MasterView S) (c : MasterCall) (out : Result MasterAnswer MasterFault) : Type 0 where
+pub record KeepsStore {S : Type 0} (was now : Witness) (before after : MasterView S) (c : MasterCall)
+    (out : Result MasterAnswer MasterFault) : Type 0 where
   pub honest : now.is_honest → was.is_honest
   pub untouched : writes before c ≡ false → after.store ≡ before.store
-  pub durable : OnOk out (writes before c ≡ true → now.is_honest → (found : PurgeList) → now.may_find found → found ≡ after.state.purges)
-  pub crash : OnErr out ((after.store ≡ before.store) ⊎ (now.is_honest → (found : PurgeList) → now.may_find found → IsEither before.state.purges (called before.members before.state c).state.purges found))
+  pub durable : OnOk out (writes before c ≡ true → now.is_honest → (found : PurgeList) → now.may_find found →
+      found ≡ after.state.purges)
+  pub crash :
+      OnErr out
+      ((after.store ≡ before.store)
+      ⊎ (now.is_honest → (found : PurgeList) → now.may_find found →
+      IsEither before.state.purges (called before.members before.state c).state.purges found))
   pub fault : out ≡ Err fault.StoreFault → HaveRisen was.failed now.failed
 
 -- the master has made the call with this outcome, and is left so, with the same members
-pub record IsCalled {S : Type 0} (was now : Witness) (before after : MasterView S) (c : MasterCall) (out : Result MasterAnswer MasterFault) : Type 0 where
+pub record IsCalled {S : Type 0} (was now : Witness) (before after : MasterView S) (c : MasterCall)
+    (out : Result MasterAnswer MasterFault) : Type 0 where
   pub members : after.members ≡ before.members
   pub call : Calls before.members before.state c out after.state
   pub store : KeepsStore was now before after c out

@@ -71,10 +71,14 @@ impl<S: PurgeStore> MasterBook<S> {
     /// the master's (`Master::issue`, `acknowledge`, `due`), also its own `NoMemory`; it is
     /// entered.
     pub fn call(&mut self, place: u64, call: MasterCall) -> Result<MasterAnswer, MasterFault>
-        ensures full { 4096 ≤ length self.old.entries → (result ≡ Err faults.ShiftFull) × (self.new ≡ self.old) }
-        ensures entered { length self.old.entries < 4096 → (result ≡ Err faults.NoMemory) × (self.new ≡ self.old)
-            ⊎ IsEntered (witness (S.is_honest self.old.master.store) (S.may_find self.old.master.store) (S.failed self.old.master.store))
-            (witness (S.is_honest self.new.master.store) (S.may_find self.new.master.store) (S.failed self.new.master.store))
+        ensures full { 4096 ≤ length self.old.entries → (result ≡ Err faults.ShiftFull)
+            × (self.new ≡ self.old) }
+        ensures entered { length self.old.entries < 4096 → (result ≡ Err faults.NoMemory)
+            × (self.new ≡ self.old)
+            ⊎ IsEntered (witness (S.is_honest self.old.master.store)
+            (S.may_find self.old.master.store) (S.failed self.old.master.store))
+            (witness (S.is_honest self.new.master.store) (S.may_find self.new.master.store)
+            (S.failed self.new.master.store))
             self.old self.new place call result }
     {
         if self.entries.len() >= MOST_ENTRIES {
@@ -109,7 +113,8 @@ impl<S: PurgeStore> MasterBook<S> {
     /// The CLR of the pending purge with this number, as `Master::message` gives it. This is no
     /// call, and is not entered.
     pub fn message(&self, number: u32) -> Result<Option<Htcp>, AllocError>
-        ensures value { IfOk result (λ message. message ≡ message_of self.now.master.state.purges number) }
+        ensures value { IfOk result (λ message.
+            message ≡ message_of self.now.master.state.purges number) }
         ensures fits { IfOk result (λ message. IfSome message Fits) }
     {
         self.master.message(number)

@@ -66,8 +66,10 @@ impl<S: PurgeStore> Master<S> {
     /// allocation failed, which closes the master if it was the store's; or `StoreFault`, which
     /// closes it.
     pub fn issue(&mut self, key: &Key) -> Result<u32, MasterFault>
-        ensures { IsCalled (witness (S.is_honest self.old.store) (S.may_find self.old.store) (S.failed self.old.store))
-            (witness (S.is_honest self.new.store) (S.may_find self.new.store) (S.failed self.new.store))
+        ensures { IsCalled (witness (S.is_honest self.old.store) (S.may_find self.old.store)
+            (S.failed self.old.store))
+            (witness (S.is_honest self.new.store) (S.may_find self.new.store)
+            (S.failed self.new.store))
             self.old self.new (calls.Issue key.now) (issue_outcome result) }
     {
         if self.closed {
@@ -107,8 +109,10 @@ impl<S: PurgeStore> Master<S> {
         trans: u32,
         code: u8,
     ) -> Result<Option<u32>, MasterFault>
-        ensures { IsCalled (witness (S.is_honest self.old.store) (S.may_find self.old.store) (S.failed self.old.store))
-            (witness (S.is_honest self.new.store) (S.may_find self.new.store) (S.failed self.new.store))
+        ensures { IsCalled (witness (S.is_honest self.old.store) (S.may_find self.old.store)
+            (S.failed self.old.store))
+            (witness (S.is_honest self.new.store) (S.may_find self.new.store)
+            (S.failed self.new.store))
             self.old self.new (calls.Acknowledge member trans code) (acknowledge_outcome result) }
     {
         if self.closed {
@@ -150,7 +154,8 @@ impl<S: PurgeStore> Master<S> {
     ///
     /// Errors: `Closed`; `NoMemory` if an allocation failed.
     pub fn due(&self) -> Result<Listed<(u32, u8)>, MasterFault>
-        ensures { Calls self.now.members self.now.state calls.Due (due_outcome result) self.now.state }
+        ensures { Calls self.now.members self.now.state calls.Due
+            (due_outcome result) self.now.state }
     {
         if self.closed {
             return Err(MasterFault::Closed);
@@ -161,7 +166,8 @@ impl<S: PurgeStore> Master<S> {
     /// How far the purge with this number is. A closed master tells it too. Allocates nothing.
     pub fn status(&self, number: u32) -> Status
         ensures value { result ≡ status_of self.now.members self.now.state.purges number }
-        ensures call { Calls self.now.members self.now.state (calls.Status number) (Ok (answers.Status result)) self.now.state }
+        ensures call { Calls self.now.members self.now.state (calls.Status number)
+            (Ok (answers.Status result)) self.now.state }
     {
         self.purges.status(self.members, number)
     }

@@ -57,7 +57,8 @@ impl<S: PurgeStore + Drop> Master<S> {
     /// allocation failed. The store is dropped then.
     pub fn open(alloc: Global, roster: &Roster, mut store: S) -> Result<Master<S>, MasterOpenFault>
         ensures members { IfOk result (λ master. master.members ≡ members_of roster.now) }
-        ensures state { IfOk result (λ master. S.is_honest master.store → master.state ≡ opened (S.content store)) }
+        ensures state { IfOk result (λ master. S.is_honest master.store →
+            master.state ≡ opened (S.content store)) }
         ensures store { IfOk result (λ master. master.store ≡ store) }
         ensures cause { result ≡ Err MasterOpenFault.StoreFault → S.is_usable store ≡ false }
         ensures named { result ≢ Err MasterOpenFault.BadTable }
@@ -87,7 +88,8 @@ impl<S: PurgeStore> Master<S> {
     /// The store of its purges. A closed master gives it too. Allocates nothing.
     pub fn into_store(self) -> S
         ensures value { result ≡ self.store }
-        ensures tied { IsTied self.state.closed self.state.purges (S.is_usable self.store) (S.is_honest self.store) (S.content self.store) }
+        ensures tied { IsTied self.state.closed self.state.purges (S.is_usable self.store)
+            (S.is_honest self.store) (S.content self.store) }
     {
         self.store
     }

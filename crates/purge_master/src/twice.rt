@@ -17,8 +17,10 @@ impl<S: PurgeStore> Master<S> {
     /// Makes the call, and returns its outcome twice.
     pub(crate) fn outcome(&mut self, call: &MasterCall) -> (Outcome, Outcome)
         ensures same { result.1 ≡ result.0 }
-        ensures called { IsCalled (witness (S.is_honest self.old.store) (S.may_find self.old.store) (S.failed self.old.store))
-            (witness (S.is_honest self.new.store) (S.may_find self.new.store) (S.failed self.new.store))
+        ensures called { IsCalled (witness (S.is_honest self.old.store) (S.may_find self.old.store)
+            (S.failed self.old.store))
+            (witness (S.is_honest self.new.store) (S.may_find self.new.store)
+            (S.failed self.new.store))
             self.old self.new call.now result.0 }
     {
         match call {

@@ -34,11 +34,14 @@ still_some : (b : Bool) (v : ℕ) (o : Option ℕ) → is_some o ≡ true → is
 still_some true v o h = refl
 still_some false v o h = h
 
-fresh : (m : FloorMap) (rows : List Row) (all : FloorMap) (u : List ℕ) → is_some (get m u) ≡ true → Adds m rows all → AllByRecursion (λ r. same_url u (url_of r) ≡ false) rows
+fresh : (m : FloorMap) (rows : List Row) (all : FloorMap) (u : List ℕ) → is_some (get m u) ≡ true → Adds m rows all →
+    AllByRecursion (λ r. same_url u (url_of r) ≡ false) rows
 fresh m [] all u has h = tt
 fresh m (r ∷ rows) all u has h = (
-  false_from_ne_true _ (λ same. absurd (let none : get m u ≡ None = ap (get m) (equal_urls u (url_of r) same) ∙ h.1 in let bad : false ≡ true = rw none at has in cc)),
-  fresh (insert m (url_of r) (floor_entry r).1) rows all u (ap is_some (get-insert nat_list_cmp_total m (url_of r) (floor_entry r).1 u) ∙ still_some (same_url u (url_of r)) (floor_entry r).1 (get m u) has) h.2,
+  false_from_ne_true _ (λ same. absurd (let none : get m u ≡ None = ap (get m) (equal_urls u (url_of r) same) ∙ h.1 in
+      let bad : false ≡ true = rw none at has in cc)),
+  fresh (insert m (url_of r) (floor_entry r).1) rows all u (ap is_some (get-insert nat_list_cmp_total m (url_of r) (floor_entry r).1 u)
+      ∙ still_some (same_url u (url_of r)) (floor_entry r).1 (get m u) has) h.2,
 )
 
 own_some : (m : FloorMap) (u : List ℕ) (n : ℕ) → is_some (get (insert m u n) u) ≡ true
@@ -46,7 +49,10 @@ own_some m u n = ap is_some (get-insert nat_list_cmp_total m u n u) ∙ rw (own_
 
 pub adds_apart : (m : FloorMap) (rows : List Row) (all : FloorMap) → Adds m rows all → IsAscending Apart rows
 adds_apart m [] all h = tt
-adds_apart m (r ∷ rows) all h = (fresh (insert m (url_of r) (floor_entry r).1) rows all (url_of r) (own_some m (url_of r) (floor_entry r).1) h.2, adds_apart (insert m (url_of r) (floor_entry r).1) rows all h.2)
+adds_apart m (r ∷ rows) all h = (
+  fresh (insert m (url_of r) (floor_entry r).1) rows all (url_of r) (own_some m (url_of r) (floor_entry r).1) h.2,
+  adds_apart (insert m (url_of r) (floor_entry r).1) rows all h.2,
+)
 
 none_there : (rows : List Row) (q : List ℕ) → AllByRecursion (λ r. same_url q (url_of r) ≡ false) rows → look rows q ≡ None
 none_there [] q h = refl
@@ -59,10 +65,12 @@ either_of None other = other
 gets_all : (m : FloorMap) (rows : List Row) (all : FloorMap) (q : List ℕ) → Adds m rows all → get all q ≡ either_of (look rows q) (get m q)
 gets_all m [] all q h = ap (λ x. get x q) h
 gets_all m (r ∷ rows) all q h =
-    gets_all (insert m (url_of r) (floor_entry r).1) rows all q h.2 ∙ ap (either_of (look rows q)) (get-insert nat_list_cmp_total m (url_of r) (floor_entry r).1 q) ∙ elim (cases_Bool (same_url q (url_of r))) [
+    gets_all (insert m (url_of r) (floor_entry r).1) rows all q h.2 ∙ ap (either_of (look rows q))
+    (get-insert nat_list_cmp_total m (url_of r) (floor_entry r).1 q) ∙ elim (cases_Bool (same_url q (url_of r))) [
       | inl same ↦
           let is = equal_urls q (url_of r) same in
-          let none : look rows q ≡ None = none_there rows q (fresh (insert m (url_of r) (floor_entry r).1) rows all q (rw is (own_some m (url_of r) (floor_entry r).1)) h.2) in
+          let none : look rows q ≡ None =
+          none_there rows q (fresh (insert m (url_of r) (floor_entry r).1) rows all q (rw is (own_some m (url_of r) (floor_entry r).1)) h.2) in
           rw (same, none) refl
       | inr other ↦ rw (other) refl
     ]
@@ -134,10 +142,12 @@ zero_sum (r ∷ rows) u h = elim (cases_Bool (same_url u (url_of r))) [
 abbrev sum_if : Bool → ℕ → Option ℕ
 sum_if b n = cond b (Some n) None
 
-look_sum : (rows : List Row) (u : List ℕ) → sum_by (one_at u) rows ≤ 1 → look rows u ≡ sum_if (list_any (λ r. same_url u (url_of r)) rows) (sum_by (number_at u) rows)
+look_sum : (rows : List Row) (u : List ℕ) → sum_by (one_at u) rows ≤ 1 → look rows u ≡ sum_if (list_any (λ r. same_url u (url_of r)) rows)
+    (sum_by (number_at u) rows)
 look_sum [] u h = refl
 look_sum (r ∷ rows) u h =
-    let first : look (r ∷ rows) u ≡ sum_if (list_any (λ x. same_url u (url_of x)) (r ∷ rows)) (number_at u r + sum_by (number_at u) rows) = elim (cases_Bool (same_url u (url_of r))) [
+    let first : look (r ∷ rows) u ≡ sum_if (list_any (λ x. same_url u (url_of x)) (r ∷ rows)) (number_at u r + sum_by (number_at u) rows) =
+    elim (cases_Bool (same_url u (url_of r))) [
       | inl same ↦
           let zero : sum_by (number_at u) rows ≡ 0 = zero_sum rows u (omega (arith, h, one_more u r rows same)) in
           let sum : (floor_entry r).1 ≡ (floor_entry r).1 + sum_by (number_at u) rows = omega (arith, zero) in
@@ -179,10 +189,12 @@ pub reads_floors : (table rows : List Row) (all : FloorMap) → IsPermutation (m
 reads_floors table rows all same h =
     let back = IsPermutation-sym (map shown_row table) rows same in
     let up = adds_apart empty rows all h in (
-      from_shown_all IsFloor IsFloor (λ r is. record { id = is.id; url = is.url; number = is.number }) table (permuted_all IsFloor rows (map shown_row table) back (adds_floors empty rows all h)),
+      from_shown_all IsFloor IsFloor (λ r is. record { id = is.id; url = is.url; number = is.number }) table
+          (permuted_all IsFloor rows (map shown_row table) back (adds_floors empty rows all h)),
       from_shown_apart table (permuted_apart rows (map shown_row table) back up),
       adds_all rows all h ∙ same_map nat_list_cmp_total (slice_cmp-IsAntisymmetric nat_cmp-IsAntisymmetric) _ _ (λ q.
-          looks rows q ∙ sym (same_look (map shown_row table) rows q same (once_counted rows q up)) ∙ ap (λ es. find (slice_cmp nat_cmp) q es) (shown_entries table) ∙ sym (looks table q)),
+          looks rows q ∙ sym (same_look (map shown_row table) rows q same (once_counted rows q up))
+          ∙ ap (λ es. find (slice_cmp nat_cmp) q es) (shown_entries table) ∙ sym (looks table q)),
     )
 
 pub floor_rows : (table : List Row) → AllByRecursion IsFloor table → AllByRecursion IsFloorRow table
@@ -190,7 +202,8 @@ floor_rows [] h = tt
 floor_rows (r ∷ rows) h = ((h.0.id, ((floor_entry r).0, h.0.url.0)), floor_rows rows h.1)
 
 other_url : (u v : List ℕ) → same_url u v ≡ false → same_url v u ≡ false
-other_url u v other = false_from_ne_true _ (λ same. absurd (let own : same_url u v ≡ true = rw (equal_urls v u same) (own_url u) in let bad : false ≡ true = sym other ∙ own in cc))
+other_url u v other = false_from_ne_true _
+    (λ same. absurd (let own : same_url u v ≡ true = rw (equal_urls v u same) (own_url u) in let bad : false ≡ true = sym other ∙ own in cc))
 
 abbrev IsNew : FloorMap → Row → Type 0
 IsNew m r = get m (url_of r) ≡ None
@@ -199,14 +212,17 @@ still_none : (b : Bool) (v : ℕ) (o : Option ℕ) → b ≡ false → o ≡ Non
 still_none true v o off h = absurd (cc)
 still_none false v o off h = h
 
-still_new : (m : FloorMap) (r : Row) (n : ℕ) (rows : List Row) → AllByRecursion (Apart r) rows → AllByRecursion (IsNew m) rows → AllByRecursion (IsNew (insert m (url_of r) n)) rows
+still_new : (m : FloorMap) (r : Row) (n : ℕ) (rows : List Row) → AllByRecursion (Apart r) rows → AllByRecursion (IsNew m) rows →
+    AllByRecursion (IsNew (insert m (url_of r) n)) rows
 still_new m r n [] apart new = tt
 still_new m r n (x ∷ rows) apart new = (
-  get-insert nat_list_cmp_total m (url_of r) n (url_of x) ∙ still_none (same_url (url_of x) (url_of r)) n (get m (url_of x)) (other_url (url_of r) (url_of x) apart.0) new.0,
+  get-insert nat_list_cmp_total m (url_of r) n (url_of x) ∙ still_none (same_url (url_of x) (url_of r)) n (get m (url_of x))
+      (other_url (url_of r) (url_of x) apart.0) new.0,
   still_new m r n rows apart.1 new.1,
 )
 
-can_add : (m : FloorMap) (rows : List Row) → AllByRecursion IsFloor rows → IsAscending Apart rows → AllByRecursion (IsNew m) rows → (all : FloorMap) × Adds m rows all
+can_add : (m : FloorMap) (rows : List Row) → AllByRecursion IsFloor rows → IsAscending Apart rows → AllByRecursion (IsNew m) rows →
+    (all : FloorMap) × Adds m rows all
 can_add m [] floors apart new = (m, refl)
 can_add m (r ∷ rows) floors apart new =
     let more = can_add (insert m (url_of r) (floor_entry r).1) rows floors.1 apart.1 (still_new m r (floor_entry r).1 rows apart.0 new.1) in
@@ -229,6 +245,8 @@ to_shown_apart [] h = tt
 to_shown_apart (r ∷ rows) h = (to_shown_all r rows h.0, to_shown_apart rows h.1)
 
 -- rows that are floors of different urls can all be added, in whatever order a query shows them
-pub shown_add : (table rows : List Row) → IsPermutation (map shown_row table) rows → AllByRecursion IsFloor table → IsFloorTable table → (all : FloorMap) × Adds empty rows all
+pub shown_add : (table rows : List Row) → IsPermutation (map shown_row table) rows → AllByRecursion IsFloor table → IsFloorTable table →
+    (all : FloorMap) × Adds empty rows all
 shown_add table rows same floors once =
-    can_add empty rows (permuted_all IsFloor (map shown_row table) rows same (to_shown_floors table floors)) (permuted_apart (map shown_row table) rows same (to_shown_apart table once.1)) (none_in_empty rows)
+    can_add empty rows (permuted_all IsFloor (map shown_row table) rows same (to_shown_floors table floors))
+    (permuted_apart (map shown_row table) rows same (to_shown_apart table once.1)) (none_in_empty rows)

@@ -23,7 +23,8 @@ pub put_runs : (old new : State) (u : List ℕ) (n count : ℕ) → IsReady old 
 put_runs old new u n count ready h =
     let w = runs_as put_text (put_params u n) old new node_schema ready.schema put_command put_is put_plain count h in
     let text = statement_of put_text (understood node_schema put_text) in
-    let does = subst (λ s. Does old.step_limit (mode_of old) (put_params u n) (record old.now { schema = s }) text None put_command (Ok (w.tally, new.now))) ready.schema w.changed in
+    let does = subst (λ s. Does old.step_limit (mode_of old) (put_params u n) (record old.now { schema = s }) text None put_command (Ok (w.tally, new.now)))
+    ready.schema w.changed in
     let put = does_put old.step_limit (mode_of old) old.now.trees u n text w.tally new.now ready.table does in
     let last : new.committed ≡ new.now = rw ready.autocommit at w.shown.committed_is in (
       record { is_open = w.shown.is_open; autocommit = w.shown.mode ∙ ready.autocommit; settled = sym last; schema = put.0; table = put.1.0 },
@@ -45,7 +46,8 @@ put_commits old u n db ready h =
           rw write.5 (put.1.1 ∙ ap (λ (d : Database). insert (floors_in d.trees) u n) ready.settled)
     ]
 
-pub put_ready : (old new : State) (u : List ℕ) (n : ℕ) (r : Result ℕ Error) → (HasCleanDisk old → IsReady old) → (HasCleanDisk new → HasCleanDisk old) → (HasCleanDisk new → Executes put_text (put_params u n) old new r)
+pub put_ready : (old new : State) (u : List ℕ) (n : ℕ) (r : Result ℕ Error) → (HasCleanDisk old → IsReady old) → (HasCleanDisk new → HasCleanDisk old) →
+    (HasCleanDisk new → Executes put_text (put_params u n) old new r)
     → OnOk r (HasCleanDisk new → IsReady new) × OnOk r (HasCleanDisk new → committed_floors new ≡ insert (committed_floors old) u n)
 put_ready old new u n (Err e) was back h = (tt, tt)
 put_ready old new u n (Ok count) was back h =
@@ -66,7 +68,8 @@ put_crash g old new u n settled was survives clean floors may =
     ]
 
 -- a connection that is ready leaves at a crash what it committed
-pub settled_crash : {S : Type 0} (g : Ghosts S) (h : Held S) → IsSettledBy g → IsReady (state g h) → (floors : FloorMap) → MayFind (state g h) floors → floors ≡ committed_floors (state g h)
+pub settled_crash : {S : Type 0} (g : Ghosts S) (h : Held S) → IsSettledBy g → IsReady (state g h) → (floors : FloorMap) → MayFind (state g h) floors →
+    floors ≡ committed_floors (state g h)
 settled_crash g h settled ready floors may = may.2 ∙ ap floors_in (settled h.store may.0 ready.is_open may.1)
 
 pub put_fails : (old new : State) (u : List ℕ) (n : ℕ) (r : Result ℕ Error) → (HasCleanDisk new → Executes put_text (put_params u n) old new r)

@@ -25,7 +25,8 @@ is_lit below (Unary o p) v e = absurd (cc)
 is_lit below (Binary o p q) v e = absurd (cc)
 is_lit below (Case t p q) v e = absurd (cc)
 
-pub is_op2 : (below : ℕ → Term) (x : Op) (by : BinaryOp) (s t : Term) → op_term below x ≡ op2 by s t → (a : ℕ) × (b : ℕ) × (x ≡ Binary by a b) × (below a ≡ s) × (below b ≡ t)
+pub is_op2 : (below : ℕ → Term) (x : Op) (by : BinaryOp) (s t : Term) → op_term below x ≡ op2 by s t → (a : ℕ) × (b : ℕ) × (x ≡ Binary by a b) × (below a ≡ s)
+    × (below b ≡ t)
 is_op2 below (Literal w) by s t e = absurd (cc)
 is_op2 below (Column m b) by s t e = absurd (cc)
 is_op2 below (Unary o p) by s t e = absurd (cc)
@@ -42,7 +43,8 @@ module _ (ops : List Op) (at low high : ℕ) (s t : Term) (is : slice_index_or o
   holds_to (suc (suc zero)) deep left right = absurd (omega (arith, deep))
   holds_to (suc (suc (suc d))) deep left right = at_depth d ∙ ap (λ x. op2 And x (term_to ops (suc (suc d)) high)) (left d) ∙ ap (op2 And s) (right d)
 
-  pub check_holds : 3 ≤ length ops → ((d : ℕ) → term_to ops (suc (suc d)) low ≡ s) → ((d : ℕ) → term_to ops (suc (suc d)) high ≡ t) → term_in ops at ≡ op2 And s t
+  pub check_holds : 3 ≤ length ops → ((d : ℕ) → term_to ops (suc (suc d)) low ≡ s) → ((d : ℕ) → term_to ops (suc (suc d)) high ≡ t) →
+      term_in ops at ≡ op2 And s t
   check_holds = holds_to (length ops)
 
   left_of : {a b : Term} → op2 And a b ≡ op2 And s t → a ≡ s

@@ -38,7 +38,8 @@ versions_matched : (rows : List Row) → map (output version_query) (flat_map (�
 versions_matched [] = refl
 versions_matched (r ∷ rows) = ap (λ more. with_output shown_version r ∷ more) (versions_matched rows)
 
-answered : (show : Row → Row) (table rows : List Row) (kept ordered : List Output) → kept ≡ map (with_output show) table → IsPermutation kept ordered → rows ≡ drop 0 (map (λ (o : Output). o.1) ordered)
+answered : (show : Row → Row) (table rows : List Row) (kept ordered : List Output) → kept ≡ map (with_output show) table → IsPermutation kept ordered →
+    rows ≡ drop 0 (map (λ (o : Output). o.1) ordered)
     → IsPermutation (map show table) rows
 answered show table rows kept ordered is same shown =
     let second = λ (o : Output). o.1 in
@@ -46,17 +47,21 @@ answered show table rows kept ordered is same shown =
     (subst (IsPermutation (map second kept)) (sym (shown ∙ none_dropped (map second ordered))) (IsPermutation-map second kept ordered same))
 
 floors_answered : (trees : Trees) (rows : List Row) → IsAnswer load_query (overlay trees []) [] rows → IsPermutation (map shown_row (trees 1)) rows
-floors_answered trees rows a = answered shown_row (trees 1) rows a.kept a.ordered (a.distinct ∙ ap (map (output load_query)) a.grouped ∙ floors_matched (trees 1)) a.same a.shown
+floors_answered trees rows a = answered shown_row (trees 1) rows a.kept a.ordered
+    (a.distinct ∙ ap (map (output load_query)) a.grouped ∙ floors_matched (trees 1)) a.same a.shown
 
 versions_answered : (trees : Trees) (rows : List Row) → IsAnswer version_query (overlay trees []) [] rows → IsPermutation (map shown_version (trees 0)) rows
-versions_answered trees rows a = answered shown_version (trees 0) rows a.kept a.ordered (a.distinct ∙ ap (map (output version_query)) a.grouped ∙ versions_matched (trees 0)) a.same a.shown
+versions_answered trees rows a = answered shown_version (trees 0) rows a.kept a.ordered
+    (a.distinct ∙ ap (map (output version_query)) a.grouped ∙ versions_matched (trees 0)) a.same a.shown
 
-floors_load : (old new : State) (rows : List Row) → old.now.schema ≡ node_schema → Shown load_text [] old new rows → IsPermutation (map shown_row (old.now.trees 1)) rows
+floors_load : (old new : State) (rows : List Row) → old.now.schema ≡ node_schema → Shown load_text [] old new rows →
+    IsPermutation (map shown_row (old.now.trees 1)) rows
 floors_load old new rows has h =
     let reads = reads_as load_text [] old new node_schema has _ load_is.0 load_plain load_is.1 rows h in
     floors_answered old.now.trees rows (reads.answer Null)
 
-versions_load : (old new : State) (rows : List Row) → old.now.schema ≡ node_schema → Shown version_text [] old new rows → IsPermutation (map shown_version (old.now.trees 0)) rows
+versions_load : (old new : State) (rows : List Row) → old.now.schema ≡ node_schema → Shown version_text [] old new rows →
+    IsPermutation (map shown_version (old.now.trees 0)) rows
 versions_load old new rows has h =
     let reads = reads_as version_text [] old new node_schema has _ version_is.0 version_plain version_is.1 rows h in
     versions_answered old.now.trees rows (reads.answer Null)
@@ -68,19 +73,22 @@ module _ (text : List ℕ) (plain : IsPlain (understood node_schema text)) (old 
       let none = (subst IsPlain h.1.is (subst (λ s. IsPlain (understood s text)) (sym has) plain)).0 in
       (subst (ShowsRows old new text h.0 (timed [] h.0.formats h.1.now) rows) none h.2).3
 
-  pub query_keeps : (r : Result (Vec Row Global) Error) → (HasCleanDisk new → IfOk r (λ rows. Shown text [] old new rows.items)) → OnOk r (HasCleanDisk new → IsUnchanged old new)
+  pub query_keeps : (r : Result (Vec Row Global) Error) → (HasCleanDisk new → IfOk r (λ rows. Shown text [] old new rows.items)) →
+      OnOk r (HasCleanDisk new → IsUnchanged old new)
   query_keeps (Err e) h = tt
   query_keeps (Ok rows) h = λ clean. keeps rows.items (h clean)
 
   pub query_survives : Survives old new (CommitsShowing text [] old) → Survives old new (λ _. ⊥)
   query_survives = survives_weaker old new _ _ (λ _ db. never_commits text [] old db (subst (λ s. IsPlain (understood s text)) (sym has) plain))
 
-pub floors_shown : (old new : State) (r : Result (Vec Row Global) Error) → old.now.schema ≡ node_schema → (HasCleanDisk new → IfOk r (λ rows. Shown load_text [] old new rows.items))
+pub floors_shown : (old new : State) (r : Result (Vec Row Global) Error) → old.now.schema ≡ node_schema →
+    (HasCleanDisk new → IfOk r (λ rows. Shown load_text [] old new rows.items))
     → IfOk r (λ rows. HasCleanDisk new → IsPermutation (map shown_row (old.now.trees 1)) rows.items)
 floors_shown old new (Err e) has h = tt
 floors_shown old new (Ok rows) has h = λ clean. floors_load old new rows.items has (h clean)
 
-pub versions_shown : (old new : State) (r : Result (Vec Row Global) Error) → old.now.schema ≡ node_schema → (HasCleanDisk new → IfOk r (λ rows. Shown version_text [] old new rows.items))
+pub versions_shown : (old new : State) (r : Result (Vec Row Global) Error) → old.now.schema ≡ node_schema →
+    (HasCleanDisk new → IfOk r (λ rows. Shown version_text [] old new rows.items))
     → IfOk r (λ rows. HasCleanDisk new → IsPermutation (map shown_version (old.now.trees 0)) rows.items)
 versions_shown old new (Err e) has h = tt
 versions_shown old new (Ok rows) has h = λ clean. versions_load old new rows.items has (h clean)

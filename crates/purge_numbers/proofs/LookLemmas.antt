@@ -43,7 +43,8 @@ look_put new (r ∷ rows) q fresh none =
     go Greater e more = refl
 
 -- what goes away has another url
-pub look_kept : (p : Row → Bool) (u : List ℕ) (rows : List Row) (q : List ℕ) → AllByRecursion (λ r. p r ≡ false → url_of r ≡ u) rows → same_url q u ≡ false → look (filter p rows) q ≡ look rows q
+pub look_kept : (p : Row → Bool) (u : List ℕ) (rows : List Row) (q : List ℕ) → AllByRecursion (λ r. p r ≡ false → url_of r ≡ u) rows → same_url q u ≡ false →
+    look (filter p rows) q ≡ look rows q
 look_kept p u [] q all other = refl
 look_kept p u (r ∷ rows) q all other = elim (cases_Bool (p r)) [
   | inl keeps ↦ rw keeps (ap (cond (same_url q (url_of r)) (Some (floor_entry r).1)) (look_kept p u rows q all.1 other))

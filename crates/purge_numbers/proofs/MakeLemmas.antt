@@ -26,7 +26,8 @@ use Rattle.purge_numbers.specs.Rows.{shown_version}
 use Rattle.purge_numbers.proofs.Texts.{create_form, create_floors, form_defined, floors_defined, form_created, floors_created, create_form_is, create_form_plain, create_floors_is, create_floors_text, create_floors_plain, name_text, name_command, name_is, name_plain}
 use Rattle.purge_numbers.proofs.PutLemmas.{went, same_value, cast_int}
 
-module _ (text : List ℕ) (before after : Schema) (table : Table) (is : command_of (understood before text) ≡ CreateTable) (whole : statement_of text (understood before text) ≡ text) (plain : IsPlain (understood before text))
+module _ (text : List ℕ) (before after : Schema) (table : Table) (is : command_of (understood before text) ≡ CreateTable)
+    (whole : statement_of text (understood before text) ≡ text) (plain : IsPlain (understood before text))
     (defined : table_defined_by text ≡ Ok table) (makes : created before table ≡ after) (uncounted : lacks_sequence after ≡ false) where
   creates : (old new : State) (count : ℕ) → old.now.schema ≡ before → Executes text [] old new (Ok count)
       → (new.now.schema ≡ after) × (new.now.trees (next_tree before) ≡ []) × KeepsRows before.tables old.now.trees new.now.trees
@@ -48,11 +49,13 @@ module _ (text : List ℕ) (before after : Schema) (table : Table) (is : command
 
 form_step : (old new : State) (count : ℕ) → old.now.schema ≡ empty_schema → Executes create_form [] old new (Ok count) → IsFormed new.now
 form_step old new count has h =
-    let made = creates create_form empty_schema form_schema form_table create_form_is.0 create_form_is.1 create_form_plain form_defined form_created refl old new count has h in (made.0, made.1)
+    let made = creates create_form empty_schema form_schema form_table create_form_is.0 create_form_is.1 create_form_plain form_defined form_created refl old
+    new count has h in (made.0, made.1)
 
 floors_step : (old new : State) (count : ℕ) → IsFormed old.now → Executes create_floors [] old new (Ok count) → IsUnversioned new.now
 floors_step old new count formed h =
-    let made = creates create_floors form_schema node_schema (record floors_table { tree = 0 }) create_floors_is create_floors_text create_floors_plain floors_defined floors_created refl old new count formed.0 h in
+    let made = creates create_floors form_schema node_schema (record floors_table { tree = 0 }) create_floors_is create_floors_text create_floors_plain
+    floors_defined floors_created refl old new count formed.0 h in
     (made.0, made.2.0 ∙ formed.1, made.1)
 
 -- the row that names the version, in a table that had none
@@ -63,13 +66,17 @@ version_row version db given none is = rw (none, is, cast_int (pos version)) ref
 abbrev version_params : ℕ → Row
 version_params version = Int (pos version) ∷ []
 
-name_step : (version : ℕ) (old new : State) (count : ℕ) → IsUnversioned old.now → Executes name_text (version_params version) old new (Ok count) → IsVersioned version new.now
+name_step : (version : ℕ) (old new : State) (count : ℕ) → IsUnversioned old.now → Executes name_text (version_params version) old new (Ok count) →
+    IsVersioned version new.now
 name_step version old new count unversioned h =
     let has = unversioned.0 in
     let db = old.now.trees in
     let w = runs_as name_text (version_params version) old new node_schema has name_command name_is name_plain count h in
     let text = statement_of name_text (understood node_schema name_text) in
-    let done = went (subst (λ s. Does old.step_limit (mode_of old) (version_params version) (record old.now { schema = s }) text None name_command (Ok (w.tally, new.now))) has w.changed) in
+    let done =
+    went
+    (subst (λ s. Does old.step_limit (mode_of old) (version_params version) (record old.now { schema = s }) text None name_command (Ok (w.tally, new.now)))
+    has w.changed) in
     let now = ap (λ (p : Tally × Database). p.1) (same_value (went (went done.2).2).2) in
     let given = went done.1 in
     let written = went (went given.2).2 in
@@ -83,7 +90,8 @@ name_step version old new count unversioned h =
       ap (map shown_version) rows,
     )
 
-inside : (old new : State) (text : List ℕ) (params : Row) (count : ℕ) → ExecutesInside 0 text params old new (Ok count) → Executes text params old new (Ok count) × IsTrue new.in_transaction
+inside : (old new : State) (text : List ℕ) (params : Row) (count : ℕ) → ExecutesInside 0 text params old new (Ok count) →
+    Executes text params old new (Ok count) × IsTrue new.in_transaction
 inside old new text params count h = (h.0, h.1.mode)
 
 abbrev Ran : List ℕ → Row → State → State → Result ℕ Error → Type 0
@@ -97,6 +105,8 @@ pub makes_floors : (old new : State) (r : Result ℕ Error) → Ran create_floor
 makes_floors old new (Err e) h = tt
 makes_floors old new (Ok count) h = λ clean on from. let it = inside old new create_floors [] count (h clean on) in (it.1, floors_step old new count from it.0)
 
-pub makes_name : (version : ℕ) (old new : State) (r : Result ℕ Error) → Ran name_text (version_params version) old new r → OnOk r (HasCleanDisk new → Makes IsUnversioned (IsVersioned version) old new)
+pub makes_name : (version : ℕ) (old new : State) (r : Result ℕ Error) → Ran name_text (version_params version) old new r →
+    OnOk r (HasCleanDisk new → Makes IsUnversioned (IsVersioned version) old new)
 makes_name version old new (Err e) h = tt
-makes_name version old new (Ok count) h = λ clean on from. let it = inside old new name_text (version_params version) count (h clean on) in (it.1, name_step version old new count from it.0)
+makes_name version old new (Ok count) h = λ clean on from. let it = inside old new name_text (version_params version) count (h clean on) in
+    (it.1, name_step version old new count from it.0)

@@ -19,7 +19,8 @@ use Rattle.purge_numbers.specs.Rows.{Adds, IsFloor, shown_row, shown_version, Ha
 use Rattle.purge_numbers.specs.Store.{AreIn, committed_floors}
 use Rattle.purge_numbers.proofs.AddLemmas.{reads_floors, floor_rows, shown_add}
 
-module _ (old new : State) (rows : List Row) (all : FloorMap) (autocommit : old.in_transaction ≡ false) (settled : IsTrue old.is_open → old.now ≡ old.committed) (has : old.now.schema ≡ node_schema)
+module _ (old new : State) (rows : List Row) (all : FloorMap) (autocommit : old.in_transaction ≡ false) (settled : IsTrue old.is_open → old.now ≡ old.committed)
+    (has : old.now.schema ≡ node_schema)
     (same : IsUnchanged old new) (shown : IsPermutation (map shown_row (old.now.trees 1)) rows) (adds : Adds empty rows all) where
   pub same_floors : committed_floors new ≡ committed_floors old
   same_floors = ap (λ (d : Database). floors_in d.trees) same.0.committed_is
@@ -56,10 +57,12 @@ same_file a b mode now file = record {
 pub one_version : (table rows : List Row) (row : Row) → IsPermutation (map shown_version table) rows → rows ≡ row ∷ [] → map shown_version table ≡ row ∷ []
 one_version table rows row same is = one_permutation row (map shown_version table) (IsPermutation-sym (map shown_version table) (row ∷ []) (rw (← is) same))
 
-module _ (old new : State) (rows : List Row) (autocommit : old.in_transaction ≡ false) (settled : IsTrue old.is_open → old.now ≡ old.committed) (has : old.now.schema ≡ node_schema)
+module _ (old new : State) (rows : List Row) (autocommit : old.in_transaction ≡ false) (settled : IsTrue old.is_open → old.now ≡ old.committed)
+    (has : old.now.schema ≡ node_schema)
     (same : HasCleanDisk new → IsUnchanged old new) (shown : HasCleanDisk new → IsPermutation (map shown_row (old.now.trees 1)) rows) where
   -- a file of version 1 whose rows were read is a node's
-  pub read_node : (HasCleanDisk new → HasVersionOne (old.now.trees 0)) → length rows ≤ 65536 → (r : Result FloorMap FloorFault) → IfOk r (λ all. Adds empty rows all) → OnOk r (HasCleanDisk new → IsNodeFile old)
+  pub read_node : (HasCleanDisk new → HasVersionOne (old.now.trees 0)) → length rows ≤ 65536 → (r : Result FloorMap FloorFault) →
+      IfOk r (λ all. Adds empty rows all) → OnOk r (HasCleanDisk new → IsNodeFile old)
   read_node version few (Err fault) adds = tt
   read_node version few (Ok all) adds = λ clean.
       let read = reads_floors (old.now.trees 1) rows all (shown clean) adds in record {
@@ -80,7 +83,8 @@ pub no_version : (table rows : List Row) → IsPermutation (map shown_version ta
 no_version table rows same other one = other (one_permutation (Int (pos 1) ∷ []) rows (subst (λ xs. IsPermutation xs rows) one same))
 
 -- rows that cannot be added are not those of a node's file
-pub not_added : (old : State) (rows : List Row) → IsPermutation (map shown_row (old.now.trees 1)) rows → ((all : FloorMap) → ¬ Adds empty rows all) → ¬ IsNodeFile old
+pub not_added : (old : State) (rows : List Row) → IsPermutation (map shown_row (old.now.trees 1)) rows → ((all : FloorMap) → ¬ Adds empty rows all) →
+    ¬ IsNodeFile old
 not_added old rows shown none file =
     let adds = shown_add (old.now.trees 1) rows shown file.floors file.once in
     none adds.0 adds.1

@@ -79,7 +79,8 @@ floor_row id u n = Int id ∷ Text u ∷ Int (pos n) ∷ []
 cast_floor : (id : ℤ) (u : List ℕ) (n : ℕ) → cast_row floors_table (floor_row id u n) ≡ floor_row id u n
 cast_floor id u n = rw (cast_int id, cast_int (pos n))
 
-new_floor : (rows : List Row) (u : List ℕ) (n : ℕ) → with_rowid Chosen rows (cast_row floors_table (Null ∷ Text u ∷ Int (pos n) ∷ [])) ≡ floor_row (next_rowid rows) u n
+new_floor : (rows : List Row) (u : List ℕ) (n : ℕ) → with_rowid Chosen rows (cast_row floors_table (Null ∷ Text u ∷ Int (pos n) ∷ [])) ≡ floor_row
+    (next_rowid rows) u n
 new_floor rows u n = rw (cast_null, cast_int (pos n))
 
 -- a comparison of two texts has an answer
@@ -99,7 +100,8 @@ equal_texts : (a b : List ℕ) → equal Binary (Text a) (Text b) ≡ same_url a
 unfolding binary
 equal_texts a b = whole (is_eq (value_cmp (Text a) (Text b))) ∙ ap is_eq (value_cmp-Text a b)
 
-conflict_is : (id : ℤ) (u : List ℕ) (n : ℕ) (row : Row) → IsFloorRow row → conflicts (Some (1 ∷ [])) (url_index ∷ []) floors_table (floor_row id u n) row ≡ same_url (url_of row) u
+conflict_is : (id : ℤ) (u : List ℕ) (n : ℕ) (row : Row) → IsFloorRow row → conflicts (Some (1 ∷ [])) (url_index ∷ []) floors_table (floor_row id u n)
+    row ≡ same_url (url_of row) u
 conflict_is id u n row is =
     rw (first_key-plain, is.1.1, equal_texts is.1.0 u) (plain_or (same_url is.1.0 u))
 
@@ -155,7 +157,8 @@ shown n r = column r 0 ∷ column r 0 ∷ column r 1 ∷ Int (pos n) ∷ []
 abbrev update_given : Row → ℤ → List ℕ → ℕ → Row
 update_given there id u n = Text u ∷ Int (pos n) ∷ rowid there ∷ Int id ∷ Text u ∷ Int (pos n) ∷ []
 
-hit_is : (there r : Row) (at : ℤ) (given : Row) → IsFloorRow r → column given 2 ≡ Int at → list_all (holds (given ∷ r ∷ [])) update_query.filter ≡ has_rowid at r
+hit_is : (there r : Row) (at : ℤ) (given : Row) → IsFloorRow r → column given 2 ≡ Int at → list_all (holds (given ∷ r ∷ [])) update_query.filter ≡ has_rowid at
+    r
 unfolding binary
 hit_is there r at given is there_is =
     rw (is.0.1, there_is) (simple (is_eq (value_cmp (Int is.0.0) (Int at))))
@@ -188,7 +191,8 @@ answered : (trees : Trees) (u : List ℕ) (n : ℕ) (id at : ℤ) (there : Row) 
 answered trees u n id at there xs all is a =
     let given = update_given there id u n in
     let second = λ (o : Output). o.1 in
-    let kept : a.kept ≡ map (λ r. let o : Output = ([], shown n r) in o) (filter (has_rowid at) (trees 1)) = a.distinct ∙ ap (map (output update_query)) a.grouped ∙ matched at given trees (trees 1) is all in
+    let kept : a.kept ≡ map (λ r. let o : Output = ([], shown n r) in o) (filter (has_rowid at) (trees 1)) =
+    a.distinct ∙ ap (map (output update_query)) a.grouped ∙ matched at given trees (trees 1) is all in
     let whole : xs ≡ map second a.ordered = a.shown ∙ none_dropped (map second a.ordered) in
     subst (λ ys. IsPermutation ys xs) (ap (map second) kept ∙ shown_map n (filter (has_rowid at) (trees 1)))
     (subst (IsPermutation (map second a.kept)) (sym whole) (IsPermutation-map second a.kept a.ordered a.same))
@@ -209,7 +213,8 @@ HasId at s = rowid (cast_row floors_table (drop 1 s)) ≡ Int at
 shown_has_id : (n : ℕ) (at : ℤ) (x : Row) → IsFloorRow x → has_rowid at x ≡ true → HasId at (shown n x)
 shown_has_id n at x is h = ap (cast Integer) (rowid_is at x is h) ∙ cast_int at
 
-shown_have_id : (n : ℕ) (at : ℤ) (hits : List Row) → AllByRecursion (λ x. IsFloorRow x × (has_rowid at x ≡ true)) hits → AllByRecursion (HasId at) (map (shown n) hits)
+shown_have_id : (n : ℕ) (at : ℤ) (hits : List Row) → AllByRecursion (λ x. IsFloorRow x × (has_rowid at x ≡ true)) hits →
+    AllByRecursion (HasId at) (map (shown n) hits)
 shown_have_id n at [] all = tt
 shown_have_id n at (x ∷ hits) all = (shown_has_id n at x all.0.0 all.0.1, shown_have_id n at hits all.1)
 
@@ -222,7 +227,8 @@ own_rowid : (at : ℤ) → is_eq (value_cmp (Int at) (Int at)) ≡ true
 own_rowid at = (eq_by_cmp_equiv value_cmp_total).refl (Int at)
 
 -- no two rows have the rowid, or else the update would be refused
-only_hit : (n : ℕ) (at : ℤ) (r : Row) (hits xs left : List Row) → Has hits r → AllByRecursion (λ x. IsFloorRow x × (has_rowid at x ≡ true)) hits → IsPermutation (map (shown n) hits) xs
+only_hit : (n : ℕ) (at : ℤ) (r : Row) (hits xs left : List Row) → Has hits r → AllByRecursion (λ x. IsFloorRow x × (has_rowid at x ≡ true)) hits →
+    IsPermutation (map (shown n) hits) xs
     → are_fresh left (numbered Given left (map (λ s. cast_row floors_table (drop 1 s)) xs)) ≡ true → hits ≡ r ∷ []
 only_hit n at r [] xs left has all same fresh = absurd has
 only_hit n at r (x ∷ []) xs left (inl is) all same fresh = ap (λ y. y ∷ []) (sym is)
@@ -231,11 +237,13 @@ only_hit n at r (x ∷ y ∷ more) [] left has all same fresh = absurd (omega (a
 only_hit n at r (x ∷ y ∷ more) (a ∷ []) left has all same fresh = absurd (omega (arith, length_permutation (map (shown n) (x ∷ y ∷ more)) (a ∷ []) same))
 only_hit n at r (x ∷ y ∷ more) (a ∷ b ∷ rest) left has all same fresh =
     let shown_all = map (shown n) (x ∷ y ∷ more) in
-    let ids = recursion_from_All (HasId at) (a ∷ b ∷ rest) (All-permutation (HasId at) shown_all (a ∷ b ∷ rest) same (All-from_recursion (HasId at) shown_all (shown_have_id n at (x ∷ y ∷ more) all))) in
+    let ids = recursion_from_All (HasId at) (a ∷ b ∷ rest) (All-permutation (HasId at) shown_all (a ∷ b ∷ rest) same
+    (All-from_recursion (HasId at) shown_all (shown_have_id n at (x ∷ y ∷ more) all))) in
     let first = cast_row floors_table (drop 1 a) in
     let second = cast_row floors_table (drop 1 b) in
     let tied : is_eq (value_cmp (rowid first) (rowid second)) ≡ true = rw (ids.0, ids.1.0) (own_rowid at) in
-    let taken : is_taken (put_row first left) second ≡ true = some_from (λ z. is_eq (value_cmp (rowid z) (rowid second))) (put_row first left) first (has_put first left) tied in
+    let taken : is_taken (put_row first left) second ≡ true = some_from (λ z. is_eq (value_cmp (rowid z) (rowid second))) (put_row first left) first
+    (has_put first left) tied in
     absurd (refused_twice (not (is_taken left first)) (is_taken (put_row first left) second) _ taken fresh)
 
 -- a url stands in one row
@@ -243,7 +251,8 @@ once : (rows : List Row) (x r : Row) → IsAscending Apart rows → Has rows x �
 once [] x r up has_x has_r same = absurd has_x
 once (y ∷ rows) x r up (inl p) (inl q) same = p ∙ sym q
 once (y ∷ rows) x r up (inl p) (inr q) same = absurd (let apart : same_url (url_of x) (url_of r) ≡ false = rw p (all_has (λ b. Apart y b) rows r up.0 q) in cc)
-once (y ∷ rows) x r up (inr p) (inl q) same = absurd (let apart : same_url (url_of x) (url_of r) ≡ false = rw q (flip (url_of y) (url_of x) (all_has (λ b. Apart y b) rows x up.0 p)) in cc)
+once (y ∷ rows) x r up (inr p) (inl q) same = absurd (let apart : same_url (url_of x) (url_of r) ≡ false =
+    rw q (flip (url_of y) (url_of x) (all_has (λ b. Apart y b) rows x up.0 p)) in cc)
 once (y ∷ rows) x r up (inr p) (inr q) same = once rows x r up.1 p q same
 
 back_true : (b : Bool) → not b ≡ false → b ≡ true
@@ -255,14 +264,16 @@ both_ways true p q = absurd (cc)
 both_ways false p q = absurd (cc)
 
 -- the row with this rowid, which has the url, is replaced
-replaced : (keys : Keys) (trees : Trees) (u : List ℕ) (n : ℕ) (at : ℤ) (r : Row) (xs : List Row) (next : Trees) → IsFloorTable (trees 1) → Has (trees 1) r → url_of r ≡ u
+replaced : (keys : Keys) (trees : Trees) (u : List ℕ) (n : ℕ) (at : ℤ) (r : Row) (xs : List Row) (next : Trees) → IsFloorTable (trees 1) → Has (trees 1) r →
+    url_of r ≡ u
     → filter (has_rowid at) (trees 1) ≡ r ∷ [] → xs ≡ (Int at ∷ floor_row at u n) ∷ []
     → Applies node_schema keys trees (edit_of trees floors_table (ids_of xs) Given 1 xs) next → IsPut trees u n next
 replaced keys trees u n at r xs next is_table has is_url hits is step0 =
     let step = subst (λ ys. Applies node_schema keys trees (edit_of trees floors_table (ids_of ys) Given 1 ys) next) is step0 in
     let stays = λ (x : Row). not (has_rowid at x) in
     let left = filter stays (trees 1) in
-    let hit : (x : Row) → Has (trees 1) x → has_rowid at x ≡ true → x ≡ r = λ x has_x h. elim (subst (λ rs. Has rs x) hits (has_kept (has_rowid at) (trees 1) x has_x h)) [ inl e ↦ e | inr none ↦ absurd none ] in
+    let hit : (x : Row) → Has (trees 1) x → has_rowid at x ≡ true → x ≡ r =
+    λ x has_x h. elim (subst (λ rs. Has rs x) hits (has_kept (has_rowid at) (trees 1) x has_x h)) [ inl e ↦ e | inr none ↦ absurd none ] in
     let r_hit : has_rowid at r ≡ true = (has_filtered (has_rowid at) (trees 1) r (subst (λ rs. Has rs r) (sym hits) (inl refl))).1 in
     let none : AllByRecursion (λ x. same_url (url_of x) u ≡ false) left = all_from _ left (λ x has_x.
     let kept = has_filtered stays (trees 1) x has_x in
@@ -270,7 +281,10 @@ replaced keys trees u n at r xs next is_table has is_url hits is step0 =
     (subst (λ y. has_rowid at y ≡ true) (sym (once (trees 1) x r is_table.1 kept.0 has (rw is_url same))) r_hit)))) in
     let others : (q : List ℕ) → same_url q u ≡ false → look left q ≡ look (trees 1) q = λ q other.
     look_kept stays u (trees 1) q (all_from _ (trees 1) (λ x has_x gone. ap url_of (hit x has_x (back_true _ gone)) ∙ is_url)) other in
-    let table : IsFloorTable left = (all_from IsFloorRow left (λ x has_x. all_has IsFloorRow (trees 1) x is_table.0 (has_filtered stays (trees 1) x has_x).0), ascending_filter Apart stays (trees 1) is_table.1) in
+    let table : IsFloorTable left = (
+      all_from IsFloorRow left (λ x has_x. all_has IsFloorRow (trees 1) x is_table.0 (has_filtered stays (trees 1) x has_x).0),
+      ascending_filter Apart stays (trees 1) is_table.1,
+    ) in
     let free : is_taken left (floor_row at u n) ≡ false = free_of _ (subst (λ row. (not (is_taken left row) && true) ≡ true) (cast_floor at u n) step.fresh) in
     beside trees u n at left next none others table free (step.rows ∙ ap (λ row. put_row row left) (cast_floor at u n))
 
@@ -281,16 +295,19 @@ module _ (limit : Option ℕ) (keys : Keys) (trees : Trees) (u : List ℕ) (n : 
       let put = went h in
       let step = one_step node_schema keys trees put.0 edit refl put.1 in
       let is : put.0 1 ≡ put_row (floor_row id u n) (trees 1) = step.rows ∙ ap (λ r. put_row r (trees 1)) (cast_floor id u n) in
-      let free : is_taken (trees 1) (floor_row id u n) ≡ false = free_of _ (subst (λ r. (not (is_taken (trees 1) r) && true) ≡ true) (cast_floor id u n) step.fresh) in
+      let free : is_taken (trees 1) (floor_row id u n) ≡ false =
+      free_of _ (subst (λ r. (not (is_taken (trees 1) r) && true) ≡ true) (cast_floor id u n) step.fresh) in
       let same : w.trees ≡ put.0 = ap (λ (it : Written). it.trees) (same_value put.2) in
       rw same (beside trees u n id (trees 1) put.0 none (λ q other. refl) is_table free is)
 
-  clears : (found : List Row) → AllByRecursion (λ r. same_url (url_of r) u ≡ false) (trees 1) → Clears (task limit keys u n) Abort (floor_row id u n) trees found (Ok w) → IsPut trees u n w.trees
+  clears : (found : List Row) → AllByRecursion (λ r. same_url (url_of r) u ≡ false) (trees 1) →
+      Clears (task limit keys u n) Abort (floor_row id u n) trees found (Ok w) → IsPut trees u n w.trees
   clears [] none h = puts none h
   clears (x ∷ more) none h = puts none h
 
   updates : (there : Row) (r : Row) → Has (trees 1) r → same_url (url_of r) u ≡ true → there ≡ rowid r ∷ []
-      → Updates (task limit keys u n) (record { lets = []; body = update_query }) (Text u ∷ Int (pos n) ∷ rowid there ∷ Int id ∷ Text u ∷ Int (pos n) ∷ []) trees (Ok w) → IsPut trees u n w.trees
+      → Updates (task limit keys u n) (record { lets = []; body = update_query }) (Text u ∷ Int (pos n) ∷ rowid there ∷ Int id ∷ Text u ∷ Int (pos n) ∷ [])
+      trees (Ok w) → IsPut trees u n w.trees
   updates there r has at is h =
       let ans = went h in
       let put = went ans.2 in
@@ -306,12 +323,14 @@ module _ (limit : Option ℕ) (keys : Keys) (trees : Trees) (u : List ℕ) (n : 
       let kept = has_filtered (has_rowid own) (trees 1) x has_x in (all_has IsFloorRow (trees 1) x is_table.0 kept.0, kept.1)) in
       let one : hits ≡ r ∷ [] = only_hit n own r hits ans.0 _ (has_kept (has_rowid own) (trees 1) r has own_hit) all same step.fresh in
       let shows : shown n r ≡ Int own ∷ floor_row own u n = rw (keyed.0.1, keyed.1.1, url) in
-      let xs : ans.0 ≡ (Int own ∷ floor_row own u n) ∷ [] = one_permutation _ ans.0 (subst (λ s. IsPermutation (s ∷ []) ans.0) shows (subst (λ rs. IsPermutation (map (shown n) rs) ans.0) one same)) in
+      let xs : ans.0 ≡ (Int own ∷ floor_row own u n) ∷ [] = one_permutation _ ans.0
+      (subst (λ s. IsPermutation (s ∷ []) ans.0) shows (subst (λ rs. IsPermutation (map (shown n) rs) ans.0) one same)) in
       let last : w.trees ≡ put.0 = ap (λ (it : Written). it.trees) (same_value put.2) in
       subst (IsPut trees u n) (sym last) (replaced keys trees u n own r ans.0 put.0 is_table has (ap bytes keyed.1.1 ∙ url) one xs step)
 
   meets : (found : List Row) → AreConflicts (Some (1 ∷ [])) (url_index ∷ []) floors_table (trees 1) (floor_row id u n) found
-      → Meets (task limit keys u n) (Upserts (task limit keys u n) Abort (floor_row id u n) trees []) (floor_row id u n) trees clause found (Ok w) → IsPut trees u n w.trees
+      → Meets (task limit keys u n) (Upserts (task limit keys u n) Abort (floor_row id u n) trees []) (floor_row id u n) trees clause found (Ok w) →
+      IsPut trees u n w.trees
   meets [] conflict h =
       clears h.0 (all_from _ (trees 1) (λ r has. false_from_ne_true _ (λ same.
       conflict.complete r has (conflict_is id u n r (all_has _ (trees 1) r is_table.0 has) ∙ same)))) h.2
@@ -328,7 +347,8 @@ module _ (limit : Option ℕ) (keys : Keys) (trees : Trees) (u : List ℕ) (n : 
   tries (inr put) = judged put.0 put.2
 
 tried_put : (limit : Option ℕ) (keys : Keys) (trees : Trees) (u : List ℕ) (n : ℕ) (top : ℤ) (rows : List Row) (done : Written × ℤ) → IsFloorTable (trees 1)
-    → rows ≡ (Null ∷ Text u ∷ Int (pos n) ∷ []) ∷ [] → TriesEach (task limit keys u n) Abort (clause ∷ []) rows top (nothing trees) (Ok done) → IsPut trees u n done.0.trees
+    → rows ≡ (Null ∷ Text u ∷ Int (pos n) ∷ []) ∷ [] → TriesEach (task limit keys u n) Abort (clause ∷ []) rows top (nothing trees) (Ok done) →
+    IsPut trees u n done.0.trees
 tried_put limit keys trees u n top rows done is_table is h =
     let one = went (subst (λ rs. TriesEach (task limit keys u n) Abort (clause ∷ []) rs top (nothing trees) (Ok done)) is h) in
     let tried = subst (λ row. Tries (task limit keys u n) Abort (clause ∷ []) row trees (Ok one.0)) (new_floor (trees 1) u n) one.1 in
@@ -336,7 +356,8 @@ tried_put limit keys trees u n top rows done is_table is h =
     subst (IsPut trees u n) (sym last) (tries limit keys trees u n (next_rowid (trees 1)) is_table one.0 tried)
 
 pub does_put : (limit : Option ℕ) (mode : Mode) (trees : Trees) (u : List ℕ) (n : ℕ) (text : List ℕ) (tally : Tally) (after : Database)
-    → IsFloorTable (trees 1) → Does limit mode (Text u ∷ Int (pos n) ∷ []) (record { schema = node_schema; trees = trees }) text None put_command (Ok (tally, after))
+    → IsFloorTable (trees 1) → Does limit mode (Text u ∷ Int (pos n) ∷ []) (record { schema = node_schema; trees = trees }) text None put_command
+    (Ok (tally, after))
     → (after.schema ≡ node_schema) × IsPut trees u n after.trees
 does_put limit mode trees u n text tally after is_table h =
     let all = went h in

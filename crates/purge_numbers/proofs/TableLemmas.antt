@@ -4,10 +4,12 @@ use Rattle.std.proofs.Common.{◌≡◌, ◌≤◌, ◌<◌, List, [], ◌∷◌
 use Rattle.sqlite_schema.specs.declared.schema.Index.{Index}
 use Rattle.sqlite.specs.Table.{Table}
 
-pub same_index : (i j : Index) → i.name ≡ j.name → i.tree ≡ j.tree → i.table ≡ j.table → i.columns ≡ j.columns → i.order ≡ j.order → i.is_unique ≡ j.is_unique → i ≡ j
+pub same_index : (i j : Index) → i.name ≡ j.name → i.tree ≡ j.tree → i.table ≡ j.table → i.columns ≡ j.columns → i.order ≡ j.order → i.is_unique ≡ j.is_unique →
+    i ≡ j
 same_index i j a b c d e f = λ k. record { name = a k; tree = b k; table = c k; columns = d k; order = e k; is_unique = f k }
 
-pub same_table : (t u : Table) → t.name ≡ u.name → t.tree ≡ u.tree → t.columns ≡ u.columns → t.key ≡ u.key → t.primary ≡ u.primary → t.uniques ≡ u.uniques → t.orders ≡ u.orders
+pub same_table : (t u : Table) → t.name ≡ u.name → t.tree ≡ u.tree → t.columns ≡ u.columns → t.key ≡ u.key → t.primary ≡ u.primary → t.uniques ≡ u.uniques →
+    t.orders ≡ u.orders
     → t.checks ≡ u.checks → t.references ≡ u.references → t.computed ≡ u.computed → t.stamps ≡ u.stamps → t.is_counted ≡ u.is_counted → t ≡ u
 same_table t u a b c d e f g h i j l m = λ k. record {
   name = a k;

@@ -132,7 +132,8 @@ pub name_plain : IsPlain (understood node_schema name_text)
 unfolding understood everything
 name_plain = (refl, refl)
 
-pub create_form_is : (command_of (understood empty_schema create_form) ≡ CreateTable) × (statement_of create_form (understood empty_schema create_form) ≡ create_form)
+pub create_form_is : (command_of (understood empty_schema create_form) ≡ CreateTable)
+    × (statement_of create_form (understood empty_schema create_form) ≡ create_form)
 unfolding understood everything
 create_form_is = (refl, refl)
 

@@ -52,9 +52,11 @@ pub record IsNodeFile (file : State) : Type 0 where
 -- what an open finds: no floors in a blank file without an open transaction, and in a node's file
 -- those that were committed
 abbrev pub OpensWith : State → FloorMap → Type 0
-OpensWith file floors = ((file.in_transaction ≡ false) × IsBlank file.now × (floors ≡ empty)) ⊎ (IsNodeFile file × (floors ≡ committed_floors file))
+OpensWith file floors = ((file.in_transaction ≡ false) × IsBlank file.now × (floors ≡ empty))
+    ⊎ (IsNodeFile file × (floors ≡ committed_floors file))
 
 -- a crash leaves what it could leave before, or no floors if the file was blank and no transaction
 -- was open
 abbrev pub LeavesNoOther : State → State → Type 0
-LeavesNoOther old new = HasCleanDisk new → (left : FloorMap) → MayFind new left → MayFind old left ⊎ ((old.in_transaction ≡ false) × IsBlank old.now × (left ≡ empty))
+LeavesNoOther old new = HasCleanDisk new → (left : FloorMap) → MayFind new left →
+    MayFind old left ⊎ ((old.in_transaction ≡ false) × IsBlank old.now × (left ≡ empty))

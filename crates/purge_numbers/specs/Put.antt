@@ -17,4 +17,5 @@ put_params url number = Text url ∷ Int (pos number) ∷ []
 
 -- the database ran the statement and returned an error other than `OutOfMemory`
 abbrev pub FailsToPut : State → State → List ℕ → ℕ → Type 0
-FailsToPut old new url number = (e : Error) × (told_as e ≡ StoreFault) × Executes put_text (put_params url number) old new (Err e)
+FailsToPut old new url number = (e : Error) × (told_as e ≡ StoreFault)
+    × Executes put_text (put_params url number) old new (Err e)

@@ -16,7 +16,8 @@ IsUrl row = (column row 1 ≡ Words (floor_entry row).0) × IsKey (floor_entry r
 
 -- the column `number` is 1 to 4294967295
 abbrev pub IsNumber : Row → Type 0
-IsNumber row = (column row 2 ≡ Int (pos (floor_entry row).1)) × (1 ≤ (floor_entry row).1) × ((floor_entry row).1 < 2 ^ 32)
+IsNumber row = (column row 2 ≡ Int (pos (floor_entry row).1)) × (1 ≤ (floor_entry row).1)
+    × ((floor_entry row).1 < 2 ^ 32)
 
 -- the row is a floor: a rowid, a url and a number
 pub record IsFloor (row : Row) : Type 0 where
@@ -27,7 +28,8 @@ pub record IsFloor (row : Row) : Type 0 where
 -- each row is a floor of a url that no row before it has; it is inserted in turn
 abbrev pub Adds : FloorMap → List Row → FloorMap → Type 0
 Adds floors [] all = all ≡ floors
-Adds floors (row ∷ rows) all = IsFloor row × (get floors (floor_entry row).0 ≡ None) × Adds (insert floors (floor_entry row).0 (floor_entry row).1) rows all
+Adds floors (row ∷ rows) all = IsFloor row × (get floors (floor_entry row).0 ≡ None)
+    × Adds (insert floors (floor_entry row).0 (floor_entry row).1) rows all
 
 -- reading fails only with `BadTable` or `NoMemory`
 abbrev pub IsReadFault : {A : Type 0} → Result A FloorFault → Type 0

@@ -21,8 +21,10 @@ use std::alloc::Global;
 /// All rows of the table `form`.
 fn version_rows<S: Alter>(conn: &mut Connection<S>) -> Result<Vec<Row>, Error>
     requires { (state S.Store conn.old).now.schema ≡ node_schema }
-    ensures rows { IfOk result (λ rows. HasCleanDisk (state S.Store conn.new) → IsPermutation (map shown_version ((state S.Store conn.old).now.trees 0)) rows.items) }
-    ensures same { OnOk result (HasCleanDisk (state S.Store conn.new) → IsUnchanged (state S.Store conn.old) (state S.Store conn.new)) }
+    ensures rows { IfOk result (λ rows. HasCleanDisk (state S.Store conn.new) →
+        IsPermutation (map shown_version ((state S.Store conn.old).now.trees 0)) rows.items) }
+    ensures same { OnOk result (HasCleanDisk (state S.Store conn.new) →
+        IsUnchanged (state S.Store conn.old) (state S.Store conn.new)) }
     ensures survives { Survives (state S.Store conn.old) (state S.Store conn.new) (λ _. ⊥) }
 {
     conn.query_all("SELECT version FROM form", &[])
@@ -31,8 +33,10 @@ fn version_rows<S: Alter>(conn: &mut Connection<S>) -> Result<Vec<Row>, Error>
 /// All rows of the table `floors`, in any order.
 fn floor_rows<S: Alter>(conn: &mut Connection<S>) -> Result<Vec<Row>, Error>
     requires { (state S.Store conn.old).now.schema ≡ node_schema }
-    ensures rows { IfOk result (λ rows. HasCleanDisk (state S.Store conn.new) → IsPermutation (map shown_row ((state S.Store conn.old).now.trees 1)) rows.items) }
-    ensures same { OnOk result (HasCleanDisk (state S.Store conn.new) → IsUnchanged (state S.Store conn.old) (state S.Store conn.new)) }
+    ensures rows { IfOk result (λ rows. HasCleanDisk (state S.Store conn.new) →
+        IsPermutation (map shown_row ((state S.Store conn.old).now.trees 1)) rows.items) }
+    ensures same { OnOk result (HasCleanDisk (state S.Store conn.new) →
+        IsUnchanged (state S.Store conn.old) (state S.Store conn.new)) }
     ensures survives { Survives (state S.Store conn.old) (state S.Store conn.new) (λ _. ⊥) }
 {
     conn.query_all("SELECT rowid, url, number FROM floors", &[])
@@ -58,9 +62,12 @@ fn is_version_one(rows: &[Row]) -> bool
 /// Refuses a file unless `form` has one row, the version 1.
 fn check_version<S: Alter>(conn: &mut Connection<S>) -> Result<(), FloorFault>
     requires { (state S.Store conn.old).now.schema ≡ node_schema }
-    ensures version { OnOk result (HasCleanDisk (state S.Store conn.new) → HasVersionOne ((state S.Store conn.old).now.trees 0)) }
-    ensures bad { result ≡ Err FloorFault.BadTable → HasCleanDisk (state S.Store conn.new) → ¬ HasVersionOne ((state S.Store conn.old).now.trees 0) }
-    ensures same { OnOk result (HasCleanDisk (state S.Store conn.new) → IsUnchanged (state S.Store conn.old) (state S.Store conn.new)) }
+    ensures version { OnOk result (HasCleanDisk (state S.Store conn.new) →
+        HasVersionOne ((state S.Store conn.old).now.trees 0)) }
+    ensures bad { result ≡ Err FloorFault.BadTable → HasCleanDisk (state S.Store conn.new) →
+        ¬ HasVersionOne ((state S.Store conn.old).now.trees 0) }
+    ensures same { OnOk result (HasCleanDisk (state S.Store conn.new) →
+        IsUnchanged (state S.Store conn.old) (state S.Store conn.new)) }
     ensures survives { Survives (state S.Store conn.old) (state S.Store conn.new) (λ _. ⊥) }
     ensures full { result ≢ Err FloorFault.FloorsFull }
 {
@@ -74,12 +81,18 @@ fn check_version<S: Alter>(conn: &mut Connection<S>) -> Result<(), FloorFault>
 /// Reads the floors, if no transaction is open and the schema is that of a node. The caller has
 /// checked the version.
 fn read_floors<S: Alter>(conn: &mut Connection<S>, alloc: Global) -> Result<Floors, FloorFault>
-    requires { HasCleanDisk (state S.Store conn.old) → HasVersionOne ((state S.Store conn.old).now.trees 0) }
-    ensures kept { IfOk result (λ floors. HasCleanDisk (state S.Store conn.new) → AreIn (state S.Store conn.new) floors) }
-    ensures same { OnOk result (HasCleanDisk (state S.Store conn.new) → committed_floors (state S.Store conn.new) ≡ committed_floors (state S.Store conn.old)) }
-    ensures file { OnOk result (HasCleanDisk (state S.Store conn.new) → IsNodeFile (state S.Store conn.old)) }
-    ensures node { OnOk result (HasCleanDisk (state S.Store conn.new) → IsNodeFile (state S.Store conn.new)) }
-    ensures bad { result ≡ Err FloorFault.BadTable → HasCleanDisk (state S.Store conn.new) → ¬ IsNodeFile (state S.Store conn.old) }
+    requires { HasCleanDisk (state S.Store conn.old) →
+        HasVersionOne ((state S.Store conn.old).now.trees 0) }
+    ensures kept { IfOk result (λ floors. HasCleanDisk (state S.Store conn.new) →
+        AreIn (state S.Store conn.new) floors) }
+    ensures same { OnOk result (HasCleanDisk (state S.Store conn.new) →
+        committed_floors (state S.Store conn.new) ≡ committed_floors (state S.Store conn.old)) }
+    ensures file { OnOk result (HasCleanDisk (state S.Store conn.new) →
+        IsNodeFile (state S.Store conn.old)) }
+    ensures node { OnOk result (HasCleanDisk (state S.Store conn.new) →
+        IsNodeFile (state S.Store conn.new)) }
+    ensures bad { result ≡ Err FloorFault.BadTable → HasCleanDisk (state S.Store conn.new) →
+        ¬ IsNodeFile (state S.Store conn.old) }
     ensures survives { Survives (state S.Store conn.old) (state S.Store conn.new) (λ _. ⊥) }
     ensures full { result ≢ Err FloorFault.FloorsFull }
 {
@@ -99,8 +112,11 @@ fn read_floors<S: Alter>(conn: &mut Connection<S>, alloc: Global) -> Result<Floo
 /// Makes the table `form`.
 fn create_form<S: Alter>(tx: &mut Transaction<'_, S>) -> Result<usize, Error>
     ensures same_reference { tx.new.conn.ghost_name ≡ tx.old.conn.ghost_name }
-    ensures made { OnOk result (HasCleanDisk (state S.Store tx.new.conn.now) → Makes IsBlank IsFormed (state S.Store tx.old.conn.now) (state S.Store tx.new.conn.now)) }
-    ensures survives { Survives (state S.Store tx.old.conn.now) (state S.Store tx.new.conn.now) (λ _. ⊥) }
+    ensures made { OnOk result (HasCleanDisk (state S.Store tx.new.conn.now) →
+        Makes IsBlank IsFormed (state S.Store tx.old.conn.now)
+        (state S.Store tx.new.conn.now)) }
+    ensures survives { Survives (state S.Store tx.old.conn.now) (state S.Store tx.new.conn.now)
+        (λ _. ⊥) }
 {
     tx.execute(
         "CREATE TABLE form (version INTEGER PRIMARY KEY) STRICT",
@@ -111,8 +127,11 @@ fn create_form<S: Alter>(tx: &mut Transaction<'_, S>) -> Result<usize, Error>
 /// Makes the table `floors`.
 fn create_floors<S: Alter>(tx: &mut Transaction<'_, S>) -> Result<usize, Error>
     ensures same_reference { tx.new.conn.ghost_name ≡ tx.old.conn.ghost_name }
-    ensures made { OnOk result (HasCleanDisk (state S.Store tx.new.conn.now) → Makes IsFormed IsUnversioned (state S.Store tx.old.conn.now) (state S.Store tx.new.conn.now)) }
-    ensures survives { Survives (state S.Store tx.old.conn.now) (state S.Store tx.new.conn.now) (λ _. ⊥) }
+    ensures made { OnOk result (HasCleanDisk (state S.Store tx.new.conn.now) →
+        Makes IsFormed IsUnversioned (state S.Store tx.old.conn.now)
+        (state S.Store tx.new.conn.now)) }
+    ensures survives { Survives (state S.Store tx.old.conn.now) (state S.Store tx.new.conn.now)
+        (λ _. ⊥) }
 {
     tx.execute(
         "CREATE TABLE floors (url TEXT PRIMARY KEY NOT NULL, number INTEGER NOT NULL CHECK (number >= 1 AND number <= 4294967295)) STRICT",
@@ -123,8 +142,11 @@ fn create_floors<S: Alter>(tx: &mut Transaction<'_, S>) -> Result<usize, Error>
 /// Writes the one row of `form`.
 fn name_version<S: Alter>(tx: &mut Transaction<'_, S>, version: u32) -> Result<usize, Error>
     ensures same_reference { tx.new.conn.ghost_name ≡ tx.old.conn.ghost_name }
-    ensures made { OnOk result (HasCleanDisk (state S.Store tx.new.conn.now) → Makes IsUnversioned (IsVersioned version) (state S.Store tx.old.conn.now) (state S.Store tx.new.conn.now)) }
-    ensures survives { Survives (state S.Store tx.old.conn.now) (state S.Store tx.new.conn.now) (λ _. ⊥) }
+    ensures made { OnOk result (HasCleanDisk (state S.Store tx.new.conn.now) →
+        Makes IsUnversioned (IsVersioned version) (state S.Store tx.old.conn.now)
+        (state S.Store tx.new.conn.now)) }
+    ensures survives { Survives (state S.Store tx.old.conn.now) (state S.Store tx.new.conn.now)
+        (λ _. ⊥) }
 {
     tx.execute(
         "INSERT INTO form (version) VALUES (?1)",
@@ -135,8 +157,11 @@ fn name_version<S: Alter>(tx: &mut Transaction<'_, S>, version: u32) -> Result<u
 /// Makes a node's tables with the version 1 and no floor, in the open transaction.
 fn fill<S: Alter>(tx: &mut Transaction<'_, S>) -> Result<(), Error>
     ensures same_reference { tx.new.conn.ghost_name ≡ tx.old.conn.ghost_name }
-    ensures made { OnOk result (HasCleanDisk (state S.Store tx.new.conn.now) → Makes IsBlank IsUnused (state S.Store tx.old.conn.now) (state S.Store tx.new.conn.now)) }
-    ensures survives { Survives (state S.Store tx.old.conn.now) (state S.Store tx.new.conn.now) (λ _. ⊥) }
+    ensures made { OnOk result (HasCleanDisk (state S.Store tx.new.conn.now) →
+        Makes IsBlank IsUnused (state S.Store tx.old.conn.now)
+        (state S.Store tx.new.conn.now)) }
+    ensures survives { Survives (state S.Store tx.old.conn.now) (state S.Store tx.new.conn.now)
+        (λ _. ⊥) }
 {
     create_form(tx)?;
     create_floors(tx)?;
@@ -146,8 +171,10 @@ fn fill<S: Alter>(tx: &mut Transaction<'_, S>) -> Result<(), Error>
 
 /// Makes the tables and commits them, in one transaction.
 fn make_tables<S: Alter>(conn: &mut Connection<S>) -> Result<(), Error>
-    ensures made { OnOk result (HasCleanDisk (state S.Store conn.new) → IsBlank (state S.Store conn.old).now → IsMade (state S.Store conn.new)) }
-    ensures survives { Survives (state S.Store conn.old) (state S.Store conn.new) (λ trees. (state S.Store conn.old).now.schema ≡ empty_schema → trees 1 ≡ []) }
+    ensures made { OnOk result (HasCleanDisk (state S.Store conn.new) →
+        IsBlank (state S.Store conn.old).now → IsMade (state S.Store conn.new)) }
+    ensures survives { Survives (state S.Store conn.old) (state S.Store conn.new) (λ trees.
+        (state S.Store conn.old).now.schema ≡ empty_schema → trees 1 ≡ []) }
 {
     if !conn.is_autocommit() {
         return Err(Error::InvalidQuery);
@@ -168,7 +195,9 @@ fn is_blank(schema: &Schema) -> bool
 /// Makes the tables if the file is blank; else does nothing.
 fn make_where_blank<S: Alter>(conn: &mut Connection<S>) -> Result<(), FloorFault>
     requires { (state S.Store conn.old).in_transaction ≡ false }
-    ensures done { OnOk result ((IsBlank (state S.Store conn.old).now × (HasCleanDisk (state S.Store conn.new) → IsMade (state S.Store conn.new))) ⊎ ((¬ IsBlank (state S.Store conn.old).now) × (conn.new ≡ conn.old))) }
+    ensures done { OnOk result ((IsBlank (state S.Store conn.old).now
+        × (HasCleanDisk (state S.Store conn.new) → IsMade (state S.Store conn.new)))
+        ⊎ ((¬ IsBlank (state S.Store conn.old).now) × (conn.new ≡ conn.old))) }
     ensures named { result ≢ Err FloorFault.BadTable }
     ensures crash { LeavesNoOther (state S.Store conn.old) (state S.Store conn.new) }
     ensures limit { (state S.Store conn.new).step_limit ≡ (state S.Store conn.old).step_limit }
@@ -185,11 +214,16 @@ fn make_where_blank<S: Alter>(conn: &mut Connection<S>) -> Result<(), FloorFault
 
 /// Checks schema and version, and reads the floors.
 fn read_file<S: Alter>(conn: &mut Connection<S>, alloc: Global) -> Result<Floors, FloorFault>
-    ensures kept { IfOk result (λ floors. HasCleanDisk (state S.Store conn.new) → AreIn (state S.Store conn.new) floors) }
-    ensures file { OnOk result (HasCleanDisk (state S.Store conn.new) → IsNodeFile (state S.Store conn.old)) }
-    ensures node { OnOk result (HasCleanDisk (state S.Store conn.new) → IsNodeFile (state S.Store conn.new)) }
-    ensures same { OnOk result (HasCleanDisk (state S.Store conn.new) → committed_floors (state S.Store conn.new) ≡ committed_floors (state S.Store conn.old)) }
-    ensures bad { result ≡ Err FloorFault.BadTable → HasCleanDisk (state S.Store conn.new) → ¬ IsNodeFile (state S.Store conn.old) }
+    ensures kept { IfOk result (λ floors. HasCleanDisk (state S.Store conn.new) →
+        AreIn (state S.Store conn.new) floors) }
+    ensures file { OnOk result (HasCleanDisk (state S.Store conn.new) →
+        IsNodeFile (state S.Store conn.old)) }
+    ensures node { OnOk result (HasCleanDisk (state S.Store conn.new) →
+        IsNodeFile (state S.Store conn.new)) }
+    ensures same { OnOk result (HasCleanDisk (state S.Store conn.new) →
+        committed_floors (state S.Store conn.new) ≡ committed_floors (state S.Store conn.old)) }
+    ensures bad { result ≡ Err FloorFault.BadTable → HasCleanDisk (state S.Store conn.new) →
+        ¬ IsNodeFile (state S.Store conn.old) }
     ensures survives { Survives (state S.Store conn.old) (state S.Store conn.new) (λ _. ⊥) }
     ensures full { result ≢ Err FloorFault.FloorsFull }
 {
@@ -206,11 +240,17 @@ pub(crate) fn open_file<S: Alter>(
     conn: &mut Connection<S>,
     alloc: Global,
 ) -> Result<Floors, FloorFault>
-    ensures kept { IfOk result (λ floors. HasCleanDisk (state S.Store conn.new) → AreIn (state S.Store conn.new) floors) }
-    ensures found { OnOk result (HasCleanDisk (state S.Store conn.new) → OpensWith (state S.Store conn.old) (committed_floors (state S.Store conn.new))) }
-    ensures node { OnOk result (HasCleanDisk (state S.Store conn.new) → IsNodeFile (state S.Store conn.new)) }
-    ensures bad { result ≡ Err FloorFault.BadTable → HasCleanDisk (state S.Store conn.new) → ¬ IsNodeFile (state S.Store conn.old) }
-    ensures blank { IsBlank (state S.Store conn.old).now → (state S.Store conn.old).in_transaction ≡ false → HasCleanDisk (state S.Store conn.new) → result ≢ Err FloorFault.BadTable }
+    ensures kept { IfOk result (λ floors. HasCleanDisk (state S.Store conn.new) →
+        AreIn (state S.Store conn.new) floors) }
+    ensures found { OnOk result (HasCleanDisk (state S.Store conn.new) →
+        OpensWith (state S.Store conn.old) (committed_floors (state S.Store conn.new))) }
+    ensures node { OnOk result (HasCleanDisk (state S.Store conn.new) →
+        IsNodeFile (state S.Store conn.new)) }
+    ensures bad { result ≡ Err FloorFault.BadTable → HasCleanDisk (state S.Store conn.new) →
+        ¬ IsNodeFile (state S.Store conn.old) }
+    ensures blank { IsBlank (state S.Store conn.old).now →
+        (state S.Store conn.old).in_transaction ≡ false → HasCleanDisk (state S.Store conn.new) →
+        result ≢ Err FloorFault.BadTable }
     ensures crash { LeavesNoOther (state S.Store conn.old) (state S.Store conn.new) }
     ensures unlimited { (state S.Store conn.new).step_limit ≡ None }
     ensures full { result ≢ Err FloorFault.FloorsFull }

@@ -65,8 +65,10 @@ fn has_rowid(row: &Row) -> bool
 
 /// Adds one row. A row that is no floor, or whose url was read before, is `BadTable`.
 fn add_row(floors: &mut Floors, alloc: Global, row: &Row) -> Result<(), FloorFault>
-    ensures ok { OnOk result (IsFloor row.now × (get floors.old (floor_entry row.now).0 ≡ None) × (floors.new ≡ insert floors.old (floor_entry row.now).0 (floor_entry row.now).1)) }
-    ensures bad { result ≡ Err FloorFault.BadTable → IsFloor row.now → get floors.old (floor_entry row.now).0 ≢ None }
+    ensures ok { OnOk result (IsFloor row.now × (get floors.old (floor_entry row.now).0 ≡ None)
+        × (floors.new ≡ insert floors.old (floor_entry row.now).0 (floor_entry row.now).1)) }
+    ensures bad { result ≡ Err FloorFault.BadTable → IsFloor row.now →
+        get floors.old (floor_entry row.now).0 ≢ None }
     ensures named { IsReadFault result }
 {
     if !has_rowid(row) {

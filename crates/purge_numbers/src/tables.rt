@@ -38,8 +38,26 @@ fn is_place(places: &Items<usize>, wanted: usize) -> bool
 /// Whether this is such a column of a STRICT table, with no default and in the order of plain
 /// octets.
 fn is_column(column: &Column, name: &[u8], kind: Kind, not_null: bool) -> bool
-    ensures yes { IsTrue result → column.now ≡ record { name = name.now; kind = kind; is_strict = true; not_null = not_null; default = Null; collation = Binary } }
-    ensures no { result ≡ false → ¬ (column.now ≡ record { name = name.now; kind = kind; is_strict = true; not_null = not_null; default = Null; collation = Binary }) }
+    ensures yes { IsTrue result → column.now
+        ≡ record {
+          name = name.now;
+          kind = kind;
+          is_strict = true;
+          not_null = not_null;
+          default =
+              Null;
+          collation = Binary;
+        } }
+    ensures no { result ≡ false → ¬
+        (column.now ≡ record {
+          name = name.now;
+          kind = kind;
+          is_strict = true;
+          not_null =
+              not_null;
+          default = Null;
+          collation = Binary;
+        }) }
 {
     let has_no_default = matches!(column.default, Value::Null);
     is_named(&column.name, name)
@@ -53,8 +71,12 @@ fn is_column(column: &Column, name: &[u8], kind: Kind, not_null: bool) -> bool
 /// Whether the table has no foreign key, no computed default, no default that reads the time and no
 /// AUTOINCREMENT.
 fn is_plain(table: &Table) -> bool
-    ensures yes { IsTrue result → (table.now.references ≡ []) × (table.now.computed ≡ []) × (table.now.stamps ≡ record { places = []; terms = []; formats = [] }) × IsTrue (not table.now.is_counted) }
-    ensures no { result ≡ false → ¬ ((table.now.references ≡ []) × (table.now.computed ≡ []) × (table.now.stamps ≡ record { places = []; terms = []; formats = [] }) × IsTrue (not table.now.is_counted)) }
+    ensures yes { IsTrue result → (table.now.references ≡ []) × (table.now.computed ≡ [])
+        × (table.now.stamps ≡ record { places = []; terms = []; formats = [] })
+        × IsTrue (not table.now.is_counted) }
+    ensures no { result ≡ false → ¬ ((table.now.references ≡ []) × (table.now.computed ≡ [])
+        × (table.now.stamps ≡ record { places = []; terms = []; formats = [] })
+        × IsTrue (not table.now.is_counted)) }
 {
     table.references.is_empty()
         && table.computed.is_empty()
@@ -74,8 +96,10 @@ fn has_no_terms(terms: &Terms) -> bool
 
 /// Whether the table has no UNIQUE and no CHECK.
 fn has_no_rules(table: &Table) -> bool
-    ensures yes { IsTrue result → (table.now.uniques ≡ []) × (table.now.orders ≡ []) × (table.now.checks ≡ []) }
-    ensures no { result ≡ false → ¬ ((table.now.uniques ≡ []) × (table.now.orders ≡ []) × (table.now.checks ≡ [])) }
+    ensures yes { IsTrue result → (table.now.uniques ≡ []) × (table.now.orders ≡ [])
+        × (table.now.checks ≡ []) }
+    ensures no { result ≡ false → ¬ ((table.now.uniques ≡ []) × (table.now.orders ≡ [])
+        × (table.now.checks ≡ [])) }
 {
     table.uniques.is_empty() && table.orders.is_empty() && has_no_terms(&table.checks)
 }
@@ -142,8 +166,10 @@ fn is_number_at(nodes: &[Op], at: usize) -> bool
 
 /// As `is_literal`, of the node at this index; false behind the last.
 fn is_literal_at(nodes: &[Op], at: usize, number: i64) -> bool
-    ensures yes { IsTrue result → slice_index_or nodes.now at (op.Literal Null) ≡ op.Literal (Int number) }
-    ensures no { result ≡ false → slice_index_or nodes.now at (op.Literal Null) ≢ op.Literal (Int number) }
+    ensures yes { IsTrue result → slice_index_or nodes.now at (op.Literal Null)
+        ≡ op.Literal (Int number) }
+    ensures no { result ≡ false → slice_index_or nodes.now at (op.Literal Null)
+        ≢ op.Literal (Int number) }
 {
     at < nodes.len() && is_literal(&nodes[at], number)
 }
@@ -161,8 +187,10 @@ fn operands(node: &Op, by: BinaryOp) -> Option<(usize, usize)>
 
 /// As `operands`, of the node at this index; `None` behind the last.
 fn operands_at(nodes: &[Op], at: usize, by: BinaryOp) -> Option<(usize, usize)>
-    ensures some { IfSome result (λ places. slice_index_or nodes.now at (op.Literal Null) ≡ op.Binary by places.0 places.1) }
-    ensures none { result ≡ None → (left right : ℕ) → slice_index_or nodes.now at (op.Literal Null) ≢ op.Binary by left right }
+    ensures some { IfSome result (λ places.
+        slice_index_or nodes.now at (op.Literal Null) ≡ op.Binary by places.0 places.1) }
+    ensures none { result ≡ None → (left right : ℕ) →
+        slice_index_or nodes.now at (op.Literal Null) ≢ op.Binary by left right }
 {
     if at < nodes.len() {
         operands(&nodes[at], by)
@@ -173,8 +201,12 @@ fn operands_at(nodes: &[Op], at: usize, by: BinaryOp) -> Option<(usize, usize)>
 
 /// Whether the node at this index compares `number` with this bound.
 fn is_bound_at(nodes: &[Op], at: usize, by: CompareOp, bound: i64) -> bool
-    ensures yes { IsTrue result → (depth : ℕ) → term_to nodes.now (suc (suc depth)) at ≡ op2 (Compare by Binary) (col 1 2) (lit (Int bound)) }
-    ensures no { result ≡ false → (depth : ℕ) → term_to nodes.now (suc (suc depth)) at ≢ op2 (Compare by Binary) (col 1 2) (lit (Int bound)) }
+    ensures yes { IsTrue result → (depth : ℕ) →
+        term_to nodes.now (suc (suc depth)) at
+        ≡ op2 (Compare by Binary) (col 1 2) (lit (Int bound)) }
+    ensures no { result ≡ false → (depth : ℕ) →
+        term_to nodes.now (suc (suc depth)) at
+        ≢ op2 (Compare by Binary) (col 1 2) (lit (Int bound)) }
 {
     let Some((left, right)) = operands_at(nodes, at, BinaryOp::Compare(by, Collation::Binary))
     else {
@@ -247,8 +279,11 @@ fn has_version_column(columns: &Items<Column>) -> bool
 
 /// Whether the rows have a rowid of their own, and the first column is the primary key.
 fn has_url_key(table: &Table) -> bool
-    ensures yes { IsTrue result → (table.now.key ≡ None) × (table.now.primary ≡ 1 ∷ []) × (table.now.uniques ≡ (1 ∷ []) ∷ []) × (table.now.orders ≡ record { digits = 0 } ∷ []) }
-    ensures no { result ≡ false → ¬ ((table.now.key ≡ None) × (table.now.primary ≡ 1 ∷ []) × (table.now.uniques ≡ (1 ∷ []) ∷ []) × (table.now.orders ≡ record { digits = 0 } ∷ [])) }
+    ensures yes { IsTrue result → (table.now.key ≡ None) × (table.now.primary ≡ 1 ∷ [])
+        × (table.now.uniques ≡ (1 ∷ []) ∷ []) × (table.now.orders ≡ record { digits = 0 } ∷ []) }
+    ensures no { result ≡ false → ¬ ((table.now.key ≡ None) × (table.now.primary ≡ 1 ∷ [])
+        × (table.now.uniques ≡ (1 ∷ []) ∷ [])
+        × (table.now.orders ≡ record { digits = 0 } ∷ [])) }
 {
     table.key.is_none()
         && is_place(&table.primary, 1)

@@ -20,11 +20,18 @@ use url_key::Key;
 fn put<S: Alter>(conn: &mut Connection<S>, url: &[u8], number: u32) -> Result<usize, Error>
     requires { HasCleanDisk (state S.Store conn.old) → IsReady (state S.Store conn.old) }
     ensures honest { HasCleanDisk (state S.Store conn.new) → HasCleanDisk (state S.Store conn.old) }
-    ensures ready { OnOk result (HasCleanDisk (state S.Store conn.new) → IsReady (state S.Store conn.new)) }
-    ensures put { OnOk result (HasCleanDisk (state S.Store conn.new) → committed_floors (state S.Store conn.new) ≡ insert (committed_floors (state S.Store conn.old)) url.now number) }
-    ensures failed { IfErr result (λ e. HasCleanDisk (state S.Store conn.new) → Executes put_text (put_params url.now number) (state S.Store conn.old) (state S.Store conn.new) (Err e)) }
-    ensures crash { HasCleanDisk (state S.Store conn.new) → (floors : FloorMap) → MayFind (state S.Store conn.new) floors
-        → (floors ≡ committed_floors (state S.Store conn.old)) ⊎ (floors ≡ insert (committed_floors (state S.Store conn.old)) url.now number) }
+    ensures ready { OnOk result (HasCleanDisk (state S.Store conn.new) →
+        IsReady (state S.Store conn.new)) }
+    ensures put { OnOk result (HasCleanDisk (state S.Store conn.new) →
+        committed_floors (state S.Store conn.new)
+        ≡ insert (committed_floors (state S.Store conn.old)) url.now number) }
+    ensures failed { IfErr result (λ e. HasCleanDisk (state S.Store conn.new) →
+        Executes put_text (put_params url.now number) (state S.Store conn.old)
+        (state S.Store conn.new) (Err e)) }
+    ensures crash { HasCleanDisk (state S.Store conn.new) → (floors : FloorMap) →
+        MayFind (state S.Store conn.new) floors
+        → (floors ≡ committed_floors (state S.Store conn.old))
+        ⊎ (floors ≡ insert (committed_floors (state S.Store conn.old)) url.now number) }
 {
     conn.execute(
         "INSERT INTO floors (url, number) VALUES (?1, ?2) ON CONFLICT (url) DO UPDATE SET number = excluded.number",
@@ -44,15 +51,24 @@ pub(crate) fn raise<S: Alter>(
     number: u32,
 ) -> Result<(), FloorFault>
     requires number { 1 ≤ number }
-    requires held { HasCleanDisk (state S.Store conn.old) → AreIn (state S.Store conn.old) floors.old }
+    requires held { HasCleanDisk (state S.Store conn.old) →
+        AreIn (state S.Store conn.old) floors.old }
     ensures honest { HasCleanDisk (state S.Store conn.new) → HasCleanDisk (state S.Store conn.old) }
-    ensures kept { OnOk result (HasCleanDisk (state S.Store conn.new) → AreIn (state S.Store conn.new) floors.new) }
-    ensures raised { OnOk result (HasCleanDisk (state S.Store conn.new) → committed_floors (state S.Store conn.new) ≡ raised (committed_floors (state S.Store conn.old)) key.now number) }
-    ensures crash { HasCleanDisk (state S.Store conn.new) → (left : FloorMap) → MayFind (state S.Store conn.new) left
+    ensures kept { OnOk result (HasCleanDisk (state S.Store conn.new) →
+        AreIn (state S.Store conn.new) floors.new) }
+    ensures raised { OnOk result (HasCleanDisk (state S.Store conn.new) →
+        committed_floors (state S.Store conn.new)
+        ≡ raised (committed_floors (state S.Store conn.old)) key.now number) }
+    ensures crash { HasCleanDisk (state S.Store conn.new) → (left : FloorMap) →
+        MayFind (state S.Store conn.new) left
         → IsBeforeOrAfter (committed_floors (state S.Store conn.old)) key.now number left }
-    ensures full { result ≡ Err FloorFault.FloorsFull → (conn.new ≡ conn.old) × (floors.new ≡ floors.old) × (most_rows ≤ len floors.old) × (get floors.old key.now ≡ None) }
-    ensures room { OnOk result (HasCleanDisk (state S.Store conn.new) → HasRoom (committed_floors (state S.Store conn.old)) key.now) }
-    ensures cause { result ≡ Err FloorFault.StoreFault → HasCleanDisk (state S.Store conn.new) → FailsToPut (state S.Store conn.old) (state S.Store conn.new) key.now number }
+    ensures full { result ≡ Err FloorFault.FloorsFull → (conn.new ≡ conn.old)
+        × (floors.new ≡ floors.old) × (most_rows ≤ len floors.old)
+        × (get floors.old key.now ≡ None) }
+    ensures room { OnOk result (HasCleanDisk (state S.Store conn.new) →
+        HasRoom (committed_floors (state S.Store conn.old)) key.now) }
+    ensures cause { result ≡ Err FloorFault.StoreFault → HasCleanDisk (state S.Store conn.new) →
+        FailsToPut (state S.Store conn.old) (state S.Store conn.new) key.now number }
     ensures named { result ≢ Err FloorFault.BadTable }
 {
     if number <= floors.floor(key) {

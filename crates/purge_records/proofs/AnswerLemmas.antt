@@ -41,19 +41,22 @@ module _ (key show : Row → Row) where
   second_map (r ∷ rows) = ap (λ more. show r ∷ more) (second_map rows)
 
   -- the answer has what is shown of the rows, in some order
-  pub answered : (table rows : List Row) (kept ordered : List Output) → kept ≡ map with_key table → IsPermutation kept ordered → rows ≡ drop 0 (map (λ (o : Output). o.1) ordered) → IsPermutation (map show table) rows
+  pub answered : (table rows : List Row) (kept ordered : List Output) → kept ≡ map with_key table → IsPermutation kept ordered →
+      rows ≡ drop 0 (map (λ (o : Output). o.1) ordered) → IsPermutation (map show table) rows
   answered table rows kept ordered is same shown =
       let second = λ (o : Output). o.1 in
       subst (λ ys. IsPermutation ys rows) (ap (map second) is ∙ second_map table)
       (subst (IsPermutation (map second kept)) (sym (shown ∙ none_dropped (map second ordered))) (IsPermutation-map second kept ordered same))
 
 -- each row of a table gives one match
-pub all_matched : (f : List Row → Output) (given : Row) (rows : List Row) → map f (flat_map (λ r. (given ∷ r ∷ []) ∷ []) rows) ≡ map (λ r. f (given ∷ r ∷ [])) rows
+pub all_matched : (f : List Row → Output) (given : Row) (rows : List Row) → map f (flat_map (λ r. (given ∷ r ∷ []) ∷ []) rows) ≡ map (λ r. f (given ∷ r ∷ []))
+    rows
 all_matched f given [] = refl
 all_matched f given (r ∷ rows) = ap (λ more. f (given ∷ r ∷ []) ∷ more) (all_matched f given rows)
 
 -- or one where it passes
-pub some_matched : (f : List Row → Output) (given : Row) (test : Row → Bool) (rows : List Row) → map f (flat_map (λ r. if test r then (given ∷ r ∷ []) ∷ [] else []) rows) ≡ map (λ r. f (given ∷ r ∷ [])) (filter test rows)
+pub some_matched : (f : List Row → Output) (given : Row) (test : Row → Bool) (rows : List Row) →
+    map f (flat_map (λ r. if test r then (given ∷ r ∷ []) ∷ [] else []) rows) ≡ map (λ r. f (given ∷ r ∷ [])) (filter test rows)
 some_matched f given test [] = refl
 some_matched f given test (r ∷ rows) = elim (cases_Bool (test r)) [
   | inl on ↦ rw on (ap (λ more. f (given ∷ r ∷ []) ∷ more) (some_matched f given test rows))
@@ -71,7 +74,8 @@ tied_number a b = ap is_eq (value_cmp-Int (pos a) (pos b)) ∙ tied a b
     tied a b = grind arith
 
 -- a column's number is that of the first parameter
-pub finds_number : (given r : Row) (at a n : ℕ) → column r at ≡ Int (pos a) → column given 0 ≡ Int (pos n) → list_all (holds (given ∷ r ∷ [])) (op2 (Compare Eq Binary) (col 1 at) (col 0 0) ∷ []) ≡ (a == n)
+pub finds_number : (given r : Row) (at a n : ℕ) → column r at ≡ Int (pos a) → column given 0 ≡ Int (pos n) →
+    list_all (holds (given ∷ r ∷ [])) (op2 (Compare Eq Binary) (col 1 at) (col 0 0) ∷ []) ≡ (a == n)
 unfolding binary
 finds_number given r at a n is there = rw (is, there) (simple (is_eq (value_cmp (Int (pos a)) (Int (pos n)))) ∙ tied_number a n)
   where
@@ -118,7 +122,8 @@ same_row (x ∷ rows) r s own (inr p) (inr q) same = same_row rows r s own.1 p q
 abbrev pub only_id : Row → Row
 only_id r = rowid r ∷ []
 
-module _ (rows found : List Row) (test : Row → Bool) (ints : AllByRecursion (λ r. (id : ℤ) × (rowid r ≡ Int id)) rows) (own : HasOwnIds rows) (same : IsPermutation (map only_id (filter test rows)) found) where
+module _ (rows found : List Row) (test : Row → Bool) (ints : AllByRecursion (λ r. (id : ℤ) × (rowid r ≡ Int id)) rows) (own : HasOwnIds rows)
+    (same : IsPermutation (map only_id (filter test rows)) found) where
   abbrev hit : Row → Bool
   hit r = list_any (λ id. has_rowid id r) (ids_of found)
 
@@ -126,7 +131,8 @@ module _ (rows found : List Row) (test : Row → Bool) (ints : AllByRecursion (�
   hits r has on =
       let int = all_has (λ r. (id : ℤ) × (rowid r ≡ Int id)) rows r ints has in
       let listed = mapped_has only_id (filter test rows) r (has_kept test rows r has on) in
-      let there = has_contained found (only_id r) (Contains-permutation (map only_id (filter test rows)) found (only_id r) same (contains_had (map only_id (filter test rows)) (only_id r) listed)) in
+      let there = has_contained found (only_id r) (Contains-permutation (map only_id (filter test rows)) found (only_id r) same
+      (contains_had (map only_id (filter test rows)) (only_id r) listed)) in
       let tied : has_rowid (id_in (rowid r)) r ≡ true = rw int.1 (own_rowid (Int int.0)) in
       some_from (λ id. has_rowid id r) (ids_of found) (id_in (rowid r)) (mapped_has (λ (x : Row). id_in (rowid x)) found (only_id r) there) tied
 
@@ -134,13 +140,16 @@ module _ (rows found : List Row) (test : Row → Bool) (ints : AllByRecursion (�
   misses r has off = false_from_ne_true _ (λ on.
       let id = some_has (λ id. has_rowid id r) (ids_of found) on in
       let x = has_mapped (λ (x : Row). id_in (rowid x)) found id.0 id.1 in
-      let back = has_contained (map only_id (filter test rows)) x.0 (Contains-permutation found (map only_id (filter test rows)) x.0 (IsPermutation-sym (map only_id (filter test rows)) found same) (contains_had found x.0 x.1)) in
+      let back = has_contained (map only_id (filter test rows)) x.0
+      (Contains-permutation found (map only_id (filter test rows)) x.0 (IsPermutation-sym (map only_id (filter test rows)) found same)
+      (contains_had found x.0 x.1)) in
       let s = has_mapped only_id (filter test rows) x.0 back in
       let kept = has_filtered test rows s.0 s.1 in
       let int_r = all_has (λ r. (id : ℤ) × (rowid r ≡ Int id)) rows r ints has in
       let int_s = all_has (λ r. (id : ℤ) × (rowid r ≡ Int id)) rows s.0 ints kept.0 in
       let is : id.0 ≡ int_s.0 = x.2 ∙ ap (λ (y : Row). id_in (rowid y)) s.2 ∙ ap id_in int_s.1 in
-      let tied : is_eq (int_cmp int_r.0 id.0) ≡ true = ap is_eq (sym (value_cmp-Int int_r.0 id.0)) ∙ ap (λ v. is_eq (value_cmp v (Int id.0))) (sym int_r.1) ∙ id.2 in
+      let tied : is_eq (int_cmp int_r.0 id.0) ≡ true = ap is_eq (sym (value_cmp-Int int_r.0 id.0)) ∙ ap (λ v. is_eq (value_cmp v (Int id.0))) (sym int_r.1)
+      ∙ id.2 in
       let equal : int_r.0 ≡ id.0 = int_cmp-IsAntisymmetric int_r.0 id.0 (is_tied _ tied) in
       let one : r ≡ s.0 = same_row rows r s.0 own has kept.0 (int_r.1 ∙ ap Int (equal ∙ is) ∙ sym int_s.1) in
       absurd (let bad : true ≡ false = sym kept.1 ∙ ap test (sym one) ∙ off in cc))

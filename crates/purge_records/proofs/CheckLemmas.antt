@@ -11,15 +11,20 @@ use Rattle.sqlite_schema.specs.declared.code.Op.TheVariants.{Literal, Column, Bi
 use Rattle.purge_numbers.proofs.CheckLemmas.{is_col, is_lit}
 
 module _ (ops : List Op) (at left right slot place : ℕ) (by : BinaryOp) (v : Value) (is : slice_index_or ops at (Literal Null) ≡ Binary by left right) where
-  at_depth : (d : ℕ) → term_to ops (suc (suc d)) at ≡ op2 by (op_term (term_to ops d) (slice_index_or ops left (Literal Null))) (op_term (term_to ops d) (slice_index_or ops right (Literal Null)))
+  at_depth : (d : ℕ) → term_to ops (suc (suc d)) at ≡ op2 by (op_term (term_to ops d) (slice_index_or ops left (Literal Null)))
+      (op_term (term_to ops d) (slice_index_or ops right (Literal Null)))
   at_depth d = ap (op_term (term_to ops (suc d))) is
 
-  holds_to : (n : ℕ) → 2 ≤ n → slice_index_or ops left (Literal Null) ≡ Column slot place → slice_index_or ops right (Literal Null) ≡ Literal v → term_to ops n at ≡ op2 by (col slot place) (lit v)
+  holds_to : (n : ℕ) → 2 ≤ n → slice_index_or ops left (Literal Null) ≡ Column slot place → slice_index_or ops right (Literal Null) ≡ Literal v →
+      term_to ops n at ≡ op2 by (col slot place) (lit v)
   holds_to zero deep l r = absurd (omega (arith, deep))
   holds_to (suc zero) deep l r = absurd (omega (arith, deep))
-  holds_to (suc (suc d)) deep l r = at_depth d ∙ ap (λ x. op2 by (op_term (term_to ops d) x) (op_term (term_to ops d) (slice_index_or ops right (Literal Null)))) l ∙ ap (λ x. op2 by (col slot place) (op_term (term_to ops d) x)) r
+  holds_to (suc (suc d)) deep l r = at_depth d
+      ∙ ap (λ x. op2 by (op_term (term_to ops d) x) (op_term (term_to ops d) (slice_index_or ops right (Literal Null)))) l
+      ∙ ap (λ x. op2 by (col slot place) (op_term (term_to ops d) x)) r
 
-  pub check_holds : 2 ≤ length ops → slice_index_or ops left (Literal Null) ≡ Column slot place → slice_index_or ops right (Literal Null) ≡ Literal v → term_in ops at ≡ op2 by (col slot place) (lit v)
+  pub check_holds : 2 ≤ length ops → slice_index_or ops left (Literal Null) ≡ Column slot place → slice_index_or ops right (Literal Null) ≡ Literal v →
+      term_in ops at ≡ op2 by (col slot place) (lit v)
   check_holds = holds_to (length ops)
 
   left_of : {a b s t : Term} → op2 by a b ≡ op2 by s t → a ≡ s
@@ -28,11 +33,16 @@ module _ (ops : List Op) (at left right slot place : ℕ) (by : BinaryOp) (v : V
   right_of : {a b s t : Term} → op2 by a b ≡ op2 by s t → b ≡ t
   right_of e = cc
 
-  parts_to : (n : ℕ) → 2 ≤ n → term_to ops n at ≡ op2 by (col slot place) (lit v) → (slice_index_or ops left (Literal Null) ≡ Column slot place) × (slice_index_or ops right (Literal Null) ≡ Literal v)
+  parts_to : (n : ℕ) → 2 ≤ n → term_to ops n at ≡ op2 by (col slot place) (lit v) → (slice_index_or ops left (Literal Null) ≡ Column slot place)
+      × (slice_index_or ops right (Literal Null) ≡ Literal v)
   parts_to zero deep e = absurd (omega (arith, deep))
   parts_to (suc zero) deep e = absurd (omega (arith, deep))
   parts_to (suc (suc d)) deep e =
-      let both = sym (at_depth d) ∙ e in (is_col (term_to ops d) (slice_index_or ops left (Literal Null)) slot place (left_of both), is_lit (term_to ops d) (slice_index_or ops right (Literal Null)) v (right_of both))
+      let both = sym (at_depth d) ∙ e in (
+        is_col (term_to ops d) (slice_index_or ops left (Literal Null)) slot place (left_of both),
+        is_lit (term_to ops d) (slice_index_or ops right (Literal Null)) v (right_of both),
+      )
 
-  pub check_parts : 2 ≤ length ops → term_in ops at ≡ op2 by (col slot place) (lit v) → (slice_index_or ops left (Literal Null) ≡ Column slot place) × (slice_index_or ops right (Literal Null) ≡ Literal v)
+  pub check_parts : 2 ≤ length ops → term_in ops at ≡ op2 by (col slot place) (lit v) → (slice_index_or ops left (Literal Null) ≡ Column slot place)
+      × (slice_index_or ops right (Literal Null) ≡ Literal v)
   check_parts = parts_to (length ops)

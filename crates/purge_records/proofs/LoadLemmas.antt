@@ -28,13 +28,16 @@ use Rattle.purge_records.proofs.Texts as text
 -- ---- what is shown
 
 version_load : (trees : Trees) (rows : List Row) → IsAnswer text.version_query (overlay trees []) [] rows → IsPermutation (map shown_version (trees 0)) rows
-version_load trees rows a = answered (λ r. []) shown_version (trees 0) rows a.kept a.ordered (a.distinct ∙ ap (map (output text.version_query)) a.grouped ∙ all_matched (output text.version_query) [] (trees 0)) a.same a.shown
+version_load trees rows a = answered (λ r. []) shown_version (trees 0) rows a.kept a.ordered
+    (a.distinct ∙ ap (map (output text.version_query)) a.grouped ∙ all_matched (output text.version_query) [] (trees 0)) a.same a.shown
 
 last_load : (trees : Trees) (rows : List Row) → IsAnswer text.last_query (overlay trees []) [] rows → IsPermutation (map shown_last (trees 1)) rows
-last_load trees rows a = answered (λ r. []) shown_last (trees 1) rows a.kept a.ordered (a.distinct ∙ ap (map (output text.last_query)) a.grouped ∙ all_matched (output text.last_query) [] (trees 1)) a.same a.shown
+last_load trees rows a = answered (λ r. []) shown_last (trees 1) rows a.kept a.ordered
+    (a.distinct ∙ ap (map (output text.last_query)) a.grouped ∙ all_matched (output text.last_query) [] (trees 1)) a.same a.shown
 
 -- rows that are ordered by their rowids
-module _ (show : Row → Row) (first : (r : Row) → rowid (show r) ≡ rowid r) (cmp : Output → Output → Ordering) (is : (a b : Output) → is_lt (cmp a b) ≡ is_lt (value_cmp (column a.0 0) (column b.0 0))) where
+module _ (show : Row → Row) (first : (r : Row) → rowid (show r) ≡ rowid r) (cmp : Output → Output → Ordering)
+    (is : (a b : Output) → is_lt (cmp a b) ≡ is_lt (value_cmp (column a.0 0) (column b.0 0))) where
   abbrev keyed : Row → Output
   keyed = with_key (λ r. rowid r ∷ []) show
 
@@ -47,7 +50,8 @@ module _ (show : Row → Row) (first : (r : Row) → rowid (show r) ≡ rowid r)
       go : (table : List Row) (i : ℕ) (d : Output) → i < length table → IsKeyed (get_or (map keyed table) i d)
       go table i d low = rw (get_or-map keyed table i [] d low) (first (get_or table i []))
 
-  pub rising : (table rows : List Row) (kept ordered : List Output) → kept ≡ map keyed table → IsPermutation kept ordered → IsSorted cmp ordered → rows ≡ drop 0 (map (λ (o : Output). o.1) ordered) → RisesFrom (map show table) rows
+  pub rising : (table rows : List Row) (kept ordered : List Output) → kept ≡ map keyed table → IsPermutation kept ordered → IsSorted cmp ordered →
+      rows ≡ drop 0 (map (λ (o : Output). o.1) ordered) → RisesFrom (map show table) rows
   rising table rows kept ordered kept_is same sorted shown = record {
     same = answered (λ r. rowid r ∷ []) show table rows kept ordered kept_is same shown;
     rises = λ k d from below.
@@ -57,7 +61,8 @@ module _ (show : Row → Row) (first : (r : Row) → rowid (show r) ≡ rowid r)
         let low : k < length ordered = omega (arith, high) in
         let none : Output = ([], []) in
         let keys : All IsKeyed ordered = All-permutation IsKeyed kept ordered same (subst (All IsKeyed) (sym kept_is) (all_keyed table)) in
-        let later : get_or rows (k + 1) d ≡ (get_or ordered (k + 1) none).1 = ap (λ xs. get_or xs (k + 1) d) whole ∙ get_or-map second ordered (k + 1) none d high in
+        let later : get_or rows (k + 1) d ≡ (get_or ordered (k + 1) none).1 = ap (λ xs. get_or xs (k + 1) d) whole
+        ∙ get_or-map second ordered (k + 1) none d high in
         let sooner : get_or rows k d ≡ (get_or ordered k none).1 = ap (λ xs. get_or xs k d) whole ∙ get_or-map second ordered k none d low in
         let step : is_lt (cmp (get_or ordered (k + 1) none) (get_or ordered k none)) ≡ false = sorted k none (omega arith) high in
         rw (later, sooner, keys (k + 1) none high, keys k none low) (sym (is (get_or ordered (k + 1) none) (get_or ordered k none)) ∙ step);
@@ -69,42 +74,56 @@ then_equal Equal = refl
 then_equal Greater = refl
 
 pending_load : (trees : Trees) (rows : List Row) → IsAnswer text.pending_query (overlay trees []) [] rows → RisesFrom (map shown_pending (trees 2)) rows
-pending_load trees rows a = rising shown_pending (λ r. refl) (output_cmp text.pending_query) (λ a b. then_equal (value_cmp (column a.0 0) (column b.0 0))) (trees 2) rows a.kept a.ordered
+pending_load trees rows a = rising shown_pending (λ r. refl) (output_cmp text.pending_query) (λ a b. then_equal (value_cmp (column a.0 0) (column b.0 0)))
+    (trees 2) rows a.kept a.ordered
     (a.distinct ∙ ap (map (output text.pending_query)) a.grouped ∙ all_matched (output text.pending_query) [] (trees 2)) a.same a.sorted a.shown
 
 acks_load : (trees : Trees) (rows : List Row) → IsAnswer text.acks_query (overlay trees []) [] rows → RisesFrom (map shown_ack (trees 3)) rows
-acks_load trees rows a = rising shown_ack (λ r. refl) (output_cmp text.acks_query) (λ a b. then_equal (value_cmp (column a.0 0) (column b.0 0))) (trees 3) rows a.kept a.ordered
+acks_load trees rows a = rising shown_ack (λ r. refl) (output_cmp text.acks_query) (λ a b. then_equal (value_cmp (column a.0 0) (column b.0 0))) (trees 3) rows
+    a.kept a.ordered
     (a.distinct ∙ ap (map (output text.acks_query)) a.grouped ∙ all_matched (output text.acks_query) [] (trees 3)) a.same a.sorted a.shown
 
 -- ---- what stays
 
-module _ (sql : List ℕ) (plain : IsPlain (understood master_schema sql)) (old new : State) (has : HasCleanDisk old → old.now.schema ≡ master_schema) (back : HasCleanDisk new → HasCleanDisk old) where
+module _ (sql : List ℕ) (plain : IsPlain (understood master_schema sql)) (old new : State) (has : HasCleanDisk old → old.now.schema ≡ master_schema)
+    (back : HasCleanDisk new → HasCleanDisk old) where
   keeps : (clean : HasCleanDisk new) (rows : List Row) → Shown sql [] old new rows → IsUnchanged old new
   unfolding Shown
   keeps clean rows h =
       let none = (subst IsPlain h.1.is (subst (λ s. IsPlain (understood s sql)) (sym (has (back clean))) plain)).0 in
       (subst (ShowsRows old new sql h.0 (timed [] h.0.formats h.1.now) rows) none h.2).3
 
-  pub query_keeps : (r : Result (Vec Row Global) Error) → (HasCleanDisk new → IfOk r (λ rows. Shown sql [] old new rows.items)) → OnOk r (HasCleanDisk new → IsUnchanged old new)
+  pub query_keeps : (r : Result (Vec Row Global) Error) → (HasCleanDisk new → IfOk r (λ rows. Shown sql [] old new rows.items)) →
+      OnOk r (HasCleanDisk new → IsUnchanged old new)
   query_keeps (Err e) h = tt
   query_keeps (Ok rows) h = λ clean. keeps clean rows.items (h clean)
 
   pub query_survives : Survives old new (CommitsShowing sql [] old) → Survives old new (λ _. ⊥)
-  query_survives = survives_weaker old new _ _ (λ clean db. never_commits sql [] old db (subst (λ s. IsPlain (understood s sql)) (sym (has (back clean))) plain))
+  query_survives = survives_weaker old new _ _
+      (λ clean db. never_commits sql [] old db (subst (λ s. IsPlain (understood s sql)) (sym (has (back clean))) plain))
 
-  pub query_shows : (Q : List Row → Type 0) → (old.now.schema ≡ master_schema → (rows : List Row) → Shown sql [] old new rows → Q rows) → (r : Result (Vec Row Global) Error)
+  pub query_shows : (Q : List Row → Type 0) → (old.now.schema ≡ master_schema → (rows : List Row) → Shown sql [] old new rows → Q rows) →
+      (r : Result (Vec Row Global) Error)
       → (HasCleanDisk new → IfOk r (λ rows. Shown sql [] old new rows.items)) → IfOk r (λ rows. HasCleanDisk new → Q rows.items)
   query_shows Q f (Err e) h = tt
   query_shows Q f (Ok rows) h = λ clean. f (has (back clean)) rows.items (h clean)
 
-pub version_shown : (old new : State) → old.now.schema ≡ master_schema → (rows : List Row) → Shown text.version_text [] old new rows → IsPermutation (map shown_version (old.now.trees 0)) rows
-version_shown old new has rows h = version_load old.now.trees rows ((reads_as text.version_text [] old new master_schema has _ text.version_is.0 text.version_plain text.version_is.1 rows h).answer Null)
+pub version_shown : (old new : State) → old.now.schema ≡ master_schema → (rows : List Row) → Shown text.version_text [] old new rows →
+    IsPermutation (map shown_version (old.now.trees 0)) rows
+version_shown old new has rows h = version_load old.now.trees rows
+    ((reads_as text.version_text [] old new master_schema has _ text.version_is.0 text.version_plain text.version_is.1 rows h).answer Null)
 
-pub last_shown : (old new : State) → old.now.schema ≡ master_schema → (rows : List Row) → Shown text.last_text [] old new rows → IsPermutation (map shown_last (old.now.trees 1)) rows
-last_shown old new has rows h = last_load old.now.trees rows ((reads_as text.last_text [] old new master_schema has _ text.last_is.0 text.last_plain text.last_is.1 rows h).answer Null)
+pub last_shown : (old new : State) → old.now.schema ≡ master_schema → (rows : List Row) → Shown text.last_text [] old new rows →
+    IsPermutation (map shown_last (old.now.trees 1)) rows
+last_shown old new has rows h = last_load old.now.trees rows
+    ((reads_as text.last_text [] old new master_schema has _ text.last_is.0 text.last_plain text.last_is.1 rows h).answer Null)
 
-pub pending_shown : (old new : State) → old.now.schema ≡ master_schema → (rows : List Row) → Shown text.pending_text [] old new rows → RisesFrom (map shown_pending (old.now.trees 2)) rows
-pending_shown old new has rows h = pending_load old.now.trees rows ((reads_as text.pending_text [] old new master_schema has _ text.pending_is.0 text.pending_plain text.pending_is.1 rows h).answer Null)
+pub pending_shown : (old new : State) → old.now.schema ≡ master_schema → (rows : List Row) → Shown text.pending_text [] old new rows →
+    RisesFrom (map shown_pending (old.now.trees 2)) rows
+pending_shown old new has rows h = pending_load old.now.trees rows
+    ((reads_as text.pending_text [] old new master_schema has _ text.pending_is.0 text.pending_plain text.pending_is.1 rows h).answer Null)
 
-pub acks_shown : (old new : State) → old.now.schema ≡ master_schema → (rows : List Row) → Shown text.acks_text [] old new rows → RisesFrom (map shown_ack (old.now.trees 3)) rows
-acks_shown old new has rows h = acks_load old.now.trees rows ((reads_as text.acks_text [] old new master_schema has _ text.acks_is.0 text.acks_plain text.acks_is.1 rows h).answer Null)
+pub acks_shown : (old new : State) → old.now.schema ≡ master_schema → (rows : List Row) → Shown text.acks_text [] old new rows →
+    RisesFrom (map shown_ack (old.now.trees 3)) rows
+acks_shown old new has rows h = acks_load old.now.trees rows
+    ((reads_as text.acks_text [] old new master_schema has _ text.acks_is.0 text.acks_plain text.acks_is.1 rows h).answer Null)

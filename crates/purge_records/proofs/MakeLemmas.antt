@@ -30,7 +30,8 @@ use Rattle.purge_records.specs.Making.{HasLast, HasPending, IsUnversioned, IsUnn
 use Rattle.purge_records.proofs.StepLemmas.{base, task_on, concluded, inserted, inside}
 use Rattle.purge_records.proofs.Texts as text
 
-module _ (sql : List ℕ) (before after : Schema) (table : Table) (is : command_of (understood before sql) ≡ CreateTable) (whole : statement_of sql (understood before sql) ≡ sql) (plain : IsPlain (understood before sql))
+module _ (sql : List ℕ) (before after : Schema) (table : Table) (is : command_of (understood before sql) ≡ CreateTable)
+    (whole : statement_of sql (understood before sql) ≡ sql) (plain : IsPlain (understood before sql))
     (defined : table_defined_by sql ≡ Ok table) (makes : created before table ≡ after) (uncounted : lacks_sequence after ≡ false) where
   creates : (old new : State) (count : ℕ) → old.now.schema ≡ before → Executes sql [] old new (Ok count)
       → (new.now.schema ≡ after) × (new.now.trees (next_tree before) ≡ []) × KeepsRows before.tables old.now.trees new.now.trees
@@ -52,17 +53,20 @@ module _ (sql : List ℕ) (before after : Schema) (table : Table) (is : command_
 
 last_step : (old new : State) (count : ℕ) → IsFormed old.now → Executes text.create_last [] old new (Ok count) → HasLast new.now
 last_step old new count formed h =
-    let made = creates text.create_last form_schema last_schema (record last_table { tree = 0 }) text.create_last_is.0 text.create_last_is.1 text.create_last_plain text.last_defined text.last_created refl old new count formed.0 h in
+    let made = creates text.create_last form_schema last_schema (record last_table { tree = 0 }) text.create_last_is.0 text.create_last_is.1
+    text.create_last_plain text.last_defined text.last_created refl old new count formed.0 h in
     (made.0, made.2.0 ∙ formed.1, made.1)
 
 pending_step : (old new : State) (count : ℕ) → HasLast old.now → Executes text.create_pending [] old new (Ok count) → HasPending new.now
 pending_step old new count from h =
-    let made = creates text.create_pending last_schema pending_schema (record pending_table { tree = 0 }) text.create_pending_is.0 text.create_pending_is.1 text.create_pending_plain text.pending_defined text.pending_created refl old new count from.0 h in
+    let made = creates text.create_pending last_schema pending_schema (record pending_table { tree = 0 }) text.create_pending_is.0 text.create_pending_is.1
+    text.create_pending_plain text.pending_defined text.pending_created refl old new count from.0 h in
     (made.0, made.2.0 ∙ from.1, made.2.1.0 ∙ from.2, made.1)
 
 acks_step : (old new : State) (count : ℕ) → HasPending old.now → Executes text.create_acks [] old new (Ok count) → IsUnversioned new.now
 acks_step old new count from h =
-    let made = creates text.create_acks pending_schema master_schema (record acks_table { tree = 0 }) text.create_acks_is.0 text.create_acks_is.1 text.create_acks_plain text.acks_defined text.acks_created refl old new count from.0 h in
+    let made = creates text.create_acks pending_schema master_schema (record acks_table { tree = 0 }) text.create_acks_is.0 text.create_acks_is.1
+    text.create_acks_plain text.acks_defined text.acks_created refl old new count from.0 h in
     (made.0, made.2.0 ∙ from.1, made.2.1.0 ∙ from.2, made.2.1.1.0 ∙ from.3, made.1)
 
 name_step : (old new : State) (count : ℕ) → IsUnversioned old.now → Executes text.name_text [] old new (Ok count) → IsUnnumbered new.now
@@ -75,7 +79,8 @@ name_step old new count from h =
     let done = concluded (task_on old.step_limit (mode_of old).keys master_schema form_table []) (mode_of old) text.name_command db w.tally new.now does in
     let step = inserted old.step_limit (mode_of old).keys master_schema form_table [] (Values (lit (Int (pos 1)) ∷ lit Null ∷ []) 2) db done.0 done.1 in
     let trees : new.now.trees ≡ done.0.trees = ap (λ (d : Database). d.trees) done.2 in
-    let rows : new.now.trees 0 ≡ (Int (pos 1) ∷ cast Integer Null ∷ []) ∷ [] = ap (λ (t : Trees). t 0) trees ∙ step.2.rows ∙ name_row db step.0 from.1 step.1.1 in (
+    let rows : new.now.trees 0 ≡ (Int (pos 1) ∷ cast Integer Null ∷ []) ∷ [] = ap (λ (t : Trees). t 0) trees ∙ step.2.rows
+    ∙ name_row db step.0 from.1 step.1.1 in (
       ap (λ (d : Database). d.schema) done.2,
       ap (map shown_version) rows,
       ap (λ (t : Trees). t 1) trees ∙ step.2.tables.1.0 (omega arith) ∙ from.2,
@@ -83,7 +88,8 @@ name_step old new count from h =
       ap (λ (t : Trees). t 3) trees ∙ step.2.tables.1.1.1.0 (omega arith) ∙ from.4,
     )
   where
-    name_row : (db : Trees) (given : List Row) → db 0 ≡ [] → given ≡ (Int (pos 1) ∷ Null ∷ []) ∷ [] → edited db (edit_of db form_table [] Chosen 0 given) ≡ (Int (pos 1) ∷ cast Integer Null ∷ []) ∷ []
+    name_row : (db : Trees) (given : List Row) → db 0 ≡ [] → given ≡ (Int (pos 1) ∷ Null ∷ []) ∷ [] →
+        edited db (edit_of db form_table [] Chosen 0 given) ≡ (Int (pos 1) ∷ cast Integer Null ∷ []) ∷ []
     name_row db given none is = rw (none, is, cast_int (pos 1)) refl
 
 start_step : (old new : State) (count : ℕ) → IsUnnumbered old.now → Executes text.start_text [] old new (Ok count) → IsUnused new.now
@@ -94,9 +100,11 @@ start_step old new count from h =
     let sql = statement_of text.start_text (understood master_schema text.start_text) in
     let does = subst (λ s. Does old.step_limit (mode_of old) [] (base s db) sql None text.start_command (Ok (w.tally, new.now))) has w.changed in
     let done = concluded (task_on old.step_limit (mode_of old).keys master_schema last_table []) (mode_of old) text.start_command db w.tally new.now does in
-    let step = inserted old.step_limit (mode_of old).keys master_schema last_table [] (Values (lit (Int (pos 1)) ∷ lit Null ∷ lit (Int (pos 0)) ∷ []) 3) db done.0 done.1 in
+    let step = inserted old.step_limit (mode_of old).keys master_schema last_table [] (Values (lit (Int (pos 1)) ∷ lit Null ∷ lit (Int (pos 0)) ∷ []) 3) db
+    done.0 done.1 in
     let trees : new.now.trees ≡ done.0.trees = ap (λ (d : Database). d.trees) done.2 in
-    let rows : new.now.trees 1 ≡ (Int (pos 1) ∷ cast Integer Null ∷ Int (pos 0) ∷ []) ∷ [] = ap (λ (t : Trees). t 1) trees ∙ step.2.rows ∙ start_row db step.0 from.2 step.1.1 in (
+    let rows : new.now.trees 1 ≡ (Int (pos 1) ∷ cast Integer Null ∷ Int (pos 0) ∷ []) ∷ [] = ap (λ (t : Trees). t 1) trees ∙ step.2.rows
+    ∙ start_row db step.0 from.2 step.1.1 in (
       ap (λ (d : Database). d.schema) done.2,
       ap (map shown_version) (ap (λ (t : Trees). t 0) trees ∙ step.2.tables.0 (omega arith)) ∙ from.1,
       ap (map shown_last) rows,
@@ -117,7 +125,8 @@ makes_last old new (Ok count) h = λ clean on from. let it = inside old new text
 
 pub makes_pending : (old new : State) (r : Result ℕ Error) → Ran text.create_pending [] old new r → OnOk r (HasCleanDisk new → Makes HasLast HasPending old new)
 makes_pending old new (Err e) h = tt
-makes_pending old new (Ok count) h = λ clean on from. let it = inside old new text.create_pending [] count (h clean on) in (it.1, pending_step old new count from it.0)
+makes_pending old new (Ok count) h = λ clean on from. let it = inside old new text.create_pending [] count (h clean on) in
+    (it.1, pending_step old new count from it.0)
 
 pub makes_acks : (old new : State) (r : Result ℕ Error) → Ran text.create_acks [] old new r → OnOk r (HasCleanDisk new → Makes HasPending IsUnversioned old new)
 makes_acks old new (Err e) h = tt

@@ -14,7 +14,8 @@ up k (suc n) = k ∷ up (suc k) n
 
 none_marked : (p : ℕ → Bool) (m k n : ℕ) → m < k → filter (λ id. (m == id) || p id) (up k n) ≡ filter p (up k n)
 none_marked p m k zero low = refl
-none_marked p m k (suc n) low = rw (ne_eqb m k (λ e. omega (arith, low, e))) (ap (λ zs. cond (p k) (k ∷ zs) zs) (none_marked p m (suc k) n (omega (arith, low))))
+none_marked p m k (suc n) low = rw (ne_eqb m k (λ e. omega (arith, low, e)))
+    (ap (λ zs. cond (p k) (k ∷ zs) zs) (none_marked p m (suc k) n (omega (arith, low))))
 
 first_marked : (p : ℕ → Bool) (m k n : ℕ) → m < k → with_id m (filter p (up k n)) ≡ m ∷ filter p (up k n)
 first_marked p m k zero low = refl
@@ -33,7 +34,8 @@ one_marked p m k (suc n) low high = elim (cases_order m k) [
   | inr other ↦ elim other [
     | inl below ↦ absurd (omega (arith, below, low))
     | inr above ↦ elim (cases_Bool (p k)) [
-      | inl has ↦ rw (has, ne_eqb m k (λ e. omega (arith, above, e)), le-ltb m k (omega (arith, above)), ne_eqb k m (λ e. omega (arith, above, e))) (ap (λ zs. k ∷ zs) (one_marked p m (suc k) n (omega (arith, above)) (omega (arith, high))))
+      | inl has ↦ rw (has, ne_eqb m k (λ e. omega (arith, above, e)), le-ltb m k (omega (arith, above)), ne_eqb k m (λ e. omega (arith, above, e)))
+          (ap (λ zs. k ∷ zs) (one_marked p m (suc k) n (omega (arith, above)) (omega (arith, high))))
       | inr lacks ↦ rw (lacks, ne_eqb m k (λ e. omega (arith, above, e))) (one_marked p m (suc k) n (omega (arith, above)) (omega (arith, high)))
     ]
   ]
@@ -52,7 +54,8 @@ empty_filter p [] h = refl
 empty_filter p (id ∷ ids) h = rw (h id) (empty_filter p ids h)
 
 -- the acks of another list say the same of a purge
-pub same_marks : (xs ys : List Row) (number : ℕ) → ((id : ℕ) → list_any (is_ack number id) xs ≡ list_any (is_ack number id) ys) → marks_in xs number ≡ marks_in ys number
+pub same_marks : (xs ys : List Row) (number : ℕ) → ((id : ℕ) → list_any (is_ack number id) xs ≡ list_any (is_ack number id) ys) →
+    marks_in xs number ≡ marks_in ys number
 same_marks xs ys number h = same_filter (λ id. list_any (is_ack number id) xs) (λ id. list_any (is_ack number id) ys) possible_ids h
 
 no_ack : (acks : List Row) (number id : ℕ) → AllByRecursion (λ a. (ack_number a == number) ≡ false) acks → list_any (is_ack number id) acks ≡ false
@@ -63,8 +66,10 @@ pub no_marks : (acks : List Row) (number : ℕ) → AllByRecursion (λ a. (ack_n
 no_marks acks number none = empty_filter (λ id. list_any (is_ack number id) acks) possible_ids (λ id. no_ack acks number id none)
 
 -- an ack more marks its member
-pub marks_more : (xs acks : List Row) (number m : ℕ) → 1 ≤ m → m ≤ 16 → ((id : ℕ) → list_any (is_ack number id) xs ≡ ((m == id) || list_any (is_ack number id) acks)) → marks_in xs number ≡ with_id m (marks_in acks number)
-marks_more xs acks number m low high h = same_filter (λ id. list_any (is_ack number id) xs) (λ id. (m == id) || list_any (is_ack number id) acks) possible_ids h ∙ one_marked (λ id. list_any (is_ack number id) acks) m 1 16 low (omega (arith, high))
+pub marks_more : (xs acks : List Row) (number m : ℕ) → 1 ≤ m → m ≤ 16 →
+    ((id : ℕ) → list_any (is_ack number id) xs ≡ ((m == id) || list_any (is_ack number id) acks)) → marks_in xs number ≡ with_id m (marks_in acks number)
+marks_more xs acks number m low high h = same_filter (λ id. list_any (is_ack number id) xs) (λ id. (m == id) || list_any (is_ack number id) acks) possible_ids h
+    ∙ one_marked (λ id. list_any (is_ack number id) acks) m 1 16 low (omega (arith, high))
 
 among : (p : ℕ → Bool) (m k n : ℕ) → k ≤ m → m < k + n → p m ≡ true → is_among m (filter p (up k n)) ≡ true
 among p m k zero low high has = absurd (omega (arith, low, high))
@@ -82,7 +87,8 @@ among p m k (suc n) low high has = elim (cases_order m k) [
 -- a member that is not marked has no ack
 pub unmarked_has_none : (acks : List Row) (number m : ℕ) → 1 ≤ m → m ≤ 16 → is_among m (marks_in acks number) ≡ false → list_any (is_ack number m) acks ≡ false
 unmarked_has_none acks number m low high off =
-    false_from_ne_true _ (λ on. absurd (let yes = among (λ id. list_any (is_ack number id) acks) m 1 16 low (omega (arith, high)) on in let bad : true ≡ false = sym yes ∙ off in cc))
+    false_from_ne_true _ (λ on. absurd (let yes = among (λ id. list_any (is_ack number id) acks) m 1 16 low (omega (arith, high)) on in
+    let bad : true ≡ false = sym yes ∙ off in cc))
 
 -- a member with no ack is not marked
 pub none_among : (p : ℕ → Bool) (m : ℕ) (ids : List ℕ) → p m ≡ false → is_among m (filter p ids) ≡ false

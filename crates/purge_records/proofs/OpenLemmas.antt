@@ -22,9 +22,11 @@ use Rattle.purge_records.proofs.ExistLemmas.{can_read, can_read_acks}
 -- ---- the last number
 
 pub one_last : (table rows : List Row) (row : Row) → IsPermutation (map shown_last table) rows → rows ≡ row ∷ [] → map shown_last table ≡ row ∷ []
-one_last table rows row same is = one_permutation row (map shown_last table) (IsPermutation-sym (map shown_last table) (row ∷ []) (subst (IsPermutation (map shown_last table)) is same))
+one_last table rows row same is = one_permutation row (map shown_last table)
+    (IsPermutation-sym (map shown_last table) (row ∷ []) (subst (IsPermutation (map shown_last table)) is same))
 
-pub no_last : (table rows : List Row) → IsPermutation (map shown_last table) rows → ((n : ℕ) → n ≤ 4294967295 → rows ≢ (Int (pos 1) ∷ Int (pos n) ∷ []) ∷ []) → (n : ℕ) → n ≤ 4294967295 → ¬ IsLast n table
+pub no_last : (table rows : List Row) → IsPermutation (map shown_last table) rows → ((n : ℕ) → n ≤ 4294967295 → rows ≢ (Int (pos 1) ∷ Int (pos n) ∷ []) ∷ []) →
+    (n : ℕ) → n ≤ 4294967295 → ¬ IsLast n table
 no_last table rows same none n low is = none n low (one_permutation (Int (pos 1) ∷ Int (pos n) ∷ []) rows (subst (λ xs. IsPermutation xs rows) is same))
 
 -- ---- the pending purges
@@ -32,31 +34,37 @@ no_last table rows same none n low is = none n low (one_permutation (Int (pos 1)
 few_rows : (table rows : List Row) → RisesFrom (map shown_pending table) rows → length rows ≡ length table
 few_rows table rows rises = omega (arith, length_permutation (map shown_pending table) rows rises.same, length-map table shown_pending)
 
-pub read_added : (table rows : List Row) (C : Type 0) (r : Result PurgeList PurgeFault) → (C → RisesFrom (map shown_pending table) rows) → length rows ≤ 1024 → IfOk r (λ p. Adds no_purges rows p) → IfOk r (λ p. C → HasAdded table p)
+pub read_added : (table rows : List Row) (C : Type 0) (r : Result PurgeList PurgeFault) → (C → RisesFrom (map shown_pending table) rows) → length rows ≤ 1024 →
+    IfOk r (λ p. Adds no_purges rows p) → IfOk r (λ p. C → HasAdded table p)
 read_added table rows C (Err fault) rises few adds = tt
 read_added table rows C (Ok p) rises few adds = λ c. (rows, rises c, adds, (let same = few_rows table rows (rises c) in omega (arith, same, few)))
 
-pub not_added : (file : State) (rows : List Row) → RisesFrom (map shown_pending (file.now.trees 2)) rows → ((all : PurgeList) → ¬ Adds no_purges rows all) → ¬ IsMasterFile file
-not_added file rows rises none is = let read = can_read (file.now.trees 1) (file.now.trees 2) (file.now.trees 3) rows is.master.tables rises in none read.0 read.1
+pub not_added : (file : State) (rows : List Row) → RisesFrom (map shown_pending (file.now.trees 2)) rows → ((all : PurgeList) → ¬ Adds no_purges rows all) →
+    ¬ IsMasterFile file
+not_added file rows rises none is = let read = can_read (file.now.trees 1) (file.now.trees 2) (file.now.trees 3) rows is.master.tables rises in
+    none read.0 read.1
 
 pub too_many : (file : State) (rows : List Row) → RisesFrom (map shown_pending (file.now.trees 2)) rows → 1024 < length rows → ¬ IsMasterFile file
 too_many file rows rises many is = omega (arith, many, is.few, few_rows (file.now.trees 2) rows rises)
 
 -- a purge above the last number is no master's
-pub above_last : (old mid : State) (n : ℕ) (added : PurgeList) → mid.now ≡ old.now → IsLast n (old.now.trees 1) → HasAdded (mid.now.trees 2) added → n < added.last → ¬ IsMasterFile old
+pub above_last : (old mid : State) (n : ℕ) (added : PurgeList) → mid.now ≡ old.now → IsLast n (old.now.trees 1) → HasAdded (mid.now.trees 2) added →
+    n < added.last → ¬ IsMasterFile old
 above_last old mid n added same last h above is =
     let tables = is.master.tables in
     let table = old.now.trees 2 in
     let rows = h.0 in
     let rises : RisesFrom (map shown_pending table) rows = subst (λ (d : Database). RisesFrom (map shown_pending (d.trees 2)) rows) same h.1 in
     let number : last_in (old.now.trees 1) ≡ n = last_is (old.now.trees 1) n last in
-    let within = permuted_all (λ r. number_of r ≤ n) (map shown_pending table) rows rises.same (to_shown (IsPending (last_in (old.now.trees 1))) (λ r. number_of r ≤ n) shown_pending (λ r p. omega (arith, p.given, number)) table tables.pending) in
+    let within = permuted_all (λ r. number_of r ≤ n) (map shown_pending table) rows rises.same
+    (to_shown (IsPending (last_in (old.now.trees 1))) (λ r. number_of r ≤ n) shown_pending (λ r p. omega (arith, p.given, number)) table tables.pending) in
     let low : added.last ≤ n = adds_within n no_purges rows added (omega arith) within h.2 in
     omega (arith, low, above)
 
 -- ---- the acks
 
-pub not_marked : (file : State) (rows : List Row) (purges : PurgeList) → RisesFrom (map shown_ack (file.now.trees 3)) rows → ((all : PurgeList) → ¬ Marks None purges rows all) → IsMaster file.now → purges ≢ purges_of (file.now.trees 1) (file.now.trees 2) []
+pub not_marked : (file : State) (rows : List Row) (purges : PurgeList) → RisesFrom (map shown_ack (file.now.trees 3)) rows →
+    ((all : PurgeList) → ¬ Marks None purges rows all) → IsMaster file.now → purges ≢ purges_of (file.now.trees 1) (file.now.trees 2) []
 not_marked file rows purges rises none is same =
     let read = can_read_acks (file.now.trees 1) (file.now.trees 2) (file.now.trees 3) rows is.tables rises in
     none read.0 (subst (λ p. Marks None p rows read.0) (sym same) read.1)
@@ -66,11 +74,14 @@ err_of (Ok a) f P is p = absurd (cc)
 err_of (Err e) f P is p = p
 
 -- acks that could not be read are no master's
-pub not_read : (old mid : State) (purges : PurgeList) → mid.now ≡ old.now → HasUnmarked old.now.trees purges → (IsMaster mid.now → purges ≢ purges_of (mid.now.trees 1) (mid.now.trees 2) []) → ¬ IsMasterFile old
+pub not_read : (old mid : State) (purges : PurgeList) → mid.now ≡ old.now → HasUnmarked old.now.trees purges →
+    (IsMaster mid.now → purges ≢ purges_of (mid.now.trees 1) (mid.now.trees 2) []) → ¬ IsMasterFile old
 not_read old mid purges same h none is =
-    none (subst IsMaster (sym same) is.master) (subst (λ (d : Database). purges ≡ purges_of (d.trees 1) (d.trees 2) []) (sym same) (unmarked_is old.now.trees purges h))
+    none (subst IsMaster (sym same) is.master) (subst (λ (d : Database). purges ≡ purges_of (d.trees 1) (d.trees 2) []) (sym same)
+    (unmarked_is old.now.trees purges h))
 
-pub whole_read : (old mid : State) (purges after : PurgeList) → mid.now ≡ old.now → HasUnmarked old.now.trees purges → HasMarked (mid.now.trees 3) purges after → IsRead old.now.trees after
+pub whole_read : (old mid : State) (purges after : PurgeList) → mid.now ≡ old.now → HasUnmarked old.now.trees purges →
+    HasMarked (mid.now.trees 3) purges after → IsRead old.now.trees after
 whole_read old mid purges after same h marked = all_read old.now.trees purges after h (subst (λ (d : Database). HasMarked (d.trees 3) purges after) same marked)
 
 -- ---- a crash

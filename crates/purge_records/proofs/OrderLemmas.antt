@@ -18,7 +18,8 @@ in_place_push x (y ∷ ys) p low = elim (cases_Bool (nat_lt x.number y.number)) 
 
 in_place_end : (p : Purge) (ys : List Purge) → AllByRecursion (λ q. q.number < p.number) ys → in_place p ys ≡ ys ++ p ∷ []
 in_place_end p [] low = refl
-in_place_end p (y ∷ ys) low = ap (λ b. cond b (p ∷ y ∷ ys) (y ∷ in_place p ys)) (le-ltb p.number y.number (omega (arith, low.0))) ∙ ap (λ zs. y ∷ zs) (in_place_end p ys low.1)
+in_place_end p (y ∷ ys) low = ap (λ b. cond b (p ∷ y ∷ ys) (y ∷ in_place p ys)) (le-ltb p.number y.number (omega (arith, low.0)))
+    ∙ ap (λ zs. y ∷ zs) (in_place_end p ys low.1)
 
 pub by_number_push : (xs : List Purge) (p : Purge) → AllByRecursion (λ q. q.number < p.number) xs → by_number (xs ++ p ∷ []) ≡ by_number xs ++ p ∷ []
 by_number_push [] p low = refl
@@ -29,8 +30,10 @@ module _ (g : Purge → Purge) (keeps : (p : Purge) → (g p).number ≡ p.numbe
   in_place_map : (p : Purge) (qs : List Purge) → in_place (g p) (map g qs) ≡ map g (in_place p qs)
   in_place_map p [] = refl
   in_place_map p (q ∷ qs) =
-      let same : nat_lt (g p).number (g q).number ≡ nat_lt p.number q.number = ap (λ n. nat_lt n (g q).number) (keeps p) ∙ ap (λ n. nat_lt p.number n) (keeps q) in
-      ap (λ b. cond b (g p ∷ g q ∷ map g qs) (g q ∷ in_place (g p) (map g qs))) same ∙ ap (λ zs. cond (nat_lt p.number q.number) (g p ∷ g q ∷ map g qs) (g q ∷ zs)) (in_place_map p qs) ∙ mapped (nat_lt p.number q.number)
+      let same : nat_lt (g p).number (g q).number ≡ nat_lt p.number q.number = ap (λ n. nat_lt n (g q).number) (keeps p)
+      ∙ ap (λ n. nat_lt p.number n) (keeps q) in
+      ap (λ b. cond b (g p ∷ g q ∷ map g qs) (g q ∷ in_place (g p) (map g qs))) same
+      ∙ ap (λ zs. cond (nat_lt p.number q.number) (g p ∷ g q ∷ map g qs) (g q ∷ zs)) (in_place_map p qs) ∙ mapped (nat_lt p.number q.number)
     where
       mapped : (b : Bool) → cond b (g p ∷ g q ∷ map g qs) (g q ∷ map g (in_place p qs)) ≡ map g (cond b (p ∷ q ∷ qs) (q ∷ in_place p qs))
       mapped true = refl
@@ -57,8 +60,10 @@ at_least p q (x ∷ qs) low all = (omega (arith, low, all.0), at_least p q qs lo
 pub rises_in_place : (p : Purge) (qs : List Purge) → Rises qs → Rises (in_place p qs)
 rises_in_place p [] up = (tt, tt)
 rises_in_place p (q ∷ qs) up = elim (cases_Bool (nat_lt p.number q.number)) [
-  | inl below ↦ let low : p.number < q.number = ltb-true p.number q.number below in rw below ((omega (arith, low), at_least p q qs (omega (arith, low)) up.0), up)
-  | inr above ↦ let low : q.number ≤ p.number = ltb-false p.number q.number above in rw above (all_in_place (λ x. q.number ≤ x.number) p qs low up.0, rises_in_place p qs up.1)
+  | inl below ↦ let low : p.number < q.number = ltb-true p.number q.number below in
+      rw below ((omega (arith, low), at_least p q qs (omega (arith, low)) up.0), up)
+  | inr above ↦ let low : q.number ≤ p.number = ltb-false p.number q.number above in
+      rw above (all_in_place (λ x. q.number ≤ x.number) p qs low up.0, rises_in_place p qs up.1)
 ]
 
 pub by_number_rises : (xs : List Purge) → Rises (by_number xs)
@@ -78,7 +83,8 @@ module _ (keep : Purge → Bool) where
   in_place_first p [] low = refl
   in_place_first p (q ∷ qs) low = ap (λ b. cond b (p ∷ q ∷ qs) (q ∷ in_place p qs)) (lt-ltb p.number q.number low.0)
 
-  above_all : (p q : Purge) (qs : List Purge) → p.number < q.number → AllByRecursion (λ x. q.number ≤ x.number) qs → AllByRecursion (λ x. p.number < x.number) qs
+  above_all : (p q : Purge) (qs : List Purge) → p.number < q.number → AllByRecursion (λ x. q.number ≤ x.number) qs →
+      AllByRecursion (λ x. p.number < x.number) qs
   above_all p q [] low all = tt
   above_all p q (x ∷ qs) low all = (omega (arith, low, all.0), above_all p q qs low all.1)
 

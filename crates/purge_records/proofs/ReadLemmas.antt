@@ -42,7 +42,8 @@ from_distinct e [] d = tt
 from_distinct e (x ∷ xs) d = (d.0, from_distinct e xs d.1)
 
 -- what no two rows have in common stays so in another order
-pub permuted_apart : (e : Row → Row → Bool) → ((a b : Row) → e a b ≡ e b a) → (xs ys : List Row) → IsPermutation xs ys → IsAscending (λ a b. e a b ≡ false) xs → IsAscending (λ a b. e a b ≡ false) ys
+pub permuted_apart : (e : Row → Row → Bool) → ((a b : Row) → e a b ≡ e b a) → (xs ys : List Row) → IsPermutation xs ys → IsAscending (λ a b. e a b ≡ false) xs →
+    IsAscending (λ a b. e a b ≡ false) ys
 permuted_apart e flips xs ys same up = from_distinct e ys (IsDistinct-IsPermutation e flips xs ys same (to_distinct e xs up))
 
 abbrev pub same_ids : Row → Row → Bool
@@ -56,11 +57,18 @@ adds_rows p (r ∷ rows) all h = (h.0, adds_rows (with_purge p (number_of r) (ur
 
 adds_above : (low : ℕ) (p : PurgeList) (rows : List Row) (all : PurgeList) → low ≤ p.last → Adds p rows all → AllByRecursion (λ r. low < number_of r) rows
 adds_above low p [] all from h = tt
-adds_above low p (r ∷ rows) all from h = (omega (arith, from, h.1), adds_above low (with_purge p (number_of r) (url_of r)) rows all (omega (arith, from, h.1)) h.2)
+adds_above low p (r ∷ rows) all from h = (
+  omega (arith, from, h.1),
+  adds_above low (with_purge p (number_of r) (url_of r)) rows all (omega (arith, from, h.1))
+      h.2,
+)
 
 adds_rise : (p : PurgeList) (rows : List Row) (all : PurgeList) → Adds p rows all → IsAscending (λ a b. number_of a < number_of b) rows
 adds_rise p [] all h = tt
-adds_rise p (r ∷ rows) all h = (adds_above (number_of r) (with_purge p (number_of r) (url_of r)) rows all (omega arith) h.2, adds_rise (with_purge p (number_of r) (url_of r)) rows all h.2)
+adds_rise p (r ∷ rows) all h = (
+  adds_above (number_of r) (with_purge p (number_of r) (url_of r)) rows all (omega arith) h.2,
+  adds_rise (with_purge p (number_of r) (url_of r)) rows all h.2,
+)
 
 adds_last : (p : PurgeList) (rows : List Row) (all : PurgeList) → Adds p rows all → p.last ≤ all.last
 adds_last p [] all h = rw h (omega arith)
@@ -68,9 +76,13 @@ adds_last p (r ∷ rows) all h = omega (arith, h.1, adds_last (with_purge p (num
 
 adds_given : (p : PurgeList) (rows : List Row) (all : PurgeList) → Adds p rows all → AllByRecursion (λ r. number_of r ≤ all.last) rows
 adds_given p [] all h = tt
-adds_given p (r ∷ rows) all h = (adds_last (with_purge p (number_of r) (url_of r)) rows all h.2, adds_given (with_purge p (number_of r) (url_of r)) rows all h.2)
+adds_given p (r ∷ rows) all h = (
+  adds_last (with_purge p (number_of r) (url_of r)) rows all h.2,
+  adds_given (with_purge p (number_of r) (url_of r)) rows all h.2,
+)
 
-pub adds_within : (bound : ℕ) (p : PurgeList) (rows : List Row) (all : PurgeList) → p.last ≤ bound → AllByRecursion (λ r. number_of r ≤ bound) rows → Adds p rows all → all.last ≤ bound
+pub adds_within : (bound : ℕ) (p : PurgeList) (rows : List Row) (all : PurgeList) → p.last ≤ bound → AllByRecursion (λ r. number_of r ≤ bound) rows →
+    Adds p rows all → all.last ≤ bound
 adds_within bound p [] all low within h = rw h low
 adds_within bound p (r ∷ rows) all low within h = adds_within bound (with_purge p (number_of r) (url_of r)) rows all within.0 within.1 h.2
 
@@ -92,23 +104,27 @@ climbs_same (x ∷ xs) (y ∷ ys) up_x up_y there back =
     let same : x ≡ y = first (there x (inl refl)) (back y (inl refl)) in
     ap (λ p. p ∷ xs) same ∙ ap (λ ps. y ∷ ps) (climbs_same xs ys up_x.1 up_y.1
     (λ p has. elim (there p (inr has)) [
-      | inl is ↦ absurd (let above = all_has (λ q. x.number < q.number) xs p up_x.0 has in let eq = ap (λ (q : Purge). q.number) (is ∙ sym same) in omega (arith, above, eq))
+      | inl is ↦ absurd (let above = all_has (λ q. x.number < q.number) xs p up_x.0 has in let eq = ap (λ (q : Purge). q.number) (is ∙ sym same) in
+          omega (arith, above, eq))
       | inr more ↦ more
     ])
     (λ p has. elim (back p (inr has)) [
-      | inl is ↦ absurd (let above = all_has (λ q. y.number < q.number) ys p up_y.0 has in let eq = ap (λ (q : Purge). q.number) (is ∙ same) in omega (arith, above, eq))
+      | inl is ↦ absurd (let above = all_has (λ q. y.number < q.number) ys p up_y.0 has in let eq = ap (λ (q : Purge). q.number) (is ∙ same) in
+          omega (arith, above, eq))
       | inr more ↦ more
     ]))
   where
     first : (x ≡ y) ⊎ Has ys x → (y ≡ x) ⊎ Has xs y → x ≡ y
     first (inl is) other = is
     first (inr has) (inl is) = sym is
-    first (inr has) (inr more) = absurd (let one = all_has (λ q. y.number < q.number) ys x up_y.0 has in let two = all_has (λ q. x.number < q.number) xs y up_x.0 more in omega (arith, one, two))
+    first (inr has) (inr more) = absurd (let one = all_has (λ q. y.number < q.number) ys x up_y.0 has in let two =
+        all_has (λ q. x.number < q.number) xs y up_x.0 more in omega (arith, one, two))
 
 abbrev Differ : List Purge → Type 0
 Differ = IsAscending (λ a b. (a.number == b.number) ≡ false)
 
-apart_in_place : (p q : Purge) (qs : List Purge) → p.number < q.number → AllByRecursion (λ x. p.number < x.number) qs → AllByRecursion (λ x. p.number < x.number) (in_place q qs)
+apart_in_place : (p q : Purge) (qs : List Purge) → p.number < q.number → AllByRecursion (λ x. p.number < x.number) qs →
+    AllByRecursion (λ x. p.number < x.number) (in_place q qs)
 apart_in_place p q qs low all = all_from (λ (x : Purge). p.number < x.number) (in_place q qs) (λ x has. elim (has_in q qs x has) [
   | inl is ↦ let eq = ap (λ (z : Purge). z.number) is in omega (arith, low, eq)
   | inr more ↦ all_has (λ (z : Purge). p.number < z.number) qs x all more
@@ -121,7 +137,8 @@ apart_in_place p q qs low all = all_from (λ (x : Purge). p.number < x.number) (
       | inr above ↦ elim (rw above at h) [ inl is ↦ inr (inl is) | inr more ↦ elim (has_in q qs x more) [ inl is ↦ inl is | inr has ↦ inr (inr has) ] ]
     ]
 
-above_first : (p q : Purge) (qs : List Purge) → p.number < q.number → AllByRecursion (λ x. q.number < x.number) qs → AllByRecursion (λ x. p.number < x.number) qs
+above_first : (p q : Purge) (qs : List Purge) → p.number < q.number → AllByRecursion (λ x. q.number < x.number) qs →
+    AllByRecursion (λ x. p.number < x.number) qs
 above_first p q [] low all = tt
 above_first p q (x ∷ qs) low all = (omega (arith, low, all.0), above_first p q qs low all.1)
 
@@ -132,19 +149,23 @@ climbs_in_place p (q ∷ qs) other up = elim (cases_Bool (nat_lt p.number q.numb
   | inr above ↦
       let high : q.number ≤ p.number = ltb-false p.number q.number above in
       let apart = eqb-false p.number q.number other.0 in
-      let low : q.number < p.number = elim (cases_order p.number q.number) [ inl same ↦ absurd (apart same) | inr o ↦ elim o [ inl less ↦ absurd (omega (arith, less, high)) | inr more ↦ more ] ] in
+      let low : q.number < p.number = elim (cases_order p.number q.number)
+      [ inl same ↦ absurd (apart same) | inr o ↦ elim o [ inl less ↦ absurd (omega (arith, less, high)) | inr more ↦ more ] ] in
       rw above (apart_in_place q p qs low up.0, climbs_in_place p qs other.1 up.1)
 ]
 
 climbs_by_number : (xs : List Purge) → Differ xs → Climbs (by_number xs)
 climbs_by_number [] differ = tt
-climbs_by_number (x ∷ xs) differ = climbs_in_place x (by_number xs) (all_from (λ (q : Purge). (x.number == q.number) ≡ false) (by_number xs) (λ q has. all_has (λ (q : Purge). (x.number == q.number) ≡ false) xs q differ.0 (has_by_number xs q has))) (climbs_by_number xs differ.1)
+climbs_by_number (x ∷ xs) differ = climbs_in_place x (by_number xs)
+    (all_from (λ (q : Purge). (x.number == q.number) ≡ false) (by_number xs)
+    (λ q has. all_has (λ (q : Purge). (x.number == q.number) ≡ false) xs q differ.0 (has_by_number xs q has))) (climbs_by_number xs differ.1)
 
 climbs_map : (acks rows : List Row) → IsAscending (λ a b. number_of a < number_of b) rows → Climbs (map (purge_in acks) rows)
 climbs_map acks [] up = tt
 climbs_map acks (r ∷ rows) up = (go rows up.0, climbs_map acks rows up.1)
   where
-    go : (rows : List Row) → AllByRecursion (λ b. number_of r < number_of b) rows → AllByRecursion (λ (p : Purge). number_of r < p.number) (map (purge_in acks) rows)
+    go : (rows : List Row) → AllByRecursion (λ b. number_of r < number_of b) rows → AllByRecursion (λ (p : Purge). number_of r < p.number)
+        (map (purge_in acks) rows)
     go [] all = tt
     go (x ∷ rows) all = (all.0, go rows all.1)
 
@@ -152,7 +173,8 @@ differ_map : (acks rows : List Row) → IsAscending (λ a b. (number_of a == num
 differ_map acks [] up = tt
 differ_map acks (r ∷ rows) up = (go rows up.0, differ_map acks rows up.1)
   where
-    go : (rows : List Row) → AllByRecursion (λ b. (number_of r == number_of b) ≡ false) rows → AllByRecursion (λ (p : Purge). (number_of r == p.number) ≡ false) (map (purge_in acks) rows)
+    go : (rows : List Row) → AllByRecursion (λ b. (number_of r == number_of b) ≡ false) rows →
+        AllByRecursion (λ (p : Purge). (number_of r == p.number) ≡ false) (map (purge_in acks) rows)
     go [] all = tt
     go (x ∷ rows) all = (all.0, go rows all.1)
 
@@ -164,17 +186,26 @@ flip_eqb a b = elim (cases_Bool (a == b)) [
 
 climbing_apart : (rows : List Row) → IsAscending (λ a b. number_of a < number_of b) rows → IsAscending (λ a b. (number_of a == number_of b) ≡ false) rows
 climbing_apart [] up = tt
-climbing_apart (r ∷ rows) up = (all_map (λ b. number_of r < number_of b) (λ b. (number_of r == number_of b) ≡ false) rows (λ b low. ne_eqb (number_of r) (number_of b) (λ e. omega (arith, low, e))) up.0, climbing_apart rows up.1)
+climbing_apart (r ∷ rows) up = (
+  all_map (λ b. number_of r < number_of b) (λ b. (number_of r == number_of b) ≡ false) rows
+      (λ b low. ne_eqb (number_of r) (number_of b) (λ e. omega (arith, low, e))) up.0,
+  climbing_apart rows up.1,
+)
 
 -- rows whose numbers rise, in whatever order they stand in a table, are its purges
-pub in_order : (acks table rows : List Row) → IsPermutation table rows → IsAscending (λ a b. number_of a < number_of b) rows → by_number (map (purge_in acks) table) ≡ map (purge_in acks) rows
+pub in_order : (acks table rows : List Row) → IsPermutation table rows → IsAscending (λ a b. number_of a < number_of b) rows →
+    by_number (map (purge_in acks) table) ≡ map (purge_in acks) rows
 in_order acks table rows same up =
     let there = IsPermutation-map (purge_in acks) table rows same in
     let back = IsPermutation-sym (map (purge_in acks) table) (map (purge_in acks) rows) there in
-    let apart = permuted_apart (λ a b. number_of a == number_of b) (λ a b. flip_eqb (number_of a) (number_of b)) rows table (IsPermutation-sym table rows same) (climbing_apart rows up) in
-    climbs_same (by_number (map (purge_in acks) table)) (map (purge_in acks) rows) (climbs_by_number (map (purge_in acks) table) (differ_map acks table apart)) (climbs_map acks rows up)
-    (λ p has. has_contained _ p (Contains-permutation (map (purge_in acks) table) (map (purge_in acks) rows) p there (contains_had _ p (has_by_number (map (purge_in acks) table) p has))))
-    (λ p has. by_number_has (map (purge_in acks) table) p (has_contained _ p (Contains-permutation (map (purge_in acks) rows) (map (purge_in acks) table) p back (contains_had _ p has))))
+    let apart = permuted_apart (λ a b. number_of a == number_of b) (λ a b. flip_eqb (number_of a) (number_of b)) rows table (IsPermutation-sym table rows same)
+    (climbing_apart rows up) in
+    climbs_same (by_number (map (purge_in acks) table)) (map (purge_in acks) rows) (climbs_by_number (map (purge_in acks) table) (differ_map acks table apart))
+    (climbs_map acks rows up)
+    (λ p has. has_contained _ p (Contains-permutation (map (purge_in acks) table) (map (purge_in acks) rows) p there
+    (contains_had _ p (has_by_number (map (purge_in acks) table) p has))))
+    (λ p has. by_number_has (map (purge_in acks) table) p
+    (has_contained _ p (Contains-permutation (map (purge_in acks) rows) (map (purge_in acks) table) p back (contains_had _ p has))))
 
 -- ---- the rows of `pending` are read
 
@@ -185,19 +216,23 @@ shown_purge : (acks : List Row) (rows : List Row) → map (purge_in acks) (map s
 shown_purge acks [] = refl
 shown_purge acks (r ∷ rows) = ap (λ ps. purge_in acks r ∷ ps) (shown_purge acks rows)
 
-from_shown : (P Q : Row → Type 0) (show : Row → Row) → ((r : Row) → P (show r) → Q r) → (rows : List Row) → AllByRecursion P (map show rows) → AllByRecursion Q rows
+from_shown : (P Q : Row → Type 0) (show : Row → Row) → ((r : Row) → P (show r) → Q r) → (rows : List Row) → AllByRecursion P (map show rows) →
+    AllByRecursion Q rows
 from_shown P Q show f [] h = tt
 from_shown P Q show f (r ∷ rows) h = (f r h.0, from_shown P Q show f rows h.1)
 
-pub to_shown : (P Q : Row → Type 0) (show : Row → Row) → ((r : Row) → P r → Q (show r)) → (rows : List Row) → AllByRecursion P rows → AllByRecursion Q (map show rows)
+pub to_shown : (P Q : Row → Type 0) (show : Row → Row) → ((r : Row) → P r → Q (show r)) → (rows : List Row) → AllByRecursion P rows →
+    AllByRecursion Q (map show rows)
 to_shown P Q show f [] h = tt
 to_shown P Q show f (r ∷ rows) h = (f r h.0, to_shown P Q show f rows h.1)
 
-from_shown_apart : (R : Row → Row → Type 0) (show : Row → Row) → ((a b : Row) → R (show a) (show b) → R a b) → (rows : List Row) → IsAscending R (map show rows) → IsAscending R rows
+from_shown_apart : (R : Row → Row → Type 0) (show : Row → Row) → ((a b : Row) → R (show a) (show b) → R a b) → (rows : List Row) →
+    IsAscending R (map show rows) → IsAscending R rows
 from_shown_apart R show f [] h = tt
 from_shown_apart R show f (r ∷ rows) h = (from_shown (R (show r)) (R r) show (λ x is. f r x is) rows h.0, from_shown_apart R show f rows h.1)
 
-pub to_shown_apart : (R : Row → Row → Type 0) (show : Row → Row) → ((a b : Row) → R a b → R (show a) (show b)) → (rows : List Row) → IsAscending R rows → IsAscending R (map show rows)
+pub to_shown_apart : (R : Row → Row → Type 0) (show : Row → Row) → ((a b : Row) → R a b → R (show a) (show b)) → (rows : List Row) → IsAscending R rows →
+    IsAscending R (map show rows)
 to_shown_apart R show f [] h = tt
 to_shown_apart R show f (r ∷ rows) h = (to_shown (R r) (R (show r)) show (λ x is. f r x is) rows h.0, to_shown_apart R show f rows h.1)
 
@@ -208,14 +243,17 @@ climbing_ids : (rows : List Row) → AllByRecursion IsPurgeRow rows → IsAscend
 climbing_ids [] all up = tt
 climbing_ids (r ∷ rows) all up = (go rows all.1 up.0, climbing_ids rows all.1 up.1)
   where
-    go : (xs : List Row) → AllByRecursion IsPurgeRow xs → AllByRecursion (λ b. number_of r < number_of b) xs → AllByRecursion (λ b. is_eq (value_cmp (rowid r) (rowid b)) ≡ false) xs
+    go : (xs : List Row) → AllByRecursion IsPurgeRow xs → AllByRecursion (λ b. number_of r < number_of b) xs →
+        AllByRecursion (λ b. is_eq (value_cmp (rowid r) (rowid b)) ≡ false) xs
     go [] those low = tt
     go (x ∷ xs) those low = (
-      ap (λ v. is_eq (value_cmp v (rowid x))) all.0.number ∙ ap (λ v. is_eq (value_cmp (Int (pos (number_of r))) v)) those.0.number ∙ tied_number (number_of r) (number_of x) ∙ ne_eqb (number_of r) (number_of x) (λ e. omega (arith, low.0, e)),
+      ap (λ v. is_eq (value_cmp v (rowid x))) all.0.number ∙ ap (λ v. is_eq (value_cmp (Int (pos (number_of r))) v)) those.0.number
+          ∙ tied_number (number_of r) (number_of x) ∙ ne_eqb (number_of r) (number_of x) (λ e. omega (arith, low.0, e)),
       go xs those.1 low.1,
     )
 
-module _ (one table : List Row) (added purges : PurgeList) (h : HasAdded table added) (last : IsLast purges.last one) (given : added.last ≤ purges.last) (is : purges ≡ given_to added purges.last) where
+module _ (one table : List Row) (added purges : PurgeList) (h : HasAdded table added) (last : IsLast purges.last one) (given : added.last ≤ purges.last)
+    (is : purges ≡ given_to added purges.last) where
   abbrev rows : List Row
   rows = h.0
 
@@ -223,17 +261,25 @@ module _ (one table : List Row) (added purges : PurgeList) (h : HasAdded table a
   are = adds_rows no_purges rows added h.2
 
   shown_given : AllByRecursion (λ r. IsPurgeRow r × (number_of r ≤ purges.last)) rows
-  shown_given = all_from _ rows (λ r has. (all_has IsPurgeRow rows r are has, (let low = all_has (λ r. number_of r ≤ added.last) rows r (adds_given no_purges rows added h.2) has in omega (arith, low, given))))
+  shown_given =
+      all_from _ rows
+      (λ r has. (
+        all_has IsPurgeRow rows r are has,
+        (let low = all_has (λ r. number_of r ≤ added.last) rows r (adds_given no_purges rows added h.2) has in
+            omega (arith, low, given)),
+      ))
 
   back : IsPermutation rows (map shown_pending table)
   back = IsPermutation-sym (map shown_pending table) rows h.1.same
 
   pub read_pending : AllByRecursion (IsPending purges.last) table
-  read_pending = from_shown (λ r. IsPurgeRow r × (number_of r ≤ purges.last)) (IsPending purges.last) shown_pending (λ r x. record { number = x.0.number; low = x.0.low; given = x.1; url = x.0.url; key = x.0.key }) table
+  read_pending = from_shown (λ r. IsPurgeRow r × (number_of r ≤ purges.last)) (IsPending purges.last) shown_pending
+      (λ r x. record { number = x.0.number; low = x.0.low; given = x.1; url = x.0.url; key = x.0.key }) table
       (permuted_all (λ r. IsPurgeRow r × (number_of r ≤ purges.last)) rows (map shown_pending table) back shown_given)
 
   pub read_ids : HasOwnIds table
-  read_ids = from_shown_apart (λ a b. is_eq (value_cmp (rowid a) (rowid b)) ≡ false) shown_pending (λ a b x. x) table (permuted_apart same_ids flip_ids rows (map shown_pending table) back (climbing_ids rows are (adds_rise no_purges rows added h.2)))
+  read_ids = from_shown_apart (λ a b. is_eq (value_cmp (rowid a) (rowid b)) ≡ false) shown_pending (λ a b x. x) table
+      (permuted_apart same_ids flip_ids rows (map shown_pending table) back (climbing_ids rows are (adds_rise no_purges rows added h.2)))
 
   pub read_is : last_in one ≡ purges.last → purges ≡ purges_of one table []
   read_is same =
@@ -244,10 +290,12 @@ module _ (one table : List Row) (added purges : PurgeList) (h : HasAdded table a
 -- ---- the rows of `acks` are read
 
 -- one more ack of a purge that misses it
-pub marks_next : (one rows done : List Row) (r : Row) → IsAckRow r → with_mark (purges_of one rows done) (ack_number r) (ack_member r) ≡ purges_of one rows (r ∷ done)
+pub marks_next : (one rows done : List Row) (r : Row) → IsAckRow r → with_mark (purges_of one rows done) (ack_number r) (ack_member r) ≡ purges_of one rows
+    (r ∷ done)
 marks_next one rows done r is = sym (marks_one done (r ∷ done) (ack_number r) (ack_member r) is.low is.high (λ k i. refl) one rows)
 
-marks_ids : (low : Option ℤ) (p : PurgeList) (acks : List Row) (all : PurgeList) → Marks low p acks all → AllByRecursion (λ r. (id : ℤ) × (rowid r ≡ Int id)) acks
+marks_ids : (low : Option ℤ) (p : PurgeList) (acks : List Row) (all : PurgeList) → Marks low p acks all →
+    AllByRecursion (λ r. (id : ℤ) × (rowid r ≡ Int id)) acks
 marks_ids low p [] all h = tt
 marks_ids low p (r ∷ acks) all h = ((h.0, h.1), marks_ids (Some h.0) (with_mark p (ack_number r) (ack_member r)) acks all h.5)
 
@@ -255,39 +303,50 @@ marks_rows : (low : Option ℤ) (p : PurgeList) (acks : List Row) (all : PurgeLi
 marks_rows low p [] all h = tt
 marks_rows low p (r ∷ acks) all h = (h.3, marks_rows (Some h.0) (with_mark p (ack_number r) (ack_member r)) acks all h.5)
 
-less_chain : (a b : ℤ) (v : Row) (id : ℤ) → rowid v ≡ Int id → value_cmp (Int a) (Int b) ≡ Less → value_cmp (Int b) (rowid v) ≡ Less → value_cmp (Int a) (rowid v) ≡ Less
+less_chain : (a b : ℤ) (v : Row) (id : ℤ) → rowid v ≡ Int id → value_cmp (Int a) (Int b) ≡ Less → value_cmp (Int b) (rowid v) ≡ Less →
+    value_cmp (Int a) (rowid v) ≡ Less
 less_chain a b v id is first second = value_cmp_total.trans (Int a) (Int b) (rowid v) first second
 
-marks_above : (bound low : ℤ) (p : PurgeList) (acks : List Row) (all : PurgeList) → (bound ≡ low) ⊎ (value_cmp (Int bound) (Int low) ≡ Less) → Marks (Some low) p acks all → AllByRecursion (λ r. value_cmp (Int bound) (rowid r) ≡ Less) acks
+marks_above : (bound low : ℤ) (p : PurgeList) (acks : List Row) (all : PurgeList) → (bound ≡ low) ⊎ (value_cmp (Int bound) (Int low) ≡ Less) →
+    Marks (Some low) p acks all → AllByRecursion (λ r. value_cmp (Int bound) (rowid r) ≡ Less) acks
 marks_above bound low p [] all from h = tt
 marks_above bound low p (r ∷ acks) all from h =
-    let here : value_cmp (Int bound) (rowid r) ≡ Less = elim from [ inl same ↦ ap (λ i. value_cmp (Int i) (rowid r)) same ∙ h.2 | inr less ↦ value_cmp_total.trans (Int bound) (Int low) (rowid r) less h.2 ] in
+    let here : value_cmp (Int bound) (rowid r) ≡ Less = elim from [
+      | inl same ↦ ap (λ i. value_cmp (Int i) (rowid r)) same
+          ∙ h.2
+      | inr less ↦ value_cmp_total.trans (Int bound) (Int low) (rowid r) less h.2
+    ] in
     (here, marks_above bound h.0 (with_mark p (ack_number r) (ack_member r)) acks all (inr (ap (value_cmp (Int bound)) (sym h.1) ∙ here)) h.5)
 
 marks_apart : (low : Option ℤ) (p : PurgeList) (acks : List Row) (all : PurgeList) → Marks low p acks all → HasOwnIds acks
 marks_apart low p [] all h = tt
 marks_apart low p (r ∷ acks) all h = (
-  all_map (λ b. value_cmp (Int h.0) (rowid b) ≡ Less) (λ b. is_eq (value_cmp (rowid r) (rowid b)) ≡ false) acks (λ b less. ap (λ v. is_eq (value_cmp v (rowid b))) h.1 ∙ ap is_eq less) (marks_above h.0 h.0 (with_mark p (ack_number r) (ack_member r)) acks all (inl refl) h.5),
+  all_map (λ b. value_cmp (Int h.0) (rowid b) ≡ Less) (λ b. is_eq (value_cmp (rowid r) (rowid b)) ≡ false) acks
+      (λ b less. ap (λ v. is_eq (value_cmp v (rowid b))) h.1 ∙ ap is_eq less)
+      (marks_above h.0 h.0 (with_mark p (ack_number r) (ack_member r)) acks all (inl refl) h.5),
   marks_apart (Some h.0) (with_mark p (ack_number r) (ack_member r)) acks all h.5,
 )
 
 -- what each step of the marking rests on
 module _ (one rows : List Row) where
-  marks_owned : (low : Option ℤ) (done acks : List Row) (all : PurgeList) → Marks low (purges_of one rows done) acks all → AllByRecursion (λ a. list_any (is_purge (ack_number a)) rows ≡ true) acks
+  marks_owned : (low : Option ℤ) (done acks : List Row) (all : PurgeList) → Marks low (purges_of one rows done) acks all →
+      AllByRecursion (λ a. list_any (is_purge (ack_number a)) rows ≡ true) acks
   marks_owned low done [] all h = tt
   marks_owned low done (r ∷ acks) all h = (
     (missed one rows done (ack_number r) (ack_member r) h.3.low h.3.high h.4).0,
     marks_owned (Some h.0) (r ∷ done) acks all (subst (λ p. Marks (Some h.0) p acks all) (marks_next one rows done r h.3) h.5),
   )
 
-  marks_later : (low : Option ℤ) (done acks : List Row) (all : PurgeList) (x : Row) → Has done x → Marks low (purges_of one rows done) acks all → AllByRecursion (λ b. is_ack (ack_number b) (ack_member b) x ≡ false) acks
+  marks_later : (low : Option ℤ) (done acks : List Row) (all : PurgeList) (x : Row) → Has done x → Marks low (purges_of one rows done) acks all →
+      AllByRecursion (λ b. is_ack (ack_number b) (ack_member b) x ≡ false) acks
   marks_later low done [] all x has h = tt
   marks_later low done (r ∷ acks) all x has h = (
     none_here done x has (missed one rows done (ack_number r) (ack_member r) h.3.low h.3.high h.4).1,
     marks_later (Some h.0) (r ∷ done) acks all x (inr has) (subst (λ p. Marks (Some h.0) p acks all) (marks_next one rows done r h.3) h.5),
   )
     where
-      none_here : (done : List Row) (x : Row) → Has done x → list_any (is_ack (ack_number r) (ack_member r)) done ≡ false → is_ack (ack_number r) (ack_member r) x ≡ false
+      none_here : (done : List Row) (x : Row) → Has done x → list_any (is_ack (ack_number r) (ack_member r)) done ≡ false →
+          is_ack (ack_number r) (ack_member r) x ≡ false
       none_here [] x has off = absurd has
       none_here (y ∷ done) x has off = elim (cases_Bool (is_ack (ack_number r) (ack_member r) y)) [
         | inl on ↦ absurd (let bad : true ≡ false = rw on at off in cc)
@@ -295,13 +354,15 @@ module _ (one rows : List Row) where
       ]
 
   pub flip_acks : (a b : Row) → is_ack (ack_number a) (ack_member a) b ≡ is_ack (ack_number b) (ack_member b) a
-  flip_acks a b = ap (λ t. t && (ack_member b == ack_member a)) (flip_eqb (ack_number b) (ack_number a)) ∙ ap (λ t. (ack_number a == ack_number b) && t) (flip_eqb (ack_member b) (ack_member a))
+  flip_acks a b = ap (λ t. t && (ack_member b == ack_member a)) (flip_eqb (ack_number b) (ack_number a))
+      ∙ ap (λ t. (ack_number a == ack_number b) && t) (flip_eqb (ack_member b) (ack_member a))
 
   marks_once : (low : Option ℤ) (done acks : List Row) (all : PurgeList) → Marks low (purges_of one rows done) acks all → HasOwnAcks acks
   marks_once low done [] all h = tt
   marks_once low done (r ∷ acks) all h =
       let rest = subst (λ p. Marks (Some h.0) p acks all) (marks_next one rows done r h.3) h.5 in (
-        all_map (λ b. is_ack (ack_number b) (ack_member b) r ≡ false) (λ b. is_ack (ack_number r) (ack_member r) b ≡ false) acks (λ b off. flip_acks r b ∙ off) (marks_later (Some h.0) (r ∷ done) acks all r (inl refl) rest),
+        all_map (λ b. is_ack (ack_number b) (ack_member b) r ≡ false) (λ b. is_ack (ack_number r) (ack_member r) b ≡ false) acks (λ b off. flip_acks r b ∙ off)
+            (marks_later (Some h.0) (r ∷ done) acks all r (inl refl) rest),
         marks_once (Some h.0) (r ∷ done) acks all rest,
       )
 
@@ -312,7 +373,8 @@ module _ (one rows : List Row) where
     where
       every : (rs : List Row) → map (purge_in table) rs ≡ map (purge_in done) rs
       every [] = refl
-      every (r ∷ rs) = ap (λ ms. record { number = number_of r; key = url_of r; marked = ms } ∷ map (purge_in table) rs) (same_marks table done (number_of r) (same (number_of r))) ∙ ap (λ ps. purge_in done r ∷ ps) (every rs)
+      every (r ∷ rs) = ap (λ ms. record { number = number_of r; key = url_of r; marked = ms } ∷ map (purge_in table) rs)
+          (same_marks table done (number_of r) (same (number_of r))) ∙ ap (λ ps. purge_in done r ∷ ps) (every rs)
   marks_all low done (r ∷ acks) all table h same =
       marks_all (Some h.0) (r ∷ done) acks all table (subst (λ p. Marks (Some h.0) p acks all) (marks_next one rows done r h.3) h.5)
       (λ k i. same k i ∙ swap (is_ack k i r) (list_any (is_ack k i) acks) (list_any (is_ack k i) done))
@@ -343,14 +405,18 @@ module _ (one rows table : List Row) (before after : PurgeList) (is : before ≡
   ))
 
   pub read_acks : AllByRecursion (IsAck rows) table
-  read_acks = from_shown IsGoodAck (IsAck rows) shown_ack (λ a x. record { id = x.0; number = x.1.number; member = x.1.member; low = x.1.low; high = x.1.high; owned = x.2 }) table (permuted_all IsGoodAck acks (map shown_ack table) back_acks good_acks)
+  read_acks = from_shown IsGoodAck (IsAck rows) shown_ack
+      (λ a x. record { id = x.0; number = x.1.number; member = x.1.member; low = x.1.low; high = x.1.high; owned = x.2 }) table
+      (permuted_all IsGoodAck acks (map shown_ack table) back_acks good_acks)
 
   pub read_ack_ids : HasOwnIds table
-  read_ack_ids = from_shown_apart (λ a b. is_eq (value_cmp (rowid a) (rowid b)) ≡ false) shown_ack (λ a b x. x) table (permuted_apart same_ids flip_ids acks (map shown_ack table) back_acks (marks_apart None (purges_of one rows []) acks after marking))
+  read_ack_ids = from_shown_apart (λ a b. is_eq (value_cmp (rowid a) (rowid b)) ≡ false) shown_ack (λ a b x. x) table
+      (permuted_apart same_ids flip_ids acks (map shown_ack table) back_acks (marks_apart None (purges_of one rows []) acks after marking))
 
   pub read_once : HasOwnAcks table
   read_once = from_shown_apart (λ a b. is_ack (ack_number a) (ack_member a) b ≡ false) shown_ack (λ a b x. x) table
-      (permuted_apart (λ a b. is_ack (ack_number a) (ack_member a) b) (flip_acks one rows) acks (map shown_ack table) back_acks (marks_once one rows None [] acks after marking))
+      (permuted_apart (λ a b. is_ack (ack_number a) (ack_member a) b) (flip_acks one rows) acks (map shown_ack table) back_acks
+      (marks_once one rows None [] acks after marking))
 
   any_shown : (p : Row → Bool) → ((r : Row) → p (shown_ack r) ≡ p r) → (xs : List Row) → list_any p (map shown_ack xs) ≡ list_any p xs
   any_shown p same [] = refl
@@ -361,7 +427,8 @@ module _ (one rows table : List Row) (before after : PurgeList) (is : before ≡
   or_none false = refl
 
   pub read_marked : after ≡ purges_of one rows table
-  read_marked = marks_all one rows None [] acks after table marking (λ k i. sym (any_shown (is_ack k i) (λ r. refl) table) ∙ list_any-IsPermutation (is_ack k i) (map shown_ack table) acks h.1.same ∙ or_none (list_any (is_ack k i) acks))
+  read_marked = marks_all one rows None [] acks after table marking (λ k i. sym (any_shown (is_ack k i) (λ r. refl) table)
+      ∙ list_any-IsPermutation (is_ack k i) (map shown_ack table) acks h.1.same ∙ or_none (list_any (is_ack k i) acks))
 
 pub last_is : (rows : List Row) (n : ℕ) → IsLast n rows → last_in rows ≡ n
 last_is [] n h = absurd (cc)
@@ -375,7 +442,8 @@ all_read trees unmarked after h marked =
       tables = record {
         last = subst (λ n. IsLast n (trees 1)) (sym same) h.last;
         high = omega (arith, same, h.high);
-        pending = subst (λ n. AllByRecursion (IsPending n) (trees 2)) (sym same) (read_pending (trees 1) (trees 2) h.added unmarked h.pending h.last h.given h.is);
+        pending = subst (λ n. AllByRecursion (IsPending n) (trees 2)) (sym same)
+            (read_pending (trees 1) (trees 2) h.added unmarked h.pending h.last h.given h.is);
         numbered = read_ids (trees 1) (trees 2) h.added unmarked h.pending h.last h.given h.is;
         acks = read_acks (trees 1) (trees 2) (trees 3) unmarked after is marked;
         ids = read_ack_ids (trees 1) (trees 2) (trees 3) unmarked after is marked;

@@ -58,11 +58,13 @@ module _ {X : Type 0} where
 
 -- ---- a number is given
 
-pub given_rows : (one one′ rows acks : List Row) (n : ℕ) → AreRows one rows acks → last_in one < n → n ≤ 4294967295 → IsLast n one′ → last_in one′ ≡ n → AreRows one′ rows acks
+pub given_rows : (one one′ rows acks : List Row) (n : ℕ) → AreRows one rows acks → last_in one < n → n ≤ 4294967295 → IsLast n one′ → last_in one′ ≡ n →
+    AreRows one′ rows acks
 given_rows one one′ rows acks n are above high is last = record {
   last = subst (λ k. IsLast k one′) (sym last) is;
   high = omega (arith, last, high);
-  pending = all_map (IsPending (last_in one)) (IsPending (last_in one′)) rows (λ r p. record { number = p.number; low = p.low; given = omega (arith, p.given, above, last); url = p.url; key = p.key }) are.pending;
+  pending = all_map (IsPending (last_in one)) (IsPending (last_in one′)) rows
+      (λ r p. record { number = p.number; low = p.low; given = omega (arith, p.given, above, last); url = p.url; key = p.key }) are.pending;
   numbered = are.numbered;
   acks = are.acks;
   ids = are.ids;
@@ -88,9 +90,11 @@ put_end new (r ∷ rows) low = ap (λ o. match_ordering o (r ∷ put_row new row
 abbrev pub purge_row : ℕ → List ℕ → Row
 purge_row n u = Int (pos n) ∷ Null ∷ Words u ∷ []
 
-module _ (one rows acks : List Row) (n : ℕ) (u : List ℕ) (are : AreRows one rows acks) (last : last_in one ≡ n) (below : AllByRecursion (λ r. number_of r < n) rows) where
+module _ (one rows acks : List Row) (n : ℕ) (u : List ℕ) (are : AreRows one rows acks) (last : last_in one ≡ n)
+    (below : AllByRecursion (λ r. number_of r < n) rows) where
   lesser : AllByRecursion (λ r. value_cmp (rowid r) (Int (pos n)) ≡ Less) rows
-  lesser = all_from (λ r. value_cmp (rowid r) (Int (pos n)) ≡ Less) rows (λ r has. below_Less r n (all_has (IsPending (last_in one)) rows r are.pending has).number (all_has (λ r. number_of r < n) rows r below has))
+  lesser = all_from (λ r. value_cmp (rowid r) (Int (pos n)) ≡ Less) rows
+      (λ r has. below_Less r n (all_has (IsPending (last_in one)) rows r are.pending has).number (all_has (λ r. number_of r < n) rows r below has))
 
   put_is : put_row (purge_row n u) rows ≡ rows ++ purge_row n u ∷ []
   put_is = put_end (purge_row n u) rows lesser
@@ -99,9 +103,21 @@ module _ (one rows acks : List Row) (n : ℕ) (u : List ℕ) (are : AreRows one 
   added_rows low key = subst (λ rs. AreRows one rs acks) (sym put_is) (record {
     last = are.last;
     high = are.high;
-    pending = all_push (IsPending (last_in one)) rows (purge_row n u) are.pending (record { number = refl; low = low; given = omega (arith, last); url = refl; key = key });
-    numbered = ascending_push (λ a b. is_eq (value_cmp (rowid a) (rowid b)) ≡ false) rows (purge_row n u) are.numbered (all_map (λ r. value_cmp (rowid r) (Int (pos n)) ≡ Less) (λ r. is_eq (value_cmp (rowid r) (Int (pos n))) ≡ false) rows (λ r less. ap is_eq less) lesser);
-    acks = all_map (IsAck rows) (IsAck (rows ++ purge_row n u ∷ [])) acks (λ a is. record { id = is.id; number = is.number; member = is.member; low = is.low; high = is.high; owned = any_push (is_purge (ack_number a)) rows (purge_row n u) is.owned }) are.acks;
+    pending = all_push (IsPending (last_in one)) rows (purge_row n u) are.pending
+        (record { number = refl; low = low; given = omega (arith, last); url = refl; key = key });
+    numbered = ascending_push (λ a b. is_eq (value_cmp (rowid a) (rowid b)) ≡ false) rows (purge_row n u) are.numbered
+        (all_map (λ r. value_cmp (rowid r) (Int (pos n)) ≡ Less) (λ r. is_eq (value_cmp (rowid r) (Int (pos n))) ≡ false) rows (λ r less. ap is_eq less)
+        lesser);
+    acks = all_map (IsAck rows) (IsAck (rows ++ purge_row n u ∷ [])) acks
+        (λ a is. record {
+          id = is.id;
+          number = is.number;
+          member = is.member;
+          low = is.low;
+          high = is.high;
+          owned =
+              any_push (is_purge (ack_number a)) rows (purge_row n u) is.owned;
+        }) are.acks;
     ids = are.ids;
     once = are.once;
   })
@@ -115,7 +131,8 @@ module _ (one rows acks : List Row) (n : ℕ) (u : List ℕ) (are : AreRows one 
   ]
 
   no_acks : AllByRecursion (λ a. (ack_number a == n) ≡ false) acks
-  no_acks = all_map (IsAck rows) (λ a. (ack_number a == n) ≡ false) acks (λ a is. ne_eqb (ack_number a) n (λ e. omega (arith, e, not_there (ack_number a) rows below is.owned))) are.acks
+  no_acks = all_map (IsAck rows) (λ a. (ack_number a == n) ≡ false) acks
+      (λ a is. ne_eqb (ack_number a) n (λ e. omega (arith, e, not_there (ack_number a) rows below is.owned))) are.acks
 
   lower : (rs : List Row) → AllByRecursion (λ r. number_of r < n) rs → AllByRecursion (λ (p : Purge). p.number < n) (map (purge_in acks) rs)
   lower [] low = tt
@@ -125,19 +142,22 @@ module _ (one rows acks : List Row) (n : ℕ) (u : List ℕ) (are : AreRows one 
   added_is =
       let new : purge_in acks (purge_row n u) ≡ unmarked n u = λ i. record { number = n; key = u; marked = no_marks acks n no_acks i } in
       let pending : by_number (map (purge_in acks) (put_row (purge_row n u) rows)) ≡ by_number (map (purge_in acks) rows) ++ unmarked n u ∷ [] =
-      ap (λ rs. by_number (map (purge_in acks) rs)) put_is ∙ ap by_number (map_push (purge_in acks) rows (purge_row n u)) ∙ by_number_push (map (purge_in acks) rows) (purge_in acks (purge_row n u)) (lower rows below)
+      ap (λ rs. by_number (map (purge_in acks) rs)) put_is ∙ ap by_number (map_push (purge_in acks) rows (purge_row n u))
+      ∙ by_number_push (map (purge_in acks) rows) (purge_in acks (purge_row n u)) (lower rows below)
       ∙ ap (λ p. by_number (map (purge_in acks) rows) ++ p ∷ []) new in
       λ i. record { last = last i; pending = pending i }
 
 -- ---- an ack more
 
-put_apart : (R : Row → Row → Type 0) (new : Row) (rows : List Row) → AllByRecursion (λ r. R r new) rows → AllByRecursion (R new) rows → IsAscending R rows → IsAscending R (put_row new rows)
+put_apart : (R : Row → Row → Type 0) (new : Row) (rows : List Row) → AllByRecursion (λ r. R r new) rows → AllByRecursion (R new) rows → IsAscending R rows →
+    IsAscending R (put_row new rows)
 put_apart R new [] before after up = (tt, tt)
-put_apart R new (r ∷ rows) before after up = elim (value_cmp (rowid r) (rowid new)) as (λ o. IsAscending R (match_ordering o (r ∷ put_row new rows) (new ∷ rows) (new ∷ r ∷ rows))) [
-  | Less ↦ (all-put_row (λ x. R r x) new rows before.0 up.0, put_apart R new rows before.1 after.1 up.1)
-  | Equal ↦ (after.1, up.1)
-  | Greater ↦ (after, up)
-]
+put_apart R new (r ∷ rows) before after up = elim (value_cmp (rowid r) (rowid new)) as
+    (λ o. IsAscending R (match_ordering o (r ∷ put_row new rows) (new ∷ rows) (new ∷ r ∷ rows))) [
+      | Less ↦ (all-put_row (λ x. R r x) new rows before.0 up.0, put_apart R new rows before.1 after.1 up.1)
+      | Equal ↦ (after.1, up.1)
+      | Greater ↦ (after, up)
+    ]
 
 any_put : (p : Row → Bool) (new : Row) (rows : List Row) → is_taken rows new ≡ false → list_any p (put_row new rows) ≡ (p new || list_any p rows)
 any_put p new [] free = refl
@@ -155,7 +175,8 @@ any_put p new (r ∷ rows) free = go (value_cmp (rowid r) (rowid new)) refl (λ 
     go Greater e more = refl
 
 -- the acks are one of this number and member, and these
-module _ (acks more : List Row) (n m : ℕ) (low : 1 ≤ m) (high : m ≤ 16) (any_more : (k i : ℕ) → list_any (is_ack k i) more ≡ (((n == k) && (m == i)) || list_any (is_ack k i) acks)) where
+module _ (acks more : List Row) (n m : ℕ) (low : 1 ≤ m) (high : m ≤ 16)
+    (any_more : (k i : ℕ) → list_any (is_ack k i) more ≡ (((n == k) && (m == i)) || list_any (is_ack k i) acks)) where
   abbrev mark : Purge → Purge
   mark p = cond (is_numbered n p) (marked_by m p) p
 
@@ -163,11 +184,14 @@ module _ (acks more : List Row) (n m : ℕ) (low : 1 ≤ m) (high : m ≤ 16) (a
   one_mark r = elim (cases_Bool (number_of r == n)) [
     | inl on ↦
         let same : n ≡ number_of r = sym (eqb-true (number_of r) n on) in
-        let marks : marks_in more (number_of r) ≡ with_id m (marks_in acks (number_of r)) = marks_more more acks (number_of r) m low high (λ i. any_more (number_of r) i ∙ ap (λ b. (b && (m == i)) || list_any (is_ack (number_of r) i) acks) (eq-eqb n (number_of r) same)) in
+        let marks : marks_in more (number_of r) ≡ with_id m (marks_in acks (number_of r)) =
+        marks_more more acks (number_of r) m low high (λ i. any_more (number_of r) i ∙ ap (λ b. (b && (m == i)) || list_any (is_ack (number_of r) i) acks)
+        (eq-eqb n (number_of r) same)) in
         (λ j. record { number = number_of r; key = url_of r; marked = marks j }) ∙ sym (ap (λ b. cond b (marked_by m (purge_in acks r)) (purge_in acks r)) on)
     | inr off ↦
         let differs : n ≡ number_of r → ⊥ = λ e. both_ways _ off (eq-eqb (number_of r) n (sym e)) in
-        let marks : marks_in more (number_of r) ≡ marks_in acks (number_of r) = same_marks more acks (number_of r) (λ i. any_more (number_of r) i ∙ ap (λ b. (b && (m == i)) || list_any (is_ack (number_of r) i) acks) (ne_eqb n (number_of r) differs)) in
+        let marks : marks_in more (number_of r) ≡ marks_in acks (number_of r) = same_marks more acks (number_of r)
+        (λ i. any_more (number_of r) i ∙ ap (λ b. (b && (m == i)) || list_any (is_ack (number_of r) i) acks) (ne_eqb n (number_of r) differs)) in
         (λ j. record { number = number_of r; key = url_of r; marked = marks j }) ∙ sym (ap (λ b. cond b (marked_by m (purge_in acks r)) (purge_in acks r)) off)
   ]
 
@@ -179,7 +203,11 @@ module _ (acks more : List Row) (n m : ℕ) (low : 1 ≤ m) (high : m ≤ 16) (a
   all_marks (r ∷ rs) = ap (λ p. p ∷ map (purge_in more) rs) (one_mark r) ∙ ap (λ ps. mark (purge_in acks r) ∷ ps) (all_marks rs)
 
   pub marks_one : (one rows : List Row) → purges_of one rows more ≡ with_mark (purges_of one rows acks) n m
-  marks_one one rows = λ i. record { last = last_in one; pending = (ap by_number (all_marks rows) ∙ by_number_map mark keeps_number (map (purge_in acks) rows)) i }
+  marks_one one rows = λ i. record {
+    last = last_in one;
+    pending = (ap by_number (all_marks rows) ∙ by_number_map mark keeps_number (map (purge_in acks) rows))
+        i;
+  }
 
 abbrev pub ack_row : ℤ → ℕ → ℕ → Row
 ack_row id n m = Int id ∷ Int (pos n) ∷ Int (pos m) ∷ []
@@ -192,14 +220,17 @@ untaken (r ∷ rows) new free = elim (cases_Bool (is_eq (value_cmp (rowid r) (ro
 ]
 
 tied_back : (m n : ℤ) → is_eq (int_cmp m n) ≡ false → is_eq (int_cmp n m) ≡ false
-tied_back m n h = false_from_ne_true _ (λ e. absurd (let same : n ≡ m = int_cmp-IsAntisymmetric n m (is_tied _ e) in let own : is_eq (int_cmp m m) ≡ true = rw same at e in let bad : true ≡ false = sym own ∙ rw same at h in cc))
+tied_back m n h = false_from_ne_true _
+    (λ e. absurd (let same : n ≡ m = int_cmp-IsAntisymmetric n m (is_tied _ e) in let own : is_eq (int_cmp m m) ≡ true = rw same at e in
+    let bad : true ≡ false = sym own ∙ rw same at h in cc))
   where
     is_tied : (o : Ordering) → is_eq o ≡ true → o ≡ Equal
     is_tied Less k = absurd (cc)
     is_tied Equal k = refl
     is_tied Greater k = absurd (cc)
 
-module _ (one rows acks : List Row) (id : ℤ) (n m : ℕ) (are : AreRows one rows acks) (free : is_taken acks (ack_row id n m) ≡ false) (low : 1 ≤ m) (high : m ≤ 16)
+module _ (one rows acks : List Row) (id : ℤ) (n m : ℕ) (are : AreRows one rows acks) (free : is_taken acks (ack_row id n m) ≡ false) (low : 1 ≤ m)
+    (high : m ≤ 16)
     (owned : list_any (is_purge n) rows ≡ true) (fresh : list_any (is_ack n m) acks ≡ false) where
   abbrev new : Row
   new = ack_row id n m
@@ -214,7 +245,8 @@ module _ (one rows acks : List Row) (id : ℤ) (n m : ℕ) (are : AreRows one ro
       let back = tied_back is.0 id (ap is_eq (sym (value_cmp-Int is.0 id)) ∙ ap (λ v. is_eq (value_cmp v (Int id))) (sym is.1) ∙ off) in
       ap (λ v. is_eq (value_cmp (Int id) v)) is.1 ∙ ap is_eq (value_cmp-Int id is.0) ∙ back)
 
-  others : (xs : List Row) → list_any (is_ack n m) xs ≡ false → AllByRecursion (λ r. is_ack (ack_number r) (ack_member r) new ≡ false) xs × AllByRecursion (λ r. is_ack n m r ≡ false) xs
+  others : (xs : List Row) → list_any (is_ack n m) xs ≡ false → AllByRecursion (λ r. is_ack (ack_number r) (ack_member r) new ≡ false) xs
+      × AllByRecursion (λ r. is_ack n m r ≡ false) xs
   others [] off = (tt, tt)
   others (a ∷ xs) off = elim (cases_Bool (is_ack n m a)) [
     | inl on ↦ absurd (let bad : true ≡ false = rw on at off in cc)
@@ -226,7 +258,8 @@ module _ (one rows acks : List Row) (id : ℤ) (n m : ℕ) (are : AreRows one ro
           let both = and_parts (n == ack_number a) (m == ack_member a) on in
           let first = eqb-true n (ack_number a) both.0 in
           let second = eqb-true m (ack_member a) both.1 in
-          absurd (let it : is_ack n m a ≡ true = rw (eq-eqb (ack_number a) n (sym first), eq-eqb (ack_member a) m (sym second)) refl in let bad : true ≡ false = sym it ∙ off in cc))
+          absurd (let it : is_ack n m a ≡ true = rw (eq-eqb (ack_number a) n (sym first), eq-eqb (ack_member a) m (sym second)) refl in
+          let bad : true ≡ false = sym it ∙ off in cc))
 
   pub marked_rows : AreRows one rows (put_row new acks)
   marked_rows = record {
@@ -246,7 +279,8 @@ module _ (one rows acks : List Row) (id : ℤ) (n m : ℕ) (are : AreRows one ro
 abbrev IsMissed : List Row → List Row → ℕ → ℕ → Option Purge → Type 0
 IsMissed rows acks n m found = IsUnmarkedBy m found → (list_any (is_purge n) rows ≡ true) × (list_any (is_ack n m) acks ≡ false)
 
-pub missed : (one rows acks : List Row) (n m : ℕ) → 1 ≤ m → m ≤ 16 → Misses (purges_of one rows acks) n m → (list_any (is_purge n) rows ≡ true) × (list_any (is_ack n m) acks ≡ false)
+pub missed : (one rows acks : List Row) (n m : ℕ) → 1 ≤ m → m ≤ 16 → Misses (purges_of one rows acks) n m →
+    (list_any (is_purge n) rows ≡ true) × (list_any (is_ack n m) acks ≡ false)
 missed one rows acks n m low high h = go (pending_at (purges_of one rows acks) n) refl h
   where
     any_here : (rs : List Row) (r : Row) → Has rs r → number_of r ≡ n → list_any (is_purge n) rs ≡ true
@@ -260,7 +294,8 @@ missed one rows acks n m low high h = go (pending_at (purges_of one rows acks) n
         let there = has_found (is_numbered n) (by_number (map (purge_in acks) rows)) p is in
         let r = has_mapped (purge_in acks) rows p (has_by_number (map (purge_in acks) rows) p there.0) in
         let number : number_of r.0 ≡ n = ap (λ (q : Purge). q.number) (sym r.2) ∙ eqb-true p.number n there.1 in
-        let marks : is_among m (marks_in acks n) ≡ false = ap (λ k. is_among m (marks_in acks k)) (sym number) ∙ ap (λ (q : Purge). is_among m q.marked) (sym r.2) ∙ h in
+        let marks : is_among m (marks_in acks n) ≡ false = ap (λ k. is_among m (marks_in acks k)) (sym number)
+        ∙ ap (λ (q : Purge). is_among m q.marked) (sym r.2) ∙ h in
         (any_here rows r.0 r.1 number, unmarked_has_none acks n m low high marks)
 
 -- ---- the acks of a purge fewer
@@ -304,14 +339,20 @@ others_same n acks [] = refl
 others_same n acks (r ∷ rows) = elim (cases_Bool (number_of r == n)) [
   | inl on ↦ rw on (others_same n acks rows)
   | inr off ↦
-      let marks : marks_in (other_acks n acks) (number_of r) ≡ marks_in acks (number_of r) = same_marks (other_acks n acks) acks (number_of r) (λ i. other_any n (number_of r) i acks (eqb-false (number_of r) n off)) in
-      rw off (ap (λ ms. record { number = number_of r; key = url_of r; marked = ms } ∷ other_purges n (map (purge_in (other_acks n acks)) rows)) marks ∙ ap (λ ps. purge_in acks r ∷ ps) (others_same n acks rows))
+      let marks : marks_in (other_acks n acks) (number_of r) ≡ marks_in acks (number_of r) =
+      same_marks (other_acks n acks) acks (number_of r) (λ i. other_any n (number_of r) i acks (eqb-false (number_of r) n off)) in
+      rw off (ap (λ ms. record { number = number_of r; key = url_of r; marked = ms } ∷ other_purges n (map (purge_in (other_acks n acks)) rows)) marks
+      ∙ ap (λ ps. purge_in acks r ∷ ps) (others_same n acks rows))
 ]
 
 pub cleared_is : (one rows acks : List Row) (n : ℕ) → without_purge (purges_of one rows (other_acks n acks)) n ≡ without_purge (purges_of one rows acks) n
 cleared_is one rows acks n =
     let keep = λ (p : Purge). not (is_numbered n p) in
-    λ i. record { last = last_in one; pending = (sym (by_number_kept keep (map (purge_in (other_acks n acks)) rows)) ∙ ap by_number (others_same n acks rows) ∙ by_number_kept keep (map (purge_in acks) rows)) i }
+    λ i. record {
+      last = last_in one;
+      pending = (sym (by_number_kept keep (map (purge_in (other_acks n acks)) rows)) ∙ ap by_number (others_same n acks rows)
+          ∙ by_number_kept keep (map (purge_in acks) rows)) i;
+    }
 
 -- ---- a purge fewer
 
@@ -324,10 +365,15 @@ still_owned n k (r ∷ rows) differs h = elim (cases_Bool (number_of r == n)) [
   | inl on ↦
       let off : (number_of r == k) ≡ false = ne_eqb (number_of r) k (λ e. differs (sym e ∙ eqb-true (number_of r) n on)) in
       rw on (still_owned n k rows differs (rw off at h))
-  | inr off ↦ elim (cases_Bool (number_of r == k)) [ inl here ↦ rw (off, here) refl | inr not_here ↦ rw (off, not_here) (still_owned n k rows differs (rw not_here at h)) ]
+  | inr off ↦ elim (cases_Bool (number_of r == k)) [
+    | inl here ↦ rw (off, here) refl
+    | inr not_here ↦ rw (off, not_here)
+        (still_owned n k rows differs (rw not_here at h))
+  ]
 ]
 
-pub dropped_rows : (one rows acks : List Row) (n : ℕ) → AreRows one rows acks → AllByRecursion (λ a. (ack_number a == n) ≡ false) acks → AreRows one (other_rows n rows) acks
+pub dropped_rows : (one rows acks : List Row) (n : ℕ) → AreRows one rows acks → AllByRecursion (λ a. (ack_number a == n) ≡ false) acks →
+    AreRows one (other_rows n rows) acks
 dropped_rows one rows acks n are none = record {
   last = are.last;
   high = are.high;
@@ -335,14 +381,28 @@ dropped_rows one rows acks n are none = record {
   numbered = ascending_filter (λ a b. is_eq (value_cmp (rowid a) (rowid b)) ≡ false) (λ r. not (number_of r == n)) rows are.numbered;
   acks = all_from (IsAck (other_rows n rows)) acks (λ a has.
       let is = all_has (IsAck rows) acks a are.acks has in
-      record { id = is.id; number = is.number; member = is.member; low = is.low; high = is.high; owned = still_owned n (ack_number a) rows (eqb-false (ack_number a) n (all_has (λ a. (ack_number a == n) ≡ false) acks a none has)) is.owned });
+      record {
+        id = is.id;
+        number = is.number;
+        member = is.member;
+        low = is.low;
+        high = is.high;
+        owned =
+            still_owned n (ack_number a) rows (eqb-false (ack_number a) n (all_has (λ a. (ack_number a == n) ≡ false) acks a none has)) is.owned;
+      });
   ids = are.ids;
   once = are.once;
 }
 
 rows_kept : (n : ℕ) (acks rows : List Row) → map (purge_in acks) (other_rows n rows) ≡ other_purges n (map (purge_in acks) rows)
 rows_kept n acks [] = refl
-rows_kept n acks (r ∷ rows) = elim (cases_Bool (number_of r == n)) [ inl on ↦ rw on (rows_kept n acks rows) | inr off ↦ rw off (ap (λ ps. purge_in acks r ∷ ps) (rows_kept n acks rows)) ]
+rows_kept n acks (r ∷ rows) = elim (cases_Bool (number_of r == n))
+    [ inl on ↦ rw on (rows_kept n acks rows) | inr off ↦ rw off (ap (λ ps. purge_in acks r ∷ ps) (rows_kept n acks rows)) ]
 
 pub dropped_is : (one rows acks : List Row) (n : ℕ) → purges_of one (other_rows n rows) acks ≡ without_purge (purges_of one rows acks) n
-dropped_is one rows acks n = λ i. record { last = last_in one; pending = (ap by_number (rows_kept n acks rows) ∙ by_number_kept (λ p. not (is_numbered n p)) (map (purge_in acks) rows)) i }
+dropped_is one rows acks n =
+    λ i. record {
+      last = last_in one;
+      pending = (ap by_number (rows_kept n acks rows) ∙ by_number_kept (λ p. not (is_numbered n p)) (map (purge_in acks) rows))
+          i;
+    }

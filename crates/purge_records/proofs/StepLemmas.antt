@@ -27,7 +27,8 @@ abbrev pub base : Schema → Trees → Database
 base schema trees = record { schema = schema; trees = trees }
 
 -- what a statement on rows leaves is what it wrote
-pub concluded : (task : Task) (mode : Mode) (command : Command) (db : Trees) (tally : Tally) (after : Database) → OnRows task mode None command db (Ok (tally, after))
+pub concluded : (task : Task) (mode : Mode) (command : Command) (db : Trees) (tally : Tally) (after : Database) →
+    OnRows task mode None command db (Ok (tally, after))
     → (w : Written) × WritesRows task db command (Ok w) × (after ≡ base task.schema w.trees)
 concluded task mode command db tally after h =
     let all = went h in (all.0, all.1, ap (λ (p : Tally × Database). p.1) (same_value (went (went all.2).2).2))
@@ -39,7 +40,8 @@ abbrev pub task_on : Option ℕ → Keys → Schema → Table → Row → Task
 task_on limit keys schema t params = record { limit = limit; keys = keys; schema = schema; table = t; params = params }
 
 -- an INSERT into a table without AUTOINCREMENT
-pub inserted : (limit : Option ℕ) (keys : Keys) (schema : Schema) (t : Table) (params : Row) (from : Source) (db : Trees) (w : Written) → Inserts (task_on limit keys schema (uncounted t) params) from db (Ok w)
+pub inserted : (limit : Option ℕ) (keys : Keys) (schema : Schema) (t : Table) (params : Row) (from : Source) (db : Trees) (w : Written) →
+    Inserts (task_on limit keys schema (uncounted t) params) from db (Ok w)
     → (rows : List Row) × IsSource (base schema db) (stamped t params) from rows × Applies schema keys db (edit_of db (uncounted t) [] Chosen 0 rows) w.trees
 inserted limit keys schema t params from db w h =
     let given = went h in
@@ -54,8 +56,10 @@ inserted limit keys schema t params from db w h =
     )
 
 -- a DELETE where no foreign key acts
-pub deleted : (task : Task) (q : Program) (db : Trees) (w : Written) → ((olds news : List Row) → works task.schema task.keys 0 task.table.tree olds news ≡ []) → Deletes task q db (Ok w)
-    → (rows : List Row) × Answers (base task.schema db) q task.params rows × Applies task.schema task.keys db (edit_of db task.table (ids_of rows) Given 0 []) w.trees
+pub deleted : (task : Task) (q : Program) (db : Trees) (w : Written) → ((olds news : List Row) → works task.schema task.keys 0 task.table.tree olds news ≡ []) →
+    Deletes task q db (Ok w)
+    → (rows : List Row) × Answers (base task.schema db) q task.params rows × Applies task.schema task.keys db (edit_of db task.table (ids_of rows) Given 0 [])
+    w.trees
 deleted task q db w none h =
     let ans = went h in
     let put = went ans.2 in
@@ -67,8 +71,10 @@ deleted task q db w none h =
     )
 
 -- an UPDATE where no foreign key acts
-pub updated : (task : Task) (q : Program) (db : Trees) (w : Written) → ((olds news : List Row) → works task.schema task.keys 0 task.table.tree olds news ≡ []) → Updates task q task.params db (Ok w)
-    → (rows : List Row) × Answers (base task.schema db) q task.params rows × Applies task.schema task.keys db (edit_of db task.table (ids_of rows) Given 1 rows) w.trees
+pub updated : (task : Task) (q : Program) (db : Trees) (w : Written) → ((olds news : List Row) → works task.schema task.keys 0 task.table.tree olds news ≡ []) →
+    Updates task q task.params db (Ok w)
+    → (rows : List Row) × Answers (base task.schema db) q task.params rows × Applies task.schema task.keys db (edit_of db task.table (ids_of rows) Given 1 rows)
+    w.trees
 updated task q db w none h =
     let ans = went h in
     let put = went ans.2 in
@@ -79,5 +85,6 @@ updated task q db w none h =
       subst (Applies task.schema task.keys db edit) (sym trees) (one_step task.schema task.keys db put.0 edit (none (taken_by db edit) edit.news) put.1),
     )
 
-pub inside : (old new : State) (text : List ℕ) (params : Row) (count : ℕ) → ExecutesInside 0 text params old new (Ok count) → Executes text params old new (Ok count) × IsTrue new.in_transaction
+pub inside : (old new : State) (text : List ℕ) (params : Row) (count : ℕ) → ExecutesInside 0 text params old new (Ok count) →
+    Executes text params old new (Ok count) × IsTrue new.in_transaction
 inside old new text params count h = (h.0, h.1.mode)

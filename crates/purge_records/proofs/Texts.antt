@@ -281,7 +281,8 @@ pub start_plain : IsPlain (understood master_schema start_text)
 unfolding understood everything
 start_plain = (refl, refl)
 
-pub create_last_is : (command_of (understood form_schema create_last) ≡ CreateTable) × (statement_of create_last (understood form_schema create_last) ≡ create_last)
+pub create_last_is : (command_of (understood form_schema create_last) ≡ CreateTable)
+    × (statement_of create_last (understood form_schema create_last) ≡ create_last)
 unfolding understood everything
 create_last_is = (refl, refl)
 
@@ -289,7 +290,8 @@ pub create_last_plain : IsPlain (understood form_schema create_last)
 unfolding understood everything
 create_last_plain = (refl, refl)
 
-pub create_pending_is : (command_of (understood last_schema create_pending) ≡ CreateTable) × (statement_of create_pending (understood last_schema create_pending) ≡ create_pending)
+pub create_pending_is : (command_of (understood last_schema create_pending) ≡ CreateTable)
+    × (statement_of create_pending (understood last_schema create_pending) ≡ create_pending)
 unfolding understood everything
 create_pending_is = (refl, refl)
 
@@ -297,7 +299,8 @@ pub create_pending_plain : IsPlain (understood last_schema create_pending)
 unfolding understood everything
 create_pending_plain = (refl, refl)
 
-pub create_acks_is : (command_of (understood pending_schema create_acks) ≡ CreateTable) × (statement_of create_acks (understood pending_schema create_acks) ≡ create_acks)
+pub create_acks_is : (command_of (understood pending_schema create_acks) ≡ CreateTable)
+    × (statement_of create_acks (understood pending_schema create_acks) ≡ create_acks)
 unfolding understood everything
 create_acks_is = (refl, refl)
 

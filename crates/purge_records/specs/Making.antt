@@ -19,15 +19,18 @@ HasPending db = (db.schema ≡ pending_schema) × (db.trees 0 ≡ []) × (db.tre
 
 -- it has a master's tables, without a row
 abbrev pub IsUnversioned : Database → Type 0
-IsUnversioned db = (db.schema ≡ master_schema) × (db.trees 0 ≡ []) × (db.trees 1 ≡ []) × (db.trees 2 ≡ []) × (db.trees 3 ≡ [])
+IsUnversioned db = (db.schema ≡ master_schema) × (db.trees 0 ≡ []) × (db.trees 1 ≡ []) × (db.trees 2 ≡ [])
+    × (db.trees 3 ≡ [])
 
 -- it has a master's tables, the version 1, and no other row
 abbrev pub IsUnnumbered : Database → Type 0
-IsUnnumbered db = (db.schema ≡ master_schema) × HasVersionOne (db.trees 0) × (db.trees 1 ≡ []) × (db.trees 2 ≡ []) × (db.trees 3 ≡ [])
+IsUnnumbered db = (db.schema ≡ master_schema) × HasVersionOne (db.trees 0) × (db.trees 1 ≡ []) × (db.trees 2 ≡ [])
+    × (db.trees 3 ≡ [])
 
 -- a new file: a master's tables, the version 1, the last number 0, and no purge
 abbrev pub IsUnused : Database → Type 0
-IsUnused db = (db.schema ≡ master_schema) × HasVersionOne (db.trees 0) × IsLast 0 (db.trees 1) × (db.trees 2 ≡ []) × (db.trees 3 ≡ [])
+IsUnused db = (db.schema ≡ master_schema) × HasVersionOne (db.trees 0) × IsLast 0 (db.trees 1) × (db.trees 2 ≡ [])
+    × (db.trees 3 ≡ [])
 
 -- a new file, with all of it committed and no transaction open
 pub record IsMade (file : State) : Type 0 where
@@ -45,9 +48,11 @@ pub record IsMasterFile (file : State) : Type 0 where
 -- what an open finds: no purges in a blank file without an open transaction, and in a master's file
 -- those that were committed
 abbrev pub OpensWith : State → PurgeList → Type 0
-OpensWith file purges = ((file.in_transaction ≡ false) × IsBlank file.now × (purges ≡ no_purges)) ⊎ (IsMasterFile file × (purges ≡ committed_purges file))
+OpensWith file purges = ((file.in_transaction ≡ false) × IsBlank file.now × (purges ≡ no_purges))
+    ⊎ (IsMasterFile file × (purges ≡ committed_purges file))
 
 -- a crash leaves what it could leave before, or no purges if the file was blank and no transaction
 -- was open
 abbrev pub LeavesNoOther : State → State → Type 0
-LeavesNoOther old new = HasCleanDisk new → (left : PurgeList) → MayFind new left → MayFind old left ⊎ ((old.in_transaction ≡ false) × IsBlank old.now × (left ≡ no_purges))
+LeavesNoOther old new = HasCleanDisk new → (left : PurgeList) → MayFind new left →
+    MayFind old left ⊎ ((old.in_transaction ≡ false) × IsBlank old.now × (left ≡ no_purges))

@@ -27,7 +27,8 @@ pub record IsPurgeRow (row : Row) : Type 0 where
 -- each row is a purge with a number above each before it; it is added in turn
 abbrev pub Adds : PurgeList → List Row → PurgeList → Type 0
 Adds purges [] all = all ≡ purges
-Adds purges (row ∷ rows) all = IsPurgeRow row × (purges.last < number_of row) × Adds (with_purge purges (number_of row) (url_of row)) rows all
+Adds purges (row ∷ rows) all = IsPurgeRow row × (purges.last < number_of row)
+    × Adds (with_purge purges (number_of row) (url_of row)) rows all
 
 -- the row is an acknowledgement: a number and a member of 1 to 16
 pub record IsAckRow (row : Row) : Type 0 where
@@ -65,7 +66,8 @@ pub record RisesFrom (table rows : List Row) : Type 0 where
 
 -- the rows of `pending` are these purges, at most 1,024, with no member marked
 abbrev pub HasAdded : List Row → PurgeList → Type 0
-HasAdded table purges = (rows : List Row) × RisesFrom (map shown_pending table) rows × Adds no_purges rows purges × (length table ≤ 1024)
+HasAdded table purges = (rows : List Row) × RisesFrom (map shown_pending table) rows × Adds no_purges rows purges
+    × (length table ≤ 1024)
 
 -- the rows of `last` and `pending` are these purges, with no member marked
 pub record HasUnmarked (trees : Trees) (purges : PurgeList) : Type 0 where

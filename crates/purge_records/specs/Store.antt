@@ -47,13 +47,16 @@ purge_code = code_by (ℕ × (List ℕ × List ℕ)) (coded× coded_ℕ (coded×
 
 -- purges as a code
 abbrev pub purges_code : Coded PurgeList
-purges_code = code_by (ℕ × List Purge) (coded× coded_ℕ (coded_list purge_code)) (λ p. (p.last, p.pending)) (λ c. record { last = c.0; pending = c.1 }) (λ _. refl)
+purges_code = code_by (ℕ × List Purge) (coded× coded_ℕ (coded_list purge_code)) (λ p. (p.last, p.pending))
+    (λ c. record { last = c.0; pending = c.1 }) (λ _. refl)
 
 -- the store as a code
 abbrev pub durable_code : {S : Type 0} → Coded S → Coded (Durable S)
 durable_code {S} store =
-    code_by (Held S × (PurgeList × (Bool × ℕ))) (coded× (held_code store) (coded× purges_code (coded× coded_bool coded_ℕ)))
-    (λ d. (d.conn, (d.purges, (d.is_usable, d.failures)))) (λ p. record { conn = p.0; purges = p.1.0; is_usable = p.1.1.0; failures = p.1.1.1 }) (λ _. refl)
+    code_by (Held S × (PurgeList × (Bool × ℕ)))
+    (coded× (held_code store) (coded× purges_code (coded× coded_bool coded_ℕ)))
+    (λ d. (d.conn, (d.purges, (d.is_usable, d.failures))))
+    (λ p. record { conn = p.0; purges = p.1.0; is_usable = p.1.1.0; failures = p.1.1.1 }) (λ _. refl)
 
 -- the connection is ready, and these purges are the committed ones
 pub record AreIn (s : State) (purges : PurgeList) : Type 0 where

@@ -96,7 +96,11 @@ pending_schema = record { tables = form_table ∷ last_table ∷ pending_table �
 
 -- a master's file: all four tables and the index
 abbrev pub master_schema : Schema
-master_schema = record { tables = form_table ∷ last_table ∷ pending_table ∷ acks_table ∷ []; indexes = ack_index ∷ []; views = [] }
+master_schema = record {
+  tables = form_table ∷ last_table ∷ pending_table ∷ acks_table ∷ [];
+  indexes = ack_index ∷ [];
+  views = [];
+}
 
 -- ---- what the rows say
 

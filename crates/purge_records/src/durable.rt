@@ -66,12 +66,17 @@ impl<S: Alter> SqlitePurges<S> {
         alloc: Global,
         mut conn: Connection<S>,
     ) -> Result<SqlitePurges<S>, (Connection<S>, PurgeFault)>
-        ensures found { IfOk result (λ it. HasCleanDisk (state S.Store it.conn) → OpensWith (state S.Store conn) (committed_purges (state S.Store it.conn))) }
+        ensures found { IfOk result (λ it. HasCleanDisk (state S.Store it.conn) →
+            OpensWith (state S.Store conn) (committed_purges (state S.Store it.conn))) }
         ensures usable { IfOk result (λ it. IsTrue it.is_usable × (it.failures ≡ 0)) }
         ensures unlimited { IfOk result (λ it. (state S.Store it.conn).step_limit ≡ None) }
-        ensures crash { IfOk result (λ it. LeavesNoOther (state S.Store conn) (state S.Store it.conn)) }
-        ensures bad { IfErr result (λ e. e.1 ≡ PurgeFault.BadTable → HasCleanDisk (state S.Store e.0) → ¬ IsMasterFile (state S.Store conn)) }
-        ensures blank { IfErr result (λ e. IsBlank (state S.Store conn).now → (state S.Store conn).in_transaction ≡ false → HasCleanDisk (state S.Store e.0) → e.1 ≢ PurgeFault.BadTable) }
+        ensures crash { IfOk result (λ it.
+            LeavesNoOther (state S.Store conn) (state S.Store it.conn)) }
+        ensures bad { IfErr result (λ e. e.1 ≡ PurgeFault.BadTable →
+            HasCleanDisk (state S.Store e.0) → ¬ IsMasterFile (state S.Store conn)) }
+        ensures blank { IfErr result (λ e. IsBlank (state S.Store conn).now →
+            (state S.Store conn).in_transaction ≡ false → HasCleanDisk (state S.Store e.0) →
+            e.1 ≢ PurgeFault.BadTable) }
         ensures fails { IfErr result (λ e. LeavesNoOther (state S.Store conn) (state S.Store e.0)) }
     {
         match open_file(&mut conn, alloc) {

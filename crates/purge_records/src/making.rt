@@ -17,8 +17,11 @@ use sqlite_schema::schema::Schema;
 /// Makes the table `form`, as in a node's file.
 fn create_form<S: Alter>(tx: &mut Transaction<'_, S>) -> Result<usize, Error>
     ensures same_reference { tx.new.conn.ghost_name ≡ tx.old.conn.ghost_name }
-    ensures made { OnOk result (HasCleanDisk (state S.Store tx.new.conn.now) → Makes IsBlank IsFormed (state S.Store tx.old.conn.now) (state S.Store tx.new.conn.now)) }
-    ensures survives { Survives (state S.Store tx.old.conn.now) (state S.Store tx.new.conn.now) (λ _. ⊥) }
+    ensures made { OnOk result (HasCleanDisk (state S.Store tx.new.conn.now) →
+        Makes IsBlank IsFormed (state S.Store tx.old.conn.now)
+        (state S.Store tx.new.conn.now)) }
+    ensures survives { Survives (state S.Store tx.old.conn.now) (state S.Store tx.new.conn.now)
+        (λ _. ⊥) }
 {
     tx.execute(
         "CREATE TABLE form (version INTEGER PRIMARY KEY) STRICT",
@@ -29,8 +32,11 @@ fn create_form<S: Alter>(tx: &mut Transaction<'_, S>) -> Result<usize, Error>
 /// Makes the table `last`.
 fn create_last<S: Alter>(tx: &mut Transaction<'_, S>) -> Result<usize, Error>
     ensures same_reference { tx.new.conn.ghost_name ≡ tx.old.conn.ghost_name }
-    ensures made { OnOk result (HasCleanDisk (state S.Store tx.new.conn.now) → Makes IsFormed HasLast (state S.Store tx.old.conn.now) (state S.Store tx.new.conn.now)) }
-    ensures survives { Survives (state S.Store tx.old.conn.now) (state S.Store tx.new.conn.now) (λ _. ⊥) }
+    ensures made { OnOk result (HasCleanDisk (state S.Store tx.new.conn.now) →
+        Makes IsFormed HasLast (state S.Store tx.old.conn.now)
+        (state S.Store tx.new.conn.now)) }
+    ensures survives { Survives (state S.Store tx.old.conn.now) (state S.Store tx.new.conn.now)
+        (λ _. ⊥) }
 {
     tx.execute(
         "CREATE TABLE last (id INTEGER PRIMARY KEY CHECK (id = 1), number INTEGER NOT NULL) STRICT",
@@ -41,8 +47,11 @@ fn create_last<S: Alter>(tx: &mut Transaction<'_, S>) -> Result<usize, Error>
 /// Makes the table `pending`.
 fn create_pending<S: Alter>(tx: &mut Transaction<'_, S>) -> Result<usize, Error>
     ensures same_reference { tx.new.conn.ghost_name ≡ tx.old.conn.ghost_name }
-    ensures made { OnOk result (HasCleanDisk (state S.Store tx.new.conn.now) → Makes HasLast HasPending (state S.Store tx.old.conn.now) (state S.Store tx.new.conn.now)) }
-    ensures survives { Survives (state S.Store tx.old.conn.now) (state S.Store tx.new.conn.now) (λ _. ⊥) }
+    ensures made { OnOk result (HasCleanDisk (state S.Store tx.new.conn.now) →
+        Makes HasLast HasPending (state S.Store tx.old.conn.now)
+        (state S.Store tx.new.conn.now)) }
+    ensures survives { Survives (state S.Store tx.old.conn.now) (state S.Store tx.new.conn.now)
+        (λ _. ⊥) }
 {
     tx.execute(
         "CREATE TABLE pending (number INTEGER PRIMARY KEY, url TEXT NOT NULL) STRICT",
@@ -53,8 +62,11 @@ fn create_pending<S: Alter>(tx: &mut Transaction<'_, S>) -> Result<usize, Error>
 /// Makes the table `acks`.
 fn create_acks<S: Alter>(tx: &mut Transaction<'_, S>) -> Result<usize, Error>
     ensures same_reference { tx.new.conn.ghost_name ≡ tx.old.conn.ghost_name }
-    ensures made { OnOk result (HasCleanDisk (state S.Store tx.new.conn.now) → Makes HasPending IsUnversioned (state S.Store tx.old.conn.now) (state S.Store tx.new.conn.now)) }
-    ensures survives { Survives (state S.Store tx.old.conn.now) (state S.Store tx.new.conn.now) (λ _. ⊥) }
+    ensures made { OnOk result (HasCleanDisk (state S.Store tx.new.conn.now) →
+        Makes HasPending IsUnversioned (state S.Store tx.old.conn.now)
+        (state S.Store tx.new.conn.now)) }
+    ensures survives { Survives (state S.Store tx.old.conn.now) (state S.Store tx.new.conn.now)
+        (λ _. ⊥) }
 {
     tx.execute(
         "CREATE TABLE acks (number INTEGER NOT NULL, member INTEGER NOT NULL, PRIMARY KEY (number, member)) STRICT",
@@ -65,8 +77,11 @@ fn create_acks<S: Alter>(tx: &mut Transaction<'_, S>) -> Result<usize, Error>
 /// Writes the one row of `form`, the version 1.
 fn name_version<S: Alter>(tx: &mut Transaction<'_, S>) -> Result<usize, Error>
     ensures same_reference { tx.new.conn.ghost_name ≡ tx.old.conn.ghost_name }
-    ensures made { OnOk result (HasCleanDisk (state S.Store tx.new.conn.now) → Makes IsUnversioned IsUnnumbered (state S.Store tx.old.conn.now) (state S.Store tx.new.conn.now)) }
-    ensures survives { Survives (state S.Store tx.old.conn.now) (state S.Store tx.new.conn.now) (λ _. ⊥) }
+    ensures made { OnOk result (HasCleanDisk (state S.Store tx.new.conn.now) →
+        Makes IsUnversioned IsUnnumbered (state S.Store tx.old.conn.now)
+        (state S.Store tx.new.conn.now)) }
+    ensures survives { Survives (state S.Store tx.old.conn.now) (state S.Store tx.new.conn.now)
+        (λ _. ⊥) }
 {
     tx.execute("INSERT INTO form (version) VALUES (1)", &[])
 }
@@ -74,8 +89,11 @@ fn name_version<S: Alter>(tx: &mut Transaction<'_, S>) -> Result<usize, Error>
 /// Writes the one row of `last`, the number 0.
 fn start_numbers<S: Alter>(tx: &mut Transaction<'_, S>) -> Result<usize, Error>
     ensures same_reference { tx.new.conn.ghost_name ≡ tx.old.conn.ghost_name }
-    ensures made { OnOk result (HasCleanDisk (state S.Store tx.new.conn.now) → Makes IsUnnumbered IsUnused (state S.Store tx.old.conn.now) (state S.Store tx.new.conn.now)) }
-    ensures survives { Survives (state S.Store tx.old.conn.now) (state S.Store tx.new.conn.now) (λ _. ⊥) }
+    ensures made { OnOk result (HasCleanDisk (state S.Store tx.new.conn.now) →
+        Makes IsUnnumbered IsUnused (state S.Store tx.old.conn.now)
+        (state S.Store tx.new.conn.now)) }
+    ensures survives { Survives (state S.Store tx.old.conn.now) (state S.Store tx.new.conn.now)
+        (λ _. ⊥) }
 {
     tx.execute("INSERT INTO last (id, number) VALUES (1, 0)", &[])
 }
@@ -83,8 +101,11 @@ fn start_numbers<S: Alter>(tx: &mut Transaction<'_, S>) -> Result<usize, Error>
 /// Makes `form`, `last` and `pending`.
 fn make_first<S: Alter>(tx: &mut Transaction<'_, S>) -> Result<(), Error>
     ensures same_reference { tx.new.conn.ghost_name ≡ tx.old.conn.ghost_name }
-    ensures made { OnOk result (HasCleanDisk (state S.Store tx.new.conn.now) → Makes IsBlank HasPending (state S.Store tx.old.conn.now) (state S.Store tx.new.conn.now)) }
-    ensures survives { Survives (state S.Store tx.old.conn.now) (state S.Store tx.new.conn.now) (λ _. ⊥) }
+    ensures made { OnOk result (HasCleanDisk (state S.Store tx.new.conn.now) →
+        Makes IsBlank HasPending (state S.Store tx.old.conn.now)
+        (state S.Store tx.new.conn.now)) }
+    ensures survives { Survives (state S.Store tx.old.conn.now) (state S.Store tx.new.conn.now)
+        (λ _. ⊥) }
 {
     create_form(tx)?;
     create_last(tx)?;
@@ -95,8 +116,11 @@ fn make_first<S: Alter>(tx: &mut Transaction<'_, S>) -> Result<(), Error>
 /// Makes `acks`, and the rows of a new file.
 fn make_rest<S: Alter>(tx: &mut Transaction<'_, S>) -> Result<(), Error>
     ensures same_reference { tx.new.conn.ghost_name ≡ tx.old.conn.ghost_name }
-    ensures made { OnOk result (HasCleanDisk (state S.Store tx.new.conn.now) → Makes HasPending IsUnused (state S.Store tx.old.conn.now) (state S.Store tx.new.conn.now)) }
-    ensures survives { Survives (state S.Store tx.old.conn.now) (state S.Store tx.new.conn.now) (λ _. ⊥) }
+    ensures made { OnOk result (HasCleanDisk (state S.Store tx.new.conn.now) →
+        Makes HasPending IsUnused (state S.Store tx.old.conn.now)
+        (state S.Store tx.new.conn.now)) }
+    ensures survives { Survives (state S.Store tx.old.conn.now) (state S.Store tx.new.conn.now)
+        (λ _. ⊥) }
 {
     create_acks(tx)?;
     name_version(tx)?;
@@ -108,8 +132,11 @@ fn make_rest<S: Alter>(tx: &mut Transaction<'_, S>) -> Result<(), Error>
 /// transaction.
 fn fill<S: Alter>(tx: &mut Transaction<'_, S>) -> Result<(), Error>
     ensures same_reference { tx.new.conn.ghost_name ≡ tx.old.conn.ghost_name }
-    ensures made { OnOk result (HasCleanDisk (state S.Store tx.new.conn.now) → Makes IsBlank IsUnused (state S.Store tx.old.conn.now) (state S.Store tx.new.conn.now)) }
-    ensures survives { Survives (state S.Store tx.old.conn.now) (state S.Store tx.new.conn.now) (λ _. ⊥) }
+    ensures made { OnOk result (HasCleanDisk (state S.Store tx.new.conn.now) →
+        Makes IsBlank IsUnused (state S.Store tx.old.conn.now)
+        (state S.Store tx.new.conn.now)) }
+    ensures survives { Survives (state S.Store tx.old.conn.now) (state S.Store tx.new.conn.now)
+        (λ _. ⊥) }
 {
     make_first(tx)?;
     make_rest(tx)
@@ -117,8 +144,10 @@ fn fill<S: Alter>(tx: &mut Transaction<'_, S>) -> Result<(), Error>
 
 /// Makes the tables and commits them, in one transaction.
 fn make_tables<S: Alter>(conn: &mut Connection<S>) -> Result<(), Error>
-    ensures made { OnOk result (HasCleanDisk (state S.Store conn.new) → IsBlank (state S.Store conn.old).now → IsMade (state S.Store conn.new)) }
-    ensures survives { Survives (state S.Store conn.old) (state S.Store conn.new) (λ trees. (state S.Store conn.old).now.schema ≡ empty_schema → purges_in trees ≡ no_purges) }
+    ensures made { OnOk result (HasCleanDisk (state S.Store conn.new) →
+        IsBlank (state S.Store conn.old).now → IsMade (state S.Store conn.new)) }
+    ensures survives { Survives (state S.Store conn.old) (state S.Store conn.new) (λ trees.
+        (state S.Store conn.old).now.schema ≡ empty_schema → purges_in trees ≡ no_purges) }
 {
     if !conn.is_autocommit() {
         return Err(Error::InvalidQuery);
@@ -139,7 +168,9 @@ fn is_blank(schema: &Schema) -> bool
 /// Makes the tables if the file is blank; else does nothing.
 pub(crate) fn make_where_blank<S: Alter>(conn: &mut Connection<S>) -> Result<(), PurgeFault>
     requires { (state S.Store conn.old).in_transaction ≡ false }
-    ensures done { OnOk result ((IsBlank (state S.Store conn.old).now × (HasCleanDisk (state S.Store conn.new) → IsMade (state S.Store conn.new))) ⊎ ((¬ IsBlank (state S.Store conn.old).now) × (conn.new ≡ conn.old))) }
+    ensures done { OnOk result ((IsBlank (state S.Store conn.old).now
+        × (HasCleanDisk (state S.Store conn.new) → IsMade (state S.Store conn.new)))
+        ⊎ ((¬ IsBlank (state S.Store conn.old).now) × (conn.new ≡ conn.old))) }
     ensures named { result ≢ Err PurgeFault.BadTable }
     ensures crash { LeavesNoOther (state S.Store conn.old) (state S.Store conn.new) }
     ensures limit { (state S.Store conn.new).step_limit ≡ (state S.Store conn.old).step_limit }

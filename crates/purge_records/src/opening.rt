@@ -23,9 +23,12 @@ use std::alloc::Global;
 
 /// All rows of `form`.
 fn version_rows<S: Alter>(conn: &mut Connection<S>) -> Result<Vec<Row>, Error>
-    requires { HasCleanDisk (state S.Store conn.old) → (state S.Store conn.old).now.schema ≡ master_schema }
-    ensures rows { IfOk result (λ rows. HasCleanDisk (state S.Store conn.new) → IsPermutation (map shown_version ((state S.Store conn.old).now.trees 0)) rows.items) }
-    ensures same { OnOk result (HasCleanDisk (state S.Store conn.new) → IsUnchanged (state S.Store conn.old) (state S.Store conn.new)) }
+    requires { HasCleanDisk (state S.Store conn.old) →
+        (state S.Store conn.old).now.schema ≡ master_schema }
+    ensures rows { IfOk result (λ rows. HasCleanDisk (state S.Store conn.new) →
+        IsPermutation (map shown_version ((state S.Store conn.old).now.trees 0)) rows.items) }
+    ensures same { OnOk result (HasCleanDisk (state S.Store conn.new) →
+        IsUnchanged (state S.Store conn.old) (state S.Store conn.new)) }
     ensures survives { Survives (state S.Store conn.old) (state S.Store conn.new) (λ _. ⊥) }
 {
     conn.query_all("SELECT version FROM form", &[])
@@ -33,9 +36,12 @@ fn version_rows<S: Alter>(conn: &mut Connection<S>) -> Result<Vec<Row>, Error>
 
 /// All rows of `last`.
 fn last_rows<S: Alter>(conn: &mut Connection<S>) -> Result<Vec<Row>, Error>
-    requires { HasCleanDisk (state S.Store conn.old) → (state S.Store conn.old).now.schema ≡ master_schema }
-    ensures rows { IfOk result (λ rows. HasCleanDisk (state S.Store conn.new) → IsPermutation (map shown_last ((state S.Store conn.old).now.trees 1)) rows.items) }
-    ensures same { OnOk result (HasCleanDisk (state S.Store conn.new) → IsUnchanged (state S.Store conn.old) (state S.Store conn.new)) }
+    requires { HasCleanDisk (state S.Store conn.old) →
+        (state S.Store conn.old).now.schema ≡ master_schema }
+    ensures rows { IfOk result (λ rows. HasCleanDisk (state S.Store conn.new) →
+        IsPermutation (map shown_last ((state S.Store conn.old).now.trees 1)) rows.items) }
+    ensures same { OnOk result (HasCleanDisk (state S.Store conn.new) →
+        IsUnchanged (state S.Store conn.old) (state S.Store conn.new)) }
     ensures survives { Survives (state S.Store conn.old) (state S.Store conn.new) (λ _. ⊥) }
 {
     conn.query_all("SELECT id, number FROM last", &[])
@@ -43,9 +49,12 @@ fn last_rows<S: Alter>(conn: &mut Connection<S>) -> Result<Vec<Row>, Error>
 
 /// All rows of `pending`, by number.
 fn pending_rows<S: Alter>(conn: &mut Connection<S>) -> Result<Vec<Row>, Error>
-    requires { HasCleanDisk (state S.Store conn.old) → (state S.Store conn.old).now.schema ≡ master_schema }
-    ensures rows { IfOk result (λ rows. HasCleanDisk (state S.Store conn.new) → RisesFrom (map shown_pending ((state S.Store conn.old).now.trees 2)) rows.items) }
-    ensures same { OnOk result (HasCleanDisk (state S.Store conn.new) → IsUnchanged (state S.Store conn.old) (state S.Store conn.new)) }
+    requires { HasCleanDisk (state S.Store conn.old) →
+        (state S.Store conn.old).now.schema ≡ master_schema }
+    ensures rows { IfOk result (λ rows. HasCleanDisk (state S.Store conn.new) →
+        RisesFrom (map shown_pending ((state S.Store conn.old).now.trees 2)) rows.items) }
+    ensures same { OnOk result (HasCleanDisk (state S.Store conn.new) →
+        IsUnchanged (state S.Store conn.old) (state S.Store conn.new)) }
     ensures survives { Survives (state S.Store conn.old) (state S.Store conn.new) (λ _. ⊥) }
 {
     conn.query_all(
@@ -56,9 +65,12 @@ fn pending_rows<S: Alter>(conn: &mut Connection<S>) -> Result<Vec<Row>, Error>
 
 /// All rows of `acks`, by rowid.
 fn ack_rows<S: Alter>(conn: &mut Connection<S>) -> Result<Vec<Row>, Error>
-    requires { HasCleanDisk (state S.Store conn.old) → (state S.Store conn.old).now.schema ≡ master_schema }
-    ensures rows { IfOk result (λ rows. HasCleanDisk (state S.Store conn.new) → RisesFrom (map shown_ack ((state S.Store conn.old).now.trees 3)) rows.items) }
-    ensures same { OnOk result (HasCleanDisk (state S.Store conn.new) → IsUnchanged (state S.Store conn.old) (state S.Store conn.new)) }
+    requires { HasCleanDisk (state S.Store conn.old) →
+        (state S.Store conn.old).now.schema ≡ master_schema }
+    ensures rows { IfOk result (λ rows. HasCleanDisk (state S.Store conn.new) →
+        RisesFrom (map shown_ack ((state S.Store conn.old).now.trees 3)) rows.items) }
+    ensures same { OnOk result (HasCleanDisk (state S.Store conn.new) →
+        IsUnchanged (state S.Store conn.old) (state S.Store conn.new)) }
     ensures survives { Survives (state S.Store conn.old) (state S.Store conn.new) (λ _. ⊥) }
 {
     conn.query_all("SELECT rowid, number, member FROM acks ORDER BY rowid", &[])
@@ -84,7 +96,8 @@ fn is_version_one(rows: &[Row]) -> bool
 /// The number, of 32 bits, if these rows are one row of id 1.
 fn last_of(rows: &[Row]) -> Option<u32>
     ensures some { IfSome result (λ number. rows.now ≡ (Int (pos 1) ∷ Int (pos number) ∷ []) ∷ []) }
-    ensures none { result ≡ None → (number : ℕ) → number ≤ 4294967295 → rows.now ≢ (Int (pos 1) ∷ Int (pos number) ∷ []) ∷ [] }
+    ensures none { result ≡ None → (number : ℕ) → number ≤ 4294967295 →
+        rows.now ≢ (Int (pos 1) ∷ Int (pos number) ∷ []) ∷ [] }
 {
     let [row] = rows else {
         return None;
@@ -100,10 +113,14 @@ fn last_of(rows: &[Row]) -> Option<u32>
 
 /// Refuses a file unless `form` has one row, the version 1.
 fn check_version<S: Alter>(conn: &mut Connection<S>) -> Result<(), PurgeFault>
-    requires { HasCleanDisk (state S.Store conn.old) → (state S.Store conn.old).now.schema ≡ master_schema }
-    ensures version { OnOk result (HasCleanDisk (state S.Store conn.new) → HasVersionOne ((state S.Store conn.old).now.trees 0)) }
-    ensures bad { result ≡ Err PurgeFault.BadTable → HasCleanDisk (state S.Store conn.new) → ¬ HasVersionOne ((state S.Store conn.old).now.trees 0) }
-    ensures same { OnOk result (HasCleanDisk (state S.Store conn.new) → IsUnchanged (state S.Store conn.old) (state S.Store conn.new)) }
+    requires { HasCleanDisk (state S.Store conn.old) →
+        (state S.Store conn.old).now.schema ≡ master_schema }
+    ensures version { OnOk result (HasCleanDisk (state S.Store conn.new) →
+        HasVersionOne ((state S.Store conn.old).now.trees 0)) }
+    ensures bad { result ≡ Err PurgeFault.BadTable → HasCleanDisk (state S.Store conn.new) →
+        ¬ HasVersionOne ((state S.Store conn.old).now.trees 0) }
+    ensures same { OnOk result (HasCleanDisk (state S.Store conn.new) →
+        IsUnchanged (state S.Store conn.old) (state S.Store conn.new)) }
     ensures survives { Survives (state S.Store conn.old) (state S.Store conn.new) (λ _. ⊥) }
 {
     match version_rows(conn) {
@@ -115,10 +132,15 @@ fn check_version<S: Alter>(conn: &mut Connection<S>) -> Result<(), PurgeFault>
 
 /// Reads the last number. `BadTable` unless `last` has one row, of id 1 with a number of 32 bits.
 fn read_last<S: Alter>(conn: &mut Connection<S>) -> Result<u32, PurgeFault>
-    requires { HasCleanDisk (state S.Store conn.old) → (state S.Store conn.old).now.schema ≡ master_schema }
-    ensures last { IfOk result (λ number. HasCleanDisk (state S.Store conn.new) → IsLast number ((state S.Store conn.old).now.trees 1)) }
-    ensures bad { result ≡ Err PurgeFault.BadTable → HasCleanDisk (state S.Store conn.new) → (number : ℕ) → number ≤ 4294967295 → ¬ IsLast number ((state S.Store conn.old).now.trees 1) }
-    ensures same { OnOk result (HasCleanDisk (state S.Store conn.new) → IsUnchanged (state S.Store conn.old) (state S.Store conn.new)) }
+    requires { HasCleanDisk (state S.Store conn.old) →
+        (state S.Store conn.old).now.schema ≡ master_schema }
+    ensures last { IfOk result (λ number. HasCleanDisk (state S.Store conn.new) →
+        IsLast number ((state S.Store conn.old).now.trees 1)) }
+    ensures bad { result ≡ Err PurgeFault.BadTable → HasCleanDisk (state S.Store conn.new) →
+        (number : ℕ) → number ≤ 4294967295 →
+        ¬ IsLast number ((state S.Store conn.old).now.trees 1) }
+    ensures same { OnOk result (HasCleanDisk (state S.Store conn.new) →
+        IsUnchanged (state S.Store conn.old) (state S.Store conn.new)) }
     ensures survives { Survives (state S.Store conn.old) (state S.Store conn.new) (λ _. ⊥) }
 {
     match last_rows(conn) {
@@ -132,10 +154,14 @@ fn read_last<S: Alter>(conn: &mut Connection<S>) -> Result<u32, PurgeFault>
 
 /// Reads the pending purges, with no member marked yet.
 fn read_pending<S: Alter>(conn: &mut Connection<S>, alloc: Global) -> Result<Purges, PurgeFault>
-    requires { HasCleanDisk (state S.Store conn.old) → (state S.Store conn.old).now.schema ≡ master_schema }
-    ensures added { IfOk result (λ purges. HasCleanDisk (state S.Store conn.new) → HasAdded ((state S.Store conn.old).now.trees 2) purges) }
-    ensures bad { result ≡ Err PurgeFault.BadTable → HasCleanDisk (state S.Store conn.new) → ¬ IsMasterFile (state S.Store conn.old) }
-    ensures same { OnOk result (HasCleanDisk (state S.Store conn.new) → IsUnchanged (state S.Store conn.old) (state S.Store conn.new)) }
+    requires { HasCleanDisk (state S.Store conn.old) →
+        (state S.Store conn.old).now.schema ≡ master_schema }
+    ensures added { IfOk result (λ purges. HasCleanDisk (state S.Store conn.new) →
+        HasAdded ((state S.Store conn.old).now.trees 2) purges) }
+    ensures bad { result ≡ Err PurgeFault.BadTable → HasCleanDisk (state S.Store conn.new) →
+        ¬ IsMasterFile (state S.Store conn.old) }
+    ensures same { OnOk result (HasCleanDisk (state S.Store conn.new) →
+        IsUnchanged (state S.Store conn.old) (state S.Store conn.new)) }
     ensures survives { Survives (state S.Store conn.old) (state S.Store conn.new) (λ _. ⊥) }
 {
     match pending_rows(conn) {
@@ -148,10 +174,14 @@ fn read_pending<S: Alter>(conn: &mut Connection<S>, alloc: Global) -> Result<Pur
 /// Reads the last number and the pending purges, with no member marked yet. A purge above the last
 /// number is `BadTable`.
 fn read_unmarked<S: Alter>(conn: &mut Connection<S>, alloc: Global) -> Result<Purges, PurgeFault>
-    requires { HasCleanDisk (state S.Store conn.old) → (state S.Store conn.old).now.schema ≡ master_schema }
-    ensures unmarked { IfOk result (λ purges. HasCleanDisk (state S.Store conn.new) → HasUnmarked (state S.Store conn.old).now.trees purges) }
-    ensures bad { result ≡ Err PurgeFault.BadTable → HasCleanDisk (state S.Store conn.new) → ¬ IsMasterFile (state S.Store conn.old) }
-    ensures same { OnOk result (HasCleanDisk (state S.Store conn.new) → IsUnchanged (state S.Store conn.old) (state S.Store conn.new)) }
+    requires { HasCleanDisk (state S.Store conn.old) →
+        (state S.Store conn.old).now.schema ≡ master_schema }
+    ensures unmarked { IfOk result (λ purges. HasCleanDisk (state S.Store conn.new) →
+        HasUnmarked (state S.Store conn.old).now.trees purges) }
+    ensures bad { result ≡ Err PurgeFault.BadTable → HasCleanDisk (state S.Store conn.new) →
+        ¬ IsMasterFile (state S.Store conn.old) }
+    ensures same { OnOk result (HasCleanDisk (state S.Store conn.new) →
+        IsUnchanged (state S.Store conn.old) (state S.Store conn.new)) }
     ensures survives { Survives (state S.Store conn.old) (state S.Store conn.new) (λ _. ⊥) }
 {
     let last = read_last(conn)?;
@@ -165,11 +195,16 @@ fn read_unmarked<S: Alter>(conn: &mut Connection<S>, alloc: Global) -> Result<Pu
 
 /// Reads the acknowledgements, and marks the purges by them.
 fn read_acks<S: Alter>(conn: &mut Connection<S>, purges: &mut Purges) -> Result<(), PurgeFault>
-    requires { HasCleanDisk (state S.Store conn.old) → (state S.Store conn.old).now.schema ≡ master_schema }
-    ensures marked { OnOk result (HasCleanDisk (state S.Store conn.new) → HasMarked ((state S.Store conn.old).now.trees 3) purges.old purges.new) }
-    ensures bad { result ≡ Err PurgeFault.BadTable → HasCleanDisk (state S.Store conn.new) → IsMaster (state S.Store conn.old).now
-        → purges.old ≢ purges_of ((state S.Store conn.old).now.trees 1) ((state S.Store conn.old).now.trees 2) [] }
-    ensures same { OnOk result (HasCleanDisk (state S.Store conn.new) → IsUnchanged (state S.Store conn.old) (state S.Store conn.new)) }
+    requires { HasCleanDisk (state S.Store conn.old) →
+        (state S.Store conn.old).now.schema ≡ master_schema }
+    ensures marked { OnOk result (HasCleanDisk (state S.Store conn.new) →
+        HasMarked ((state S.Store conn.old).now.trees 3) purges.old purges.new) }
+    ensures bad { result ≡ Err PurgeFault.BadTable → HasCleanDisk (state S.Store conn.new) →
+        IsMaster (state S.Store conn.old).now
+        → purges.old ≢ purges_of ((state S.Store conn.old).now.trees 1)
+        ((state S.Store conn.old).now.trees 2) [] }
+    ensures same { OnOk result (HasCleanDisk (state S.Store conn.new) →
+        IsUnchanged (state S.Store conn.old) (state S.Store conn.new)) }
     ensures survives { Survives (state S.Store conn.old) (state S.Store conn.new) (λ _. ⊥) }
 {
     match ack_rows(conn) {
@@ -180,10 +215,14 @@ fn read_acks<S: Alter>(conn: &mut Connection<S>, purges: &mut Purges) -> Result<
 
 /// Reads `last`, `pending` and `acks`.
 fn read_purges<S: Alter>(conn: &mut Connection<S>, alloc: Global) -> Result<Purges, PurgeFault>
-    requires { HasCleanDisk (state S.Store conn.old) → (state S.Store conn.old).now.schema ≡ master_schema }
-    ensures read { IfOk result (λ purges. HasCleanDisk (state S.Store conn.new) → IsRead (state S.Store conn.old).now.trees purges) }
-    ensures bad { result ≡ Err PurgeFault.BadTable → HasCleanDisk (state S.Store conn.new) → ¬ IsMasterFile (state S.Store conn.old) }
-    ensures same { OnOk result (HasCleanDisk (state S.Store conn.new) → IsUnchanged (state S.Store conn.old) (state S.Store conn.new)) }
+    requires { HasCleanDisk (state S.Store conn.old) →
+        (state S.Store conn.old).now.schema ≡ master_schema }
+    ensures read { IfOk result (λ purges. HasCleanDisk (state S.Store conn.new) →
+        IsRead (state S.Store conn.old).now.trees purges) }
+    ensures bad { result ≡ Err PurgeFault.BadTable → HasCleanDisk (state S.Store conn.new) →
+        ¬ IsMasterFile (state S.Store conn.old) }
+    ensures same { OnOk result (HasCleanDisk (state S.Store conn.new) →
+        IsUnchanged (state S.Store conn.old) (state S.Store conn.new)) }
     ensures survives { Survives (state S.Store conn.old) (state S.Store conn.new) (λ _. ⊥) }
 {
     let mut purges = read_unmarked(conn, alloc)?;
@@ -193,10 +232,15 @@ fn read_purges<S: Alter>(conn: &mut Connection<S>, alloc: Global) -> Result<Purg
 
 /// Checks the version, and reads the purges. The caller has checked the schema.
 fn read_tables<S: Alter>(conn: &mut Connection<S>, alloc: Global) -> Result<Purges, PurgeFault>
-    requires { HasCleanDisk (state S.Store conn.old) → (state S.Store conn.old).now.schema ≡ master_schema }
-    ensures read { IfOk result (λ purges. HasCleanDisk (state S.Store conn.new) → HasVersionOne ((state S.Store conn.old).now.trees 0) × IsRead (state S.Store conn.old).now.trees purges) }
-    ensures bad { result ≡ Err PurgeFault.BadTable → HasCleanDisk (state S.Store conn.new) → ¬ IsMasterFile (state S.Store conn.old) }
-    ensures same { OnOk result (HasCleanDisk (state S.Store conn.new) → IsUnchanged (state S.Store conn.old) (state S.Store conn.new)) }
+    requires { HasCleanDisk (state S.Store conn.old) →
+        (state S.Store conn.old).now.schema ≡ master_schema }
+    ensures read { IfOk result (λ purges. HasCleanDisk (state S.Store conn.new) →
+        HasVersionOne ((state S.Store conn.old).now.trees 0)
+        × IsRead (state S.Store conn.old).now.trees purges) }
+    ensures bad { result ≡ Err PurgeFault.BadTable → HasCleanDisk (state S.Store conn.new) →
+        ¬ IsMasterFile (state S.Store conn.old) }
+    ensures same { OnOk result (HasCleanDisk (state S.Store conn.new) →
+        IsUnchanged (state S.Store conn.old) (state S.Store conn.new)) }
     ensures survives { Survives (state S.Store conn.old) (state S.Store conn.new) (λ _. ⊥) }
 {
     check_version(conn)?;
@@ -205,10 +249,14 @@ fn read_tables<S: Alter>(conn: &mut Connection<S>, alloc: Global) -> Result<Purg
 
 /// Refuses an open transaction or another schema; else checks the version and reads the purges.
 fn read_file<S: Alter>(conn: &mut Connection<S>, alloc: Global) -> Result<Purges, PurgeFault>
-    ensures kept { IfOk result (λ purges. HasCleanDisk (state S.Store conn.new) → AreIn (state S.Store conn.new) purges) }
-    ensures file { OnOk result (HasCleanDisk (state S.Store conn.new) → IsMasterFile (state S.Store conn.old)) }
-    ensures same { OnOk result (HasCleanDisk (state S.Store conn.new) → committed_purges (state S.Store conn.new) ≡ committed_purges (state S.Store conn.old)) }
-    ensures bad { result ≡ Err PurgeFault.BadTable → HasCleanDisk (state S.Store conn.new) → ¬ IsMasterFile (state S.Store conn.old) }
+    ensures kept { IfOk result (λ purges. HasCleanDisk (state S.Store conn.new) →
+        AreIn (state S.Store conn.new) purges) }
+    ensures file { OnOk result (HasCleanDisk (state S.Store conn.new) →
+        IsMasterFile (state S.Store conn.old)) }
+    ensures same { OnOk result (HasCleanDisk (state S.Store conn.new) →
+        committed_purges (state S.Store conn.new) ≡ committed_purges (state S.Store conn.old)) }
+    ensures bad { result ≡ Err PurgeFault.BadTable → HasCleanDisk (state S.Store conn.new) →
+        ¬ IsMasterFile (state S.Store conn.old) }
     ensures survives { Survives (state S.Store conn.old) (state S.Store conn.new) (λ _. ⊥) }
 {
     if !conn.is_autocommit() {
@@ -226,10 +274,15 @@ pub(crate) fn open_file<S: Alter>(
     conn: &mut Connection<S>,
     alloc: Global,
 ) -> Result<Purges, PurgeFault>
-    ensures kept { IfOk result (λ purges. HasCleanDisk (state S.Store conn.new) → AreIn (state S.Store conn.new) purges) }
-    ensures found { OnOk result (HasCleanDisk (state S.Store conn.new) → OpensWith (state S.Store conn.old) (committed_purges (state S.Store conn.new))) }
-    ensures bad { result ≡ Err PurgeFault.BadTable → HasCleanDisk (state S.Store conn.new) → ¬ IsMasterFile (state S.Store conn.old) }
-    ensures blank { IsBlank (state S.Store conn.old).now → (state S.Store conn.old).in_transaction ≡ false → HasCleanDisk (state S.Store conn.new) → result ≢ Err PurgeFault.BadTable }
+    ensures kept { IfOk result (λ purges. HasCleanDisk (state S.Store conn.new) →
+        AreIn (state S.Store conn.new) purges) }
+    ensures found { OnOk result (HasCleanDisk (state S.Store conn.new) →
+        OpensWith (state S.Store conn.old) (committed_purges (state S.Store conn.new))) }
+    ensures bad { result ≡ Err PurgeFault.BadTable → HasCleanDisk (state S.Store conn.new) →
+        ¬ IsMasterFile (state S.Store conn.old) }
+    ensures blank { IsBlank (state S.Store conn.old).now →
+        (state S.Store conn.old).in_transaction ≡ false → HasCleanDisk (state S.Store conn.new) →
+        result ≢ Err PurgeFault.BadTable }
     ensures crash { LeavesNoOther (state S.Store conn.old) (state S.Store conn.new) }
     ensures unlimited { (state S.Store conn.new).step_limit ≡ None }
 {

@@ -32,7 +32,8 @@ fn own_key(alloc: Global, text: &[u8]) -> Result<Key, PurgeFault>
 /// The key in the column `url`, the third of the query.
 fn key_in(alloc: Global, row: &Row) -> Result<Key, PurgeFault>
     ensures ok { IfOk result (λ key. (column row.now 2 ≡ Words key) × IsKey key) }
-    ensures bad { result ≡ Err PurgeFault.BadTable → (url : List ℕ) → IsKey url → column row.now 2 ≢ Words url }
+    ensures bad { result ≡ Err PurgeFault.BadTable → (url : List ℕ) → IsKey url →
+        column row.now 2 ≢ Words url }
     ensures named { IsReadFault result }
 {
     match row.get_ref(2) {
@@ -44,7 +45,8 @@ fn key_in(alloc: Global, row: &Row) -> Result<Key, PurgeFault>
 /// The number in this column, if it is one of 0 to 4294967295.
 pub(crate) fn number_in(row: &Row, at: usize) -> Option<u32>
     ensures some { IfSome result (λ number. column row.now at ≡ Int (pos number)) }
-    ensures none { result ≡ None → (number : ℕ) → number ≤ 4294967295 → column row.now at ≢ Int (pos number) }
+    ensures none { result ≡ None → (number : ℕ) → number ≤ 4294967295 →
+        column row.now at ≢ Int (pos number) }
 {
     match row.get_ref(at) {
         Ok(ValueRef::Int(number)) => u32::try_from(number).ok(),
@@ -55,8 +57,10 @@ pub(crate) fn number_in(row: &Row, at: usize) -> Option<u32>
 /// Adds the purge of one row. A row that is no purge, or whose number is not above each before it,
 /// is `BadTable`.
 fn add_row(purges: &mut Purges, alloc: Global, row: &Row) -> Result<(), PurgeFault>
-    ensures ok { OnOk result (IsPurgeRow row.now × (purges.old.last < number_of row.now) × (purges.new ≡ with_purge purges.old (number_of row.now) (url_of row.now))) }
-    ensures bad { result ≡ Err PurgeFault.BadTable → IsPurgeRow row.now → ¬ (purges.old.last < number_of row.now) }
+    ensures ok { OnOk result (IsPurgeRow row.now × (purges.old.last < number_of row.now)
+        × (purges.new ≡ with_purge purges.old (number_of row.now) (url_of row.now))) }
+    ensures bad { result ≡ Err PurgeFault.BadTable → IsPurgeRow row.now →
+        ¬ (purges.old.last < number_of row.now) }
     ensures named { IsReadFault result }
 {
     let Some(number) = number_in(row, 0) else {
@@ -73,7 +77,8 @@ fn add_row(purges: &mut Purges, alloc: Global, row: &Row) -> Result<(), PurgeFau
 /// The purges of all rows, each added in turn.
 pub(crate) fn purges_of(alloc: Global, rows: &[Row]) -> Result<Purges, PurgeFault>
     ensures ok { IfOk result (λ purges. Adds no_purges rows.now purges) }
-    ensures bad { result ≡ Err PurgeFault.BadTable → (all : PurgeList) → ¬ Adds no_purges rows.now all }
+    ensures bad { result ≡ Err PurgeFault.BadTable → (all : PurgeList) →
+        ¬ Adds no_purges rows.now all }
     ensures named { IsReadFault result }
 {
     let mut purges = Purges::new(alloc);
@@ -96,8 +101,10 @@ pub(crate) fn is_missed(purges: &Purges, number: u32, member: u8) -> bool
 
 /// The member in the third column, if it is one of 1 to 16.
 fn member_in(row: &Row) -> Option<u8>
-    ensures some { IfSome result (λ member. (column row.now 2 ≡ Int (pos member)) × (1 ≤ member) × (member ≤ 16)) }
-    ensures none { result ≡ None → (member : ℕ) → 1 ≤ member → member ≤ 16 → column row.now 2 ≢ Int (pos member) }
+    ensures some { IfSome result (λ member. (column row.now 2 ≡ Int (pos member)) × (1 ≤ member)
+        × (member ≤ 16)) }
+    ensures none { result ≡ None → (member : ℕ) → 1 ≤ member → member ≤ 16 →
+        column row.now 2 ≢ Int (pos member) }
 {
     let Ok(ValueRef::Int(member)) = row.get_ref(2) else {
         return None;
@@ -125,8 +132,11 @@ fn next_id(row: &Row, low: Option<i64>) -> Option<i64>
 /// Marks the member of one row, and returns its rowid. `BadTable` for a row that is no
 /// acknowledgement of a pending purge, or stands twice.
 fn mark_row(purges: &mut Purges, low: Option<i64>, row: &Row) -> Result<i64, PurgeFault>
-    ensures ok { IfOk result (λ id. (rowid row.now ≡ Int id) × IsAbove low row.now × IsAckRow row.now × Misses purges.old (ack_number row.now) (ack_member row.now) × (purges.new ≡ with_mark purges.old (ack_number row.now) (ack_member row.now))) }
-    ensures bad { OnErr result ((id : ℤ) → rowid row.now ≡ Int id → IsAbove low row.now → IsAckRow row.now → ¬ Misses purges.old (ack_number row.now) (ack_member row.now)) }
+    ensures ok { IfOk result (λ id. (rowid row.now ≡ Int id) × IsAbove low row.now
+        × IsAckRow row.now × Misses purges.old (ack_number row.now) (ack_member row.now)
+        × (purges.new ≡ with_mark purges.old (ack_number row.now) (ack_member row.now))) }
+    ensures bad { OnErr result ((id : ℤ) → rowid row.now ≡ Int id → IsAbove low row.now →
+        IsAckRow row.now → ¬ Misses purges.old (ack_number row.now) (ack_member row.now)) }
     ensures named { result ≢ Err PurgeFault.StoreFault }
 {
     let Some(id) = next_id(row, low) else {

@@ -47,8 +47,26 @@ fn is_pair(places: &Items<usize>) -> bool
 /// Whether this is such a column of a STRICT table, with no default and in the order of plain
 /// octets.
 fn is_column(column: &Column, name: &[u8], kind: Kind, not_null: bool) -> bool
-    ensures yes { IsTrue result → column.now ≡ record { name = name.now; kind = kind; is_strict = true; not_null = not_null; default = Null; collation = Binary } }
-    ensures no { result ≡ false → ¬ (column.now ≡ record { name = name.now; kind = kind; is_strict = true; not_null = not_null; default = Null; collation = Binary }) }
+    ensures yes { IsTrue result → column.now
+        ≡ record {
+          name = name.now;
+          kind = kind;
+          is_strict = true;
+          not_null = not_null;
+          default =
+              Null;
+          collation = Binary;
+        } }
+    ensures no { result ≡ false → ¬
+        (column.now ≡ record {
+          name = name.now;
+          kind = kind;
+          is_strict = true;
+          not_null =
+              not_null;
+          default = Null;
+          collation = Binary;
+        }) }
 {
     let has_no_default = matches!(column.default, Value::Null);
     is_named(&column.name, name)
@@ -62,8 +80,12 @@ fn is_column(column: &Column, name: &[u8], kind: Kind, not_null: bool) -> bool
 /// Whether the table has no foreign key, no computed default, no default that reads the time and no
 /// AUTOINCREMENT.
 fn is_plain(table: &Table) -> bool
-    ensures yes { IsTrue result → (table.now.references ≡ []) × (table.now.computed ≡ []) × (table.now.stamps ≡ record { places = []; terms = []; formats = [] }) × IsTrue (not table.now.is_counted) }
-    ensures no { result ≡ false → ¬ ((table.now.references ≡ []) × (table.now.computed ≡ []) × (table.now.stamps ≡ record { places = []; terms = []; formats = [] }) × IsTrue (not table.now.is_counted)) }
+    ensures yes { IsTrue result → (table.now.references ≡ []) × (table.now.computed ≡ [])
+        × (table.now.stamps ≡ record { places = []; terms = []; formats = [] })
+        × IsTrue (not table.now.is_counted) }
+    ensures no { result ≡ false → ¬ ((table.now.references ≡ []) × (table.now.computed ≡ [])
+        × (table.now.stamps ≡ record { places = []; terms = []; formats = [] })
+        × IsTrue (not table.now.is_counted)) }
 {
     table.references.is_empty()
         && table.computed.is_empty()
@@ -83,8 +105,10 @@ fn has_no_terms(terms: &Terms) -> bool
 
 /// Whether the first column is the rowid and the primary key, and there is no UNIQUE.
 fn has_rowid_key(table: &Table) -> bool
-    ensures yes { IsTrue result → (table.now.key ≡ Some 0) × (table.now.primary ≡ 0 ∷ []) × (table.now.uniques ≡ []) × (table.now.orders ≡ []) }
-    ensures no { result ≡ false → ¬ ((table.now.key ≡ Some 0) × (table.now.primary ≡ 0 ∷ []) × (table.now.uniques ≡ []) × (table.now.orders ≡ [])) }
+    ensures yes { IsTrue result → (table.now.key ≡ Some 0) × (table.now.primary ≡ 0 ∷ [])
+        × (table.now.uniques ≡ []) × (table.now.orders ≡ []) }
+    ensures no { result ≡ false → ¬ ((table.now.key ≡ Some 0) × (table.now.primary ≡ 0 ∷ [])
+        × (table.now.uniques ≡ []) × (table.now.orders ≡ [])) }
 {
     is_rowid(table.key)
         && is_place(&table.primary, 0)
@@ -154,16 +178,20 @@ fn is_id_at(nodes: &[Op], at: usize) -> bool
 
 /// As `is_one`, of the node at this index; false behind the last.
 fn is_one_at(nodes: &[Op], at: usize) -> bool
-    ensures yes { IsTrue result → slice_index_or nodes.now at (op.Literal Null) ≡ op.Literal (Int (pos 1)) }
-    ensures no { result ≡ false → slice_index_or nodes.now at (op.Literal Null) ≢ op.Literal (Int (pos 1)) }
+    ensures yes { IsTrue result → slice_index_or nodes.now at (op.Literal Null)
+        ≡ op.Literal (Int (pos 1)) }
+    ensures no { result ≡ false → slice_index_or nodes.now at (op.Literal Null)
+        ≢ op.Literal (Int (pos 1)) }
 {
     at < nodes.len() && is_one(&nodes[at])
 }
 
 /// The indices of both operands, if the node is a test for equality.
 fn operands(node: &Op) -> Option<(usize, usize)>
-    ensures some { IfSome result (λ places. node.now ≡ op.Binary (BinaryOp.Compare CompareOp.Eq Binary) places.0 places.1) }
-    ensures none { result ≡ None → (left right : ℕ) → node.now ≢ op.Binary (BinaryOp.Compare CompareOp.Eq Binary) left right }
+    ensures some { IfSome result (λ places.
+        node.now ≡ op.Binary (BinaryOp.Compare CompareOp.Eq Binary) places.0 places.1) }
+    ensures none { result ≡ None → (left right : ℕ) →
+        node.now ≢ op.Binary (BinaryOp.Compare CompareOp.Eq Binary) left right }
 {
     match node {
         Op::Binary(found, left, right)
@@ -176,8 +204,12 @@ fn operands(node: &Op) -> Option<(usize, usize)>
 
 /// As `operands`, of the node at this index; `None` behind the last.
 fn operands_at(nodes: &[Op], at: usize) -> Option<(usize, usize)>
-    ensures some { IfSome result (λ places. slice_index_or nodes.now at (op.Literal Null) ≡ op.Binary (BinaryOp.Compare CompareOp.Eq Binary) places.0 places.1) }
-    ensures none { result ≡ None → (left right : ℕ) → slice_index_or nodes.now at (op.Literal Null) ≢ op.Binary (BinaryOp.Compare CompareOp.Eq Binary) left right }
+    ensures some { IfSome result (λ places.
+        slice_index_or nodes.now at (op.Literal Null)
+        ≡ op.Binary (BinaryOp.Compare CompareOp.Eq Binary) places.0 places.1) }
+    ensures none { result ≡ None → (left right : ℕ) →
+        slice_index_or nodes.now at (op.Literal Null)
+        ≢ op.Binary (BinaryOp.Compare CompareOp.Eq Binary) left right }
 {
     if at < nodes.len() {
         operands(&nodes[at])
@@ -302,8 +334,12 @@ fn has_ack_columns(columns: &Items<Column>) -> bool
 
 /// Whether the rows have a rowid of their own, and both columns are the primary key.
 fn has_pair_key(table: &Table) -> bool
-    ensures yes { IsTrue result → (table.now.key ≡ None) × (table.now.primary ≡ 1 ∷ 2 ∷ []) × (table.now.uniques ≡ (1 ∷ 2 ∷ []) ∷ []) × (table.now.orders ≡ record { digits = 0 } ∷ []) }
-    ensures no { result ≡ false → ¬ ((table.now.key ≡ None) × (table.now.primary ≡ 1 ∷ 2 ∷ []) × (table.now.uniques ≡ (1 ∷ 2 ∷ []) ∷ []) × (table.now.orders ≡ record { digits = 0 } ∷ [])) }
+    ensures yes { IsTrue result → (table.now.key ≡ None) × (table.now.primary ≡ 1 ∷ 2 ∷ [])
+        × (table.now.uniques ≡ (1 ∷ 2 ∷ []) ∷ [])
+        × (table.now.orders ≡ record { digits = 0 } ∷ []) }
+    ensures no { result ≡ false → ¬ ((table.now.key ≡ None) × (table.now.primary ≡ 1 ∷ 2 ∷ [])
+        × (table.now.uniques ≡ (1 ∷ 2 ∷ []) ∷ [])
+        × (table.now.orders ≡ record { digits = 0 } ∷ [])) }
 {
     table.key.is_none()
         && is_pair(&table.primary)

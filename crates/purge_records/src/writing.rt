@@ -25,8 +25,12 @@ use url_key::Key;
 /// Sets the number in `last`.
 fn give_number<S: Alter>(tx: &mut Transaction<'_, S>, number: u32) -> Result<usize, Error>
     ensures same_reference { tx.new.conn.ghost_name ≡ tx.old.conn.ghost_name }
-    ensures made { OnOk result (HasCleanDisk (state S.Store tx.new.conn.now) → (before : PurgeList) → before.last < number → Makes (Holds before) (HasGiven before number) (state S.Store tx.old.conn.now) (state S.Store tx.new.conn.now)) }
-    ensures survives { Survives (state S.Store tx.old.conn.now) (state S.Store tx.new.conn.now) (λ _. ⊥) }
+    ensures made { OnOk result (HasCleanDisk (state S.Store tx.new.conn.now) →
+        (before : PurgeList) → before.last < number →
+        Makes (Holds before) (HasGiven before number) (state S.Store tx.old.conn.now)
+        (state S.Store tx.new.conn.now)) }
+    ensures survives { Survives (state S.Store tx.old.conn.now) (state S.Store tx.new.conn.now)
+        (λ _. ⊥) }
 {
     tx.execute("UPDATE last SET number = ?1", &[number.to_sql()])
 }
@@ -34,8 +38,12 @@ fn give_number<S: Alter>(tx: &mut Transaction<'_, S>, number: u32) -> Result<usi
 /// Inserts the row of the purge, whose number is the last one.
 fn put_purge<S: Alter>(tx: &mut Transaction<'_, S>, number: u32, url: &[u8]) -> Result<usize, Error>
     ensures same_reference { tx.new.conn.ghost_name ≡ tx.old.conn.ghost_name }
-    ensures made { OnOk result (HasCleanDisk (state S.Store tx.new.conn.now) → (before : PurgeList) → 1 ≤ number → IsKey url.now → Makes (HasGiven before number) (Holds (with_purge before number url.now)) (state S.Store tx.old.conn.now) (state S.Store tx.new.conn.now)) }
-    ensures survives { Survives (state S.Store tx.old.conn.now) (state S.Store tx.new.conn.now) (λ _. ⊥) }
+    ensures made { OnOk result (HasCleanDisk (state S.Store tx.new.conn.now) →
+        (before : PurgeList) → 1 ≤ number → IsKey url.now →
+        Makes (HasGiven before number) (Holds (with_purge before number url.now))
+        (state S.Store tx.old.conn.now) (state S.Store tx.new.conn.now)) }
+    ensures survives { Survives (state S.Store tx.old.conn.now) (state S.Store tx.new.conn.now)
+        (λ _. ⊥) }
 {
     tx.execute(
         "INSERT INTO pending (number, url) VALUES (?1, ?2)",
@@ -46,8 +54,12 @@ fn put_purge<S: Alter>(tx: &mut Transaction<'_, S>, number: u32, url: &[u8]) -> 
 /// Adds a purge of the url under the number, in the open transaction.
 fn write_purge<S: Alter>(tx: &mut Transaction<'_, S>, number: u32, url: &[u8]) -> Result<(), Error>
     ensures same_reference { tx.new.conn.ghost_name ≡ tx.old.conn.ghost_name }
-    ensures made { OnOk result (HasCleanDisk (state S.Store tx.new.conn.now) → (before : PurgeList) → before.last < number → IsKey url.now → Makes (Holds before) (Holds (with_purge before number url.now)) (state S.Store tx.old.conn.now) (state S.Store tx.new.conn.now)) }
-    ensures survives { Survives (state S.Store tx.old.conn.now) (state S.Store tx.new.conn.now) (λ _. ⊥) }
+    ensures made { OnOk result (HasCleanDisk (state S.Store tx.new.conn.now) →
+        (before : PurgeList) → before.last < number → IsKey url.now →
+        Makes (Holds before) (Holds (with_purge before number url.now))
+        (state S.Store tx.old.conn.now) (state S.Store tx.new.conn.now)) }
+    ensures survives { Survives (state S.Store tx.old.conn.now) (state S.Store tx.new.conn.now)
+        (λ _. ⊥) }
 {
     give_number(tx, number)?;
     put_purge(tx, number, url)?;
@@ -56,8 +68,13 @@ fn write_purge<S: Alter>(tx: &mut Transaction<'_, S>, number: u32, url: &[u8]) -
 
 /// Adds a purge of the url under the number and commits it, in one transaction.
 fn add_purge<S: Alter>(conn: &mut Connection<S>, number: u32, url: &[u8]) -> Result<(), Error>
-    ensures made { OnOk result (HasCleanDisk (state S.Store conn.new) → (before : PurgeList) → before.last < number → IsKey url.now → Holds before (state S.Store conn.old).now → Commits (with_purge before number url.now) (state S.Store conn.new)) }
-    ensures survives { Survives (state S.Store conn.old) (state S.Store conn.new) (λ trees. (before : PurgeList) → before.last < number → IsKey url.now → Holds before (state S.Store conn.old).now → purges_in trees ≡ with_purge before number url.now) }
+    ensures made { OnOk result (HasCleanDisk (state S.Store conn.new) → (before : PurgeList) →
+        before.last < number → IsKey url.now → Holds before (state S.Store conn.old).now →
+        Commits (with_purge before number url.now) (state S.Store conn.new)) }
+    ensures survives { Survives (state S.Store conn.old) (state S.Store conn.new) (λ trees.
+        (before : PurgeList) → before.last < number → IsKey url.now →
+        Holds before (state S.Store conn.old).now →
+        purges_in trees ≡ with_purge before number url.now) }
 {
     if !conn.is_autocommit() {
         return Err(Error::InvalidQuery);
@@ -70,13 +87,19 @@ fn add_purge<S: Alter>(conn: &mut Connection<S>, number: u32, url: &[u8]) -> Res
 /// Inserts the acknowledgement, in one statement that commits by itself.
 fn put_mark<S: Alter>(conn: &mut Connection<S>, number: u32, member: u8) -> Result<usize, Error>
     requires ready { HasCleanDisk (state S.Store conn.old) → IsReady (state S.Store conn.old) }
-    requires missing { HasCleanDisk (state S.Store conn.old) → Misses (committed_purges (state S.Store conn.old)) number member }
+    requires missing { HasCleanDisk (state S.Store conn.old) →
+        Misses (committed_purges (state S.Store conn.old)) number member }
     requires id { (1 ≤ member) × (member ≤ 16) }
     ensures honest { HasCleanDisk (state S.Store conn.new) → HasCleanDisk (state S.Store conn.old) }
-    ensures ready { OnOk result (HasCleanDisk (state S.Store conn.new) → IsReady (state S.Store conn.new)) }
-    ensures marked { OnOk result (HasCleanDisk (state S.Store conn.new) → committed_purges (state S.Store conn.new) ≡ with_mark (committed_purges (state S.Store conn.old)) number member) }
-    ensures crash { HasCleanDisk (state S.Store conn.new) → (found : PurgeList) → MayFind (state S.Store conn.new) found
-        → IsEither (committed_purges (state S.Store conn.old)) (with_mark (committed_purges (state S.Store conn.old)) number member) found }
+    ensures ready { OnOk result (HasCleanDisk (state S.Store conn.new) →
+        IsReady (state S.Store conn.new)) }
+    ensures marked { OnOk result (HasCleanDisk (state S.Store conn.new) →
+        committed_purges (state S.Store conn.new)
+        ≡ with_mark (committed_purges (state S.Store conn.old)) number member) }
+    ensures crash { HasCleanDisk (state S.Store conn.new) → (found : PurgeList) →
+        MayFind (state S.Store conn.new) found
+        → IsEither (committed_purges (state S.Store conn.old))
+        (with_mark (committed_purges (state S.Store conn.old)) number member) found }
 {
     conn.execute(
         "INSERT INTO acks (number, member) VALUES (?1, ?2)",
@@ -87,8 +110,11 @@ fn put_mark<S: Alter>(conn: &mut Connection<S>, number: u32, member: u8) -> Resu
 /// Deletes the acknowledgements of the purge.
 fn clear_acks<S: Alter>(tx: &mut Transaction<'_, S>, number: u32) -> Result<usize, Error>
     ensures same_reference { tx.new.conn.ghost_name ≡ tx.old.conn.ghost_name }
-    ensures made { OnOk result (HasCleanDisk (state S.Store tx.new.conn.now) → (before : PurgeList) → Makes (Holds before) (HasNoAcks before number) (state S.Store tx.old.conn.now) (state S.Store tx.new.conn.now)) }
-    ensures survives { Survives (state S.Store tx.old.conn.now) (state S.Store tx.new.conn.now) (λ _. ⊥) }
+    ensures made { OnOk result (HasCleanDisk (state S.Store tx.new.conn.now) →
+        (before : PurgeList) → Makes (Holds before) (HasNoAcks before number)
+        (state S.Store tx.old.conn.now) (state S.Store tx.new.conn.now)) }
+    ensures survives { Survives (state S.Store tx.old.conn.now) (state S.Store tx.new.conn.now)
+        (λ _. ⊥) }
 {
     tx.execute("DELETE FROM acks WHERE number = ?1", &[number.to_sql()])
 }
@@ -96,8 +122,12 @@ fn clear_acks<S: Alter>(tx: &mut Transaction<'_, S>, number: u32) -> Result<usiz
 /// Deletes the row of the purge, which has no acknowledgement any more.
 fn drop_purge<S: Alter>(tx: &mut Transaction<'_, S>, number: u32) -> Result<usize, Error>
     ensures same_reference { tx.new.conn.ghost_name ≡ tx.old.conn.ghost_name }
-    ensures made { OnOk result (HasCleanDisk (state S.Store tx.new.conn.now) → (before : PurgeList) → Makes (HasNoAcks before number) (Holds (without_purge before number)) (state S.Store tx.old.conn.now) (state S.Store tx.new.conn.now)) }
-    ensures survives { Survives (state S.Store tx.old.conn.now) (state S.Store tx.new.conn.now) (λ _. ⊥) }
+    ensures made { OnOk result (HasCleanDisk (state S.Store tx.new.conn.now) →
+        (before : PurgeList) → Makes (HasNoAcks before number)
+        (Holds (without_purge before number)) (state S.Store tx.old.conn.now)
+        (state S.Store tx.new.conn.now)) }
+    ensures survives { Survives (state S.Store tx.old.conn.now) (state S.Store tx.new.conn.now)
+        (λ _. ⊥) }
 {
     tx.execute("DELETE FROM pending WHERE number = ?1", &[number.to_sql()])
 }
@@ -105,8 +135,11 @@ fn drop_purge<S: Alter>(tx: &mut Transaction<'_, S>, number: u32) -> Result<usiz
 /// Deletes the purge with its acknowledgements, in the open transaction.
 fn erase<S: Alter>(tx: &mut Transaction<'_, S>, number: u32) -> Result<(), Error>
     ensures same_reference { tx.new.conn.ghost_name ≡ tx.old.conn.ghost_name }
-    ensures made { OnOk result (HasCleanDisk (state S.Store tx.new.conn.now) → (before : PurgeList) → Makes (Holds before) (Holds (without_purge before number)) (state S.Store tx.old.conn.now) (state S.Store tx.new.conn.now)) }
-    ensures survives { Survives (state S.Store tx.old.conn.now) (state S.Store tx.new.conn.now) (λ _. ⊥) }
+    ensures made { OnOk result (HasCleanDisk (state S.Store tx.new.conn.now) →
+        (before : PurgeList) → Makes (Holds before) (Holds (without_purge before number))
+        (state S.Store tx.old.conn.now) (state S.Store tx.new.conn.now)) }
+    ensures survives { Survives (state S.Store tx.old.conn.now) (state S.Store tx.new.conn.now)
+        (λ _. ⊥) }
 {
     clear_acks(tx, number)?;
     drop_purge(tx, number)?;
@@ -115,8 +148,12 @@ fn erase<S: Alter>(tx: &mut Transaction<'_, S>, number: u32) -> Result<(), Error
 
 /// Deletes the purge with its acknowledgements and commits that, in one transaction.
 fn erase_purge<S: Alter>(conn: &mut Connection<S>, number: u32) -> Result<(), Error>
-    ensures made { OnOk result (HasCleanDisk (state S.Store conn.new) → (before : PurgeList) → Holds before (state S.Store conn.old).now → Commits (without_purge before number) (state S.Store conn.new)) }
-    ensures survives { Survives (state S.Store conn.old) (state S.Store conn.new) (λ trees. (before : PurgeList) → Holds before (state S.Store conn.old).now → purges_in trees ≡ without_purge before number) }
+    ensures made { OnOk result (HasCleanDisk (state S.Store conn.new) → (before : PurgeList) →
+        Holds before (state S.Store conn.old).now →
+        Commits (without_purge before number) (state S.Store conn.new)) }
+    ensures survives { Survives (state S.Store conn.old) (state S.Store conn.new) (λ trees.
+        (before : PurgeList) → Holds before (state S.Store conn.old).now →
+        purges_in trees ≡ without_purge before number) }
 {
     if !conn.is_autocommit() {
         return Err(Error::InvalidQuery);
@@ -135,13 +172,20 @@ pub(crate) fn add<S: Alter>(
     number: u32,
     key: &Key,
 ) -> Result<(), PurgeFault>
-    requires held { HasCleanDisk (state S.Store conn.old) → AreIn (state S.Store conn.old) purges.old }
-    requires above { HasCleanDisk (state S.Store conn.old) → (committed_purges (state S.Store conn.old)).last < number }
+    requires held { HasCleanDisk (state S.Store conn.old) →
+        AreIn (state S.Store conn.old) purges.old }
+    requires above { HasCleanDisk (state S.Store conn.old) →
+        (committed_purges (state S.Store conn.old)).last < number }
     ensures honest { HasCleanDisk (state S.Store conn.new) → HasCleanDisk (state S.Store conn.old) }
-    ensures kept { OnOk result (HasCleanDisk (state S.Store conn.new) → AreIn (state S.Store conn.new) purges.new) }
-    ensures added { OnOk result (HasCleanDisk (state S.Store conn.new) → committed_purges (state S.Store conn.new) ≡ with_purge (committed_purges (state S.Store conn.old)) number key.now) }
-    ensures crash { HasCleanDisk (state S.Store conn.new) → (found : PurgeList) → MayFind (state S.Store conn.new) found
-        → IsEither (committed_purges (state S.Store conn.old)) (with_purge (committed_purges (state S.Store conn.old)) number key.now) found }
+    ensures kept { OnOk result (HasCleanDisk (state S.Store conn.new) →
+        AreIn (state S.Store conn.new) purges.new) }
+    ensures added { OnOk result (HasCleanDisk (state S.Store conn.new) →
+        committed_purges (state S.Store conn.new)
+        ≡ with_purge (committed_purges (state S.Store conn.old)) number key.now) }
+    ensures crash { HasCleanDisk (state S.Store conn.new) → (found : PurgeList) →
+        MayFind (state S.Store conn.new) found
+        → IsEither (committed_purges (state S.Store conn.old))
+        (with_purge (committed_purges (state S.Store conn.old)) number key.now) found }
     ensures named { result ≢ Err PurgeFault.BadTable }
 {
     if number <= purges.last() {
@@ -162,14 +206,21 @@ pub(crate) fn mark<S: Alter>(
     number: u32,
     member: u8,
 ) -> Result<(), PurgeFault>
-    requires held { HasCleanDisk (state S.Store conn.old) → AreIn (state S.Store conn.old) purges.old }
-    requires missing { HasCleanDisk (state S.Store conn.old) → Misses (committed_purges (state S.Store conn.old)) number member }
+    requires held { HasCleanDisk (state S.Store conn.old) →
+        AreIn (state S.Store conn.old) purges.old }
+    requires missing { HasCleanDisk (state S.Store conn.old) →
+        Misses (committed_purges (state S.Store conn.old)) number member }
     requires id { (1 ≤ member) × (member ≤ 16) }
     ensures honest { HasCleanDisk (state S.Store conn.new) → HasCleanDisk (state S.Store conn.old) }
-    ensures kept { OnOk result (HasCleanDisk (state S.Store conn.new) → AreIn (state S.Store conn.new) purges.new) }
-    ensures marked { OnOk result (HasCleanDisk (state S.Store conn.new) → committed_purges (state S.Store conn.new) ≡ with_mark (committed_purges (state S.Store conn.old)) number member) }
-    ensures crash { HasCleanDisk (state S.Store conn.new) → (found : PurgeList) → MayFind (state S.Store conn.new) found
-        → IsEither (committed_purges (state S.Store conn.old)) (with_mark (committed_purges (state S.Store conn.old)) number member) found }
+    ensures kept { OnOk result (HasCleanDisk (state S.Store conn.new) →
+        AreIn (state S.Store conn.new) purges.new) }
+    ensures marked { OnOk result (HasCleanDisk (state S.Store conn.new) →
+        committed_purges (state S.Store conn.new)
+        ≡ with_mark (committed_purges (state S.Store conn.old)) number member) }
+    ensures crash { HasCleanDisk (state S.Store conn.new) → (found : PurgeList) →
+        MayFind (state S.Store conn.new) found
+        → IsEither (committed_purges (state S.Store conn.old))
+        (with_mark (committed_purges (state S.Store conn.old)) number member) found }
     ensures named { result ≢ Err PurgeFault.BadTable }
 {
     if !is_missed(purges, number, member) {
@@ -188,12 +239,18 @@ pub(crate) fn finish<S: Alter>(
     purges: &mut Purges,
     number: u32,
 ) -> Result<(), PurgeFault>
-    requires held { HasCleanDisk (state S.Store conn.old) → AreIn (state S.Store conn.old) purges.old }
+    requires held { HasCleanDisk (state S.Store conn.old) →
+        AreIn (state S.Store conn.old) purges.old }
     ensures honest { HasCleanDisk (state S.Store conn.new) → HasCleanDisk (state S.Store conn.old) }
-    ensures kept { OnOk result (HasCleanDisk (state S.Store conn.new) → AreIn (state S.Store conn.new) purges.new) }
-    ensures finished { OnOk result (HasCleanDisk (state S.Store conn.new) → committed_purges (state S.Store conn.new) ≡ without_purge (committed_purges (state S.Store conn.old)) number) }
-    ensures crash { HasCleanDisk (state S.Store conn.new) → (found : PurgeList) → MayFind (state S.Store conn.new) found
-        → IsEither (committed_purges (state S.Store conn.old)) (without_purge (committed_purges (state S.Store conn.old)) number) found }
+    ensures kept { OnOk result (HasCleanDisk (state S.Store conn.new) →
+        AreIn (state S.Store conn.new) purges.new) }
+    ensures finished { OnOk result (HasCleanDisk (state S.Store conn.new) →
+        committed_purges (state S.Store conn.new)
+        ≡ without_purge (committed_purges (state S.Store conn.old)) number) }
+    ensures crash { HasCleanDisk (state S.Store conn.new) → (found : PurgeList) →
+        MayFind (state S.Store conn.new) found
+        → IsEither (committed_purges (state S.Store conn.old))
+        (without_purge (committed_purges (state S.Store conn.old)) number) found }
     ensures named { result ≢ Err PurgeFault.BadTable }
 {
     purges.finish(number);

@@ -27,7 +27,8 @@ number_kept : (number id : ℕ) (p : Purge) → (mark_of number id p).number ≡
 number_kept number id p = elim (is_numbered number p) as (λ b. (cond b (marked_by id p) p).number ≡ p.number) [ true ↦ refl | false ↦ refl ]
 
 -- another place has another number
-only_there : (purges : List Purge) (number place : ℕ) → Ascend purges → IsPlaceOf purges number place → (k : ℕ) (d : Purge) → k < length purges → k ≢ place → (get_or purges k d).number ≢ number
+only_there : (purges : List Purge) (number place : ℕ) → Ascend purges → IsPlaceOf purges number place → (k : ℕ) (d : Purge) → k < length purges → k ≢ place →
+    (get_or purges k d).number ≢ number
 only_there purges number place ascend at k d l other e =
     let here = at.is_of_it d in
     let after = ascend place k d in
@@ -35,15 +36,18 @@ only_there purges number place ascend at k d l other e =
     grind (arith, at.in_range)
 
 -- the purge at the place is marked, as all of that number are
-pub set_marked : (purges : List Purge) (number place id : ℕ) (p q : Purge) → Ascend purges → IsPlaceOf purges number place → p ≡ get_or purges place p → q ≡ marked_by id p → set purges place q ≡ map (mark_of number id) purges
+pub set_marked : (purges : List Purge) (number place id : ℕ) (p q : Purge) → Ascend purges → IsPlaceOf purges number place → p ≡ get_or purges place p →
+    q ≡ marked_by id p → set purges place q ≡ map (mark_of number id) purges
 set_marked purges number place id p q ascend at is marked = same_lists _ _ (length-set purges place q ∙ sym (length-map purges _)) (λ k d h.
     let h : k < length purges = omega (arith, length-set purges place q) in
     let mapped : get_or (map (mark_of number id) purges) k d ≡ mark_of number id (get_or purges k d) = get_or-map (mark_of number id) purges k d d h in
     elim (cases_eq k place) [
       | inl e ↦
           let here : get_or purges k d ≡ p = ap (λ i. get_or purges i d) e ∙ read_at purges place p d at.in_range is in
-          get_or-set_at purges place k q d e at.in_range ∙ marked ∙ sym (mapped ∙ mark_here number id (get_or purges k d) (ap (λ i. (get_or purges i d).number) e ∙ at.is_of_it d) ∙ ap (marked_by id) here)
-      | inr n ↦ get_or-set_other purges place k q d n ∙ sym (mapped ∙ mark_other number id (get_or purges k d) (only_there purges number place ascend at k d h n))
+          get_or-set_at purges place k q d e at.in_range ∙ marked
+          ∙ sym (mapped ∙ mark_here number id (get_or purges k d) (ap (λ i. (get_or purges i d).number) e ∙ at.is_of_it d) ∙ ap (marked_by id) here)
+      | inr n ↦ get_or-set_other purges place k q d n
+          ∙ sym (mapped ∙ mark_other number id (get_or purges k d) (only_there purges number place ascend at k d h n))
     ])
   where
     read_at : (purges : List Purge) (place : ℕ) (p d : Purge) → place < length purges → p ≡ get_or purges place p → get_or purges place d ≡ p
@@ -62,14 +66,18 @@ pub numbered_marked : (purges : PurgeList) (number id : ℕ) → AreNumbered pur
 numbered_marked purges number id are = record {
   ascend = λ i j d lt l.
       let size : length (map (mark_of number id) purges.pending) ≡ length purges.pending = length-map purges.pending _ in
-      let first : get_or (map (mark_of number id) purges.pending) i d ≡ mark_of number id (get_or purges.pending i d) = get_or-map (mark_of number id) purges.pending i d d (omega arith) in
-      let second : get_or (map (mark_of number id) purges.pending) j d ≡ mark_of number id (get_or purges.pending j d) = get_or-map (mark_of number id) purges.pending j d d (omega arith) in
+      let first : get_or (map (mark_of number id) purges.pending) i d ≡ mark_of number id (get_or purges.pending i d) =
+      get_or-map (mark_of number id) purges.pending i d d (omega arith) in
+      let second : get_or (map (mark_of number id) purges.pending) j d ≡ mark_of number id (get_or purges.pending j d) =
+      get_or-map (mark_of number id) purges.pending j d d (omega arith) in
       let one = ap (λ (p : Purge). p.number) first ∙ number_kept number id (get_or purges.pending i d) in
       let two = ap (λ (p : Purge). p.number) second ∙ number_kept number id (get_or purges.pending j d) in
       let rise = are.ascend i j d lt (omega arith) in
       omega arith;
-  positive = All-map (λ (a : Purge). 1 ≤ a.number) (mark_of number id) purges.pending (λ k d l. let same = number_kept number id (get_or purges.pending k d) in let there = are.positive k d l in omega arith);
-  given = All-map (λ (a : Purge). a.number ≤ purges.last) (mark_of number id) purges.pending (λ k d l. let same = number_kept number id (get_or purges.pending k d) in let there = are.given k d l in omega arith);
+  positive = All-map (λ (a : Purge). 1 ≤ a.number) (mark_of number id) purges.pending
+      (λ k d l. let same = number_kept number id (get_or purges.pending k d) in let there = are.positive k d l in omega arith);
+  given = All-map (λ (a : Purge). a.number ≤ purges.last) (mark_of number id) purges.pending
+      (λ k d l. let same = number_kept number id (get_or purges.pending k d) in let there = are.given k d l in omega arith);
   last = are.last;
 }
 
@@ -96,7 +104,8 @@ removed (q ∷ purges) number (suc place) ascend at =
     let above = ascend 0 (suc place) q (omega arith) at.in_range in
     let here : (get_or purges place q).number ≡ number = at.is_of_it q in
     let l = at.in_range in
-    let rest = removed purges number place (λ j k d lt h. ascend (suc j) (suc k) d (omega arith) (omega arith)) record { in_range = omega arith; is_of_it = λ d. at.is_of_it d } in
+    let rest = removed purges number place (λ j k d lt h. ascend (suc j) (suc k) d (omega arith) (omega arith)) record
+    { in_range = omega arith; is_of_it = λ d. at.is_of_it d } in
     ap (λ xs. q ∷ xs) rest
     ∙ sym (ap (λ b. cond (not b) (q ∷ others number purges) (others number purges)) (eqb_other (λ (e : q.number ≡ number). omega arith)))
 

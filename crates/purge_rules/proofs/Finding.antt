@@ -21,7 +21,8 @@ find_none p (x ∷ xs) fails =
     ap (λ b. cond b (Some x) (find p xs)) (fails 0 x (omega arith))
     ∙ find_none p xs (λ k d l. fails (suc k) d (omega arith))
 
-find_here : (p : Purge → Bool) (xs : List Purge) (i : ℕ) → i < length xs → HoldsAt (λ x. p x ≡ true) xs i → AllWithin (λ x. p x ≡ false) xs 0 i → find p xs ≡ slice_get xs i
+find_here : (p : Purge → Bool) (xs : List Purge) (i : ℕ) → i < length xs → HoldsAt (λ x. p x ≡ true) xs i → AllWithin (λ x. p x ≡ false) xs 0 i →
+    find p xs ≡ slice_get xs i
 find_here p [] i l here before = absurd (omega arith)
 find_here p (x ∷ xs) zero l here before = ap (λ b. cond b (Some x) (find p xs)) (here x)
 find_here p (x ∷ xs) (suc i) l here before =
@@ -48,15 +49,19 @@ absent purges number none = find_none (is_numbered number) purges (λ k d l. eqb
 
 -- What a binary search by numbers says
 
-pub place_found : (purges : List Purge) (number place : ℕ) → place < length purges → HoldsAt (λ q. nat_cmp q.number number ≡ Equal) purges place → IsPlaceOf purges number place
+pub place_found : (purges : List Purge) (number place : ℕ) → place < length purges → HoldsAt (λ q. nat_cmp q.number number ≡ Equal) purges place →
+    IsPlaceOf purges number place
 place_found purges number place l equal = record { in_range = l; is_of_it = λ d. ranked _ number _ (sym (equal d)) }
 
 comparisons_rise : (purges : List Purge) (number : ℕ) → Ascend purges → IsNonDecreasingBy (λ q. ordering_index (nat_cmp q.number number)) purges
 comparisons_rise purges number ascend i j d le l =
-    let rise : (get_or purges i d).number ≤ (get_or purges j d).number = grind (arith, ascend i j d, λ (same : i ≡ j). ap (λ k. (get_or purges k d).number) same) in
+    let rise : (get_or purges i d).number ≤ (get_or purges j d).number =
+    grind (arith, ascend i j d, λ (same : i ≡ j). ap (λ k. (get_or purges k d).number) same) in
     grind (arith, nat_tests)
 
-pub none_found : (purges : List Purge) (number place : ℕ) → Ascend purges → (IsNonDecreasingBy (λ q. ordering_index (nat_cmp q.number number)) purges → IsPartitionPoint (λ q. nat_cmp q.number number ≡ Less) (λ q. nat_cmp q.number number ≡ Greater) purges place) → IsAbsent purges number
+pub none_found : (purges : List Purge) (number place : ℕ) → Ascend purges →
+    (IsNonDecreasingBy (λ q. ordering_index (nat_cmp q.number number)) purges → IsPartitionPoint (λ q. nat_cmp q.number number ≡ Less)
+    (λ q. nat_cmp q.number number ≡ Greater) purges place) → IsAbsent purges number
 none_found purges number place ascend parted k d l e =
     let parts = parted (comparisons_rise purges number ascend) in
     elim (cases_lt k place) [

@@ -36,7 +36,8 @@ with_at id k (suc j) (true ∷ bs) e l =
 with_at id k (suc j) (false ∷ bs) e l = with_at id (suc k) j bs (omega arith) (omega arith)
 
 -- each true place stands for an id that passes the test
-pub all_pass : (test : ℕ → Bool) (k : ℕ) (bs : List Bool) → ((j : ℕ) → j < length bs → get_or bs j false ≡ true → test (k + j) ≡ true) → list_all test (ids_from k bs) ≡ true
+pub all_pass : (test : ℕ → Bool) (k : ℕ) (bs : List Bool) → ((j : ℕ) → j < length bs → get_or bs j false ≡ true → test (k + j) ≡ true) →
+    list_all test (ids_from k bs) ≡ true
 all_pass test k [] pass = refl
 all_pass test k (true ∷ bs) pass =
     let here : test k ≡ true = ap test (omega arith) ∙ pass 0 (omega arith) refl in
@@ -57,7 +58,8 @@ one_fails test k (suc j) (true ∷ bs) e f =
 one_fails test k (suc j) (false ∷ bs) e f = one_fails test (suc k) j bs e (ap test (omega arith) ∙ f)
 
 -- what passes a test, place by place
-pub filtered : (test : ℕ → Bool) (k : ℕ) (bs cs : List Bool) → length cs ≡ length bs → ((j : ℕ) → j < length bs → get_or cs j false ≡ (get_or bs j false && test (k + j))) → ids_from k cs ≡ filter test (ids_from k bs)
+pub filtered : (test : ℕ → Bool) (k : ℕ) (bs cs : List Bool) → length cs ≡ length bs →
+    ((j : ℕ) → j < length bs → get_or cs j false ≡ (get_or bs j false && test (k + j))) → ids_from k cs ≡ filter test (ids_from k bs)
 filtered test k [] [] same at = refl
 filtered test k [] (c ∷ cs) same at = absurd (omega arith)
 filtered test k (b ∷ bs) [] same at = absurd (omega arith)
@@ -123,13 +125,15 @@ with_same id k j bs e is = sym (with_at id k j bs e (true_within j bs is)) ∙ a
 
 -- Pairs
 
-pub paired_true : {X : Type 0} (f : ℕ → X) (j n id : ℕ) (bs : List Bool) (ps qs : List X) → n ≡ j + 1 → id ≡ j + 1 → get_or bs j false ≡ true → ps ≡ qs ++ map f (ids_from 1 (take j bs)) → ps ++ f id ∷ [] ≡ qs ++ map f (ids_from 1 (take n bs))
+pub paired_true : {X : Type 0} (f : ℕ → X) (j n id : ℕ) (bs : List Bool) (ps qs : List X) → n ≡ j + 1 → id ≡ j + 1 → get_or bs j false ≡ true →
+    ps ≡ qs ++ map f (ids_from 1 (take j bs)) → ps ++ f id ∷ [] ≡ qs ++ map f (ids_from 1 (take n bs))
 paired_true f j n id bs ps qs e i is so =
     let next : n ≡ suc j = omega arith in
     let more : ids_from 1 (take n bs) ≡ ids_from 1 (take j bs) ++ id ∷ [] = rw next (one_more_true id 1 j bs (omega arith) is) in
     rw (so, more, map-append f (ids_from 1 (take j bs)) (id ∷ [])) (append_assoc qs (map f (ids_from 1 (take j bs))) (f id ∷ []))
 
-pub paired_false : {X : Type 0} (f : ℕ → X) (j n : ℕ) (bs : List Bool) (ps qs : List X) → n ≡ j + 1 → get_or bs j false ≡ false → ps ≡ qs ++ map f (ids_from 1 (take j bs)) → ps ≡ qs ++ map f (ids_from 1 (take n bs))
+pub paired_false : {X : Type 0} (f : ℕ → X) (j n : ℕ) (bs : List Bool) (ps qs : List X) → n ≡ j + 1 → get_or bs j false ≡ false →
+    ps ≡ qs ++ map f (ids_from 1 (take j bs)) → ps ≡ qs ++ map f (ids_from 1 (take n bs))
 paired_false f j n bs ps qs e is so =
     let next : n ≡ suc j = omega arith in
     let more : ids_from 1 (take n bs) ≡ ids_from 1 (take j bs) = rw next (one_more_false 1 j bs is) in
@@ -155,7 +159,8 @@ any_found test (x ∷ xs) =
 one_first : (j : ℕ) → j + 1 ≡ 1 + j
 one_first j = omega arith
 
-pub members_placed : (t : Tables) (has : List Bool) → length has ≡ 16 → ((k : ℕ) → k < 16 → get_or has k false ≡ list_any (λ m. m.cache.id == k + 1) t.members) → ids_of has ≡ members_of t
+pub members_placed : (t : Tables) (has : List Bool) → length has ≡ 16 →
+    ((k : ℕ) → k < 16 → get_or has k false ≡ list_any (λ m. m.cache.id == k + 1) t.members) → ids_of has ≡ members_of t
 unfolding members_of trues
 members_placed t has long at = filtered (is_member t) 1 (trues 16) has long (λ j l.
     at j l ∙ any_found (λ m. m.cache.id == j + 1) t.members

@@ -10,7 +10,8 @@ abbrev missing_pairs : List ℕ → Purge → List (ℕ × ℕ)
 missing_pairs members p = map (λ id. (p.number, id)) (missing members p)
 
 pub due_more : (members : List ℕ) (purges : List Purge) (i : ℕ) (p : Purge) → i < length purges → p ≡ get_or purges i p →
-    due members record { last = 0; pending = take i purges } ++ map (λ id. (p.number, id)) (missing members p) ≡ due members record { last = 0; pending = take (i + 1) purges }
+    due members record { last = 0; pending = take i purges } ++ map (λ id. (p.number, id)) (missing members p) ≡ due members record
+    { last = 0; pending = take (i + 1) purges }
 due_more members purges i p l is =
     sym (ap (flat_map (missing_pairs members)) (take_more purges i p l ∙ ap (λ q. take i purges ++ q ∷ []) (sym is))
     ∙ flat_map-append (missing_pairs members) (take i purges) (p ∷ [])

@@ -26,7 +26,8 @@ missing members p = filter (λ id. not (is_among id p.marked)) members
 
 -- why no number is given, if so: all are spent, or else 1,024 purges are pending [Master 3]
 abbrev pub issue_fault : PurgeList → Option MasterFault
-issue_fault purges = if nat_le 4294967295 purges.last then Some fault.NumbersSpent else (if nat_le 1024 (length purges.pending) then Some fault.TooManyPending else None)
+issue_fault purges = if nat_le 4294967295 purges.last then Some fault.NumbersSpent
+    else (if nat_le 1024 (length purges.pending) then Some fault.TooManyPending else None)
 
 -- the purges after a response, and the number of the purge that it has made done, if any
 pub record Acknowledged : Type 0 where
@@ -42,14 +43,16 @@ unchanged purges = record { purges = purges; done = None }
 abbrev pub counted : List ℕ → PurgeList → ℕ → Option Purge → Acknowledged
 counted members purges id None = unchanged purges
 counted members purges id (Some p) =
-    if are_among members (with_id id p.marked) then record { purges = without_purge purges p.number; done = Some p.number }
+    if are_among members (with_id id p.marked)
+    then record { purges = without_purge purges p.number; done = Some p.number }
     else record { purges = with_mark purges p.number id; done = None }
 
 -- a response counts if its code acknowledges, it is of a member of the roster, and its TRANS-ID is
 -- the number of a pending purge (RFC 2756, section 6.5) [Master 5]
 abbrev pub acknowledged : List ℕ → PurgeList → ℕ → ℕ → ℕ → Acknowledged
 acknowledged members purges id trans code =
-    if is_acknowledging code && is_among id members then counted members purges id (pending_at purges trans) else unchanged purges
+    if is_acknowledging code && is_among id members then counted members purges id (pending_at purges trans)
+    else unchanged purges
 
 -- the number of each pending purge with the id of each missing member, by number and then by id [Master 8]
 abbrev pub due : List ℕ → PurgeList → List (ℕ × ℕ)
@@ -96,7 +99,8 @@ abbrev pub open_call : List ℕ → PurgeList → MasterCall → Called
 open_call members purges (call.Issue key) = issued purges key (issue_fault purges)
 open_call members purges (call.Acknowledge id trans code) = told (acknowledged members purges id trans code)
 open_call members purges call.Due = answers (opened purges) (answer.Due (due members purges))
-open_call members purges (call.Status number) = answers (opened purges) (answer.Status (status_of members purges number))
+open_call members purges (call.Status number) = answers (opened purges)
+    (answer.Status (status_of members purges number))
 
 -- a call of a closed master: it still tells a status, and refuses all else [Master 11]
 abbrev pub closed_call : List ℕ → MasterState → MasterCall → Called
@@ -115,7 +119,8 @@ is_news members id (Some p) = not (is_among id p.marked) || are_among members p.
 -- the call writes: it changes what is stored
 abbrev pub is_written : List ℕ → PurgeList → MasterCall → Bool
 is_written members purges (call.Issue key) = is_none (issue_fault purges)
-is_written members purges (call.Acknowledge id trans code) = is_acknowledging code && is_among id members && is_news members id (pending_at purges trans)
+is_written members purges (call.Acknowledge id trans code) = is_acknowledging code && is_among id members
+    && is_news members id (pending_at purges trans)
 is_written members purges _ = false
 
 -- the call makes a list
@@ -138,7 +143,8 @@ WantsMemory members s c next =
 -- as the function says [Master 10]
 abbrev pub Refuses : List ℕ → MasterState → MasterCall → MasterFault → MasterState → Type 0
 Refuses members s c fault.NoMemory next = (s.closed ≡ false) × WantsMemory members s c next
-Refuses members s c fault.StoreFault next = (s.closed ≡ false) × (is_written members s.purges c ≡ true) × (next ≡ closing s)
+Refuses members s c fault.StoreFault next = (s.closed ≡ false) × (is_written members s.purges c ≡ true)
+    × (next ≡ closing s)
 Refuses members s c f next = called members s c ≡ record { state = next; outcome = Err f }
 
 -- the definition of a master's call: a master of these members, in this state, may return this and

@@ -11,7 +11,8 @@ eqb_other a b l = grind (arith, nat_tests)
 -- no id below the first is among them
 pub none_below : (id k : ℕ) (bs : List Bool) → id < k → is_among id (ids_from k bs) ≡ false
 none_below id k [] l = refl
-none_below id k (true ∷ bs) l = ap (λ b. b || is_among id (ids_from (suc k) bs)) (eqb_other k id l) ∙ none_below id (suc k) bs (omega arith)
+none_below id k (true ∷ bs) l = ap (λ b. b || is_among id (ids_from (suc k) bs)) (eqb_other k id l)
+    ∙ none_below id (suc k) bs (omega arith)
 none_below id k (false ∷ bs) l = none_below id (suc k) bs (omega arith)
 
 -- an id is among them exactly if its place is true
@@ -32,7 +33,8 @@ numbers first zero = []
 numbers first (suc n) = first ∷ numbers (suc first) n
 
 -- testing each number gives the truth values back
-pub places_back : (test : ℕ → Bool) (k : ℕ) (bs : List Bool) → ((j : ℕ) → test (k + j) ≡ get_or bs j false) → map test (numbers k (length bs)) ≡ bs
+pub places_back : (test : ℕ → Bool) (k : ℕ) (bs : List Bool) → ((j : ℕ) → test (k + j) ≡ get_or bs j false) →
+    map test (numbers k (length bs)) ≡ bs
 places_back test k [] at = refl
 places_back test k (b ∷ bs) at =
     let here : test k ≡ b = ap test (omega arith) ∙ at 0 in

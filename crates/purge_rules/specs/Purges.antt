@@ -44,8 +44,13 @@ marked_by id p = record p { marked = with_id id p.marked }
 
 -- the purges, with the member marked at the purge of this number
 abbrev pub with_mark : PurgeList → ℕ → ℕ → PurgeList
-with_mark purges number id = record { last = purges.last; pending = map (λ p. if is_numbered number p then marked_by id p else p) purges.pending }
+with_mark purges number id =
+    record {
+      last = purges.last;
+      pending = map (λ p. if is_numbered number p then marked_by id p else p) purges.pending;
+    }
 
 -- the purges without the pending purge of this number, which is done
 abbrev pub without_purge : PurgeList → ℕ → PurgeList
-without_purge purges number = record { last = purges.last; pending = filter (λ p. not (is_numbered number p)) purges.pending }
+without_purge purges number =
+    record { last = purges.last; pending = filter (λ p. not (is_numbered number p)) purges.pending }

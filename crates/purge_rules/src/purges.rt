@@ -114,7 +114,8 @@ impl Purges {
     /// The index of the pending purge with this number, by binary search.
     fn place_of(&self, number: u32) -> Option<usize>
         ensures numbered { AreNumbered self.now }
-        ensures place { MatchOption result (IsAbsent self.now.pending number) (IsPlaceOf self.now.pending number) }
+        ensures place { MatchOption result (IsAbsent self.now.pending number)
+            (IsPlaceOf self.now.pending number) }
     {
         match self
             .pending
@@ -176,7 +177,8 @@ impl Purges {
     /// Undoes the latest `add`; the last number was this one before it. Allocates nothing.
     pub fn take_back(&mut self, last: u32)
         requires { CameBy self.old last }
-        ensures { (before : PurgeList) (number : ℕ) (key : List ℕ) → self.old ≡ with_purge before number key → last ≡ before.last → self.new ≡ before }
+        ensures { (before : PurgeList) (number : ℕ) (key : List ℕ) →
+            self.old ≡ with_purge before number key → last ≡ before.last → self.new ≡ before }
     {
         let _ = self.pending.pop();
         self.last = last;

@@ -46,7 +46,8 @@ pub trait PurgeStore {
         ensures honest { is_honest self.new → is_honest self.old }
         ensures left { (found : PurgeList) → may_find self.new found → may_find self.old found }
         ensures once { failed self.new ≤ failed self.old + 1 }
-        ensures fault { result ≡ Err PurgeFault.StoreFault → HaveRisen (failed self.old) (failed self.new) }
+        ensures fault { result ≡ Err PurgeFault.StoreFault →
+            HaveRisen (failed self.old) (failed self.new) }
         ensures cause { result ≡ Err PurgeFault.StoreFault → is_usable self.old ≡ false }
         ensures named { result ≢ Err PurgeFault.BadTable };
 
@@ -61,16 +62,23 @@ pub trait PurgeStore {
         requires above { is_honest self.old → (content self.old).last < number }
         requires room { is_honest self.old → length (content self.old).pending < 1024 }
         ensures honest { is_honest self.new → is_honest self.old }
-        ensures committed { OnOk result (is_honest self.new → content self.new ≡ with_purge (content self.old) number key.now) }
-        ensures durable { OnOk result (is_honest self.new → (found : PurgeList) → may_find self.new found → found ≡ with_purge (content self.old) number key.now) }
-        ensures crash { is_honest self.new → IsTrue (is_usable self.old) → (found : PurgeList) → may_find self.new found → IsEither (content self.old) (with_purge (content self.old) number key.now) found }
+        ensures committed { OnOk result (is_honest self.new →
+            content self.new ≡ with_purge (content self.old) number key.now) }
+        ensures durable { OnOk result (is_honest self.new → (found : PurgeList) →
+            may_find self.new found → found ≡ with_purge (content self.old) number key.now) }
+        ensures crash { is_honest self.new → IsTrue (is_usable self.old) → (found : PurgeList) →
+            may_find self.new found → IsEither (content self.old)
+            (with_purge (content self.old) number key.now) found }
         ensures refused { is_usable self.old ≡ false → result ≡ Err PurgeFault.StoreFault }
-        ensures left { is_usable self.old ≡ false → (found : PurgeList) → may_find self.new found → may_find self.old found }
+        ensures left { is_usable self.old ≡ false → (found : PurgeList) → may_find self.new found →
+            may_find self.old found }
         ensures usable { OnOk result (IsTrue (is_usable self.new)) }
         ensures spent { result ≡ Err PurgeFault.StoreFault → is_usable self.new ≡ false }
-        ensures counted { (result ≡ Err PurgeFault.StoreFault) ⊎ (failed self.new ≡ failed self.old) }
+        ensures counted { (result ≡ Err PurgeFault.StoreFault)
+            ⊎ (failed self.new ≡ failed self.old) }
         ensures once { failed self.new ≤ failed self.old + 1 }
-        ensures fault { result ≡ Err PurgeFault.StoreFault → HaveRisen (failed self.old) (failed self.new) }
+        ensures fault { result ≡ Err PurgeFault.StoreFault →
+            HaveRisen (failed self.old) (failed self.new) }
         ensures named { result ≢ Err PurgeFault.BadTable };
 
     /// Commits that the member, of an id of 1 to 16, has acknowledged the pending purge with this
@@ -81,16 +89,23 @@ pub trait PurgeStore {
         requires id { (1 ≤ member) × (member ≤ 16) }
         requires missing { is_honest self.old → Misses (content self.old) number member }
         ensures honest { is_honest self.new → is_honest self.old }
-        ensures committed { OnOk result (is_honest self.new → content self.new ≡ with_mark (content self.old) number member) }
-        ensures durable { OnOk result (is_honest self.new → (found : PurgeList) → may_find self.new found → found ≡ with_mark (content self.old) number member) }
-        ensures crash { is_honest self.new → IsTrue (is_usable self.old) → (found : PurgeList) → may_find self.new found → IsEither (content self.old) (with_mark (content self.old) number member) found }
+        ensures committed { OnOk result (is_honest self.new →
+            content self.new ≡ with_mark (content self.old) number member) }
+        ensures durable { OnOk result (is_honest self.new → (found : PurgeList) →
+            may_find self.new found → found ≡ with_mark (content self.old) number member) }
+        ensures crash { is_honest self.new → IsTrue (is_usable self.old) → (found : PurgeList) →
+            may_find self.new found → IsEither (content self.old)
+            (with_mark (content self.old) number member) found }
         ensures refused { is_usable self.old ≡ false → result ≡ Err PurgeFault.StoreFault }
-        ensures left { is_usable self.old ≡ false → (found : PurgeList) → may_find self.new found → may_find self.old found }
+        ensures left { is_usable self.old ≡ false → (found : PurgeList) → may_find self.new found →
+            may_find self.old found }
         ensures usable { OnOk result (IsTrue (is_usable self.new)) }
         ensures spent { result ≡ Err PurgeFault.StoreFault → is_usable self.new ≡ false }
-        ensures counted { (result ≡ Err PurgeFault.StoreFault) ⊎ (failed self.new ≡ failed self.old) }
+        ensures counted { (result ≡ Err PurgeFault.StoreFault)
+            ⊎ (failed self.new ≡ failed self.old) }
         ensures once { failed self.new ≤ failed self.old + 1 }
-        ensures fault { result ≡ Err PurgeFault.StoreFault → HaveRisen (failed self.old) (failed self.new) }
+        ensures fault { result ≡ Err PurgeFault.StoreFault →
+            HaveRisen (failed self.old) (failed self.new) }
         ensures named { result ≢ Err PurgeFault.BadTable };
 
     /// Commits that the purge with this number is pending no longer. If no such purge is pending,
@@ -99,16 +114,23 @@ pub trait PurgeStore {
     /// Errors as for `add`.
     fn finish(&mut self, alloc: Global, number: u32) -> Result<(), PurgeFault>
         ensures honest { is_honest self.new → is_honest self.old }
-        ensures committed { OnOk result (is_honest self.new → content self.new ≡ without_purge (content self.old) number) }
-        ensures durable { OnOk result (is_honest self.new → (found : PurgeList) → may_find self.new found → found ≡ without_purge (content self.old) number) }
-        ensures crash { is_honest self.new → IsTrue (is_usable self.old) → (found : PurgeList) → may_find self.new found → IsEither (content self.old) (without_purge (content self.old) number) found }
+        ensures committed { OnOk result (is_honest self.new →
+            content self.new ≡ without_purge (content self.old) number) }
+        ensures durable { OnOk result (is_honest self.new → (found : PurgeList) →
+            may_find self.new found → found ≡ without_purge (content self.old) number) }
+        ensures crash { is_honest self.new → IsTrue (is_usable self.old) → (found : PurgeList) →
+            may_find self.new found → IsEither (content self.old)
+            (without_purge (content self.old) number) found }
         ensures refused { is_usable self.old ≡ false → result ≡ Err PurgeFault.StoreFault }
-        ensures left { is_usable self.old ≡ false → (found : PurgeList) → may_find self.new found → may_find self.old found }
+        ensures left { is_usable self.old ≡ false → (found : PurgeList) → may_find self.new found →
+            may_find self.old found }
         ensures usable { OnOk result (IsTrue (is_usable self.new)) }
         ensures spent { result ≡ Err PurgeFault.StoreFault → is_usable self.new ≡ false }
-        ensures counted { (result ≡ Err PurgeFault.StoreFault) ⊎ (failed self.new ≡ failed self.old) }
+        ensures counted { (result ≡ Err PurgeFault.StoreFault)
+            ⊎ (failed self.new ≡ failed self.old) }
         ensures once { failed self.new ≤ failed self.old + 1 }
-        ensures fault { result ≡ Err PurgeFault.StoreFault → HaveRisen (failed self.old) (failed self.new) }
+        ensures fault { result ≡ Err PurgeFault.StoreFault →
+            HaveRisen (failed self.old) (failed self.new) }
         ensures named { result ≢ Err PurgeFault.BadTable };
 
     /// How many calls have returned `StoreFault`. At 18446744073709551615 it stays.

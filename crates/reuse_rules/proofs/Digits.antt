@@ -11,7 +11,8 @@ digit_is : (octet : ℕ) → is_ascii_digit octet ≡ true → digit_value octet
 digit_is octet digit = grind (arith, nat_tests)
 
 -- one more digit, which is counted up to the greatest number of seconds
-pub seconds_more : (text : List ℕ) (place seconds : ℕ) → place < length text → is_ascii_digit (get_or text place 0) ≡ true → seconds ≡ min (digits_value 10 (take place text)) 2147483648
+pub seconds_more : (text : List ℕ) (place seconds : ℕ) → place < length text → is_ascii_digit (get_or text place 0) ≡ true →
+    seconds ≡ min (digits_value 10 (take place text)) 2147483648
     → min 2147483648 (seconds * 10 + (get_or text place 0 - 48)) ≡ min (digits_value 10 (take (place + 1) text)) 2147483648
 seconds_more text place seconds inside digit so_far =
     let more = digits_value_more 10 text place inside in

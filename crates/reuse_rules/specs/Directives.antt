@@ -25,7 +25,11 @@ is_equals_sign octet = octet == 61
 -- the directive of a member: a name and, after the first `=`, a value, without the blanks around
 -- both
 abbrev pub directive_of : List ℕ → DirectiveText
-directive_of member = record { name = trim (before_first is_equals_sign member); value = trim (after_first is_equals_sign member) }
+directive_of member = record {
+  name = trim (before_first is_equals_sign member);
+  value =
+      trim (after_first is_equals_sign member);
+}
 
 -- the directives of a field: those of its members, if it is a `cache-control` field
 abbrev pub directives_of_field : FieldText → List DirectiveText
@@ -41,7 +45,8 @@ is_called name d = bytes_eq (map to_ascii_lowercase d.name) (map to_ascii_lowerc
 
 -- double quotes stand around the value
 abbrev pub is_quoted : List ℕ → Bool
-is_quoted value = nat_le 2 (length value) && (slice_index value 0 == double_quote) && (slice_index value (length value - 1) == double_quote)
+is_quoted value = nat_le 2 (length value) && (slice_index value 0 == double_quote)
+    && (slice_index value (length value - 1) == double_quote)
 
 -- the value without the double quotes around it, if it has both
 abbrev pub unquoted : List ℕ → List ℕ

@@ -14,4 +14,5 @@ directives_in (Some text) = map directive_of (members text)
 -- what a contract sees of an iterator: the directives of the current field, then those of the
 -- fields after it
 abbrev pub directives_left : Directives → List DirectiveText
-directives_left it = directives_in (option_copied it.text) ++ flat_map directives_of_field (map field_text it.fields.now)
+directives_left it = directives_in (option_copied it.text) ++ flat_map directives_of_field
+    (map field_text it.fields.now)

@@ -62,7 +62,8 @@ by_either a c udp.Icp icp htcp = icp
 by_either a c udp.Htcp icp htcp = htcp
 
 -- an address that is none of those of some caches is no member's among them
-apart_from : (a : Address) (ms : List Member) (fs : List Cache) (id : ℕ) (m : Member) (by : Udp) → list_any (same_address a) (udp_of (map (λ m. m.cache) ms ++ fs)) ≡ false
+apart_from : (a : Address) (ms : List Member) (fs : List Cache) (id : ℕ) (m : Member) (by : Udp) →
+    list_any (same_address a) (udp_of (map (λ m. m.cache) ms ++ fs)) ≡ false
     → find (λ m. m.cache.id == id) ms ≡ Some m → same_address a (address_by by m.cache) ≡ false
 apart_from a [] fs id m by h e = cc
 apart_from a (n ∷ ms) fs id m by h e =
@@ -89,7 +90,8 @@ found_by (n ∷ ms) fs id m h e =
           (rw (same_itself n.cache.htcp) (ap Some (eqb-true n.cache.id id here)))
       | inr other ↦
           let below : find (λ m. m.cache.id == id) ms ≡ Some m = rw other at e in
-          let apart : same_address m.cache.htcp n.cache.htcp ≡ false = same_back n.cache.htcp m.cache.htcp (apart_from n.cache.htcp ms fs id m udp.Htcp alone below) in
+          let apart : same_address m.cache.htcp n.cache.htcp ≡ false = same_back n.cache.htcp m.cache.htcp
+          (apart_from n.cache.htcp ms fs id m udp.Htcp alone below) in
           rw apart (found_by ms fs id m rest below)
     ]
 

@@ -47,7 +47,8 @@ here_or_behind s x ids h = elim (cases_Bool (s == x)) [
 abbrev Higher : Tables → List ℕ → ℕ → Type 0
 Higher t ids x = (y : ℕ) × (is_among ids y ≡ true) × Ascends t x y
 
-skip : (t : Tables) (s : ℕ) (ids : List ℕ) (y : ℕ) → is_among ids y ≡ true → Ascends t s y → (z w : ℕ) → Ascends t z w → (s ≡ w) ⊎ (is_among ids w ≡ true) → Higher t ids z
+skip : (t : Tables) (s : ℕ) (ids : List ℕ) (y : ℕ) → is_among ids y ≡ true → Ascends t s y → (z w : ℕ) → Ascends t z w → (s ≡ w) ⊎ (is_among ids w ≡ true) →
+    Higher t ids z
 skip t s ids y near up z w way (inl same) = (y, near, onward way (subst (λ v. Ascends t v y) same up))
 skip t s ids y near up z w way (inr left) = (w, left, way)
 
@@ -118,7 +119,8 @@ has_one (q ∷ qs) ids y near h = elim (cases_Bool ((q.id == y) && is_parent q.r
   | inr fails ↦ or_right (is_parent q.role && is_among ids q.id) _ (has_one qs ids y near (rw fails at h))
 ]
 
-names_in : (f : Peer → Bool) (ms : List Member) (x : ℕ) → list_any f (peers_in (find (λ m. m.cache.id == x) ms)) ≡ true → is_among (map (λ m. m.cache.id) ms) x ≡ true
+names_in : (f : Peer → Bool) (ms : List Member) (x : ℕ) → list_any f (peers_in (find (λ m. m.cache.id == x) ms)) ≡ true →
+    is_among (map (λ m. m.cache.id) ms) x ≡ true
 names_in f [] x h = absurd (false≢true h)
 names_in f (m ∷ ms) x h = elim (cases_Bool (m.cache.id == x)) [
   | inl same ↦ rw same

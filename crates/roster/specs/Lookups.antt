@@ -47,7 +47,8 @@ address_by udp.Htcp c = c.htcp
 
 -- the id of the member that has this address for this protocol
 abbrev pub member_at : Tables → Address → Udp → Option ℕ
-member_at t address by = option_map (λ m. m.cache.id) (find (λ m. same_address address (address_by by m.cache)) t.members)
+member_at t address by = option_map (λ m. m.cache.id)
+    (find (λ m. same_address address (address_by by m.cache)) t.members)
 
 -- the address is the master's
 abbrev pub is_master : Tables → Address → Bool
@@ -55,7 +56,8 @@ is_master t from = same_address from t.master
 
 -- the ICP or HTCP address of a member, or the master's address
 abbrev pub is_own : Tables → Address → Bool
-is_own t address = is_master t address || (is_some (member_at t address udp.Icp) || is_some (member_at t address udp.Htcp))
+is_own t address = is_master t address ||
+    (is_some (member_at t address udp.Icp) || is_some (member_at t address udp.Htcp))
 
 -- this is the origin of this host and port
 abbrev pub is_origin_of : List ℕ → ℕ → Origin → Bool

@@ -62,7 +62,8 @@ fn udp_addresses(
     master: Address,
     caches: &[&Cache],
 ) -> Result<Vec<Address>, AllocError>
-    ensures { IfOk result (λ all. all.items ≡ master ∷ udp_of_caches (map (λ c. c.now) caches.now)) }
+    ensures { IfOk result (λ all. all.items ≡ master
+        ∷ udp_of_caches (map (λ c. c.now) caches.now)) }
 {
     let mut all = Vec::new(alloc);
     all.push(master)?;
@@ -142,7 +143,8 @@ fn is_unknown(caches: &[&Cache], member: &Member, peer: Peer) -> bool
 
 /// The index of the first peer that is unknown.
 fn first_unknown(caches: &[&Cache], member: &Member, peers: &[Peer]) -> Option<usize>
-    ensures { is_some result ≡ list_any (is_unknown_to (map (λ c. c.now) caches.now) member.now) peers.now }
+    ensures { is_some result ≡ list_any
+        (is_unknown_to (map (λ c. c.now) caches.now) member.now) peers.now }
 {
     match peers {
         [] => None,
@@ -209,7 +211,8 @@ fn member_place(members: &[Member], id: u8) -> TextPlace {
 
 /// Judges tables: the first fault, if there is one.
 pub(crate) fn judge(alloc: Global, tables: &Tables) -> Result<(), RosterError>
-    ensures { MatchResult result (λ _. FitTogether tables.now) (λ error. IsFirst tables.now error.fault) }
+    ensures { MatchResult result (λ _. FitTogether tables.now) (λ error.
+        IsFirst tables.now error.fault) }
 {
     if let Some(place) = too_many(tables) {
         return Err(RosterFault::TooMany.at(place));

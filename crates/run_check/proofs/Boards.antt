@@ -20,10 +20,17 @@ use Rattle.run_check.specs.Boards.{posts_of, board_of, AreMemberNodes, IsBoard, 
 use Rattle.run_check.proofs.Judging.{opening_judged, entry_judged}
 
 module _ (roster : Tables) (old : Held) (taken : Posts) (id : ℕ) (before : HeldStanding) (sent : Network) (board : IsBoard roster old sent)
-    (stood : standing_of before ≡ standing_at (posts_of old.posts) id) (others : (s : Standing) → with_standing (posts_of taken) id s ≡ with_standing (posts_of old.posts) id s) where
+    (stood : standing_of before ≡ standing_at (posts_of old.posts) id)
+    (others : (s : Standing) → with_standing (posts_of taken) id s ≡ with_standing (posts_of old.posts) id s) where
   -- the state in which the node's standing has changed, and all else is the same
-  module _ (now : Held) (after : HeldStanding) (posts : posts_of now.posts ≡ with_standing (posts_of taken) id (standing_of after)) (nodes : AreMemberNodes roster now.posts) (ledger : now.ledger ≡ old.ledger) where
-    same_board : (n : Network) → record { posts = with_standing (posts_of old.posts) id (standing_of after); master = master_of old.ledger; network = n } ≡ board_of now n
+  module _ (now : Held) (after : HeldStanding) (posts : posts_of now.posts ≡ with_standing (posts_of taken) id (standing_of after))
+      (nodes : AreMemberNodes roster now.posts) (ledger : now.ledger ≡ old.ledger) where
+    same_board : (n : Network) → record {
+      posts = with_standing (posts_of old.posts) id (standing_of after);
+      master = master_of old.ledger;
+      network =
+          n;
+    } ≡ board_of now n
     same_board n =
         ap (λ (p : List Post). record { posts = p; master = master_of old.ledger; network = n }) (sym (posts ∙ others (standing_of after)))
         ∙ ap (λ l. record { posts = posts_of now.posts; master = master_of l; network = n }) (sym ledger)
@@ -31,21 +38,27 @@ module _ (roster : Tables) (old : Held) (taken : Posts) (id : ℕ) (before : Hel
     is_board : (n : Network) → Holds roster now.network n → IsBoard roster now n
     is_board n holds = record { nodes = nodes; members = ap (λ l. l.members) ledger ∙ board.members; network = holds }
 
-    pub has_opened : (state : NodeState (Unit {0})) → Holds roster now.network (opened_network sent id state.next (standing_of after)) → IsOpened roster id (standing_of before) state (standing_of after) →
+    pub has_opened : (state : NodeState (Unit {0})) → Holds roster now.network (opened_network sent id state.next (standing_of after)) →
+        IsOpened roster id (standing_of before) state (standing_of after) →
         IsJudged roster (board_of old sent) (Opens id state) now None
     has_opened state holds opened =
         let n : Network = opened_network sent id state.next (standing_of after) in
-        let judged = opening_judged roster (board_of old sent) id state (standing_of after) (subst (λ s. IsOpened roster id s state (standing_of after)) stood opened) in
+        let judged = opening_judged roster (board_of old sent) id state (standing_of after)
+        (subst (λ s. IsOpened roster id s state (standing_of after)) stood opened) in
         (n, is_board n holds, subst (λ b. JudgesOpening roster (board_of old sent) id state (Fine b)) (same_board n) judged)
 
-    pub has_stepped : (e : NodeEntry) (is_closed : Bool) (kept : FloorMap) → IsHeard roster (board_of old sent) id e.event → Holds roster now.network (network_after roster sent id e (standing_of after)) →
-        StepsSo (setting roster id) (standing_of before) e is_closed kept (Ok (standing_of after)) → IsJudged roster (board_of old sent) (Steps id e is_closed kept) now None
+    pub has_stepped : (e : NodeEntry) (is_closed : Bool) (kept : FloorMap) → IsHeard roster (board_of old sent) id e.event →
+        Holds roster now.network (network_after roster sent id e (standing_of after)) →
+        StepsSo (setting roster id) (standing_of before) e is_closed kept (Ok (standing_of after)) →
+        IsJudged roster (board_of old sent) (Steps id e is_closed kept) now None
     has_stepped e is_closed kept heard holds steps =
         let n : Network = network_after roster sent id e (standing_of after) in
-        let judged = entry_judged roster (board_of old sent) id e is_closed kept (Ok (standing_of after)) heard (subst (λ s. StepsSo (setting roster id) s e is_closed kept (Ok (standing_of after))) stood steps) in
+        let judged = entry_judged roster (board_of old sent) id e is_closed kept (Ok (standing_of after)) heard
+        (subst (λ s. StepsSo (setting roster id) s e is_closed kept (Ok (standing_of after))) stood steps) in
         (n, is_board n holds, subst (λ b. JudgesEntry roster (board_of old sent) id e is_closed kept (Fine b)) (same_board n) judged)
 
   pub may_not_step : (e : NodeEntry) (is_closed : Bool) (kept : FloorMap) (cause : Cause) → IsHeard roster (board_of old sent) id e.event →
       StepsSo (setting roster id) (standing_of before) e is_closed kept (Err cause) → JudgesEntry roster (board_of old sent) id e is_closed kept (Flawed cause)
   may_not_step e is_closed kept cause heard steps =
-      entry_judged roster (board_of old sent) id e is_closed kept (Err cause) heard (subst (λ s. StepsSo (setting roster id) s e is_closed kept (Err cause)) stood steps)
+      entry_judged roster (board_of old sent) id e is_closed kept (Err cause) heard
+      (subst (λ s. StepsSo (setting roster id) s e is_closed kept (Err cause)) stood steps)

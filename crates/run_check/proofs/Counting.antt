@@ -13,7 +13,8 @@ found_number : (ps : List Purge) (number : ℕ) (p : Purge) → find (is_numbere
 found_number [] number p is = absurd (none-some p is)
 found_number (q ∷ ps) number p is =
     elim (either (nat_eq q.number number)) [
-      | inl here ↦ ap (λ (r : Purge). r.number) (sym (same_some q p (ap (λ b. cond b (Some q) (find (is_numbered number) ps)) (sym here) ∙ is))) ∙ eqb-true q.number number here
+      | inl here ↦ ap (λ (r : Purge). r.number) (sym (same_some q p (ap (λ b. cond b (Some q) (find (is_numbered number) ps)) (sym here) ∙ is)))
+          ∙ eqb-true q.number number here
       | inr other ↦ found_number ps number p (ap (λ b. cond b (Some q) (find (is_numbered number) ps)) (sym other) ∙ is)
     ]
 
@@ -24,7 +25,8 @@ module _ (members : List ℕ) (purges : PurgeList) (id number : ℕ) (p : Purge)
   abbrev marked_at : ℕ → Acknowledged
   marked_at n = record { purges = with_mark purges n id; done = None }
 
-  by_test : (b : Bool) → are_among members (with_id id p.marked) ≡ b → cond b (done_at number) (marked_at number) ≡ counted members purges id (pending_at purges number)
+  by_test : (b : Bool) → are_among members (with_id id p.marked) ≡ b → cond b (done_at number) (marked_at number) ≡ counted members purges id
+      (pending_at purges number)
   by_test b test =
       sym (
       ap (counted members purges id) is
@@ -32,8 +34,10 @@ module _ (members : List ℕ) (purges : PurgeList) (id number : ℕ) (p : Purge)
       ∙ ap (λ n. cond b (done_at n) (marked_at n)) (found_number purges.pending number p is)
       )
 
-  pub counted_done : are_among members (with_id id p.marked) ≡ true → record { purges = without_purge purges number; done = Some number } ≡ counted members purges id (pending_at purges number)
+  pub counted_done : are_among members (with_id id p.marked) ≡ true → record { purges = without_purge purges number; done = Some number } ≡ counted members
+      purges id (pending_at purges number)
   counted_done test = by_test true test
 
-  pub counted_mark : are_among members (with_id id p.marked) ≡ false → record { purges = with_mark purges number id; done = None } ≡ counted members purges id (pending_at purges number)
+  pub counted_mark : are_among members (with_id id p.marked) ≡ false → record { purges = with_mark purges number id; done = None } ≡ counted members purges id
+      (pending_at purges number)
   counted_mark test = by_test false test

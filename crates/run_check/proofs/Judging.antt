@@ -40,30 +40,42 @@ and_false false = refl
 abbrev opened_so : Board → ℕ → Standing → Network → Board
 opened_so b id after sent = record { posts = with_standing b.posts id after; master = b.master; network = sent }
 
-pub opening_judged : (roster : Tables) (b : Board) (id : ℕ) (state : NodeState (Unit {0})) (after : Standing) → IsOpened roster id (standing_at b.posts id) state after →
-    JudgesOpening roster b id state (Fine (record { posts = with_standing b.posts id after; master = b.master; network = opened_network b.network id state.next after }))
+pub opening_judged : (roster : Tables) (b : Board) (id : ℕ) (state : NodeState (Unit {0})) (after : Standing) →
+    IsOpened roster id (standing_at b.posts id) state after →
+    JudgesOpening roster b id state
+    (Fine (record { posts = with_standing b.posts id after; master = b.master; network = opened_network b.network id state.next after }))
 opening_judged roster b id state after (inl (can, is)) =
     let test : (nat_eq state.next 1 && not (is_astray after)) ≡ nat_eq state.next 1 =
-    ap (λ t. nat_eq state.next 1 && not (is_astray t)) is ∙ ap (λ c. nat_eq state.next 1 && not c) (stands (standing_at b.posts id) state) ∙ and_true (nat_eq state.next 1) in
-    inl (can, ap (λ c. Fine (opened_so b id after (cond c (without_waiting b.network id) b.network))) test ∙ ap (λ t. Fine (opened_so b id t (cond (nat_eq state.next 1) (without_waiting b.network id) b.network))) is)
+    ap (λ t. nat_eq state.next 1 && not (is_astray t)) is ∙ ap (λ c. nat_eq state.next 1 && not c) (stands (standing_at b.posts id) state)
+    ∙ and_true (nat_eq state.next 1) in
+    inl (
+      can,
+      ap (λ c. Fine (opened_so b id after (cond c (without_waiting b.network id) b.network))) test
+          ∙ ap (λ t. Fine (opened_so b id t (cond (nat_eq state.next 1) (without_waiting b.network id) b.network))) is,
+    )
 opening_judged roster b id state after (inr (cannot, is)) =
-    let test : (nat_eq state.next 1 && not (is_astray after)) ≡ false = ap (λ t. nat_eq state.next 1 && not (is_astray t)) is ∙ and_false (nat_eq state.next 1) in
+    let test : (nat_eq state.next 1 && not (is_astray after)) ≡ false = ap (λ t. nat_eq state.next 1 && not (is_astray t)) is
+    ∙ and_false (nat_eq state.next 1) in
     inr (cannot, ap (λ c. Fine (opened_so b id after (cond c (without_waiting b.network id) b.network))) test ∙ ap (λ t. Fine (opened_so b id t b.network)) is)
 
 -- An entry of a node
 
-pub entry_judged : (roster : Tables) (b : Board) (id : ℕ) (e : NodeEntry) (is_closed : Bool) (kept : FloorMap) (r : Result Standing Cause) → IsHeard roster b id e.event →
+pub entry_judged : (roster : Tables) (b : Board) (id : ℕ) (e : NodeEntry) (is_closed : Bool) (kept : FloorMap) (r : Result Standing Cause) →
+    IsHeard roster b id e.event →
     StepsSo (setting roster id) (standing_at b.posts id) e is_closed kept r → JudgesEntry roster b id e is_closed kept (judged roster b id e r)
 entry_judged roster b id e is_closed kept r heard steps = inl (heard, r, steps, refl)
 
 -- An entry of the master
 
-pub call_unsent : (roster : Tables) (b : Board) (e : MasterEntry) (is_closed : Bool) → (IsCallSent roster b.network e.call → ⊥) → JudgesCall roster b e is_closed (Flawed NotSent)
+pub call_unsent : (roster : Tables) (b : Board) (e : MasterEntry) (is_closed : Bool) → (IsCallSent roster b.network e.call → ⊥) →
+    JudgesCall roster b e is_closed (Flawed NotSent)
 call_unsent roster b e is_closed unsent = inr (inr (unsent, refl))
 
 -- The verdict
 
 -- if a note may follow, the verdict is that on the rest
-pub goes_on : (roster : Tables) (b : Board) (l : OrderedNote) (ls : List OrderedNote) (next : Board) (v : Verdict) → l.double ≡ None → Judges roster b l.note (Fine next) → HasVerdict roster next ls v →
+pub goes_on : (roster : Tables) (b : Board) (l : OrderedNote) (ls : List OrderedNote) (next : Board) (v : Verdict) → l.double ≡ None →
+    Judges roster b l.note (Fine next) → HasVerdict roster next ls v →
     HasVerdict roster b (l ∷ ls) v
-goes_on roster b l ls next v single judges later = subst (λ p. HasVerdictBy roster b l.note p (λ next. HasVerdict roster next ls v) v) (sym single) (inl (next, judges, later))
+goes_on roster b l ls next v single judges later = subst (λ p. HasVerdictBy roster b l.note p (λ next. HasVerdict roster next ls v) v) (sym single)
+    (inl (next, judges, later))

@@ -45,7 +45,8 @@ is_at (q ∷ posts) id at p place got =
           record {
             named = rest.named;
             standing = ap (λ b. cond b q.standing (standing_at posts id)) other ∙ rest.standing;
-            with_it = λ s. ap (λ b. cond b (post id s ∷ posts) (q ∷ with_standing posts id s)) other ∙ ap (λ l. q ∷ l) (rest.with_it s) ∙ ap (λ n. set (q ∷ posts) n (post id s)) (sym is);
+            with_it = λ s. ap (λ b. cond b (post id s ∷ posts) (q ∷ with_standing posts id s)) other ∙ ap (λ l. q ∷ l) (rest.with_it s)
+                ∙ ap (λ n. set (q ∷ posts) n (post id s)) (sym is);
           }
     ]
 
@@ -58,10 +59,12 @@ nowhere [] id none = refl
 nowhere (q ∷ posts) id none =
     elim (either (nat_eq q.id id)) [
       | inl here ↦ absurd (none-some 0 (sym none ∙ ap (λ b. place_in_rest b (place_of id posts)) here))
-      | inr other ↦ ap (λ b. cond b q.standing (standing_at posts id)) other ∙ nowhere posts id (no_place (place_of id posts) (ap (λ b. place_in_rest b (place_of id posts)) (sym other) ∙ none))
+      | inr other ↦ ap (λ b. cond b q.standing (standing_at posts id)) other ∙ nowhere posts id
+          (no_place (place_of id posts) (ap (λ b. place_in_rest b (place_of id posts)) (sym other) ∙ none))
     ]
 
-pub comes_last : (posts : List Post) (id : ℕ) (s : Standing) → place_of id posts ≡ None → posts ++ record { id = id; standing = s } ∷ [] ≡ with_standing posts id s
+pub comes_last : (posts : List Post) (id : ℕ) (s : Standing) → place_of id posts ≡ None → posts ++ record { id = id; standing = s }
+    ∷ [] ≡ with_standing posts id s
 comes_last [] id s none = refl
 comes_last (q ∷ posts) id s none =
     elim (either (nat_eq q.id id)) [
@@ -99,9 +102,11 @@ held id s = record { id = id; standing = s }
 abbrev pub AllMemberNodes : Tables → List HeldPost → Type 0
 AllMemberNodes roster posts = All (λ q. IsSound roster q.id q.standing) posts
 
-module _ (posts : List HeldPost) (id at : ℕ) (p : HeldPost) (place : place_of id (map post_of posts) ≡ Some at) (below : at < length posts) (read : p ≡ get_or posts at p) where
+module _ (posts : List HeldPost) (id at : ℕ) (p : HeldPost) (place : place_of id (map post_of posts) ≡ Some at) (below : at < length posts)
+    (read : p ≡ get_or posts at p) where
   pub held_at : IsAt (map post_of posts) id at (post_of p)
-  held_at = is_at (map post_of posts) id at (post_of p) place (slice_get-map post_of posts at ∙ ap (option_map post_of) (slice_get_read posts (length posts) at p refl below read))
+  held_at = is_at (map post_of posts) id at (post_of p) place
+      (slice_get-map post_of posts at ∙ ap (option_map post_of) (slice_get_read posts (length posts) at p refl below read))
 
   -- the node has this standing now
   pub put_there : (s : HeldStanding) → map post_of (set posts at (record { id = p.id; standing = s })) ≡ with_standing (map post_of posts) id (standing_of s)
@@ -110,14 +115,16 @@ module _ (posts : List HeldPost) (id at : ℕ) (p : HeldPost) (place : place_of 
       ∙ ap (λ n. set (map post_of posts) at (post n (standing_of s))) held_at.named
       ∙ sym (held_at.with_it (standing_of s))
 
-  pub put_twice : (s : HeldStanding) (later : Standing) → with_standing (map post_of (set posts at (record { id = p.id; standing = s }))) id later ≡ with_standing (map post_of posts) id later
+  pub put_twice : (s : HeldStanding) (later : Standing) → with_standing (map post_of (set posts at (record { id = p.id; standing = s }))) id
+      later ≡ with_standing (map post_of posts) id later
   put_twice s later = ap (λ l. with_standing l id later) (put_there s) ∙ put_over (map post_of posts) id (standing_of s) later
 
   pub sound_there : (roster : Tables) → AllMemberNodes roster posts → IsSound roster id p.standing
   sound_there roster nodes =
       subst (λ n. IsSound roster n p.standing) held_at.named (subst (λ (q : HeldPost). IsSound roster q.id q.standing) (sym read) (nodes at p below))
 
-  pub nodes_there : (roster : Tables) (s : HeldStanding) → AllMemberNodes roster posts → IsSound roster id s → AllMemberNodes roster (set posts at (record { id = p.id; standing = s }))
+  pub nodes_there : (roster : Tables) (s : HeldStanding) → AllMemberNodes roster posts → IsSound roster id s →
+      AllMemberNodes roster (set posts at (record { id = p.id; standing = s }))
   nodes_there roster s nodes sound =
       All-set (λ (q : HeldPost). IsSound roster q.id q.standing) posts at (held p.id s) (subst (λ n. IsSound roster n s) (sym held_at.named) sound) nodes
 
@@ -125,7 +132,8 @@ module _ (posts : List HeldPost) (id : ℕ) (s : HeldStanding) (none : place_of 
   pub put_last : map post_of (posts ++ record { id = id; standing = s } ∷ []) ≡ with_standing (map post_of posts) id (standing_of s)
   put_last = map-append post_of posts (held id s ∷ []) ∙ comes_last (map post_of posts) id (standing_of s) none
 
-  pub nodes_last : (roster : Tables) → AllMemberNodes roster posts → IsSound roster id s → AllMemberNodes roster (posts ++ record { id = id; standing = s } ∷ [])
+  pub nodes_last : (roster : Tables) → AllMemberNodes roster posts → IsSound roster id s → AllMemberNodes roster
+      (posts ++ record { id = id; standing = s } ∷ [])
   nodes_last roster nodes sound = All-push (λ (q : HeldPost). IsSound roster q.id q.standing) posts (held id s) nodes sound
 
 pub no_member_nodes : (roster : Tables) (posts : List HeldPost) → map post_of posts ≡ [] → AllMemberNodes roster posts

@@ -48,25 +48,32 @@ same_setting roster id n of_member =
     ap (λ t. setting t n.id) of_member.roster ∙ ap (λ i. setting roster i) of_member.id
 
 -- the node has taken the step that is defined
-stepped : (roster : Tables) (id : ℕ) (before after : NodeHere) (e : Event (Unit {0})) (outcome : Outcome) → IsMemberNode roster id before → FailsWithCause (Unit {0}) (HaveRisen 0 0) outcome →
-    ((key_of : List ℕ → Option (List ℕ)) → GivesKeys key_of → Steps (setting_of before key_of) before.state e tt outcome after.state) → outcome ≢ Err fault.NoMemory →
+stepped : (roster : Tables) (id : ℕ) (before after : NodeHere) (e : Event (Unit {0})) (outcome : Outcome) → IsMemberNode roster id before →
+    FailsWithCause (Unit {0}) (HaveRisen 0 0) outcome →
+    ((key_of : List ℕ → Option (List ℕ)) → GivesKeys key_of → Steps (setting_of before key_of) before.state e tt outcome after.state) →
+    outcome ≢ Err fault.NoMemory →
     step (setting roster id) before.state e tt ≡ record { state = after.state; outcome = outcome }
 stepped roster id before after e outcome of_member cause steps memory =
     ap (λ g. step g before.state e tt) (sym (same_setting roster id before of_member))
     ∙ by_function (setting_of before key_of) before.state e tt outcome after.state memory (never_fails outcome cause) (steps key_of gives_keys)
 
 -- also if the event that it took is a copy
-pub copy_stepped : (roster : Tables) (id : ℕ) (before after : NodeHere) (e copy : Event (Unit {0})) (outcome : Outcome) → copy ≡ e → IsMemberNode roster id before → FailsWithCause (Unit {0}) (HaveRisen 0 0) outcome →
-    ((key_of : List ℕ → Option (List ℕ)) → GivesKeys key_of → Steps (setting_of before key_of) before.state copy tt outcome after.state) → outcome ≢ Err fault.NoMemory →
+pub copy_stepped : (roster : Tables) (id : ℕ) (before after : NodeHere) (e copy : Event (Unit {0})) (outcome : Outcome) → copy ≡ e →
+    IsMemberNode roster id before → FailsWithCause (Unit {0}) (HaveRisen 0 0) outcome →
+    ((key_of : List ℕ → Option (List ℕ)) → GivesKeys key_of → Steps (setting_of before key_of) before.state copy tt outcome after.state) →
+    outcome ≢ Err fault.NoMemory →
     step (setting roster id) before.state e tt ≡ record { state = after.state; outcome = outcome }
 copy_stepped roster id before after e copy outcome same of_member cause steps memory =
     ap (λ x. step (setting roster id) before.state x tt) (sym same) ∙ stepped roster id before after copy outcome of_member cause steps memory
 
 -- the node is open after it, and its store has its floors
-pub member_node_after : (roster : Tables) (id : ℕ) (before after : NodeHere) (e : Event (Unit {0})) (outcome : Outcome) → IsMemberNode roster id before → IsSameMember before after →
-    step (setting roster id) before.state e tt ≡ record { state = after.state; outcome = outcome } → IsTied after.state.closed after.state.floors true (Unit {0}) after.store → IsMemberNode roster id after
+pub member_node_after : (roster : Tables) (id : ℕ) (before after : NodeHere) (e : Event (Unit {0})) (outcome : Outcome) → IsMemberNode roster id before →
+    IsSameMember before after →
+    step (setting roster id) before.state e tt ≡ record { state = after.state; outcome = outcome } →
+    IsTied after.state.closed after.state.floors true (Unit {0}) after.store → IsMemberNode roster id after
 member_node_after roster id before after e outcome of_member same is tied =
-    let still : after.state.closed ≡ false = sym (ap (λ r. r.state.closed) is) ∙ the_function_closes_no_node (setting roster id) before.state e tt ∙ of_member.is_open in
+    let still : after.state.closed ≡ false = sym (ap (λ r. r.state.closed) is) ∙ the_function_closes_no_node (setting roster id) before.state e tt
+    ∙ of_member.is_open in
     record {
       roster = same.roster ∙ of_member.roster;
       id = same.id ∙ of_member.id;
@@ -74,10 +81,12 @@ member_node_after roster id before after e outcome of_member same is tied =
       stored = (tied still).1 tt;
     }
 
-pub steps_so : (roster : Tables) (id : ℕ) (before after : NodeHere) (e : NodeEntry) (outcome : Outcome) → step (setting roster id) before.state e.event tt ≡ record { state = after.state; outcome = outcome } → outcome ≡ e.outcome →
+pub steps_so : (roster : Tables) (id : ℕ) (before after : NodeHere) (e : NodeEntry) (outcome : Outcome) →
+    step (setting roster id) before.state e.event tt ≡ record { state = after.state; outcome = outcome } → outcome ≡ e.outcome →
     StepsBy (setting roster id) before.state e (Ok (Open after.state))
 steps_so roster id before after e outcome is same = inl (after.state, is ∙ ap (λ o. record { state = after.state; outcome = o }) same, refl)
 
-pub steps_otherwise : (roster : Tables) (id : ℕ) (before after : NodeHere) (e : NodeEntry) (outcome : Outcome) → step (setting roster id) before.state e.event tt ≡ record { state = after.state; outcome = outcome } → (outcome ≡ e.outcome → ⊥) →
+pub steps_otherwise : (roster : Tables) (id : ℕ) (before after : NodeHere) (e : NodeEntry) (outcome : Outcome) →
+    step (setting roster id) before.state e.event tt ≡ record { state = after.state; outcome = outcome } → (outcome ≡ e.outcome → ⊥) →
     StepsBy (setting roster id) before.state e (Err cause.OtherReply)
 steps_otherwise roster id before after e outcome is other = inr (λ same. other (sym (ap (λ r. r.outcome) is) ∙ same), refl)

@@ -49,5 +49,6 @@ pub record IsBoard (roster : Tables) (b : Held) (sent : Network) : Type 0 where
 -- the judgement on a note in this state of the run: it may follow, and this is held now, or it has
 -- this flaw
 abbrev pub IsJudged : Tables → Board → Note → Held → Option Cause → Type 0
-IsJudged roster before note now None = (sent : Network) × IsBoard roster now sent × Judges roster before note (Fine (board_of now sent))
+IsJudged roster before note now None = (sent : Network) × IsBoard roster now sent
+    × Judges roster before note (Fine (board_of now sent))
 IsJudged roster before note now (Some cause) = Judges roster before note (Flawed cause)

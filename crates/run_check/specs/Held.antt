@@ -51,16 +51,19 @@ stepped_of (Err cause) = Err cause
 
 -- the node restarts with these floors, if the state is that of a restart; else it is astray
 abbrev pub IsRestart : FloorMap → NodeState (Unit {0}) → Standing → Type 0
-IsRestart floors state after = ((state ≡ opened floors) × (after ≡ Open state)) ⊎ ((state ≡ opened floors → ⊥) × (after ≡ Astray))
+IsRestart floors state after = ((state ≡ opened floors) × (after ≡ Open state))
+    ⊎ ((state ≡ opened floors → ⊥) × (after ≡ Astray))
 
 -- the standing of a member's node before and after its record opens in this state
 abbrev pub IsOpening : Standing → NodeState (Unit {0}) → Standing → Type 0
-IsOpening before state after = (OpensAs before state × (after ≡ standing_in before state)) ⊎ ((OpensAs before state → ⊥) × (after ≡ Astray))
+IsOpening before state after = (OpensAs before state × (after ≡ standing_in before state))
+    ⊎ ((OpensAs before state → ⊥) × (after ≡ Astray))
 
 -- the standing of a node before and after its record opens in this state
 abbrev pub IsOpened : Tables → ℕ → Standing → NodeState (Unit {0}) → Standing → Type 0
 IsOpened roster id before state after =
-    (((is_member roster id ≡ true) × OpensAs before state) × (after ≡ standing_in before state)) ⊎ (((is_member roster id ≡ true) × OpensAs before state → ⊥) × (after ≡ Astray))
+    (((is_member roster id ≡ true) × OpensAs before state) × (after ≡ standing_in before state))
+    ⊎ (((is_member roster id ≡ true) × OpensAs before state → ⊥) × (after ≡ Astray))
 
 -- The master
 
@@ -76,8 +79,10 @@ IsAnswered c answer next false = c.outcome ≡ answer → ⊥
 -- whether the call may lack memory; if it does, this is the master's state after it
 abbrev pub IsWanting : List ℕ → MasterState → MasterCall → Bool → MasterState → Bool → Type 0
 IsWanting members m c is_closed next true =
-    (m.closed ≡ false) × ((is_written members m.purges c || is_due c) ≡ true) × (next ≡ left_wanting m (is_written members m.purges c) is_closed)
-IsWanting members m c is_closed next false = (m.closed ≡ false) × ((is_written members m.purges c || is_due c) ≡ true) → ⊥
+    (m.closed ≡ false) × ((is_written members m.purges c || is_due c) ≡ true)
+    × (next ≡ left_wanting m (is_written members m.purges c) is_closed)
+IsWanting members m c is_closed next false = (m.closed ≡ false) × ((is_written members m.purges c || is_due c) ≡ true) →
+    ⊥
 
 -- whether the store may fail at the call; if it does, this is the master's state after it
 abbrev pub IsFailing : List ℕ → MasterState → MasterCall → MasterState → Bool → Type 0

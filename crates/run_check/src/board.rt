@@ -112,9 +112,13 @@ impl Posts {
     /// Takes out the standing of the node with this id; `put` puts one back.
     fn take(&mut self, id: u8) -> Standing
         ensures standing { standing_of result ≡ standing_at (posts_of self.old) id }
-        ensures others { (standing : AStanding) → with_standing (posts_of self.new) id standing ≡ with_standing (posts_of self.old) id standing }
-        ensures sound { (roster : Tables) → AreMemberNodes roster self.old → IsSound roster id result }
-        ensures nodes { (roster : Tables) → AreMemberNodes roster self.old → AreMemberNodes roster self.new }
+        ensures others { (standing : AStanding) →
+            with_standing (posts_of self.new) id standing
+            ≡ with_standing (posts_of self.old) id standing }
+        ensures sound { (roster : Tables) → AreMemberNodes roster self.old →
+            IsSound roster id result }
+        ensures nodes { (roster : Tables) → AreMemberNodes roster self.old →
+            AreMemberNodes roster self.new }
     {
         match place_of(self.posts.as_slice(), id) {
             Some(place) => replace(&mut self.posts[place].standing, Standing::Astray),
@@ -124,8 +128,10 @@ impl Posts {
 
     /// Puts the standing of the node with this id.
     fn put(&mut self, id: u8, standing: Standing) -> Result<(), AllocError>
-        ensures posts { OnOk result (posts_of self.new ≡ with_standing (posts_of self.old) id (standing_of standing)) }
-        ensures nodes { OnOk result ((roster : Tables) → AreMemberNodes roster self.old → IsSound roster id standing → AreMemberNodes roster self.new) }
+        ensures posts { OnOk result (posts_of self.new
+            ≡ with_standing (posts_of self.old) id (standing_of standing)) }
+        ensures nodes { OnOk result ((roster : Tables) → AreMemberNodes roster self.old →
+            IsSound roster id standing → AreMemberNodes roster self.new) }
     {
         match place_of(self.posts.as_slice(), id) {
             Some(place) => self.posts[place].standing = standing,
@@ -136,7 +142,8 @@ impl Posts {
 
     /// Whether the record of the node with this id may close in this state.
     fn may_close(&self, id: u8, state: &NodeState<()>) -> Result<bool, AllocError>
-        ensures { IfOk result (λ may. IsTrue may ↔ ClosesAs (standing_at (posts_of self.now) id) state.now) }
+        ensures { IfOk result (λ may. IsTrue may ↔ ClosesAs
+            (standing_at (posts_of self.now) id) state.now) }
     {
         match place_of(self.posts.as_slice(), id) {
             Some(place) => may_close(&self.posts[place].standing, state),
@@ -169,7 +176,9 @@ impl<'a> Board<'a> {
         entry: &'a NodeEntry,
         standing: &Standing,
     ) -> Result<(), AllocError>
-        ensures sent { OnOk result ((sent : ANetwork) → Holds roster.now self.old.network sent → Holds roster.now self.new.network (network_after roster.now sent node entry.now (standing_of standing.now))) }
+        ensures sent { OnOk result ((sent : ANetwork) → Holds roster.now self.old.network sent →
+            Holds roster.now self.new.network
+            (network_after roster.now sent node entry.now (standing_of standing.now))) }
         ensures posts { OnOk result (self.new.posts ≡ self.old.posts) }
         ensures ledger { OnOk result (self.new.ledger ≡ self.old.ledger) }
     {
@@ -186,7 +195,8 @@ impl<'a> Board<'a> {
     /// Drops what waits at a node whose record opens, if the node has taken no block of serials
     /// (`next` is 1) and is not astray.
     fn forget(&mut self, node: u8, next: u32, after: &Standing)
-        ensures network { (roster : Tables) (sent : ANetwork) → Holds roster self.old.network sent → Holds roster self.new.network (opened_network sent node next (standing_of after.now)) }
+        ensures network { (roster : Tables) (sent : ANetwork) → Holds roster self.old.network sent →
+            Holds roster self.new.network (opened_network sent node next (standing_of after.now)) }
         ensures posts { self.new.posts ≡ self.old.posts }
         ensures ledger { self.new.ledger ≡ self.old.ledger }
     {
@@ -203,7 +213,9 @@ impl<'a> Board<'a> {
         node: u8,
         state: &NodeState<()>,
     ) -> Result<(), AllocError>
-        ensures { OnOk result ((sent : ANetwork) → IsBoard roster.now self.old sent → IsJudged roster.now (board_of self.old sent) (notes.Opens node state.now) self.new None) }
+        ensures { OnOk result ((sent : ANetwork) → IsBoard roster.now self.old sent →
+            IsJudged roster.now (board_of self.old sent)
+            (notes.Opens node state.now) self.new None) }
     {
         let before = self.posts.take(node);
         let after = opens(alloc, self.keys, roster, node, before, state)?;
@@ -215,7 +227,8 @@ impl<'a> Board<'a> {
     /// Whether what a node received was sent to it before. True for what comes from neither a
     /// member nor the master, and for a node that is astray.
     fn is_heard(&self, roster: &Roster, node: u8, event: &Event<()>) -> bool
-        ensures { (sent : ANetwork) → Holds roster.now self.now.network sent → IsTrue result ↔ judging.IsHeard roster.now (board_of self.now sent) node event.now }
+        ensures { (sent : ANetwork) → Holds roster.now self.now.network sent →
+            IsTrue result ↔ judging.IsHeard roster.now (board_of self.now sent) node event.now }
     {
         self.posts.is_astray(node) || self.network.is_sent(roster, node, event)
     }
@@ -230,7 +243,9 @@ impl<'a> Board<'a> {
         is_closed: bool,
         kept: &Floors,
     ) -> Result<Option<Cause>, AllocError>
-        ensures { IfOk result (λ flaw. (sent : ANetwork) → IsBoard roster.now self.old sent → IsJudged roster.now (board_of self.old sent) (notes.Steps node entry.now is_closed kept.now) self.new flaw) }
+        ensures { IfOk result (λ flaw. (sent : ANetwork) → IsBoard roster.now self.old sent →
+            IsJudged roster.now (board_of self.old sent)
+            (notes.Steps node entry.now is_closed kept.now) self.new flaw) }
     {
         if !self.is_heard(roster, node, &entry.event) {
             return Ok(Some(Cause::NotSent));
@@ -248,7 +263,10 @@ impl<'a> Board<'a> {
 
     /// A record closes. Returns its flaw, if it has one.
     fn closes(&self, node: u8, state: &NodeState<()>) -> Result<Option<Cause>, AllocError>
-        ensures { IfOk result (λ flaw. (roster : Tables) (place : ℕ) (sent : ANetwork) → IsBoard roster self.now sent → IsJudged roster (board_of self.now sent) (notes.Closes node place state.now) self.now flaw) }
+        ensures { IfOk result (λ flaw. (roster : Tables) (place : ℕ) (sent : ANetwork) →
+            IsBoard roster self.now sent →
+            IsJudged roster (board_of self.now sent)
+            (notes.Closes node place state.now) self.now flaw) }
     {
         if self.posts.may_close(node, state)? {
             Ok(None)
@@ -265,7 +283,9 @@ impl<'a> Board<'a> {
         entry: &MasterEntry,
         is_closed: bool,
     ) -> Result<Option<Cause>, AllocError>
-        ensures { IfOk result (λ flaw. (sent : ANetwork) → IsBoard roster.now self.old sent → IsJudged roster.now (board_of self.old sent) (notes.Calls entry.now is_closed) self.new flaw) }
+        ensures { IfOk result (λ flaw. (sent : ANetwork) → IsBoard roster.now self.old sent →
+            IsJudged roster.now (board_of self.old sent)
+            (notes.Calls entry.now is_closed) self.new flaw) }
     {
         let _key = purged(&entry.call);
         if !self.network.is_call_sent(&entry.call) {
@@ -286,7 +306,8 @@ impl<'a> Board<'a> {
         roster: &Roster,
         note: Note<'a>,
     ) -> Result<Option<Cause>, AllocError>
-        ensures { IfOk result (λ flaw. (sent : ANetwork) → IsBoard roster.now self.old sent → IsJudged roster.now (board_of self.old sent) (note_of note.entry) self.new flaw) }
+        ensures { IfOk result (λ flaw. (sent : ANetwork) → IsBoard roster.now self.old sent →
+            IsJudged roster.now (board_of self.old sent) (note_of note.entry) self.new flaw) }
     {
         match note {
             Note::Opens { node, state } => {

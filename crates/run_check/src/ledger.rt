@@ -124,7 +124,9 @@ impl Ledger {
     /// Issues a purge of the key, or refuses.
     fn issue(&mut self, alloc: Global, key: &Key) -> Result<Outcome, AllocError>
         requires { self.old.closed ≡ false }
-        ensures called { IfOk result (λ outcome. called self.old.members (master_of self.old) (calls.Issue key.now) ≡ record { state = master_of self.new; outcome = outcome }) }
+        ensures called { IfOk result (λ outcome.
+            called self.old.members (master_of self.old) (calls.Issue key.now)
+            ≡ record { state = master_of self.new; outcome = outcome }) }
         ensures members { OnOk result (self.new.members ≡ self.old.members) }
     {
         match self.issue_fault() {
@@ -141,7 +143,8 @@ impl Ledger {
     /// the purge is now done.
     fn count(&mut self, member: u8, number: u32) -> Option<u32>
         requires { (1 ≤ member) × (member ≤ 16) }
-        ensures counted { record { purges = self.new.purges; done = result } ≡ counted self.old.members self.old.purges member (pending_at self.old.purges number) }
+        ensures counted { record { purges = self.new.purges; done = result }
+            ≡ counted self.old.members self.old.purges member (pending_at self.old.purges number) }
         ensures members { self.new.members ≡ self.old.members }
         ensures closed { self.new.closed ≡ self.old.closed }
     {
@@ -159,7 +162,9 @@ impl Ledger {
     /// A member responds to a CLR; only a code that acknowledges counts.
     fn acknowledge(&mut self, member: u8, trans: u32, code: u8) -> Outcome
         requires { self.old.closed ≡ false }
-        ensures called { called self.old.members (master_of self.old) (calls.Acknowledge member trans code) ≡ record { state = master_of self.new; outcome = result } }
+        ensures called { called self.old.members (master_of self.old)
+            (calls.Acknowledge member trans code)
+            ≡ record { state = master_of self.new; outcome = result } }
         ensures members { self.new.members ≡ self.old.members }
     {
         if is_acknowledging(code) && self.members.has(member) {
@@ -170,7 +175,8 @@ impl Ledger {
 
     /// Returns the status of the purge with this number.
     fn status(&self, number: u32) -> Outcome
-        ensures { called self.now.members (master_of self.now) (calls.Status number) ≡ record { state = master_of self.now; outcome = result } }
+        ensures { called self.now.members (master_of self.now) (calls.Status number)
+            ≡ record { state = master_of self.now; outcome = result } }
     {
         Ok(MasterAnswer::Status(self.purges.status(self.members, number)))
     }
@@ -178,7 +184,9 @@ impl Ledger {
     /// An open master takes a call.
     fn open_call(&mut self, alloc: Global, call: &MasterCall) -> Result<Outcome, AllocError>
         requires { self.old.closed ≡ false }
-        ensures called { IfOk result (λ outcome. called self.old.members (master_of self.old) call.now ≡ record { state = master_of self.new; outcome = outcome }) }
+        ensures called { IfOk result (λ outcome.
+            called self.old.members (master_of self.old) call.now
+            ≡ record { state = master_of self.new; outcome = outcome }) }
         ensures members { OnOk result (self.new.members ≡ self.old.members) }
     {
         match call {
@@ -196,7 +204,8 @@ impl Ledger {
     /// A closed master takes a call: it reports a status, and refuses all else.
     fn closed_call(&self, call: &MasterCall) -> Outcome
         requires { self.now.closed ≡ true }
-        ensures { called self.now.members (master_of self.now) call.now ≡ record { state = master_of self.now; outcome = result } }
+        ensures { called self.now.members (master_of self.now) call.now
+            ≡ record { state = master_of self.now; outcome = result } }
     {
         match call {
             MasterCall::Status(number) => self.status(*number),
@@ -211,7 +220,9 @@ impl Ledger {
         call: &MasterCall,
         answer: &Outcome,
     ) -> Result<bool, AllocError>
-        ensures called { IfOk result (IsAnswered (called self.old.members (master_of self.old) call.now) answer.now (master_of self.new)) }
+        ensures called { IfOk result (IsAnswered
+            (called self.old.members (master_of self.old) call.now) answer.now
+            (master_of self.new)) }
         ensures members { OnOk result (self.new.members ≡ self.old.members) }
     {
         let outcome = if self.closed {
@@ -225,7 +236,8 @@ impl Ledger {
     /// A call lacked memory. `is_closed` says whether the master's next entries tell that it is
     /// closed. Returns whether the call may lack memory.
     fn wants_memory(&mut self, call: &MasterCall, is_closed: bool) -> bool
-        ensures wants { IsWanting self.old.members (master_of self.old) call.now is_closed (master_of self.new) result }
+        ensures wants { IsWanting self.old.members (master_of self.old) call.now is_closed
+            (master_of self.new) result }
         ensures members { self.new.members ≡ self.old.members }
     {
         let is_written = self.is_written(call);
@@ -239,7 +251,8 @@ impl Ledger {
     /// The store failed at a call, which closes the master. Returns whether the call may reach the
     /// store.
     fn fails(&mut self, call: &MasterCall) -> bool
-        ensures fails { IsFailing self.old.members (master_of self.old) call.now (master_of self.new) result }
+        ensures fails { IsFailing self.old.members (master_of self.old) call.now
+            (master_of self.new) result }
         ensures members { self.new.members ≡ self.old.members }
     {
         if self.closed || !self.is_written(call) {
@@ -257,7 +270,8 @@ impl Ledger {
         entry: &MasterEntry,
         is_closed: bool,
     ) -> Result<bool, AllocError>
-        ensures taken { IfOk result (IsTaken self.old.members (master_of self.old) entry.now is_closed (master_of self.new)) }
+        ensures taken { IfOk result (IsTaken self.old.members
+            (master_of self.old) entry.now is_closed (master_of self.new)) }
         ensures members { OnOk result (self.new.members ≡ self.old.members) }
     {
         match &entry.answer {

@@ -49,7 +49,8 @@ fn open_goes_on(
     state: &NodeState<()>,
 ) -> Result<Standing, AllocError>
     requires { is_member_of roster.now id ≡ true }
-    ensures standing { IsSound roster.now id (held.Open node) → IfOk result (λ standing. IsOpening (Open node.state) state.now (standing_of standing)) }
+    ensures standing { IsSound roster.now id (held.Open node) →
+        IfOk result (λ standing. IsOpening (Open node.state) state.now (standing_of standing)) }
     ensures sound { IsSound roster.now id (held.Open node) → IfOk result (IsSound roster.now id) }
 {
     if same_state(&node.state()?, state) {
@@ -69,7 +70,8 @@ fn shut_goes_on(
     state: &NodeState<()>,
 ) -> Result<Standing, AllocError>
     requires { is_member_of roster.now id ≡ true }
-    ensures standing { IfOk result (λ standing. IsOpening (Shut floors) state.now (standing_of standing)) }
+    ensures standing { IfOk result (λ standing.
+        IsOpening (Shut floors) state.now (standing_of standing)) }
     ensures sound { IfOk result (IsSound roster.now id) }
 {
     if is_shut(state) {
@@ -90,7 +92,8 @@ fn goes_on(
     state: &NodeState<()>,
 ) -> Result<Standing, AllocError>
     requires { is_member_of roster.now id ≡ true }
-    ensures standing { IsSound roster.now id standing → IfOk result (λ after. IsOpening (standing_of standing) state.now (standing_of after)) }
+    ensures standing { IsSound roster.now id standing →
+        IfOk result (λ after. IsOpening (standing_of standing) state.now (standing_of after)) }
     ensures sound { IsSound roster.now id standing → IfOk result (IsSound roster.now id) }
 {
     match standing {
@@ -111,7 +114,9 @@ pub(crate) fn opens(
     standing: Standing,
     state: &NodeState<()>,
 ) -> Result<Standing, AllocError>
-    ensures standing { IsSound roster.now id standing → IfOk result (λ after. IsOpened roster.now id (standing_of standing) state.now (standing_of after)) }
+    ensures standing { IsSound roster.now id standing →
+        IfOk result (λ after. IsOpened roster.now id (standing_of standing) state.now
+        (standing_of after)) }
     ensures sound { IsSound roster.now id standing → IfOk result (IsSound roster.now id) }
 {
     if roster.is_member(id) {

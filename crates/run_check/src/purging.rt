@@ -40,7 +40,8 @@ fn purge_by(
     trans: u32,
     spec: &Specifier,
 ) -> Result<Option<(Key, u32)>, AllocError>
-    ensures purge { IfOk result (λ purge. (id : ℕ) → purge ≡ purge_meant (setting roster.now id) from trans spec.now) }
+    ensures purge { IfOk result (λ purge. (id : ℕ) →
+        purge ≡ purge_meant (setting roster.now id) from trans spec.now) }
     ensures number { IfOk result (λ purge. IfSome purge (λ p. 1 ≤ p.1)) }
 {
     let Ok(Some(number)) = number_in(spec.request_headers.as_slice(), HeaderKind::PurgeNumber)
@@ -64,7 +65,8 @@ fn purge_by_message(
     from: Address,
     message: &Message,
 ) -> Result<Option<(Key, u32)>, AllocError>
-    ensures purge { IfOk result (λ purge. (id : ℕ) → purge ≡ purge_in_message (setting roster.now id) from message.now) }
+    ensures purge { IfOk result (λ purge. (id : ℕ) →
+        purge ≡ purge_in_message (setting roster.now id) from message.now) }
     ensures number { IfOk result (λ purge. IfSome purge (λ p. 1 ≤ p.1)) }
 {
     match message {
@@ -82,7 +84,8 @@ pub(crate) fn purge_in(
     roster: &Roster,
     event: &Event<()>,
 ) -> Result<Option<(Key, u32)>, AllocError>
-    ensures purge { IfOk result (λ purge. (id : ℕ) → purge ≡ purge_of_event (setting roster.now id) event.now) }
+    ensures purge { IfOk result (λ purge. (id : ℕ) →
+        purge ≡ purge_of_event (setting roster.now id) event.now) }
     ensures number { IfOk result (λ purge. IfSome purge (λ p. 1 ≤ p.1)) }
 {
     match event {

@@ -36,7 +36,9 @@ fn play(
     mut node: Node<(), MemoryFloors>,
     entry: &NodeEntry,
 ) -> Result<Result<Standing, Cause>, AllocError>
-    ensures stepped { IsMemberNode roster.now id node → IfOk result (λ stepped. StepsBy (setting roster.now id) node.state entry.now (stepped_of stepped)) }
+    ensures stepped { IsMemberNode roster.now id node →
+        IfOk result (λ stepped. StepsBy (setting roster.now id) node.state entry.now
+        (stepped_of stepped)) }
     ensures sound { IsMemberNode roster.now id node → IfOk result (AreSound roster.now id) }
 {
     let outcome = node.step(copy_of_event(alloc, &entry.event)?, ());
@@ -61,7 +63,9 @@ fn closed_by(
     kept: &Floors,
 ) -> Result<Standing, AllocError>
     requires { 1 ≤ purge.now.1 }
-    ensures { IsMemberNode roster.now id node → IfOk result (λ standing. standing_of standing ≡ Shut (stored_by node.state.floors purge.now.0 purge.now.1 kept.now)) }
+    ensures { IsMemberNode roster.now id node →
+        IfOk result (λ standing. standing_of standing
+        ≡ Shut (stored_by node.state.floors purge.now.0 purge.now.1 kept.now)) }
 {
     let floors = stored(alloc, node.into_floors(), &purge.0, purge.1, kept)?;
     Ok(Standing::Shut(floors))
@@ -78,7 +82,10 @@ fn wants_memory(
     is_closed: bool,
     kept: &Floors,
 ) -> Result<Standing, AllocError>
-    ensures standing { IsMemberNode roster.now id node → IfOk result (λ standing. standing_of standing ≡ wanting node.state (purge_of_event (setting roster.now id) event.now) is_closed kept.now) }
+    ensures standing { IsMemberNode roster.now id node →
+        IfOk result (λ standing. standing_of standing
+        ≡ wanting node.state (purge_of_event (setting roster.now id) event.now)
+        is_closed kept.now) }
     ensures sound { IsMemberNode roster.now id node → IfOk result (IsSound roster.now id) }
 {
     match purge_in(alloc, roster, event)? {
@@ -97,7 +104,9 @@ fn fails(
     event: &Event<()>,
     kept: &Floors,
 ) -> Result<Result<Standing, Cause>, AllocError>
-    ensures stepped { IsMemberNode roster.now id node → IfOk result (λ stepped. stepped_of stepped ≡ failing node.state (purge_of_event (setting roster.now id) event.now) kept.now) }
+    ensures stepped { IsMemberNode roster.now id node →
+        IfOk result (λ stepped. stepped_of stepped
+        ≡ failing node.state (purge_of_event (setting roster.now id) event.now) kept.now) }
     ensures sound { IsMemberNode roster.now id node → IfOk result (AreSound roster.now id) }
 {
     match purge_in(alloc, roster, event)? {
@@ -116,7 +125,10 @@ fn open_steps(
     is_closed: bool,
     kept: &Floors,
 ) -> Result<Result<Standing, Cause>, AllocError>
-    ensures stepped { IsMemberNode roster.now id node → IfOk result (λ stepped. OpenStepsBy (setting roster.now id) node.state entry.now is_closed kept.now entry.now.outcome (stepped_of stepped)) }
+    ensures stepped { IsMemberNode roster.now id node →
+        IfOk result (λ stepped. OpenStepsBy
+        (setting roster.now id) node.state entry.now is_closed kept.now entry.now.outcome
+        (stepped_of stepped)) }
     ensures sound { IsMemberNode roster.now id node → IfOk result (AreSound roster.now id) }
 {
     match &entry.outcome {
@@ -161,7 +173,9 @@ pub(crate) fn steps(
     is_closed: bool,
     kept: &Floors,
 ) -> Result<Result<Standing, Cause>, AllocError>
-    ensures stepped { IsSound roster.now id standing → IfOk result (λ stepped. StepsSo (setting roster.now id) (standing_of standing) entry.now is_closed kept.now (stepped_of stepped)) }
+    ensures stepped { IsSound roster.now id standing →
+        IfOk result (λ stepped. StepsSo (setting roster.now id)
+        (standing_of standing) entry.now is_closed kept.now (stepped_of stepped)) }
     ensures sound { IsSound roster.now id standing → IfOk result (AreSound roster.now id) }
 {
     match standing {

@@ -28,7 +28,8 @@ module _ {X Y : Type 0} (f : X → Y) (g : Setting) (s : NodeState X) (e : Event
   abbrev shut : NodeState Y → NodeState X
   shut next = record { floors = next.floors; copies = s.copies; pending = []; next = s.next; closed = true }
 
-  shut_on : (o : Option (List ℕ × ℕ)) (next : NodeState Y) → ClosesOn (retag_state f s) o next → ClosesOn s o (shut next) × IsAlike (retag_state f (shut next)) next
+  shut_on : (o : Option (List ℕ × ℕ)) (next : NodeState Y) → ClosesOn (retag_state f s) o next → ClosesOn s o (shut next)
+      × IsAlike (retag_state f (shut next)) next
   shut_on None next h = absurd h
   shut_on (Some x) next h = (
     record { closed = refl; pending = refl; floors = h.floors },
@@ -40,14 +41,24 @@ module _ {X Y : Type 0} (f : X → Y) (g : Setting) (s : NodeState X) (e : Event
       let done = shut_on (purge_in g e) next (subst (λ o. ClosesOn (retag_state f s) o next) (purge_in-retag e) h.1)
       in ((h.0, done.0), done.1)
 
-  by_function : ComesOfStep f g s e mark (step g (retag_state f s) (retag_event f e) (f mark)).outcome (step g (retag_state f s) (retag_event f e) (f mark)).state
+  by_function : ComesOfStep f g s e mark (step g (retag_state f s) (retag_event f e) (f mark)).outcome
+      (step g (retag_state f s) (retag_event f e) (f mark)).state
   by_function = subst (λ (r : Stepped Y). ComesOfStep f g s e mark r.outcome r.state) (sym (step-retag f g s e mark))
-      record { own_outcome = (step g s e mark).outcome; own_next = (step g s e mark).state; steps = step_steps g s e mark; same_outcome = refl; alike = alike_same _ _ refl }
+      record {
+        own_outcome = (step g s e mark).outcome;
+        own_next = (step g s e mark).state;
+        steps = step_steps g s e mark;
+        same_outcome = refl;
+        alike =
+            alike_same _ _ refl;
+      }
 
-  comes : {outcome : Result (Reply Y) StepFault} {next : NodeState Y} → step g (retag_state f s) (retag_event f e) (f mark) ≡ record { state = next; outcome = outcome } → ComesOfStep f g s e mark outcome next
+  comes : {outcome : Result (Reply Y) StepFault} {next : NodeState Y} → step g (retag_state f s) (retag_event f e) (f mark) ≡ record
+      { state = next; outcome = outcome } → ComesOfStep f g s e mark outcome next
   comes is = subst (λ (r : Stepped Y). ComesOfStep f g s e mark r.outcome r.state) is by_function
 
-  pub comes_of_step : (outcome : Result (Reply Y) StepFault) (next : NodeState Y) → Steps g (retag_state f s) (retag_event f e) (f mark) outcome next → ComesOfStep f g s e mark outcome next
+  pub comes_of_step : (outcome : Result (Reply Y) StepFault) (next : NodeState Y) → Steps g (retag_state f s) (retag_event f e) (f mark) outcome next →
+      ComesOfStep f g s e mark outcome next
   comes_of_step (Ok reply) next is = comes is
   comes_of_step (Err fault.Closed) next is = comes is
   comes_of_step (Err fault.UnknownSerial) next is = comes is

@@ -24,7 +24,8 @@ begins t = record { past = []; run = refl; place = omega arith; master = refl }
 kept_where : (t : Tables) (p q : Progress) → q ≡ p → p.world.master ≡ p.master.purges → q.world.master ≡ q.master.purges
 kept_where t p q same is = subst (λ (x : Progress). x.world.master ≡ x.master.purges) (sym same) is
 
-purges_kept : (t : Tables) (p q : Progress) (note : Note) (steps : List Step) → Stands t p note steps q → p.world.master ≡ p.master.purges → q.world.master ≡ q.master.purges
+purges_kept : (t : Tables) (p q : Progress) (note : Note) (steps : List Step) → Stands t p note steps q → p.world.master ≡ p.master.purges →
+    q.world.master ≡ q.master.purges
 purges_kept t p q (Opens id state) steps (member, inl (none, same, kept)) is = kept_where t p q same is
 purges_kept t p q (Opens id state) steps (member, inr (these, goes, again)) is = goes.purges
 purges_kept t p q (Steps id e is_closed kept) steps (inl (outcome, taken, same)) is = taken.goes.purges
@@ -71,7 +72,8 @@ item_behind xs ys k x (low, is) = (omega (arith, low), slice_get-behind xs ys (k
 item_before : {X : Type 0} (xs ys : List X) (k : ℕ) (x : X) → IsItem xs k x → IsItem (xs ++ ys) k x
 item_before xs ys k x (low, is) = (low, slice_get-before xs ys (k - 1) x is)
 
-first_placed : (t : Tables) (p q : Progress) (note : Note) (here rest steps : List Step) → IsReached t p → Stands t p note here q → steps ≡ here ++ rest → Placed t steps note
+first_placed : (t : Tables) (p q : Progress) (note : Note) (here rest steps : List Step) → IsReached t p → Stands t p note here q → steps ≡ here ++ rest →
+    Placed t steps note
 first_placed t p q note here rest steps reached stands parts = record {
   offset = 0;
   here = here;
@@ -79,7 +81,8 @@ first_placed t p q note here rest steps reached stands parts = record {
   to = q;
   reached = reached;
   stands = stands;
-  at = λ k step is. subst (λ (n : ℕ). IsItem steps n step) (omega arith) (subst (λ (s : List Step). IsItem s k step) (sym parts) (item_before here rest k step is));
+  at = λ k step is. subst (λ (n : ℕ). IsItem steps n step) (omega arith)
+      (subst (λ (s : List Step). IsItem s k step) (sym parts) (item_before here rest k step is));
 }
 
 later_placed : (t : Tables) (note : Note) (here rest steps : List Step) → steps ≡ here ++ rest → Placed t rest note → Placed t steps note
@@ -96,7 +99,8 @@ later_placed t note here rest steps parts it = record {
 }
 
 -- each note of a run has its place among the events
-place_at : (t : Tables) (notes : List Note) (p q : Progress) (steps : List Step) → IsReached t p → AllStand t p notes steps q → (k : ℕ) (note : Note) → slice_get notes k ≡ Some note → Placed t steps note
+place_at : (t : Tables) (notes : List Note) (p q : Progress) (steps : List Step) → IsReached t p → AllStand t p notes steps q → (k : ℕ) (note : Note) →
+    slice_get notes k ≡ Some note → Placed t steps note
 place_at t [] p q steps reached all k note is = cc
 place_at t (first ∷ notes) p q steps reached (here, rest, next, stands, parts, more) zero note is =
     subst (λ (n : Note). Placed t steps n) (same_Some first note is) (first_placed t p next first here rest steps reached stands parts)
@@ -109,7 +113,8 @@ pub record BothPlaced (t : Tables) (steps : List Step) (one other : Note) : Type
   pub second : Placed t steps other
   pub apart : first.offset + length first.here ≤ second.offset
 
-both_at : (t : Tables) (notes : List Note) (p q : Progress) (steps : List Step) → IsReached t p → AllStand t p notes steps q → (j k : ℕ) (one other : Note) → j < k → slice_get notes j ≡ Some one → slice_get notes k ≡ Some other → BothPlaced t steps one other
+both_at : (t : Tables) (notes : List Note) (p q : Progress) (steps : List Step) → IsReached t p → AllStand t p notes steps q → (j k : ℕ) (one other : Note) →
+    j < k → slice_get notes j ≡ Some one → slice_get notes k ≡ Some other → BothPlaced t steps one other
 unfolding first_placed later_placed
 both_at t [] p q steps reached all j k one other before is is_other = cc
 both_at t (first ∷ notes) p q steps reached all j zero one other before is is_other = absurd (omega (arith, before))
@@ -122,7 +127,12 @@ both_at t (first ∷ notes) p q steps reached (here, rest, next, stands, parts, 
     }
 both_at t (first ∷ notes) p q steps reached (here, rest, next, stands, parts, more) (suc j) (suc k) one other before is is_other =
     let both = both_at t notes next q rest (goes_on t p next first here reached stands) more j k one other (omega (arith, before)) is is_other in
-    record { first = later_placed t one here rest steps parts both.first; second = later_placed t other here rest steps parts both.second; apart = omega (arith, both.apart) }
+    record {
+      first = later_placed t one here rest steps parts both.first;
+      second = later_placed t other here rest steps parts both.second;
+      apart =
+          omega (arith, both.apart);
+    }
 
 module _ (t : Tables) (notes : List Note) (steps : List Step) (end : Progress) (all : AllStand t (beginning t) notes steps end) where
   pub placed : (number : ℕ) (note : Note) → IsItem notes number note → Placed t steps note

@@ -18,12 +18,15 @@ use Rattle.run_laws.proofs.Reporting.{reports_done, issues_purge}
 use Rattle.run_laws.proofs.Serving.{serves_in_world}
 
 -- a copy with a mark greater than 0 comes from an origin
-from_origin : (t : Tables) (steps : List Step) (key : List ℕ) (c : WebCopy ℕ) → 0 < c.tag → HasSource t steps key c.tag c.answer → IsFromOrigin t steps key c.tag c.answer
+from_origin : (t : Tables) (steps : List Step) (key : List ℕ) (c : WebCopy ℕ) → 0 < c.tag → HasSource t steps key c.tag c.answer →
+    IsFromOrigin t steps key c.tag c.answer
 from_origin t steps key c marked (inl origin) = origin
 from_origin t steps key c marked (inr foreign) = absurd (omega (arith, marked, foreign.unmarked))
 
-pub serve_nothing_old : (t : Tables) (records : List Record) (entries : List MasterEntry) (steps : List Step) → IsRoster t → (run : IsRecordedRun t records entries steps) → EntriesServeNothingOld t run.notes steps
-serve_nothing_old t records entries steps proper run number key c issue report serve first done later is_issue issues is_report reports before is_serve serves same_key =
+pub serve_nothing_old : (t : Tables) (records : List Record) (entries : List MasterEntry) (steps : List Step) → IsRoster t →
+    (run : IsRecordedRun t records entries steps) → EntriesServeNothingOld t run.notes steps
+serve_nothing_old t records entries steps proper run number key c issue report serve first done later is_issue issues is_report reports before is_serve serves
+    same_key =
     let leads = (notes_lead t (beginning t) run.end run.notes steps run.stand).run in
     let begun = placed t run.notes steps run.end run.stand first issue is_issue in
     let both = both_placed t run.notes steps run.end run.stand done later report serve before is_report is_serve in
@@ -33,7 +36,8 @@ serve_nothing_old t records entries steps proper run number key c issue report s
     let after : both.first.offset + 1 < both.second.offset + 2 = omega (arith, both.apart, some) in
     let its_key : it.copy.key ≡ key = ap (λ (x : WebCopy (Unit {0})). x.key) it.same ∙ same_key in
     let since : begun.offset + 1 < it.copy.tag =
-    nothing_old_is_served t proper steps run.end.world leads number key (begun.offset + 1) (both.first.offset + 1) (both.second.offset + 2) it.copy is_issued is_reported after it.served its_key in
+    nothing_old_is_served t proper steps run.end.world leads number key (begun.offset + 1) (both.first.offset + 1) (both.second.offset + 2) it.copy is_issued
+    is_reported after it.served its_key in
     record {
       issued = begun.offset + 1;
       is_issued = is_issued;
@@ -45,5 +49,7 @@ serve_nothing_old t records entries steps proper run number key c issue report s
       is_served = it.served;
       same = it.same;
       since = since;
-      read = from_origin t steps key it.copy (omega (arith, since)) (subst (λ (k : List ℕ). HasSource t steps k it.copy.tag it.copy.answer) its_key (each_has_source t steps run.end.world leads (both.second.offset + 2) it.copy it.served));
+      read = from_origin t steps key it.copy (omega (arith, since))
+          (subst (λ (k : List ℕ). HasSource t steps k it.copy.tag it.copy.answer) its_key
+          (each_has_source t steps run.end.world leads (both.second.offset + 2) it.copy it.served));
     }

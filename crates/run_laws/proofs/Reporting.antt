@@ -85,7 +85,8 @@ module _ (t : Tables) (place : ℕ) (w : World) (number : ℕ) (s : Status) (new
   delivered_right : (o : Option Datagram) → TellsRight (delivered t w o)
   delivered_right None = λ takes. absurd takes
   delivered_right (Some d) =
-      branches TellsRight (is_master t d.receiver) (master_hears t w d.sender d.message) (delivered_to w d.sender d.message (member_at t d.receiver (udp_of d.message)))
+      branches TellsRight (is_master t d.receiver) (master_hears t w d.sender d.message)
+      (delivered_to w d.sender d.message (member_at t d.receiver (udp_of d.message)))
       (λ _. hears_right d.sender d.message) (λ _. member_right d.sender d.message (member_at t d.receiver (udp_of d.message)))
 
   datagram_tells : (which : ℕ) → Happens t place w (world.Datagram which) (Reported number s) new → s ≡ status_of (members_of t) new.master number
@@ -108,7 +109,8 @@ module _ (members : List ℕ) (before : PurgeList) (id trans code number : ℕ) 
   counted_ends None is = λ done. absurd (none-some number done)
   counted_ends (Some p) is =
       let same : p.number ≡ trans = pending-found before.pending trans p is in
-      branches Ending (are_among members (with_id id p.marked)) record { purges = without_purge before p.number; done = Some p.number } record { purges = with_mark before p.number id; done = None }
+      branches Ending (are_among members (with_id id p.marked)) record { purges = without_purge before p.number; done = Some p.number } record
+      { purges = with_mark before p.number id; done = None }
       (λ _ done. record { same = sym (same_Some p.number number done) ∙ same; purge = p; pending = is; left = ap (without_purge before) same })
       (λ _ done. absurd (none-some number done))
 
@@ -129,7 +131,8 @@ module _ (members : List ℕ) (m next : MasterState) (id trans code number : ℕ
   call_ends =
       branches Ends_so m.closed (closed_call members m (call.Acknowledge id trans code)) (open_call members m.purges (call.Acknowledge id trans code))
       (λ _ is. absurd (none-some number (ap (λ (c : Called). finished_in c.outcome) is)))
-      (λ _ is. subst (λ (p : PurgeList). Finishes m.purges p trans number) (ap (λ (c : Called). c.state.purges) is) (acknowledged_ends members m.purges id trans code number (ap (λ (c : Called). finished_in c.outcome) is)))
+      (λ _ is. subst (λ (p : PurgeList). Finishes m.purges p trans number) (ap (λ (c : Called). c.state.purges) is)
+      (acknowledged_ends members m.purges id trans code number (ap (λ (c : Called). finished_in c.outcome) is)))
 
 -- What is done
 
@@ -141,11 +144,14 @@ not_true false is = refl
 gone : (number : ℕ) (pending : List Purge) → find (is_numbered number) (filter (λ p. not (is_numbered number p)) pending) ≡ None
 gone number [] = refl
 gone number (p ∷ pending) =
-    branches (λ (ps : List Purge). find (is_numbered number) ps ≡ None) (not (is_numbered number p)) (p ∷ filter (λ q. not (is_numbered number q)) pending) (filter (λ q. not (is_numbered number q)) pending)
-    (λ stays. ap (λ b. cond b (Some p) (find (is_numbered number) (filter (λ q. not (is_numbered number q)) pending))) (not_true (is_numbered number p) stays) ∙ gone number pending)
+    branches (λ (ps : List Purge). find (is_numbered number) ps ≡ None) (not (is_numbered number p)) (p ∷ filter (λ q. not (is_numbered number q)) pending)
+    (filter (λ q. not (is_numbered number q)) pending)
+    (λ stays. ap (λ b. cond b (Some p) (find (is_numbered number) (filter (λ q. not (is_numbered number q)) pending))) (not_true (is_numbered number p) stays)
+    ∙ gone number pending)
     (λ _. gone number pending)
 
-done_status : (members : List ℕ) (all : PurgeList) (number : ℕ) → 1 ≤ number → number ≤ all.last → pending_at all number ≡ None → status_of members all number ≡ status.Done
+done_status : (members : List ℕ) (all : PurgeList) (number : ℕ) → 1 ≤ number → number ≤ all.last → pending_at all number ≡ None →
+    status_of members all number ≡ status.Done
 done_status members all number low high none =
     branches (λ s. s ≡ status.Done) (nat_eq number 0 || nat_lt all.last number) status.Unknown (status_by members (pending_at all number))
     (λ unknown. absurd (grind (arith, unknown, low, high))) (λ _. ap (status_by members) none)
@@ -158,7 +164,8 @@ module _ (t : Tables) (proper : IsRoster t) (from : Progress) (reached : IsReach
   pending_given : (number : ℕ) (p : Purge) → pending_at from.world.master number ≡ Some p → (1 ≤ number) × (number ≤ from.world.master.last)
   pending_given number p is =
       let same : p.number ≡ number = pending-found from.world.master.pending number p is in
-      let it : PurgeHasLineage reached.past from.world.states p = found (PurgeHasLineage reached.past from.world.states) (is_numbered number) from.world.master.pending p lineage.pending is in
+      let it : PurgeHasLineage reached.past from.world.states p = found (PurgeHasLineage reached.past from.world.states) (is_numbered number)
+      from.world.master.pending p lineage.pending is in
       let within : p.number - 1 < length (purges reached.past) = slice_get_within (purges reached.past) (p.number - 1) p.key it.issued_key.1 in
       (omega (arith, same, it.issued_key.0), omega (arith, same, it.issued_key.0, within, lineage.last))
 
@@ -166,7 +173,8 @@ module _ (t : Tables) (proper : IsRoster t) (from : Progress) (reached : IsReach
   finished_status next trans number it =
       let (low, high) = pending_given trans it.purge (ap (λ (p : PurgeList). pending_at p trans) reached.master ∙ it.pending) in
       ap (λ (p : PurgeList). status_of (members_of t) p trans) it.left
-      ∙ done_status (members_of t) (without_purge from.master.purges trans) trans low (subst (λ (p : PurgeList). trans ≤ p.last) reached.master high) (gone trans from.master.purges.pending)
+      ∙ done_status (members_of t) (without_purge from.master.purges trans) trans low (subst (λ (p : PurgeList). trans ≤ p.last) reached.master high)
+      (gone trans from.master.purges.pending)
 
   -- the event that an entry stands for reports the purge done
   record IsDoneBy (here : List Step) (number : ℕ) : Type 0 where
@@ -174,10 +182,12 @@ module _ (t : Tables) (proper : IsRoster t) (from : Progress) (reached : IsReach
     is : here ≡ event_step happens (Reported number status.Done) ∷ []
 
   acknowledgement_reports : (to : Progress) (here : List Step) (id trans code number : ℕ) (next : MasterState) →
-      MasterCalls (members_of t) from.master (call.Acknowledge id trans code) (Ok (answer.Acknowledge (Some number))) next → CallsIn t from (call.Acknowledge id trans code) (Ok (answer.Acknowledge (Some number))) here → Goes t from here next to → IsDoneBy here number
+      MasterCalls (members_of t) from.master (call.Acknowledge id trans code) (Ok (answer.Acknowledge (Some number))) next →
+      CallsIn t from (call.Acknowledge id trans code) (Ok (answer.Acknowledge (Some number))) here → Goes t from here next to → IsDoneBy here number
   acknowledgement_reports to here id trans code number next calls (which, d, tells, there, its, these) goes =
       let ends : Finishes from.master.purges next.purges trans number = call_ends (members_of t) from.master next id trans code number calls in
-      let (middle, happens, same) : Run t from.place from.world (event_step (world.Datagram which) (Reported trans tells) ∷ []) to.world = subst (λ (s : List Step). Run t from.place from.world s to.world) these goes.run in
+      let (middle, happens, same) : Run t from.place from.world (event_step (world.Datagram which) (Reported trans tells) ∷ []) to.world =
+      subst (λ (s : List Step). Run t from.place from.world s to.world) these goes.run in
       let left : middle.master ≡ next.purges = ap (λ (w : World). w.master) (sym same) ∙ goes.purges ∙ ap (λ (m : MasterState). m.purges) goes.master in
       let is_done : tells ≡ status.Done =
       datagram_tells t from.place from.world trans tells middle which happens
@@ -185,12 +195,15 @@ module _ (t : Tables) (proper : IsRoster t) (from : Progress) (reached : IsReach
       ∙ finished_status next.purges trans number ends in
       record {
         happens = world.Datagram which;
-        is = these ∙ ap (λ s. event_step (world.Datagram which) (Reported trans s) ∷ []) is_done ∙ ap (λ n. event_step (world.Datagram which) (Reported n status.Done) ∷ []) (sym ends.same);
+        is = these ∙ ap (λ s. event_step (world.Datagram which) (Reported trans s) ∷ []) is_done
+            ∙ ap (λ n. event_step (world.Datagram which) (Reported n status.Done) ∷ []) (sym ends.same);
       }
 
   acknowledge_reports : (to : Progress) (here : List Step) (c : MasterCall) (number : ℕ) (next : MasterState) →
-      MasterCalls (members_of t) from.master c (Ok (answer.Acknowledge (Some number))) next → CallsIn t from c (Ok (answer.Acknowledge (Some number))) here → Goes t from here next to → IsDoneBy here number
-  acknowledge_reports to here (call.Acknowledge id trans code) number next calls these goes = acknowledgement_reports to here id trans code number next calls these goes
+      MasterCalls (members_of t) from.master c (Ok (answer.Acknowledge (Some number))) next → CallsIn t from c (Ok (answer.Acknowledge (Some number))) here →
+      Goes t from here next to → IsDoneBy here number
+  acknowledge_reports to here (call.Acknowledge id trans code) number next calls these goes =
+      acknowledgement_reports to here id trans code number next calls these goes
   acknowledge_reports to here _ number next calls these goes = absurd these
 
 -- The first event of a note
@@ -201,12 +214,14 @@ first_is here step is = subst (λ (s : List Step). IsItem s 1 step) (sym is) (om
 abbrev DoneReported : (t : Tables) (steps : List Step) (note : Note) → Placed t steps note → ℕ → Type 0
 DoneReported t steps note it number = IsReportedAt steps (it.offset + 1) number × (1 ≤ length it.here)
 
-is_reported : (t : Tables) (steps : List Step) (note : Note) (it : Placed t steps note) (happens : WorldEvent) (number : ℕ) → it.here ≡ event_step happens (Reported number status.Done) ∷ [] → DoneReported t steps note it number
+is_reported : (t : Tables) (steps : List Step) (note : Note) (it : Placed t steps note) (happens : WorldEvent) (number : ℕ) →
+    it.here ≡ event_step happens (Reported number status.Done) ∷ [] → DoneReported t steps note it number
 is_reported t steps note it happens number is =
     let step : Step = event_step happens (Reported number status.Done) in
     ((step, it.at 1 step (first_is it.here step is), refl), subst (λ (s : List Step). 1 ≤ length s) (sym is) (omega arith))
 
-pub reports_done : (t : Tables) → IsRoster t → (steps : List Step) (note : Note) (it : Placed t steps note) (number : ℕ) → Reports note number → DoneReported t steps note it number
+pub reports_done : (t : Tables) → IsRoster t → (steps : List Step) (note : Note) (it : Placed t steps note) (number : ℕ) → Reports note number →
+    DoneReported t steps note it number
 reports_done t proper steps (Calls e is_closed) it number (inl acknowledges) =
     let (next, calls, these, goes) = it.stands in
     let by = acknowledge_reports t proper it.from it.reached it.to it.here e.call number next
@@ -215,16 +230,19 @@ reports_done t proper steps (Calls e is_closed) it number (inl acknowledges) =
     is_reported t steps (Calls e is_closed) it by.happens number by.is
 reports_done t proper steps (Calls e is_closed) it number (inr (asks, tells)) =
     let (next, calls, these, goes) = it.stands in
-    let is : it.here ≡ event_step (world.Status number) (Reported number status.Done) ∷ [] = subst (λ a. CallsIn t it.from (call.Status number) a it.here) tells (subst (λ c. CallsIn t it.from c e.answer it.here) asks these) in
+    let is : it.here ≡ event_step (world.Status number) (Reported number status.Done) ∷ [] =
+    subst (λ a. CallsIn t it.from (call.Status number) a it.here) tells (subst (λ c. CallsIn t it.from c e.answer it.here) asks these) in
     is_reported t steps (Calls e is_closed) it (world.Status number) number is
 reports_done t proper steps (Opens id state) it number gives = absurd gives
 reports_done t proper steps (Steps id e is_closed kept) it number gives = absurd gives
 reports_done t proper steps (Closes id place state) it number gives = absurd gives
 
-pub issues_purge : (t : Tables) (steps : List Step) (note : Note) (it : Placed t steps note) (number : ℕ) (key : List ℕ) → Issues note number key → IsIssuedAt steps (it.offset + 1) number key
+pub issues_purge : (t : Tables) (steps : List Step) (note : Note) (it : Placed t steps note) (number : ℕ) (key : List ℕ) → Issues note number key →
+    IsIssuedAt steps (it.offset + 1) number key
 issues_purge t steps (Calls e is_closed) it number key (issues, gives) =
     let (next, calls, these, goes) = it.stands in
-    it.at 1 _ (first_is it.here _ (subst (λ a. CallsIn t it.from (call.Issue key) a it.here) gives (subst (λ c. CallsIn t it.from c e.answer it.here) issues these)))
+    it.at 1 _
+    (first_is it.here _ (subst (λ a. CallsIn t it.from (call.Issue key) a it.here) gives (subst (λ c. CallsIn t it.from c e.answer it.here) issues these)))
 issues_purge t steps (Opens id state) it number key issues = absurd issues
 issues_purge t steps (Steps id e is_closed kept) it number key issues = absurd issues
 issues_purge t steps (Closes id place state) it number key issues = absurd issues

@@ -44,15 +44,18 @@ marked_in_serve : (o : Option (Serve ℕ)) (c : WebCopy (Unit {0})) → copy_in_
 marked_in_serve None c is = absurd (none-some c is)
 marked_in_serve (Some serve) c is = marked_in serve.served c is
 
-marked_served : (outcome : Result (Reply ℕ) StepFault) (c : WebCopy (Unit {0})) → copy_served (unmarked_outcome outcome) ≡ Some c → Marked (copy_served outcome) c
+marked_served : (outcome : Result (Reply ℕ) StepFault) (c : WebCopy (Unit {0})) → copy_served (unmarked_outcome outcome) ≡ Some c →
+    Marked (copy_served outcome) c
 marked_served (Ok reply) c is = marked_in_serve reply.serve c is
 marked_served (Err f) c is = absurd (none-some c is)
 
 -- a node that serves a copy stays open
 module _ {X : Type 0} (g : Setting) (s : NodeState X) (e : Event X) (mark : X) where
-  serving_open : (outcome : Result (Reply X) StepFault) (next : NodeState X) → NodeSteps g s e mark outcome next → (c : WebCopy X) → copy_served outcome ≡ Some c → next.closed ≡ false
+  serving_open : (outcome : Result (Reply X) StepFault) (next : NodeState X) → NodeSteps g s e mark outcome next → (c : WebCopy X) →
+      copy_served outcome ≡ Some c → next.closed ≡ false
   serving_open (Ok reply) next steps c is =
-      sym (ap (λ (r : Stepped X). r.state.closed) steps) ∙ the_function_closes_no_node g s e mark ∙ ((steps_are_lawful g s e mark (Ok reply) next steps).serves c is).0
+      sym (ap (λ (r : Stepped X). r.state.closed) steps) ∙ the_function_closes_no_node g s e mark
+      ∙ ((steps_are_lawful g s e mark (Ok reply) next steps).serves c is).0
   serving_open (Err f) next steps c is = absurd (none-some c is)
 
 second_is : (here : List Step) (one other : Step) → here ≡ one ∷ other ∷ [] → IsItem here 2 other
@@ -64,17 +67,26 @@ pub record IsServed (steps : List Step) (place : ℕ) (c : WebCopy (Unit {0})) :
   pub served : IsServedAt steps place copy
   pub same : unmarked_copy copy ≡ c
 
-taken_serves : (t : Tables) (steps : List Step) (id : ℕ) (note : Note) (it : Placed t steps note) (e : Event (Unit {0})) (outcome : Result (Reply ℕ) StepFault) (c : WebCopy (Unit {0})) →
+taken_serves : (t : Tables) (steps : List Step) (id : ℕ) (note : Note) (it : Placed t steps note) (e : Event (Unit {0})) (outcome : Result (Reply ℕ) StepFault)
+    (c : WebCopy (Unit {0})) →
     IsTaken t it.from id e outcome it.here it.to → copy_served (unmarked_outcome outcome) ≡ Some c → IsServed steps (it.offset + 2) c
 taken_serves t steps id note it e outcome c taken is =
     let (copy, serves, same) = marked_served outcome c is in
     let step : Step = event_step taken.happens (Replied id outcome) in
-    record { copy = copy; served = (step, it.at 2 step (second_is it.here (event_step (world.Clock (moment e)) Nothing) step taken.steps), serves); same = same }
+    record {
+      copy = copy;
+      served = (step, it.at 2 step (second_is it.here (event_step (world.Clock (moment e)) Nothing) step taken.steps), serves);
+      same =
+          same;
+    }
 
-pub serves_in_world : (t : Tables) (steps : List Step) (note : Note) (it : Placed t steps note) (c : WebCopy (Unit {0})) → ServesBy note c → IsServed steps (it.offset + 2) c
+pub serves_in_world : (t : Tables) (steps : List Step) (note : Note) (it : Placed t steps note) (c : WebCopy (Unit {0})) → ServesBy note c →
+    IsServed steps (it.offset + 2) c
 serves_in_world t steps (Steps id e is_closed kept) it c serves = elim it.stands [
-  | inl (outcome, taken, same) ↦ taken_serves t steps id (Steps id e is_closed kept) it e.event outcome c taken (ap (λ (o : Result (Reply (Unit {0})) StepFault). copy_served o) same ∙ serves)
-  | inr (inl (fault, refused, none, same, stays)) ↦ absurd (none-some c (sym (ap (λ (o : Result (Reply (Unit {0})) StepFault). copy_served o) refused) ∙ serves))
+  | inl (outcome, taken, same) ↦ taken_serves t steps id (Steps id e is_closed kept) it e.event outcome c taken
+      (ap (λ (o : Result (Reply (Unit {0})) StepFault). copy_served o) same ∙ serves)
+  | inr (inl (fault, refused, none, same, stays)) ↦ absurd
+      (none-some c (sym (ap (λ (o : Result (Reply (Unit {0})) StepFault). copy_served o) refused) ∙ serves))
   | inr (inr (closed, shut, ends, goes)) ↦
       absurd (true_not_false (sym shut ∙ serving_open (setting t id) (unmarked (node_in it.from id)) e.event tt e.outcome closed ends c serves))
 ]

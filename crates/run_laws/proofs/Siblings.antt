@@ -60,7 +60,8 @@ back_same (event.Expired serial now) messages back = back
 takes_nothing : (t : Tables) (place id : ℕ) (w new : World) (met : Event ℕ) (serial : ℕ) (outcome : Result (Reply ℕ) StepFault) →
     is_from_sibling (setting t id) met ≡ true → Takes t place w (NodeSteps id met serial) (Replied id outcome) new → begun outcome ≡ None
 takes_nothing t place id w new met serial outcome asks (result, next, steps, is_seen, is_new) =
-    ap (λ (s : Seen). begun (seen_outcome s outcome)) is_seen ∙ ((steps_are_lawful (setting t id) (node_at w.states id) met place result next steps).siblings asks).begun_none
+    ap (λ (s : Seen). begun (seen_outcome s outcome)) is_seen
+    ∙ ((steps_are_lawful (setting t id) (node_at w.states id) met place result next steps).siblings asks).begun_none
 
 -- what such a step sends goes back to its source
 takes_back : (t : Tables) (place id : ℕ) (w new : World) (met : Event ℕ) (serial : ℕ) (outcome : Result (Reply ℕ) StepFault) →
@@ -72,16 +73,20 @@ takes_back t place id w new met serial outcome asks (result, next, steps, is_see
 taken_begins_nothing : (t : Tables) (from to : Progress) (id : ℕ) (e : Event (Unit {0})) (outcome : Result (Reply ℕ) StepFault) (here : List Step) →
     is_from_sibling (setting t id) e ≡ true → IsTaken t from id e outcome here to → (begun outcome ≡ None) × SendsBack e (sent outcome)
 taken_begins_nothing t from to id e outcome here asks taken =
-    let (first, (key, (seen, is_first)), (second, (its_key, takes), end)) : Run t from.place from.world (event_step (world.Clock (moment e)) Nothing ∷ event_step taken.happens (Replied id outcome) ∷ []) to.world =
+    let (first, (key, (seen, is_first)), (second, (its_key, takes), end)) : Run t from.place from.world
+    (event_step (world.Clock (moment e)) Nothing ∷ event_step taken.happens (Replied id outcome) ∷ []) to.world =
     subst (λ (s : List Step). Run t from.place from.world s to.world) taken.steps taken.goes.run in
-    let at_clock : Takes t (from.place + 1) (with_clock from.world (moment e)) (turn t (with_clock from.world (moment e)) taken.happens) (Replied id outcome) second =
+    let at_clock : Takes t (from.place + 1) (with_clock from.world (moment e)) (turn t (with_clock from.world (moment e)) taken.happens) (Replied id outcome)
+    second =
     subst (λ (w : World). Takes t (from.place + 1) w (turn t w taken.happens) (Replied id outcome) second) is_first takes in
-    let met_asks : is_from_sibling (setting t id) taken.met ≡ true = sibling_same (setting t id) taken.met ∙ ap (is_from_sibling (setting t id)) taken.event ∙ asks in
+    let met_asks : is_from_sibling (setting t id) taken.met ≡ true = sibling_same (setting t id) taken.met ∙ ap (is_from_sibling (setting t id)) taken.event
+    ∙ asks in
     let it : Takes t (from.place + 1) (with_clock from.world (moment e)) (NodeSteps id taken.met taken.serial) (Replied id outcome) second =
     subst (λ (x : Turn). Takes t (from.place + 1) (with_clock from.world (moment e)) x (Replied id outcome) second) taken.turns at_clock in (
       takes_nothing t (from.place + 1) id (with_clock from.world (moment e)) second taken.met taken.serial outcome met_asks it,
       subst (λ (x : Event (Unit {0})). SendsBack x (sent outcome)) taken.event
-          (back_same taken.met (sent outcome) (takes_back t (from.place + 1) id (with_clock from.world (moment e)) second taken.met taken.serial outcome met_asks it)),
+          (back_same taken.met (sent outcome) (takes_back t (from.place + 1) id (with_clock from.world (moment e)) second taken.met taken.serial outcome
+          met_asks it)),
     )
 
 note_begins_nothing : (t : Tables) (steps : List Step) (note : Note) → Placed t steps note → IsOfSibling t note → (begun_by note ≡ None) × IsSentBack note
@@ -89,10 +94,14 @@ note_begins_nothing t steps (Steps id e is_closed kept) it asks = elim it.stands
   | inl (outcome, taken, same) ↦
       (let quiet = taken_begins_nothing t it.from it.to id e.event outcome it.here asks taken in (
         ap (λ (o : Result (Reply (Unit {0})) StepFault). begun o) (sym same) ∙ begun_same outcome ∙ quiet.0,
-        subst (λ (messages : List Outgoing). SendsBack e.event messages) (sym (sent_same outcome) ∙ ap (λ (o : Result (Reply (Unit {0})) StepFault). sent o) same) quiet.1,
+        subst (λ (messages : List Outgoing). SendsBack e.event messages)
+            (sym (sent_same outcome) ∙ ap (λ (o : Result (Reply (Unit {0})) StepFault). sent o) same) quiet.1,
       ))
-  | inr (inl (fault, refused, none, same, stays)) ↦
-      (ap (λ (o : Result (Reply (Unit {0})) StepFault). begun o) refused, subst (λ (o : Result (Reply (Unit {0})) StepFault). SendsBack e.event (sent o)) (sym refused) (nothing_back e.event))
+  | inr (inl (fault, refused, none, same, stays)) ↦ (
+    ap (λ (o : Result (Reply (Unit {0})) StepFault). begun o) refused,
+    subst (λ (o : Result (Reply (Unit {0})) StepFault). SendsBack e.event (sent o))
+        (sym refused) (nothing_back e.event),
+  )
   | inr (inr (closed, shut, ends, goes)) ↦ (
     ((steps_are_lawful (setting t id) (unmarked (node_in it.from id)) e.event tt e.outcome closed ends).siblings asks).begun_none,
     sibling_sends_back (setting t id) (unmarked (node_in it.from id)) e.event tt e.outcome closed asks ends,
@@ -102,5 +111,7 @@ note_begins_nothing t steps (Opens id state) it asks = absurd asks
 note_begins_nothing t steps (Closes id place state) it asks = absurd asks
 note_begins_nothing t steps (Calls e is_closed) it asks = absurd asks
 
-pub begin_nothing : (t : Tables) (records : List Record) (entries : List MasterEntry) (steps : List Step) → (run : IsRecordedRun t records entries steps) → SiblingsBeginNothing t run.notes
-begin_nothing t records entries steps run number note is asks = note_begins_nothing t steps note (placed t run.notes steps run.end run.stand number note is) asks
+pub begin_nothing : (t : Tables) (records : List Record) (entries : List MasterEntry) (steps : List Step) → (run : IsRecordedRun t records entries steps) →
+    SiblingsBeginNothing t run.notes
+begin_nothing t records entries steps run number note is asks = note_begins_nothing t steps note (placed t run.notes steps run.end run.stand number note is)
+    asks

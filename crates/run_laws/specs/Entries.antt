@@ -23,7 +23,8 @@ Issues note number key = ⊥
 
 -- the entry reports the purge done: as the last acknowledgement, or as a status that was asked for
 abbrev pub Reports : Note → ℕ → Type 0
-Reports (Calls e is_closed) number = (e.answer ≡ Ok (answer.Acknowledge (Some number))) ⊎ ((e.call ≡ call.Status number) × (e.answer ≡ Ok (answer.Status Done)))
+Reports (Calls e is_closed) number = (e.answer ≡ Ok (answer.Acknowledge (Some number)))
+    ⊎ ((e.call ≡ call.Status number) × (e.answer ≡ Ok (answer.Status Done)))
 Reports note number = ⊥
 
 -- the entry begins to serve this copy, to a client or to a member
@@ -34,7 +35,8 @@ Serves note c = ⊥
 -- In the run that the entries stand for, the purge was issued at one place and reported done at
 -- another. At a later place some member serves a copy that is this one but for its mark, and that
 -- copy is an origin's response to a read that began after the purge was issued.
-pub record IsReadSince (roster : Tables) (steps : List Step) (number : ℕ) (key : List ℕ) (c : WebCopy (Unit {0})) : Type 0 where
+pub record IsReadSince (roster : Tables) (steps : List Step) (number : ℕ) (key : List ℕ) (c : WebCopy (Unit {0})) :
+    Type 0 where
   pub issued : ℕ
   pub is_issued : IsIssuedAt steps issued number key
   pub reported : ℕ
@@ -52,7 +54,8 @@ pub record IsReadSince (roster : Tables) (steps : List Step) (number : ℕ) (key
 abbrev pub EntriesServeNothingOld : Tables → List Note → List Step → Type 0
 EntriesServeNothingOld roster notes steps =
     (number : ℕ) (key : List ℕ) (c : WebCopy (Unit {0})) (issue report serve : Note) (first done later : ℕ) →
-    IsItem notes first issue → Issues issue number key → IsItem notes done report → Reports report number → done < later → IsItem notes later serve → Serves serve c → c.key ≡ key →
+    IsItem notes first issue → Issues issue number key → IsItem notes done report → Reports report number →
+    done < later → IsItem notes later serve → Serves serve c → c.key ≡ key →
     IsReadSince roster steps number key c
 
 -- the entry is of a sibling's request: a QUERY or a TST, or a request of a member whose entry in
@@ -73,4 +76,5 @@ IsSentBack note = Unit {0}
 
 -- no entry of a sibling's request begins anything, and none sends to anybody but the requester
 abbrev pub SiblingsBeginNothing : Tables → List Note → Type 0
-SiblingsBeginNothing roster notes = (number : ℕ) (note : Note) → IsItem notes number note → IsOfSibling roster note → (begun_by note ≡ None) × IsSentBack note
+SiblingsBeginNothing roster notes = (number : ℕ) (note : Note) → IsItem notes number note → IsOfSibling roster note →
+    (begun_by note ≡ None) × IsSentBack note

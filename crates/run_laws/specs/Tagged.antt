@@ -18,7 +18,8 @@ pub record IsAlike {Y : Type 0} (a b : NodeState Y) : Type 0 where
 
 -- The node's own step that this one comes of: it has this outcome and leads to this state, but for
 -- the tags.
-pub record ComesOfStep {X Y : Type 0} (f : X → Y) (g : Setting) (s : NodeState X) (e : Event X) (mark : X) (outcome : Result (Reply Y) StepFault) (next : NodeState Y) : Type 0 where
+pub record ComesOfStep {X Y : Type 0} (f : X → Y) (g : Setting) (s : NodeState X) (e : Event X) (mark : X)
+    (outcome : Result (Reply Y) StepFault) (next : NodeState Y) : Type 0 where
   pub own_outcome : Result (Reply X) StepFault
   pub own_next : NodeState X
   pub steps : Steps g s e mark own_outcome own_next

@@ -15,8 +15,10 @@ ghost use Rattle.run_laws.specs.Entries.{EntriesServeNothingOld, SiblingsBeginNo
 /// was issued. `siblings`: no entry of a sibling's request begins a round, a fetch or a read, or
 /// sends to anybody but the requester.
 pub fn entries_are_safe()
-    ensures served { (roster : Tables) (records : List Record) (entries : List MasterEntry) (steps : List Step) → IsRoster roster → (run : IsRecordedRun roster records entries steps) →
+    ensures served { (roster : Tables) (records : List Record) (entries : List MasterEntry)
+        (steps : List Step) → IsRoster roster → (run : IsRecordedRun roster records entries steps) →
         EntriesServeNothingOld roster run.notes steps }
-    ensures siblings { (roster : Tables) (records : List Record) (entries : List MasterEntry) (steps : List Step) → (run : IsRecordedRun roster records entries steps) →
+    ensures siblings { (roster : Tables) (records : List Record) (entries : List MasterEntry)
+        (steps : List Step) → (run : IsRecordedRun roster records entries steps) →
         SiblingsBeginNothing roster run.notes }
 {}

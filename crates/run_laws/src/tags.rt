@@ -15,6 +15,8 @@ ghost use Rattle.run_laws.specs.Tagged.{ComesOfStep};
 /// Of a closed next state, only this is the same: that it is closed, its floors, and that no
 /// request is pending.
 pub fn steps_of_other_tags_are_steps<T, U>()
-    ensures { (f : T → U) (g : Setting) (s : NodeState T) (e : Event T) (mark : T) (outcome : Result (Reply U) StepFault) (next : NodeState U) →
-        Steps g (retag_state f s) (retag_event f e) (f mark) outcome next → ComesOfStep f g s e mark outcome next }
+    ensures { (f : T → U) (g : Setting) (s : NodeState T) (e : Event T) (mark : T)
+        (outcome : Result (Reply U) StepFault) (next : NodeState U) →
+        Steps g (retag_state f s) (retag_event f e) (f mark) outcome next →
+        ComesOfStep f g s e mark outcome next }
 {}

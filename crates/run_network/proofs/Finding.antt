@@ -34,10 +34,12 @@ module _ {T X : Type 0} (view : T → X) where
   -- the item at this index is it
   pub has_at : (xs : List T) (i : ℕ) (t : T) (x : X) → i < length xs → t ≡ get_or xs i t → view t ≡ x → Has view xs x
   has_at xs i t x less is says =
-      within xs (i + 1) x (subst (λ l. Has view l x) (sym (take_more xs i t less)) (has_right (take i xs) (get_or xs i t ∷ []) x (inl (ap view (sym is) ∙ says))))
+      within xs (i + 1) x (subst (λ l. Has view l x) (sym (take_more xs i t less))
+      (has_right (take i xs) (get_or xs i t ∷ []) x (inl (ap view (sym is) ∙ says))))
 
   -- none so far is it
-  pub none_more : (xs : List T) (i : ℕ) (t : T) (x : X) → i < length xs → t ≡ get_or xs i t → (Has view (take i xs) x → ⊥) → (view t ≡ x → ⊥) → Has view (take (i + 1) xs) x → ⊥
+  pub none_more : (xs : List T) (i : ℕ) (t : T) (x : X) → i < length xs → t ≡ get_or xs i t → (Has view (take i xs) x → ⊥) → (view t ≡ x → ⊥) →
+      Has view (take (i + 1) xs) x → ⊥
   none_more xs i t x less is before other h =
       elim (has_where (take i xs) (get_or xs i t ∷ []) x (subst (λ l. Has view l x) (take_more xs i t less) h)) [
         | inl here ↦ before here
@@ -47,7 +49,8 @@ module _ {T X : Type 0} (view : T → X) where
   pub has_at_or : (xs : List T) (i : ℕ) (d : T) (x : X) → i < length xs → view (get_or xs i d) ≡ x → Has view xs x
   has_at_or xs i d x less says = has_at xs i (get_or xs i d) x less (get_or_default xs i d (get_or xs i d) less) says
 
-  pub none_more_or : (xs : List T) (i : ℕ) (d : T) (x : X) → i < length xs → (Has view (take i xs) x → ⊥) → (view (get_or xs i d) ≡ x → ⊥) → Has view (take (i + 1) xs) x → ⊥
+  pub none_more_or : (xs : List T) (i : ℕ) (d : T) (x : X) → i < length xs → (Has view (take i xs) x → ⊥) → (view (get_or xs i d) ≡ x → ⊥) →
+      Has view (take (i + 1) xs) x → ⊥
   none_more_or xs i d x less before other = none_more xs i (get_or xs i d) x less (get_or_default xs i d (get_or xs i d) less) before other
 
   -- none is it
@@ -55,9 +58,11 @@ module _ {T X : Type 0} (view : T → X) where
   none_at_all xs i x all none h = none (subst (λ l. Has view l x) (sym (take_all i xs (omega (all, arith)))) h)
 
   -- an item is put into the bag of its print
-  module _ (print : X → ℕ) (before after : ℕ → List T) (t : T) (y : X) (says : view t ≡ y) (puts : (n : ℕ) → after n ≡ cond (nat_eq (print y) n) (before (print y) ++ t ∷ []) (before n)) where
+  module _ (print : X → ℕ) (before after : ℕ → List T) (t : T) (y : X) (says : view t ≡ y)
+      (puts : (n : ℕ) → after n ≡ cond (nat_eq (print y) n) (before (print y) ++ t ∷ []) (before n)) where
     put_here : (x : X) → nat_eq (print y) (print x) ≡ true → after (print x) ≡ before (print x) ++ t ∷ []
-    put_here x same = puts (print x) ∙ ap (λ b. cond b (before (print y) ++ t ∷ []) (before (print x))) same ∙ ap (λ n. before n ++ t ∷ []) (eqb-true (print y) (print x) same)
+    put_here x same = puts (print x) ∙ ap (λ b. cond b (before (print y) ++ t ∷ []) (before (print x))) same
+        ∙ ap (λ n. before n ++ t ∷ []) (eqb-true (print y) (print x) same)
 
     put_there : (x : X) → nat_eq (print y) (print x) ≡ false → after (print x) ≡ before (print x)
     put_there x apart = puts (print x) ∙ ap (λ b. cond b (before (print y) ++ t ∷ []) (before (print x))) apart
@@ -65,7 +70,8 @@ module _ {T X : Type 0} (view : T → X) where
     put_only : (x : X) → Has view (after (print x)) x → Has view (before (print x)) x ⊎ (y ≡ x)
     put_only x h =
         elim (either (nat_eq (print y) (print x))) [
-          | inl same ↦ elim (has_where (before (print x)) (t ∷ []) x (subst (λ l. Has view l x) (put_here x same) h)) [ inl old ↦ inl old | inr new ↦ inr (sym says ∙ has_one t x new) ]
+          | inl same ↦ elim (has_where (before (print x)) (t ∷ []) x (subst (λ l. Has view l x) (put_here x same) h))
+              [ inl old ↦ inl old | inr new ↦ inr (sym says ∙ has_one t x new) ]
           | inr apart ↦ inl (subst (λ l. Has view l x) (put_there x apart) h)
         ]
 
@@ -90,14 +96,17 @@ has_already P y is x = (λ h. inl h, λ h. elim h [ inl old ↦ old | inr same �
 
 -- A call that adds an item to its bag
 
-pub put_on : {T X R E : Type 0} (r : Result R E) (view : T → X) (print : X → ℕ) (before after : ℕ → List T) (t : T) (y : X) (number : ℕ) → view t ≡ y → number ≡ print y →
-    OnOk r ((n : ℕ) → after n ≡ cond (nat_eq number n) (before number ++ t ∷ []) (before n)) → OnOk r ((x : X) → Has view (after (print x)) x ↔ (Has view (before (print x)) x ⊎ (y ≡ x)))
+pub put_on : {T X R E : Type 0} (r : Result R E) (view : T → X) (print : X → ℕ) (before after : ℕ → List T) (t : T) (y : X) (number : ℕ) → view t ≡ y →
+    number ≡ print y →
+    OnOk r ((n : ℕ) → after n ≡ cond (nat_eq number n) (before number ++ t ∷ []) (before n)) →
+    OnOk r ((x : X) → Has view (after (print x)) x ↔ (Has view (before (print x)) x ⊎ (y ≡ x)))
 put_on (Ok r) view print before after t y number says is puts =
     has_put view print before after t y says (subst (λ m. (n : ℕ) → after n ≡ cond (nat_eq m n) (before m ++ t ∷ []) (before n)) is puts)
 put_on (Err e) view print before after t y number says is puts = tt
 
 -- an item under a number
-module _ {T : Type 0} (before after : ℕ → List T) (y : T) (number trans : ℕ) (is : number ≡ trans) (puts : (n : ℕ) → after n ≡ cond (nat_eq number n) (before number ++ y ∷ []) (before n)) where
+module _ {T : Type 0} (before after : ℕ → List T) (y : T) (number trans : ℕ) (is : number ≡ trans)
+    (puts : (n : ℕ) → after n ≡ cond (nat_eq number n) (before number ++ y ∷ []) (before n)) where
   there : (n : ℕ) → nat_eq number n ≡ true → after n ≡ before n ++ y ∷ []
   there n same = puts n ∙ ap (λ b. cond b (before number ++ y ∷ []) (before n)) same ∙ ap (λ m. before m ++ y ∷ []) (eqb-true number n same)
 
@@ -127,7 +136,8 @@ module _ {T : Type 0} (before after : ℕ → List T) (y : T) (number trans : �
   pub has_numbered : (n : ℕ) (a : T) → Has (λ i. i) (after n) a ↔ (Has (λ i. i) (before n) a ⊎ ((trans ≡ n) × (y ≡ a)))
   has_numbered n a = (numbered_only n a, λ h. elim h [ inl old ↦ numbered_old n a old | inr new ↦ numbered_new n a new.0 new.1 ])
 
-pub numbered_on : {T R E : Type 0} (r : Result R E) (before after : ℕ → List T) (y : T) (number trans : ℕ) → number ≡ trans → OnOk r ((n : ℕ) → after n ≡ cond (nat_eq number n) (before number ++ y ∷ []) (before n)) →
+pub numbered_on : {T R E : Type 0} (r : Result R E) (before after : ℕ → List T) (y : T) (number trans : ℕ) → number ≡ trans →
+    OnOk r ((n : ℕ) → after n ≡ cond (nat_eq number n) (before number ++ y ∷ []) (before n)) →
     OnOk r ((n : ℕ) (a : T) → Has (λ i. i) (after n) a ↔ (Has (λ i. i) (before n) a ⊎ ((trans ≡ n) × (y ≡ a))))
 numbered_on (Ok r) before after y number trans is puts = has_numbered before after y number trans is puts
 numbered_on (Err e) before after y number trans is puts = tt

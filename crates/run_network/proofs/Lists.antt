@@ -24,6 +24,7 @@ holds_same {X} has sent holds = subst (λ l. (x : X) → has x ↔ Contains l x)
 
 -- A call that sends an item
 
-pub holds_on : {X R E : Type 0} (r : Result R E) (old new : X → Type 0) (y : X) → OnOk r ((x : X) → new x ↔ (old x ⊎ (y ≡ x))) → OnOk r ((sent : List X) → ((x : X) → old x ↔ Contains sent x) → (x : X) → new x ↔ Contains (sent ++ y ∷ []) x)
+pub holds_on : {X R E : Type 0} (r : Result R E) (old new : X → Type 0) (y : X) → OnOk r ((x : X) → new x ↔ (old x ⊎ (y ≡ x))) →
+    OnOk r ((sent : List X) → ((x : X) → old x ↔ Contains sent x) → (x : X) → new x ↔ Contains (sent ++ y ∷ []) x)
 holds_on (Ok r) old new y puts = λ sent holds. holds_more old new y puts sent holds
 holds_on (Err e) old new y puts = tt

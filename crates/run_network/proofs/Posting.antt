@@ -19,10 +19,12 @@ abbrev net : Letters → Asks → Answers → HeldWaits → Held
 net letters asks answers waits = record { letters = letters; asks = asks; answers = answers; waits = waits }
 
 -- the response that is sent, by the requests that wait
-pub answered_on : {R E : Type 0} (r : Result R E) (old : Held) (new : Answers) (node : ℕ) (e : Event (Unit {0})) (serve : Option (Serve (Unit {0}))) (more : List SentAnswer) →
+pub answered_on : {R E : Type 0} (r : Result R E) (old : Held) (new : Answers) (node : ℕ) (e : Event (Unit {0})) (serve : Option (Serve (Unit {0})))
+    (more : List SentAnswer) →
     ((waiting : List Waits) → HoldsWaits old.waits waiting → more ≡ answers_by waiting node e serve) →
     OnOk r ((sent : List SentAnswer) → HoldsAnswers old.answers sent → HoldsAnswers new (sent ++ more)) →
-    OnOk r ((roster : Tables) (sent : Network) → Holds roster old sent → Holds roster (net old.letters old.asks new old.waits) (with_answers sent (answers_by sent.waiting node e serve)))
+    OnOk r ((roster : Tables) (sent : Network) → Holds roster old sent → Holds roster (net old.letters old.asks new old.waits)
+    (with_answers sent (answers_by sent.waiting node e serve)))
 answered_on (Ok r) old new node e serve more is holds = λ roster sent held. record {
   letters = held.letters;
   asks = held.asks;
@@ -31,10 +33,12 @@ answered_on (Ok r) old new node e serve more is holds = λ roster sent held. rec
 }
 answered_on (Err x) old new node e serve more is holds = tt
 
-pub replied_on : {R E : Type 0} (r : Result R E) (roster : Tables) (node : ℕ) (e : Event (Unit {0})) (reply : Reply (Unit {0})) (s0 s3 s4 : Held) (l1 : Letters) (a2 : Asks) →
+pub replied_on : {R E : Type 0} (r : Result R E) (roster : Tables) (node : ℕ) (e : Event (Unit {0})) (reply : Reply (Unit {0})) (s0 s3 s4 : Held) (l1 : Letters)
+    (a2 : Asks) →
     ((sent : List Datagram) → HoldsLetters roster s0.letters sent → HoldsLetters roster l1 (sent ++ datagrams_from (member_of roster node) reply.send)) →
     ((sent : List SentAsk) → HoldsAsks s0.asks sent → HoldsAsks a2 (sent ++ asks_by node reply.begin)) →
-    ((t : Tables) (sent : Network) → Holds t (net l1 a2 s0.answers s0.waits) sent → Holds t s3 (with_answers sent (answers_by sent.waiting node e reply.serve))) →
+    ((t : Tables) (sent : Network) → Holds t (net l1 a2 s0.answers s0.waits) sent → Holds t s3 (with_answers sent (answers_by sent.waiting node e reply.serve)))
+    →
     OnOk r ((t : Tables) (sent : Network) → Holds t s3 sent → Holds t s4 (with_waits sent (waits_by node e reply.begin))) →
     OnOk r ((sent : Network) → Holds roster s0 sent → Holds roster s4 (with_reply roster sent node e reply))
 replied_on (Ok r) roster node e reply s0 s3 s4 l1 a2 letters asks answers waits = λ sent held.
@@ -45,5 +49,11 @@ replied_on (Ok r) roster node e reply s0 s3 s4 l1 a2 letters asks answers waits 
       waiting = sent.waiting;
     } in
     waits roster (with_answers middle (answers_by sent.waiting node e reply.serve))
-    (answers roster middle (record { letters = letters sent.datagrams held.letters; asks = asks sent.asks held.asks; answers = held.answers; waits = held.waits }))
+    (answers roster middle (record {
+      letters = letters sent.datagrams held.letters;
+      asks = asks sent.asks held.asks;
+      answers = held.answers;
+      waits =
+          held.waits;
+    }))
 replied_on (Err x) roster node e reply s0 s3 s4 l1 a2 letters asks answers waits = tt

@@ -20,7 +20,8 @@ abbrev pub each : List Field → HashWrites
 each fields = flat_map field_writes (map field_text fields)
 
 -- one more field
-pub one_more : (start before after : DefaultHasher) (fields : List Field) (i : ℕ) (f : Field) → i < length fields → f ≡ get_or fields i f → before ≡ written_to start (each (take i fields)) →
+pub one_more : (start before after : DefaultHasher) (fields : List Field) (i : ℕ) (f : Field) → i < length fields → f ≡ get_or fields i f →
+    before ≡ written_to start (each (take i fields)) →
     after ≡ written_to before (field_writes (field_text f)) → after ≡ written_to start (each (take (i + 1) fields))
 one_more start before after fields i f less is so_far wrote =
     let front = take i fields in
@@ -30,10 +31,13 @@ one_more start before after fields i f less is so_far wrote =
     ∙ ap (flat_map field_writes) (map-append field_text front (f ∷ []))
     ∙ flat_map-append field_writes (map field_text front) (field_text f ∷ [])
     ∙ ap (λ w. each front ++ w) (append-nil (field_writes (field_text f))) in
-    wrote ∙ ap (λ h. written_to h (field_writes (field_text f))) so_far ∙ then start (each front) (field_writes (field_text f)) ∙ ap (written_to start) (sym added)
+    wrote ∙ ap (λ h. written_to h (field_writes (field_text f))) so_far ∙ then start (each front) (field_writes (field_text f))
+    ∙ ap (written_to start) (sym added)
 
 -- all fields, after their number
-pub all_written : (old start after : DefaultHasher) (fields : List Field) (i : ℕ) → length fields ≤ i → start ≡ sip.write old (fed.le_bytes 8 (length fields)) → after ≡ written_to start (each (take i fields)) →
+pub all_written : (old start after : DefaultHasher) (fields : List Field) (i : ℕ) → length fields ≤ i → start ≡ sip.write old (fed.le_bytes 8 (length fields)) →
+    after ≡ written_to start (each (take i fields)) →
     after ≡ written_to old (fields_writes (map field_text fields))
 all_written old start after fields i all first wrote =
-    wrote ∙ ap (λ l. written_to start (each l)) (take_all i fields all) ∙ ap (λ h. written_to h (each fields)) first ∙ ap (λ n. written_to old (fed.le_bytes 8 n ∷ each fields)) (sym (length-map fields field_text))
+    wrote ∙ ap (λ l. written_to start (each l)) (take_all i fields all) ∙ ap (λ h. written_to h (each fields)) first
+    ∙ ap (λ n. written_to old (fed.le_bytes 8 n ∷ each fields)) (sym (length-map fields field_text))

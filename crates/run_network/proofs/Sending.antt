@@ -25,7 +25,8 @@ letter sender receiver message = record { sender = sender; receiver = receiver; 
 abbrev pub acknowledgement : ℕ → ℕ → Acknowledgement
 acknowledgement member code = record { member = member; code = code }
 
-letter_is : (l : Letter) (sender : Address) (receiver : ℕ) (message : Message) → sender ≡ l.sender → receiver ≡ l.receiver → message ≡ l.message → record { sender = sender; receiver = receiver; message = message } ≡ l
+letter_is : (l : Letter) (sender : Address) (receiver : ℕ) (message : Message) → sender ≡ l.sender → receiver ≡ l.receiver → message ≡ l.message →
+    record { sender = sender; receiver = receiver; message = message } ≡ l
 letter_is l sender receiver message s r m =
     ap (λ a. letter a receiver message) s ∙ ap (λ b. letter l.sender b message) r ∙ ap (λ c. letter l.sender l.receiver c) m
 
@@ -41,14 +42,20 @@ module _ (roster : Tables) (sent : List Datagram) (d : Datagram) where
   answered_still trans a (x, among, is) = (x, Contains-append_left sent (d ∷ []) x among, is)
 
   -- a datagram was sent before, or is the new one
-  sent_where : (l : Letter) → IsSentTo roster (sent ++ d ∷ []) l → IsSentTo roster sent l ⊎ ((d.sender ≡ l.sender) × (d.message ≡ l.message) × ComesTo roster l.receiver d)
+  sent_where : (l : Letter) → IsSentTo roster (sent ++ d ∷ []) l → IsSentTo roster sent l
+      ⊎ ((d.sender ≡ l.sender) × (d.message ≡ l.message) × ComesTo roster l.receiver d)
   sent_where l (x, among, from, says, comes) =
       elim (Contains-push_cases sent d x among) [
         | inl before ↦ inl (x, before, from, says, comes)
-        | inr new ↦ inr (ap (λ (y : Datagram). y.sender) new ∙ from, ap (λ (y : Datagram). y.message) new ∙ says, subst (λ (y : Datagram). ComesTo roster l.receiver y) (sym new) comes)
+        | inr new ↦ inr (
+          ap (λ (y : Datagram). y.sender) new ∙ from,
+          ap (λ (y : Datagram). y.message) new ∙ says,
+          subst (λ (y : Datagram). ComesTo roster l.receiver y) (sym new) comes,
+        )
       ]
 
-  answered_where : (trans : ℕ) (a : Acknowledgement) → IsAnswered roster (sent ++ d ∷ []) trans a → IsAnswered roster sent trans a ⊎ IsAnswerOf roster a.member trans a.code d
+  answered_where : (trans : ℕ) (a : Acknowledgement) → IsAnswered roster (sent ++ d ∷ []) trans a → IsAnswered roster sent trans a
+      ⊎ IsAnswerOf roster a.member trans a.code d
   answered_where trans a (x, among, is) =
       elim (Contains-push_cases sent d x among) [
         | inl before ↦ inl (x, before, is)
@@ -64,7 +71,13 @@ module _ (roster : Tables) (sent : List Datagram) (d : Datagram) where
     sent_to = λ l. (
       λ h. elim ((letters l).0 h) [
         | inl before ↦ sent_still l ((holds.sent_to l).0 before)
-        | inr same ↦ (d, Contains-push sent d, ap (λ (k : Letter). k.sender) same, ap (λ (k : Letter). k.message) same, (other, at ∙ ap (λ (k : Letter). Some k.receiver) same))
+        | inr same ↦ (
+          d,
+          Contains-push sent d,
+          ap (λ (k : Letter). k.sender) same,
+          ap (λ (k : Letter). k.message) same,
+          (other, at ∙ ap (λ (k : Letter). Some k.receiver) same),
+        )
       ],
       λ h. (letters l).1 (elim (sent_where l h) [
         | inl before ↦ inl ((holds.sent_to l).1 before)
@@ -81,7 +94,8 @@ module _ (roster : Tables) (sent : List Datagram) (d : Datagram) where
   }
 
   -- the new one is for nobody
-  pub to_nobody : (old : Letters) → is_master roster d.receiver ≡ false → member_at roster d.receiver (udp_of d.message) ≡ None → HoldsLetters roster old sent → HoldsLetters roster old (sent ++ d ∷ [])
+  pub to_nobody : (old : Letters) → is_master roster d.receiver ≡ false → member_at roster d.receiver (udp_of d.message) ≡ None → HoldsLetters roster old sent →
+      HoldsLetters roster old (sent ++ d ∷ [])
   to_nobody old other nobody holds = record {
     sent_to = λ l. (
       λ h. sent_still l ((holds.sent_to l).0 h),
@@ -94,9 +108,11 @@ module _ (roster : Tables) (sent : List Datagram) (d : Datagram) where
   }
 
   -- the new one is a member's response to a CLR, for the master
-  pub to_master : (old new : Letters) (id trans code : ℕ) → is_master roster d.receiver ≡ true → member_at roster d.sender udp.Htcp ≡ Some id → clear_answer d.message ≡ Some (trans, code) →
+  pub to_master : (old new : Letters) (id trans code : ℕ) → is_master roster d.receiver ≡ true → member_at roster d.sender udp.Htcp ≡ Some id →
+      clear_answer d.message ≡ Some (trans, code) →
       ((l : Letter) → HasLetter new l ↔ HasLetter old l) →
-      ((number : ℕ) (a : Acknowledgement) → HasAcknowledged new number a ↔ (HasAcknowledged old number a ⊎ ((trans ≡ number) × (record { member = id; code = code } ≡ a)))) →
+      ((number : ℕ) (a : Acknowledgement) → HasAcknowledged new number a ↔
+      (HasAcknowledged old number a ⊎ ((trans ≡ number) × (record { member = id; code = code } ≡ a)))) →
       HoldsLetters roster old sent → HoldsLetters roster new (sent ++ d ∷ [])
   to_master old new id trans code master from says letters answers holds = record {
     sent_to = λ l. (
@@ -129,7 +145,8 @@ module _ (roster : Tables) (sent : List Datagram) (d : Datagram) where
   }
 
   -- the new one is for the master, who ignores it
-  pub unheeded : (old : Letters) → is_master roster d.receiver ≡ true → ((id trans code : ℕ) → member_at roster d.sender udp.Htcp ≡ Some id → clear_answer d.message ≡ Some (trans, code) → ⊥) →
+  pub unheeded : (old : Letters) → is_master roster d.receiver ≡ true →
+      ((id trans code : ℕ) → member_at roster d.sender udp.Htcp ≡ Some id → clear_answer d.message ≡ Some (trans, code) → ⊥) →
       HoldsLetters roster old sent → HoldsLetters roster old (sent ++ d ∷ [])
   unheeded old master no_answer holds = record {
     sent_to = λ l. (
@@ -138,12 +155,17 @@ module _ (roster : Tables) (sent : List Datagram) (d : Datagram) where
     );
     answered = λ trans a. (
       λ h. answered_still trans a ((holds.answered trans a).0 h),
-      λ h. elim (answered_where trans a h) [ inl before ↦ (holds.answered trans a).1 before | inr now ↦ absurd (no_answer a.member trans a.code now.sender now.says) ],
+      λ h. elim (answered_where trans a h) [
+        | inl before ↦ (holds.answered trans a).1 before
+        | inr now ↦ absurd
+            (no_answer a.member trans a.code now.sender now.says)
+      ],
     );
   }
 
 -- nothing was sent
-pub nothing_held : (roster : Tables) (letters : Letters) → ((l : Letter) → HasLetter letters l → ⊥) → ((trans : ℕ) (a : Acknowledgement) → HasAcknowledged letters trans a → ⊥) → HoldsLetters roster letters []
+pub nothing_held : (roster : Tables) (letters : Letters) → ((l : Letter) → HasLetter letters l → ⊥) →
+    ((trans : ℕ) (a : Acknowledgement) → HasAcknowledged letters trans a → ⊥) → HoldsLetters roster letters []
 nothing_held roster letters none silent = record {
   sent_to = λ l. (λ h. absurd (none l h), λ h. absurd (contains_none h.0 h.1));
   answered = λ trans a. (λ h. absurd (silent trans a h), λ h. absurd (contains_none h.0 h.1));
@@ -151,23 +173,30 @@ nothing_held roster letters none silent = record {
 
 -- Calls that send
 
-pub to_member_on : {R E : Type 0} (r : Result R E) (roster : Tables) (d : Datagram) (old new : Letters) (id : ℕ) → is_master roster d.receiver ≡ false → member_at roster d.receiver (udp_of d.message) ≡ Some id →
+pub to_member_on : {R E : Type 0} (r : Result R E) (roster : Tables) (d : Datagram) (old new : Letters) (id : ℕ) → is_master roster d.receiver ≡ false →
+    member_at roster d.receiver (udp_of d.message) ≡ Some id →
     OnOk r ((l : Letter) → HasLetter new l ↔ (HasLetter old l ⊎ (record { sender = d.sender; receiver = id; message = d.message } ≡ l))) →
     OnOk r ((trans : ℕ) (a : Acknowledgement) → HasAcknowledged new trans a ↔ HasAcknowledged old trans a) →
     OnOk r ((sent : List Datagram) → HoldsLetters roster old sent → HoldsLetters roster new (sent ++ d ∷ []))
 to_member_on (Ok r) roster d old new id other at letters answers = λ sent holds. to_member roster sent d old new id other at letters answers holds
 to_member_on (Err e) roster d old new id other at letters answers = tt
 
-pub to_master_on : {R E : Type 0} (r : Result R E) (roster : Tables) (d : Datagram) (old new : Letters) (id trans code : ℕ) → is_master roster d.receiver ≡ true → member_at roster d.sender udp.Htcp ≡ Some id → clear_answer d.message ≡ Some (trans, code) →
+pub to_master_on : {R E : Type 0} (r : Result R E) (roster : Tables) (d : Datagram) (old new : Letters) (id trans code : ℕ) →
+    is_master roster d.receiver ≡ true → member_at roster d.sender udp.Htcp ≡ Some id → clear_answer d.message ≡ Some (trans, code) →
     OnOk r ((l : Letter) → HasLetter new l ↔ HasLetter old l) →
-    OnOk r ((number : ℕ) (a : Acknowledgement) → HasAcknowledged new number a ↔ (HasAcknowledged old number a ⊎ ((trans ≡ number) × (record { member = id; code = code } ≡ a)))) →
+    OnOk r ((number : ℕ) (a : Acknowledgement) → HasAcknowledged new number a ↔
+    (HasAcknowledged old number a ⊎ ((trans ≡ number) × (record { member = id; code = code } ≡ a)))) →
     OnOk r ((sent : List Datagram) → HoldsLetters roster old sent → HoldsLetters roster new (sent ++ d ∷ []))
-to_master_on (Ok r) roster d old new id trans code master from says letters answers = λ sent holds. to_master roster sent d old new id trans code master from says letters answers holds
+to_master_on (Ok r) roster d old new id trans code master from says letters answers = λ sent holds. to_master roster sent d old new id trans code master from
+    says letters answers holds
 to_master_on (Err e) roster d old new id trans code master from says letters answers = tt
 
 -- what holds of a message holds of an equal one
 pub message_on : {R E : Type 0} (r : Result R E) (roster : Tables) (old new : Letters) (sender receiver : Address) (one other : Message) → one ≡ other →
-    OnOk r ((sent : List Datagram) → HoldsLetters roster old sent → HoldsLetters roster new (sent ++ record { sender = sender; receiver = receiver; message = one } ∷ [])) →
-    OnOk r ((sent : List Datagram) → HoldsLetters roster old sent → HoldsLetters roster new (sent ++ record { sender = sender; receiver = receiver; message = other } ∷ []))
+    OnOk r ((sent : List Datagram) → HoldsLetters roster old sent → HoldsLetters roster new
+    (sent ++ record { sender = sender; receiver = receiver; message = one } ∷ [])) →
+    OnOk r ((sent : List Datagram) → HoldsLetters roster old sent → HoldsLetters roster new
+    (sent ++ record { sender = sender; receiver = receiver; message = other } ∷ []))
 message_on r roster old new sender receiver one other is holds =
-    subst (λ m. OnOk r ((sent : List Datagram) → HoldsLetters roster old sent → HoldsLetters roster new (sent ++ record { sender = sender; receiver = receiver; message = m } ∷ []))) is holds
+    subst (λ m. OnOk r ((sent : List Datagram) → HoldsLetters roster old sent → HoldsLetters roster new
+    (sent ++ record { sender = sender; receiver = receiver; message = m } ∷ []))) is holds

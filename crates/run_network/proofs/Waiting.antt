@@ -13,15 +13,18 @@ key_when : (b : Bool) (w : Waits) → option_map (λ (x : Waits). x.key) (cond b
 key_when true w = refl
 key_when false w = refl
 
-or_when : (b : Bool) (x : Waits) (o : Option Waits) (p : Option Waits) (later : Option (List ℕ)) → option_map (λ (x : Waits). x.key) o ≡ or_else (option_map (λ (x : Waits). x.key) p) later →
+or_when : (b : Bool) (x : Waits) (o : Option Waits) (p : Option Waits) (later : Option (List ℕ)) →
+    option_map (λ (x : Waits). x.key) o ≡ or_else (option_map (λ (x : Waits). x.key) p) later →
     option_map (λ (x : Waits). x.key) (cond b (Some x) o) ≡ or_else (option_map (λ (x : Waits). x.key) (cond b (Some x) p)) later
 or_when true x o p later e = refl
 or_when false x o p later e = e
 
-pub waiting_more : (waiting : List Waits) (w : Waits) (n b : ℕ) → waiting_key (waiting ++ w ∷ []) n b ≡ or_else (waiting_key waiting n b) (cond (nat_eq w.node n && nat_eq w.block b) (Some w.key) None)
+pub waiting_more : (waiting : List Waits) (w : Waits) (n b : ℕ) → waiting_key (waiting ++ w ∷ []) n b ≡ or_else (waiting_key waiting n b)
+    (cond (nat_eq w.node n && nat_eq w.block b) (Some w.key) None)
 waiting_more [] w n b = key_when (nat_eq w.node n && nat_eq w.block b) w
 waiting_more (x ∷ waiting) w n b =
-    or_when (is_waiting n b x) x (find (is_waiting n b) (waiting ++ w ∷ [])) (find (is_waiting n b) waiting) (cond (nat_eq w.node n && nat_eq w.block b) (Some w.key) None) (waiting_more waiting w n b)
+    or_when (is_waiting n b x) x (find (is_waiting n b) (waiting ++ w ∷ [])) (find (is_waiting n b) waiting)
+    (cond (nat_eq w.node n && nat_eq w.block b) (Some w.key) None) (waiting_more waiting w n b)
 
 not_there : (a node n : ℕ) (b : Bool) → node ≡ n → not (nat_eq a node) ≡ true → (nat_eq a n && b) ≡ false
 not_there a node n b e h = grind arith
@@ -29,14 +32,17 @@ not_there a node n b e h = grind arith
 is_there : (a node n : ℕ) (b : Bool) → nat_eq node n ≡ false → (nat_eq a n && b) ≡ true → not (nat_eq a node) ≡ true
 is_there a node n b e h = grind arith
 
-pub waiting_gone : (waiting : List Waits) (node n b : ℕ) → waiting_key (filter (λ (w : Waits). not (nat_eq w.node node)) waiting) n b ≡ cond (nat_eq node n) None (waiting_key waiting n b)
+pub waiting_gone : (waiting : List Waits) (node n b : ℕ) → waiting_key (filter (λ (w : Waits). not (nat_eq w.node node)) waiting) n b ≡ cond (nat_eq node n)
+    None (waiting_key waiting n b)
 waiting_gone waiting node n b =
     elim (either (nat_eq node n)) [
       | inl same ↦
-          ap (option_map (λ (x : Waits). x.key)) (found_gone (is_waiting n b) (λ (w : Waits). not (nat_eq w.node node)) (λ x kept. not_there x.node node n (nat_eq x.block b) (eqb-true node n same) kept) waiting)
+          ap (option_map (λ (x : Waits). x.key)) (found_gone (is_waiting n b) (λ (w : Waits). not (nat_eq w.node node))
+          (λ x kept. not_there x.node node n (nat_eq x.block b) (eqb-true node n same) kept) waiting)
           ∙ sym (ap (λ c. cond c None (waiting_key waiting n b)) same)
       | inr apart ↦
-          ap (option_map (λ (x : Waits). x.key)) (found_kept (is_waiting n b) (λ (w : Waits). not (nat_eq w.node node)) (λ x is. is_there x.node node n (nat_eq x.block b) apart is) waiting)
+          ap (option_map (λ (x : Waits). x.key)) (found_kept (is_waiting n b) (λ (w : Waits). not (nat_eq w.node node))
+          (λ x is. is_there x.node node n (nat_eq x.block b) apart is) waiting)
           ∙ sym (ap (λ c. cond c None (waiting_key waiting n b)) apart)
     ]
 
@@ -49,27 +55,34 @@ and_then_cond f true o = refl
 and_then_cond f false o = refl
 
 -- what waited at a node is dropped
-pub forgotten : (old new : HeldWaits) (node : ℕ) → ((n : ℕ) → get nat_eq new.nodes n ≡ cond (nat_eq node n) None (get nat_eq old.nodes n)) → (waiting : List Waits) → HoldsWaits old waiting →
+pub forgotten : (old new : HeldWaits) (node : ℕ) → ((n : ℕ) → get nat_eq new.nodes n ≡ cond (nat_eq node n) None (get nat_eq old.nodes n)) →
+    (waiting : List Waits) → HoldsWaits old waiting →
     HoldsWaits new (filter (λ (w : Waits). not (nat_eq w.node node)) waiting)
 forgotten old new node gone waiting holds n b =
-    ap (option_and_then (λ blocks. option_map (λ k. k.now) (get nat_eq blocks b))) (gone n) ∙ and_then_cond (λ blocks. option_map (λ k. k.now) (get nat_eq blocks b)) (nat_eq node n) (get nat_eq old.nodes n)
+    ap (option_and_then (λ blocks. option_map (λ k. k.now) (get nat_eq blocks b))) (gone n)
+    ∙ and_then_cond (λ blocks. option_map (λ k. k.now) (get nat_eq blocks b)) (nat_eq node n) (get nat_eq old.nodes n)
     ∙ ap (cond (nat_eq node n) None) (holds n b) ∙ sym (waiting_gone waiting node n b)
 
 module _ (old mid new : HeldWaits) (before after : ℕ → Option (List ℕ)) (node block : ℕ) (key : List ℕ) (taken : (b : ℕ) → before b ≡ key_at old node b)
-    (others : (n b : ℕ) → nat_eq node n ≡ false → key_at mid n b ≡ key_at old n b) (entered : (b : ℕ) → after b ≡ or_else (before b) (cond (nat_eq block b) (Some key) None))
+    (others : (n b : ℕ) → nat_eq node n ≡ false → key_at mid n b ≡ key_at old n b)
+    (entered : (b : ℕ) → after b ≡ or_else (before b) (cond (nat_eq block b) (Some key) None))
     (puts : (n b : ℕ) → key_at new n b ≡ cond (nat_eq node n) (after b) (key_at mid n b)) where
   pub added : (waiting : List Waits) → HoldsWaits old waiting → HoldsWaits new (waiting ++ record { node = node; block = block; key = key } ∷ [])
   added waiting holds n b =
       elim (either (nat_eq node n)) [
         | inl same ↦
-            puts n b ∙ ap (λ c. cond c (after b) (key_at mid n b)) same ∙ entered b ∙ ap (λ o. or_else o (cond (nat_eq block b) (Some key) None)) (taken b ∙ ap (λ m. key_at old m b) (eqb-true node n same) ∙ holds n b)
-            ∙ sym (waiting_more waiting (record { node = node; block = block; key = key }) n b ∙ ap (λ c. or_else (waiting_key waiting n b) (cond (c && nat_eq block b) (Some key) None)) same)
+            puts n b ∙ ap (λ c. cond c (after b) (key_at mid n b)) same ∙ entered b ∙ ap (λ o. or_else o (cond (nat_eq block b) (Some key) None))
+            (taken b ∙ ap (λ m. key_at old m b) (eqb-true node n same) ∙ holds n b)
+            ∙ sym (waiting_more waiting (record { node = node; block = block; key = key }) n b
+            ∙ ap (λ c. or_else (waiting_key waiting n b) (cond (c && nat_eq block b) (Some key) None)) same)
         | inr apart ↦
             puts n b ∙ ap (λ c. cond c (after b) (key_at mid n b)) apart ∙ others n b apart ∙ holds n b ∙ nothing_more (waiting_key waiting n b)
-            ∙ sym (waiting_more waiting (record { node = node; block = block; key = key }) n b ∙ ap (λ c. or_else (waiting_key waiting n b) (cond (c && nat_eq block b) (Some key) None)) apart)
+            ∙ sym (waiting_more waiting (record { node = node; block = block; key = key }) n b
+            ∙ ap (λ c. or_else (waiting_key waiting n b) (cond (c && nat_eq block b) (Some key) None)) apart)
       ]
 
-pub added_on : {R E : Type 0} (r : Result R E) (old mid new : HeldWaits) (before after : ℕ → Option (List ℕ)) (node block : ℕ) (key : List ℕ) → ((b : ℕ) → before b ≡ key_at old node b) →
+pub added_on : {R E : Type 0} (r : Result R E) (old mid new : HeldWaits) (before after : ℕ → Option (List ℕ)) (node block : ℕ) (key : List ℕ) →
+    ((b : ℕ) → before b ≡ key_at old node b) →
     ((n b : ℕ) → nat_eq node n ≡ false → key_at mid n b ≡ key_at old n b) → ((b : ℕ) → after b ≡ or_else (before b) (cond (nat_eq block b) (Some key) None)) →
     OnOk r ((n b : ℕ) → key_at new n b ≡ cond (nat_eq node n) (after b) (key_at mid n b)) →
     OnOk r ((waiting : List Waits) → HoldsWaits old waiting → HoldsWaits new (waiting ++ record { node = node; block = block; key = key } ∷ []))

@@ -30,7 +30,8 @@ HasAcknowledged letters trans a = Has (λ i. i) (bag_of letters.acknowledged tra
 
 -- one of the datagrams that were sent is this one, and is for the member
 abbrev pub IsSentTo : Tables → List Datagram → Letter → Type 0
-IsSentTo roster sent l = (d : Datagram) × Contains sent d × (d.sender ≡ l.sender) × (d.message ≡ l.message) × ComesTo roster l.receiver d
+IsSentTo roster sent l = (d : Datagram) × Contains sent d × (d.sender ≡ l.sender) × (d.message ≡ l.message)
+    × ComesTo roster l.receiver d
 
 -- one of the datagrams that were sent is the member's response to the CLR
 abbrev pub IsAnswered : Tables → List Datagram → ℕ → Acknowledgement → Type 0
@@ -63,7 +64,8 @@ answer_in a = record { sender = a.sender; receiver = a.receiver; key = a.key.now
 
 -- this response is held, under its print
 abbrev pub HasAnswer : Answers → SentAnswer → Type 0
-HasAnswer answers a = Has answer_in (bag_of answers.bags (answer_print answers.keys a.sender a.receiver a.key a.answer)) a
+HasAnswer answers a = Has answer_in (bag_of answers.bags (answer_print answers.keys a.sender a.receiver a.key a.answer))
+    a
 
 -- exactly these responses are held
 abbrev pub HoldsAnswers : Answers → List SentAnswer → Type 0
@@ -78,7 +80,8 @@ or_else (Some key) later = Some key
 
 -- the key that is held for a node and a block
 abbrev pub key_at : HeldWaits → ℕ → ℕ → Option (List ℕ)
-key_at waits node block = option_and_then (λ blocks. option_map (λ k. k.now) (get nat_eq blocks block)) (get nat_eq waits.nodes node)
+key_at waits node block = option_and_then (λ blocks. option_map (λ k. k.now) (get nat_eq blocks block))
+    (get nat_eq waits.nodes node)
 
 -- the key of the first of these requests that waits at the node as the block
 abbrev pub waiting_key : List Waits → ℕ → ℕ → Option (List ℕ)

@@ -41,7 +41,10 @@ text_in (message.Htcp m) = uri_in m.content
 
 -- the print of a datagram: of its sender, receiver, number and URL
 unfoldable pub letter_print : RandomState → Address → ℕ → Message → ℕ
-letter_print keys sender receiver m = hash_of keys (fed.u32 sender.ip ++ (fed.u16 sender.port ++ (fed.u8 receiver ++ (fed.u32 (number_in m) ++ fed.slice fed.u8 (text_in m)))))
+letter_print keys sender receiver m =
+    hash_of keys
+    (fed.u32 sender.ip
+    ++ (fed.u16 sender.port ++ (fed.u8 receiver ++ (fed.u32 (number_in m) ++ fed.slice fed.u8 (text_in m)))))
 
 -- the print of a request: of its sender, receiver and key
 unfoldable pub ask_print : RandomState → ℕ → ℕ → List ℕ → ℕ
@@ -61,8 +64,11 @@ fields_writes fs = fed.usize (length fs) ++ flat_map field_writes fs
 
 -- the sender, the receiver, and the numbers of a response
 abbrev pub number_writes : ℕ → ℕ → AnswerText → fed.HashWrites
-number_writes sender receiver a = fed.u8 sender ++ (fed.u8 receiver ++ (fed.u16 a.status ++ (fed.option fed.u64 a.age ++ fed.option fed.u32 a.stamp)))
+number_writes sender receiver a = fed.u8 sender
+    ++ (fed.u8 receiver ++ (fed.u16 a.status ++ (fed.option fed.u64 a.age ++ fed.option fed.u32 a.stamp)))
 
 -- the print of a response: of its sender, receiver and key, and all that is written of it
 unfoldable pub answer_print : RandomState → ℕ → ℕ → List ℕ → AnswerText → ℕ
-answer_print keys sender receiver key a = hash_of keys (number_writes sender receiver a ++ (text_writes key ++ (fields_writes a.fields ++ text_writes a.body)))
+answer_print keys sender receiver key a =
+    hash_of keys
+    (number_writes sender receiver a ++ (text_writes key ++ (fields_writes a.fields ++ text_writes a.body)))

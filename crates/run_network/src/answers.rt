@@ -41,7 +41,14 @@ fn is_answer(
     key: &Key,
     answer: &Written<'_>,
 ) -> bool
-    ensures { IsTrue result ↔ (answer_in sent.now ≡ record { sender = sender; receiver = receiver; key = key.now; answer = written_text answer.now }) }
+    ensures { IsTrue result ↔ (answer_in sent.now
+        ≡ record {
+          sender = sender;
+          receiver = receiver;
+          key = key.now;
+          answer =
+              written_text answer.now;
+        }) }
 {
     sent.sender == sender
         && sent.receiver == receiver
@@ -57,7 +64,14 @@ fn has_answer_in(
     key: &Key,
     answer: &Written<'_>,
 ) -> bool
-    ensures { IsTrue result ↔ Has answer_in answers.now (record { sender = sender; receiver = receiver; key = key.now; answer = written_text answer.now }) }
+    ensures { IsTrue result ↔ Has answer_in answers.now
+        (record {
+          sender = sender;
+          receiver = receiver;
+          key = key.now;
+          answer =
+              written_text answer.now;
+        }) }
 {
     for sent in answers {
         if is_answer(sent, sender, receiver, key, answer) {
@@ -80,7 +94,8 @@ impl<'a> Answers<'a> {
 
     /// Whether this response was sent.
     pub(crate) fn has_answer(&self, sender: u8, receiver: u8, key: &Key, answer: &Answer) -> bool
-        ensures { IsTrue result ↔ HasAnswer self.now (record { sender = sender; receiver = receiver; key = key.now; answer = answer.now }) }
+        ensures { IsTrue result ↔ HasAnswer self.now
+            (record { sender = sender; receiver = receiver; key = key.now; answer = answer.now }) }
     {
         let answer = Written::of(answer);
         let print = answer_print(self.keys, sender, receiver, key.text(), &answer);
@@ -96,7 +111,15 @@ impl<'a> Answers<'a> {
         key: &'a Key,
         served: &'a Served<()>,
     ) -> Result<(), AllocError>
-        ensures { OnOk result ((a : AnAnswer) → HasAnswer self.new a ↔ (HasAnswer self.old a ⊎ (record { sender = sender; receiver = receiver; key = key.now; answer = text_of served.now } ≡ a))) }
+        ensures { OnOk result ((a : AnAnswer) →
+            HasAnswer self.new a ↔ (HasAnswer self.old a
+            ⊎ (record {
+              sender = sender;
+              receiver = receiver;
+              key = key.now;
+              answer =
+                  text_of served.now;
+            } ≡ a))) }
     {
         let written = Written::of_served(served);
         let print = answer_print(self.keys, sender, receiver, key.text(), &written);
@@ -120,7 +143,9 @@ impl<'a> Answers<'a> {
         serve: &'a Serve<()>,
         key: Option<&'a Key>,
     ) -> Result<(), AllocError>
-        ensures { OnOk result ((sent : List AnAnswer) → HoldsAnswers self.old sent → HoldsAnswers self.new (sent ++ answer_for node serve.now.asker serve.now.served (option_map (λ k. k.now) key.entry))) }
+        ensures { OnOk result ((sent : List AnAnswer) → HoldsAnswers self.old sent →
+            HoldsAnswers self.new (sent ++ answer_for node serve.now.asker serve.now.served
+            (option_map (λ k. k.now) key.entry))) }
     {
         match (serve.asker, key) {
             (Some(asker), Some(key)) => self.add(alloc, node, asker, key, &serve.served),

@@ -32,14 +32,16 @@ pub struct Asks<'a> {
 
 /// Whether a request that was sent is this one.
 fn is_ask(sent: &SentAsk<'_>, sender: u8, receiver: u8, ask: &Ask) -> bool
-    ensures { IsTrue result ↔ (ask_in sent.now ≡ record { sender = sender; receiver = receiver; ask = ask.now }) }
+    ensures { IsTrue result ↔ (ask_in sent.now
+        ≡ record { sender = sender; receiver = receiver; ask = ask.now }) }
 {
     sent.sender == sender && sent.receiver == receiver && same_ask(sent.ask, ask)
 }
 
 /// Whether this request is among these.
 fn has_ask_in(asks: &[SentAsk<'_>], sender: u8, receiver: u8, ask: &Ask) -> bool
-    ensures { IsTrue result ↔ Has ask_in asks.now (record { sender = sender; receiver = receiver; ask = ask.now }) }
+    ensures { IsTrue result ↔ Has ask_in asks.now
+        (record { sender = sender; receiver = receiver; ask = ask.now }) }
 {
     for sent in asks {
         if is_ask(sent, sender, receiver, ask) {
@@ -62,7 +64,8 @@ impl<'a> Asks<'a> {
 
     /// Whether this request was sent.
     pub(crate) fn has_ask(&self, sender: u8, receiver: u8, ask: &Ask) -> bool
-        ensures { IsTrue result ↔ HasAsk self.now (record { sender = sender; receiver = receiver; ask = ask.now }) }
+        ensures { IsTrue result ↔ HasAsk self.now
+            (record { sender = sender; receiver = receiver; ask = ask.now }) }
     {
         let print = ask_print(self.keys, sender, receiver, ask.key.text());
         has_ask_in(self.bags.bag(print), sender, receiver, ask)
@@ -70,7 +73,8 @@ impl<'a> Asks<'a> {
 
     /// Adds a request that is not held yet.
     fn put(&mut self, alloc: Global, sent: SentAsk<'a>) -> Result<(), AllocError>
-        ensures { OnOk result ((a : AnAsk) → HasAsk self.new a ↔ (HasAsk self.old a ⊎ (ask_in sent.entry ≡ a))) }
+        ensures { OnOk result ((a : AnAsk) →
+            HasAsk self.new a ↔ (HasAsk self.old a ⊎ (ask_in sent.entry ≡ a))) }
     {
         let print = ask_print(self.keys, sent.sender, sent.receiver, sent.ask.key.text());
         self.bags.put(alloc, print, sent)
@@ -84,7 +88,9 @@ impl<'a> Asks<'a> {
         receiver: u8,
         ask: &'a Ask,
     ) -> Result<(), AllocError>
-        ensures { OnOk result ((a : AnAsk) → HasAsk self.new a ↔ (HasAsk self.old a ⊎ (record { sender = sender; receiver = receiver; ask = ask.now } ≡ a))) }
+        ensures { OnOk result ((a : AnAsk) →
+            HasAsk self.new a ↔ (HasAsk self.old a
+            ⊎ (record { sender = sender; receiver = receiver; ask = ask.now } ≡ a))) }
     {
         if self.has_ask(sender, receiver, ask) {
             return Ok(());
@@ -106,7 +112,8 @@ impl<'a> Asks<'a> {
         node: u8,
         begin: &'a Option<Begin>,
     ) -> Result<(), AllocError>
-        ensures { OnOk result ((sent : List AnAsk) → HoldsAsks self.old sent → HoldsAsks self.new (sent ++ asks_by node begin.now)) }
+        ensures { OnOk result ((sent : List AnAsk) → HoldsAsks self.old sent →
+            HoldsAsks self.new (sent ++ asks_by node begin.now)) }
     {
         match begin {
             Some(Begin::Peer { peer, ask, .. }) => {

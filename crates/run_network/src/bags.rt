@@ -39,7 +39,9 @@ impl<T: Drop> Bags<T> {
     ///
     /// Fault: an allocation failed; nothing is promised of the bags then.
     pub(crate) fn put(&mut self, alloc: Global, number: u64, item: T) -> Result<(), AllocError>
-        ensures { OnOk result ((other : ℕ) → bag_of self.new other ≡ (if number == other then bag_of self.old number ++ item ∷ [] else bag_of self.old other)) }
+        ensures { OnOk result ((other : ℕ) →
+            bag_of self.new other ≡ (if number == other then bag_of self.old number ++ item ∷ []
+            else bag_of self.old other)) }
     {
         let mut bag = match self.bags.remove(&number) {
             Some(bag) => bag,

@@ -47,7 +47,8 @@ pub struct Letters {
 
 /// Whether a datagram is this one.
 fn is_letter(letter: &Letter, sender: Address, receiver: u8, message: &Message) -> bool
-    ensures { IsTrue result ↔ (letter.now ≡ record { sender = sender; receiver = receiver; message = message.now }) }
+    ensures { IsTrue result ↔ (letter.now
+        ≡ record { sender = sender; receiver = receiver; message = message.now }) }
 {
     letter.sender == sender
         && letter.receiver == receiver
@@ -56,7 +57,13 @@ fn is_letter(letter: &Letter, sender: Address, receiver: u8, message: &Message) 
 
 /// Whether this datagram is among these.
 fn has_letter_in(letters: &[Letter], sender: Address, receiver: u8, message: &Message) -> bool
-    ensures { IsTrue result ↔ Has (λ l. l) letters.now (record { sender = sender; receiver = receiver; message = message.now }) }
+    ensures { IsTrue result ↔ Has (λ l.
+        l) letters.now (record {
+          sender = sender;
+          receiver = receiver;
+          message =
+              message.now;
+        }) }
 {
     for letter in letters {
         if is_letter(letter, sender, receiver, message) {
@@ -89,7 +96,8 @@ impl Letters {
     /// No datagrams. Allocates nothing.
     pub(crate) fn new(alloc: Global, keys: RandomState) -> Letters
         ensures letters { (l : ALetter) → HasLetter result l → ⊥ }
-        ensures acknowledged { (trans : ℕ) (a : AnAcknowledgement) → HasAcknowledged result trans a → ⊥ }
+        ensures acknowledged { (trans : ℕ) (a : AnAcknowledgement) →
+            HasAcknowledged result trans a → ⊥ }
     {
         Letters {
             keys,
@@ -100,7 +108,8 @@ impl Letters {
 
     /// Whether this datagram was sent to this member.
     pub(crate) fn has_letter(&self, sender: Address, receiver: u8, message: &Message) -> bool
-        ensures { IsTrue result ↔ HasLetter self.now (record { sender = sender; receiver = receiver; message = message.now }) }
+        ensures { IsTrue result ↔ HasLetter self.now
+            (record { sender = sender; receiver = receiver; message = message.now }) }
     {
         let print = letter_print(self.keys, sender, receiver, message);
         has_letter_in(self.bags.bag(print), sender, receiver, message)
@@ -108,7 +117,8 @@ impl Letters {
 
     /// Whether a member has responded to the CLR with this TRANS-ID by this code.
     pub(crate) fn has_acknowledged(&self, member: u8, trans: u32, code: u8) -> bool
-        ensures { IsTrue result ↔ HasAcknowledged self.now trans (record { member = member; code = code }) }
+        ensures { IsTrue result ↔ HasAcknowledged self.now trans
+            (record { member = member; code = code }) }
     {
         let answers = self.acknowledged.bag(u64::from(trans));
         has_acknowledged_in(answers, member, code)
@@ -116,8 +126,10 @@ impl Letters {
 
     /// Adds a datagram that is not held yet.
     fn put_letter(&mut self, alloc: Global, letter: Letter) -> Result<(), AllocError>
-        ensures letters { OnOk result ((l : ALetter) → HasLetter self.new l ↔ (HasLetter self.old l ⊎ (letter ≡ l))) }
-        ensures acknowledged { OnOk result ((trans : ℕ) (a : AnAcknowledgement) → HasAcknowledged self.new trans a ↔ HasAcknowledged self.old trans a) }
+        ensures letters { OnOk result ((l : ALetter) →
+            HasLetter self.new l ↔ (HasLetter self.old l ⊎ (letter ≡ l))) }
+        ensures acknowledged { OnOk result ((trans : ℕ) (a : AnAcknowledgement) →
+            HasAcknowledged self.new trans a ↔ HasAcknowledged self.old trans a) }
     {
         let text = letter.message.message();
         let print = letter_print(self.keys, letter.sender, letter.receiver, text);
@@ -132,8 +144,12 @@ impl Letters {
         receiver: u8,
         message: &Sent,
     ) -> Result<(), AllocError>
-        ensures letters { OnOk result ((l : ALetter) → HasLetter self.new l ↔ (HasLetter self.old l ⊎ (record { sender = sender; receiver = receiver; message = message.now } ≡ l))) }
-        ensures acknowledged { OnOk result ((trans : ℕ) (a : AnAcknowledgement) → HasAcknowledged self.new trans a ↔ HasAcknowledged self.old trans a) }
+        ensures letters { OnOk result ((l : ALetter) →
+            HasLetter self.new l ↔ (HasLetter self.old l
+            ⊎ (record { sender = sender; receiver = receiver; message = message.now }
+            ≡ l))) }
+        ensures acknowledged { OnOk result ((trans : ℕ) (a : AnAcknowledgement) →
+            HasAcknowledged self.new trans a ↔ HasAcknowledged self.old trans a) }
     {
         let text = message.message();
         if self.has_letter(sender, receiver, text) {
@@ -158,8 +174,11 @@ impl Letters {
         trans: u32,
         code: u8,
     ) -> Result<(), AllocError>
-        ensures letters { OnOk result ((l : ALetter) → HasLetter self.new l ↔ HasLetter self.old l) }
-        ensures acknowledged { OnOk result ((other : ℕ) (a : AnAcknowledgement) → HasAcknowledged self.new other a ↔ (HasAcknowledged self.old other a ⊎ ((trans ≡ other) × (record { member = member; code = code } ≡ a)))) }
+        ensures letters { OnOk result ((l : ALetter) →
+            HasLetter self.new l ↔ HasLetter self.old l) }
+        ensures acknowledged { OnOk result ((other : ℕ) (a : AnAcknowledgement) →
+            HasAcknowledged self.new other a ↔ (HasAcknowledged self.old other a
+            ⊎ ((trans ≡ other) × (record { member = member; code = code } ≡ a)))) }
     {
         if self.has_acknowledged(member, trans, code) {
             return Ok(());
@@ -179,7 +198,10 @@ impl Letters {
         message: &Message,
     ) -> Result<(), AllocError>
         requires { is_master_at roster.now receiver ≡ true }
-        ensures { OnOk result ((sent : List Datagram) → HoldsLetters roster.now self.old sent → HoldsLetters roster.now self.new (sent ++ record { sender = sender; receiver = receiver; message = message.now } ∷ [])) }
+        ensures { OnOk result ((sent : List Datagram) → HoldsLetters roster.now self.old sent →
+            HoldsLetters roster.now self.new
+            (sent ++ record { sender = sender; receiver = receiver; message = message.now }
+            ∷ [])) }
     {
         match (message.clear_answer(), roster.member_at(sender, Udp::Htcp)) {
             (Some((trans, code)), Some(member)) => self.add_acknowledged(
@@ -198,7 +220,10 @@ impl Letters {
         receiver: Address,
         message: &Sent,
     ) -> Result<(), AllocError>
-        ensures { OnOk result ((sent : List Datagram) → HoldsLetters roster.now self.old sent → HoldsLetters roster.now self.new (sent ++ record { sender = sender; receiver = receiver; message = message.now } ∷ [])) }
+        ensures { OnOk result ((sent : List Datagram) → HoldsLetters roster.now self.old sent →
+            HoldsLetters roster.now self.new
+            (sent ++ record { sender = sender; receiver = receiver; message = message.now }
+            ∷ [])) }
     {
         let text = message.message();
         if roster.is_master(receiver) {
@@ -218,7 +243,9 @@ impl Letters {
         cache: &Cache,
         outgoing: &[Outgoing],
     ) -> Result<(), AllocError>
-        ensures { OnOk result ((sent : List Datagram) → HoldsLetters roster.now self.old sent → HoldsLetters roster.now self.new (sent ++ map (datagram_from cache.now) outgoing.now)) }
+        ensures { OnOk result ((sent : List Datagram) → HoldsLetters roster.now self.old sent →
+            HoldsLetters roster.now self.new
+            (sent ++ map (datagram_from cache.now) outgoing.now)) }
     {
         for one in outgoing {
             let text = one.message.message();
@@ -236,7 +263,9 @@ impl Letters {
         node: u8,
         outgoing: &[Outgoing],
     ) -> Result<(), AllocError>
-        ensures { OnOk result ((sent : List Datagram) → HoldsLetters roster.now self.old sent → HoldsLetters roster.now self.new (sent ++ datagrams_from (member_by_id roster.now node) outgoing.now)) }
+        ensures { OnOk result ((sent : List Datagram) → HoldsLetters roster.now self.old sent →
+            HoldsLetters roster.now self.new
+            (sent ++ datagrams_from (member_by_id roster.now node) outgoing.now)) }
     {
         match roster.member(node) {
             Some(member) => self.send_all(alloc, roster, &member.cache, outgoing),
@@ -253,7 +282,10 @@ impl Letters {
         number: u32,
         key: &Key,
     ) -> Result<(), AllocError>
-        ensures { OnOk result ((sent : List Datagram) → HoldsLetters roster.now self.old sent → HoldsLetters roster.now self.new (sent ++ clear_to roster.now (Some (clear_of number key.now)) (member_by_id roster.now member))) }
+        ensures { OnOk result ((sent : List Datagram) → HoldsLetters roster.now self.old sent →
+            HoldsLetters roster.now self.new
+            (sent ++ clear_to roster.now (Some (clear_of number key.now))
+            (member_by_id roster.now member))) }
     {
         match roster.member(member) {
             Some(member) => {
@@ -272,7 +304,8 @@ impl Letters {
         number: u32,
         key: &Key,
     ) -> Result<(), AllocError>
-        ensures { OnOk result ((sent : List Datagram) → HoldsLetters roster.now self.old sent → HoldsLetters roster.now self.new (sent ++ clears_of roster.now number key.now)) }
+        ensures { OnOk result ((sent : List Datagram) → HoldsLetters roster.now self.old sent →
+            HoldsLetters roster.now self.new (sent ++ clears_of roster.now number key.now)) }
     {
         let ids = [1u8, 2, 3, 4, 5, 6, 7, 8, 9, 10, 11, 12, 13, 14, 15, 16];
         for id in &ids {

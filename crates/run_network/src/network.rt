@@ -55,7 +55,8 @@ impl<'a> Network<'a> {
     /// Whether what a node received was sent to it before. True for all that does not come from a
     /// member or from the master.
     pub fn is_sent(&self, roster: &Roster, node: u8, event: &Event<()>) -> bool
-        ensures { (sent : ANetwork) → Holds roster.now self.now sent → IsTrue result ↔ IsSent roster.now sent node event.now }
+        ensures { (sent : ANetwork) → Holds roster.now self.now sent →
+            IsTrue result ↔ IsSent roster.now sent node event.now }
     {
         match event {
             Event::Datagram { from, message, .. } => {
@@ -75,7 +76,8 @@ impl<'a> Network<'a> {
     /// Whether the acknowledgement that a call of the master counts was sent before. True for other
     /// calls.
     pub fn is_call_sent(&self, call: &MasterCall) -> bool
-        ensures { (roster : Tables) (sent : ANetwork) → Holds roster self.now sent → IsTrue result ↔ IsCallSent roster sent call.now }
+        ensures { (roster : Tables) (sent : ANetwork) → Holds roster self.now sent →
+            IsTrue result ↔ IsCallSent roster sent call.now }
     {
         match call {
             MasterCall::Acknowledge {
@@ -90,7 +92,8 @@ impl<'a> Network<'a> {
     /// The key of the member's request that is answered: the one that waits as the block, or else
     /// the event, if it is one.
     fn key_for(&self, node: u8, event: &'a Event<()>, waiter: Option<u32>) -> Option<&'a Key>
-        ensures { (waiting : List AWait) → HoldsWaits self.now.waits waiting → option_map (λ k. k.now) result ≡ key_by waiting node event.now waiter }
+        ensures { (waiting : List AWait) → HoldsWaits self.now.waits waiting →
+            option_map (λ k. k.now) result ≡ key_by waiting node event.now waiter }
     {
         match (waiter, event) {
             (Some(block), _) => self.waits.key(node, block),
@@ -107,7 +110,9 @@ impl<'a> Network<'a> {
         event: &'a Event<()>,
         serve: &'a Option<Serve<()>>,
     ) -> Result<(), AllocError>
-        ensures { OnOk result ((roster : Tables) (sent : ANetwork) → Holds roster self.old sent → Holds roster self.new (with_answers sent (answers_by sent.waiting node event.now serve.now))) }
+        ensures { OnOk result ((roster : Tables) (sent : ANetwork) → Holds roster self.old sent →
+            Holds roster self.new (with_answers sent
+            (answers_by sent.waiting node event.now serve.now))) }
     {
         match serve {
             Some(serve) => {
@@ -126,7 +131,8 @@ impl<'a> Network<'a> {
         event: &'a Event<()>,
         begin: &Option<Begin>,
     ) -> Result<(), AllocError>
-        ensures { OnOk result ((roster : Tables) (sent : ANetwork) → Holds roster self.old sent → Holds roster self.new (with_waits sent (waits_by node event.now begin.now))) }
+        ensures { OnOk result ((roster : Tables) (sent : ANetwork) → Holds roster self.old sent →
+            Holds roster self.new (with_waits sent (waits_by node event.now begin.now))) }
     {
         match (event, begin) {
             (Event::PeerAsk { ask, .. }, Some(begin)) => {
@@ -148,7 +154,8 @@ impl<'a> Network<'a> {
         event: &'a Event<()>,
         reply: &'a Reply<()>,
     ) -> Result<(), AllocError>
-        ensures { OnOk result ((sent : ANetwork) → Holds roster.now self.old sent → Holds roster.now self.new (with_reply roster.now sent node event.now reply.now)) }
+        ensures { OnOk result ((sent : ANetwork) → Holds roster.now self.old sent →
+            Holds roster.now self.new (with_reply roster.now sent node event.now reply.now)) }
     {
         self.letters
             .post(alloc, roster, node, reply.send.as_slice())?;
@@ -159,7 +166,8 @@ impl<'a> Network<'a> {
 
     /// Drops what waits at a node. Allocates nothing.
     pub fn forget(&mut self, node: u8)
-        ensures { (roster : Tables) (sent : ANetwork) → Holds roster self.old sent → Holds roster self.new (without_waiting sent node) }
+        ensures { (roster : Tables) (sent : ANetwork) → Holds roster self.old sent →
+            Holds roster self.new (without_waiting sent node) }
     {
         self.waits.forget(node);
     }
@@ -174,7 +182,8 @@ impl<'a> Network<'a> {
         call: &MasterCall,
         answer: &Result<MasterAnswer, MasterFault>,
     ) -> Result<(), AllocError>
-        ensures { OnOk result ((sent : ANetwork) → Holds roster.now self.old sent → Holds roster.now self.new (with_clears roster.now sent call.now answer.now)) }
+        ensures { OnOk result ((sent : ANetwork) → Holds roster.now self.old sent →
+            Holds roster.now self.new (with_clears roster.now sent call.now answer.now)) }
     {
         match (call, answer) {
             (MasterCall::Issue(key), Ok(MasterAnswer::Issue(number))) => {

@@ -75,7 +75,8 @@ fn write_text(hasher: &mut DefaultHasher, text: &[u8])
 
 /// Feeds a field to the hash: its name and its value.
 fn write_field(hasher: &mut DefaultHasher, field: &Field)
-    ensures { hasher.new ≡ prints.written_to hasher.old (prints.field_writes (field_text field.now)) }
+    ensures { hasher.new ≡ prints.written_to hasher.old
+        (prints.field_writes (field_text field.now)) }
 {
     write_text(hasher, field.name.as_str().as_bytes());
     write_text(hasher, field.value.as_bytes());
@@ -83,7 +84,8 @@ fn write_field(hasher: &mut DefaultHasher, field: &Field)
 
 /// Feeds fields to the hash: their number, and each.
 fn write_fields(hasher: &mut DefaultHasher, fields: &[Field])
-    ensures { hasher.new ≡ prints.written_to hasher.old (prints.fields_writes (map field_text fields.now)) }
+    ensures { hasher.new ≡ prints.written_to hasher.old
+        (prints.fields_writes (map field_text fields.now)) }
 {
     hasher.write_usize(fields.len());
     for field in fields {

@@ -18,7 +18,10 @@ pub struct Waits<'a> {
 
 /// Enters a key under a block, unless the block has one.
 fn enter<'a>(blocks: &mut HashMap<u32, &'a Key>, block: u32, key: &'a Key) -> Result<(), AllocError>
-    ensures { OnOk result ((other : ℕ) → option_map (λ k. k.now) (get nat_eq blocks.new other) ≡ or_else (option_map (λ k. k.now) (get nat_eq blocks.old other)) (if block == other then Some key.now else None)) }
+    ensures { OnOk result ((other : ℕ) →
+        option_map (λ k. k.now) (get nat_eq blocks.new other)
+        ≡ or_else (option_map (λ k. k.now) (get nat_eq blocks.old other))
+        (if block == other then Some key.now else None)) }
 {
     if !blocks.contains_key(&block) {
         blocks.insert(block, key)?;
@@ -48,8 +51,10 @@ impl<'a> Waits<'a> {
 
     /// Takes out what waits at a node, by blocks; `put` puts it back. Allocates nothing.
     fn take(&mut self, alloc: Global, node: u8) -> HashMap<u32, &'a Key>
-        ensures taken { (block : ℕ) → option_map (λ k. k.now) (get nat_eq result block) ≡ key_at self.old node block }
-        ensures others { (other block : ℕ) → (node == other) ≡ false → key_at self.new other block ≡ key_at self.old other block }
+        ensures taken { (block : ℕ) → option_map (λ k. k.now) (get nat_eq result block)
+            ≡ key_at self.old node block }
+        ensures others { (other block : ℕ) → (node == other) ≡ false →
+            key_at self.new other block ≡ key_at self.old other block }
     {
         match self.nodes.remove(&node) {
             Some(blocks) => blocks,
@@ -59,7 +64,10 @@ impl<'a> Waits<'a> {
 
     /// Puts what waits at a node, by blocks.
     fn put(&mut self, node: u8, blocks: HashMap<u32, &'a Key>) -> Result<(), AllocError>
-        ensures { OnOk result ((other block : ℕ) → key_at self.new other block ≡ (if node == other then option_map (λ k. k.now) (get nat_eq blocks.entry block) else key_at self.old other block)) }
+        ensures { OnOk result ((other block : ℕ) →
+            key_at self.new other block ≡ (if node == other
+            then option_map (λ k. k.now) (get nat_eq blocks.entry block)
+            else key_at self.old other block)) }
     {
         self.nodes.insert(node, blocks)?;
         Ok(())
@@ -73,7 +81,9 @@ impl<'a> Waits<'a> {
         block: u32,
         key: &'a Key,
     ) -> Result<(), AllocError>
-        ensures { OnOk result ((waiting : List AWait) → HoldsWaits self.old waiting → HoldsWaits self.new (waiting ++ record { node = node; block = block; key = key.now } ∷ [])) }
+        ensures { OnOk result ((waiting : List AWait) → HoldsWaits self.old waiting →
+            HoldsWaits self.new (waiting ++ record { node = node; block = block; key = key.now }
+            ∷ [])) }
     {
         let mut blocks = self.take(alloc, node);
         enter(&mut blocks, block, key)?;
@@ -82,7 +92,8 @@ impl<'a> Waits<'a> {
 
     /// Drops what waits at a node. Allocates nothing.
     pub(crate) fn forget(&mut self, node: u8)
-        ensures { (waiting : List AWait) → HoldsWaits self.old waiting → HoldsWaits self.new (filter (λ w. not (w.node == node)) waiting) }
+        ensures { (waiting : List AWait) → HoldsWaits self.old waiting →
+            HoldsWaits self.new (filter (λ w. not (w.node == node)) waiting) }
     {
         let _ = self.nodes.remove(&node);
     }

@@ -18,9 +18,11 @@ from_there xs at x some within is =
 
 -- an entry's note comes before those of later entries
 pub steps_more : (id : ℕ) (closing : Bool) (kept : FloorMap) (all behind : List NodeEntry) (e : NodeEntry) (is_closed : Bool) (so_far rest : List Note) →
-    all ≡ e ∷ behind → is_closed ≡ is_closed_before behind closing → so_far ≡ steps_of id closing kept behind ++ rest → Steps id e is_closed kept ∷ so_far ≡ steps_of id closing kept all ++ rest
+    all ≡ e ∷ behind → is_closed ≡ is_closed_before behind closing → so_far ≡ steps_of id closing kept behind ++ rest →
+    Steps id e is_closed kept ∷ so_far ≡ steps_of id closing kept all ++ rest
 steps_more id closing kept all behind e is_closed so_far rest here closed before =
-    ap (λ b. Steps id e b kept ∷ so_far) closed ∙ ap (λ l. Steps id e (is_closed_before behind closing) kept ∷ l) before ∙ ap (λ l. steps_of id closing kept l ++ rest) (sym here)
+    ap (λ b. Steps id e b kept ∷ so_far) closed ∙ ap (λ l. Steps id e (is_closed_before behind closing) kept ∷ l) before
+    ∙ ap (λ l. steps_of id closing kept l ++ rest) (sym here)
 
 pub closed_more : (closing : Bool) (all behind : List NodeEntry) (e : NodeEntry) → all ≡ e ∷ behind → is_closed_answer e.outcome ≡ is_closed_before all closing
 closed_more closing all behind e here = ap (λ l. is_closed_before l closing) (sym here)
@@ -35,10 +37,12 @@ last_place_is [] = refl
 last_place_is (e ∷ es) = ap (λ n. unwrap_or (option_map (λ l. l.place) (slice_get (e ∷ es) n)) 0) (omega arith) ∙ ap (λ o. unwrap_or o 0) (last_is 0 e es)
 
 -- a record's notes, before those of later records
-pub record_before : (r : Record) (kept : FloorMap) (rest steps : List Note) → steps ≡ steps_of r.node r.closing.closed kept r.entries ++ Closes r.node (last_place 0 r.entries) r.closing ∷ rest →
+pub record_before : (r : Record) (kept : FloorMap) (rest steps : List Note) → steps ≡ steps_of r.node r.closing.closed kept r.entries
+    ++ Closes r.node (last_place 0 r.entries) r.closing ∷ rest →
     Opens r.node r.opening ∷ steps ≡ record_notes r kept ++ rest
 record_before r kept rest steps is =
-    ap (λ l. Opens r.node r.opening ∷ l) (is ∙ sym (append_assoc (steps_of r.node r.closing.closed kept r.entries) (Closes r.node (last_place 0 r.entries) r.closing ∷ []) rest))
+    ap (λ l. Opens r.node r.opening ∷ l)
+    (is ∙ sym (append_assoc (steps_of r.node r.closing.closed kept r.entries) (Closes r.node (last_place 0 r.entries) r.closing ∷ []) rest))
 
 -- The records of one node
 
@@ -46,14 +50,17 @@ record_before r kept rest steps is =
 abbrev pub KeptBy : List Record → Option FloorMap → Type 0
 KeptBy rs later = (floors : FloorMap) → kept_by floors rs ≡ unwrap_or later floors
 
-pub own_record : (id : ℕ) (all behind : List Record) (r : Record) → all ≡ r ∷ behind → nat_eq r.node id ≡ true → filter (is_of id) all ≡ r ∷ filter (is_of id) behind
+pub own_record : (id : ℕ) (all behind : List Record) (r : Record) → all ≡ r ∷ behind → nat_eq r.node id ≡ true →
+    filter (is_of id) all ≡ r ∷ filter (is_of id) behind
 own_record id all behind r here own = ap (λ l. filter (is_of id) l) here ∙ ap (λ b. cond b (r ∷ filter (is_of id) behind) (filter (is_of id) behind)) own
 
-pub other_record : (id : ℕ) (all behind : List Record) (r : Record) → all ≡ r ∷ behind → nat_eq r.node id ≡ false → filter (is_of id) all ≡ filter (is_of id) behind
+pub other_record : (id : ℕ) (all behind : List Record) (r : Record) → all ≡ r ∷ behind → nat_eq r.node id ≡ false →
+    filter (is_of id) all ≡ filter (is_of id) behind
 other_record id all behind r here other = ap (λ l. filter (is_of id) l) here ∙ ap (λ b. cond b (r ∷ filter (is_of id) behind) (filter (is_of id) behind)) other
 
 -- a record's notes, with the floors with which the node next opens
-pub notes_more : (r : Record) (rs : List Record) (later : Option FloorMap) (so_far : List Note) → KeptBy rs later → so_far ≡ notes_of_all rs → record_notes r (unwrap_or later r.closing.floors) ++ so_far ≡ notes_of_all (r ∷ rs)
+pub notes_more : (r : Record) (rs : List Record) (later : Option FloorMap) (so_far : List Note) → KeptBy rs later → so_far ≡ notes_of_all rs →
+    record_notes r (unwrap_or later r.closing.floors) ++ so_far ≡ notes_of_all (r ∷ rs)
 notes_more r rs later so_far kept before = ap (λ k. record_notes r k ++ so_far) (sym (kept r.closing.floors)) ∙ ap (λ l. notes_of r rs ++ l) before
 
 pub kept_open : (r : Record) (rs : List Record) → r.opening.closed ≡ false → KeptBy (r ∷ rs) (Some r.opening.floors)
@@ -64,14 +71,17 @@ kept_closed r rs later is_closed kept floors = ap (λ b. cond b (kept_by floors 
 
 -- The master's entries
 
-pub calls_more : (all behind : List MasterEntry) (e : MasterEntry) (is_closed : Bool) (so_far : List Note) → all ≡ e ∷ behind → is_closed ≡ is_shut_before behind → so_far ≡ calls_of behind → Calls e is_closed ∷ so_far ≡ calls_of all
+pub calls_more : (all behind : List MasterEntry) (e : MasterEntry) (is_closed : Bool) (so_far : List Note) → all ≡ e ∷ behind →
+    is_closed ≡ is_shut_before behind → so_far ≡ calls_of behind → Calls e is_closed ∷ so_far ≡ calls_of all
 calls_more all behind e is_closed so_far here closed before =
     ap (λ b. Calls e b ∷ so_far) closed ∙ ap (λ l. Calls e (is_shut_before behind) ∷ l) before ∙ ap calls_of (sym here)
 
-pub shut_more : (all behind : List MasterEntry) (e : MasterEntry) (is_closed : Bool) → all ≡ e ∷ behind → is_closed ≡ is_shut_before behind → is_shut_by (is_status e.call) e.answer is_closed ≡ is_shut_before all
+pub shut_more : (all behind : List MasterEntry) (e : MasterEntry) (is_closed : Bool) → all ≡ e ∷ behind → is_closed ≡ is_shut_before behind →
+    is_shut_by (is_status e.call) e.answer is_closed ≡ is_shut_before all
 shut_more all behind e is_closed here closed = ap (is_shut_by (is_status e.call) e.answer) closed ∙ ap is_shut_before (sym here)
 
 -- The nodes
 
-pub nodes_more : (all behind : List Record) (r : Record) (so_far : List ℕ) → all ≡ r ∷ behind → so_far ≡ nodes_in behind → r.node ∷ filter (λ id. not (nat_eq id r.node)) so_far ≡ nodes_in all
+pub nodes_more : (all behind : List Record) (r : Record) (so_far : List ℕ) → all ≡ r ∷ behind → so_far ≡ nodes_in behind →
+    r.node ∷ filter (λ id. not (nat_eq id r.node)) so_far ≡ nodes_in all
 nodes_more all behind r so_far here before = ap (λ l. r.node ∷ filter (λ id. not (nat_eq id r.node)) l) before ∙ ap nodes_in (sym here)

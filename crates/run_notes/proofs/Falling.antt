@@ -24,7 +24,8 @@ first_of (p ∷ ps) = Some p
 
 falls_more : (p : ℕ) (ps : List ℕ) → least (falls (p ∷ ps)) ≡ fall_with p (first_of ps) (least (falls ps))
 falls_more p [] = refl
-falls_more p (q ∷ ps) = by_order (nat_lt p q) q (falls_from q ps) ∙ ap (λ b. cond b (Some (lesser q (least (falls_from q ps)))) (least (falls_from q ps))) (sym (le_not_lt p q))
+falls_more p (q ∷ ps) = by_order (nat_lt p q) q (falls_from q ps) ∙ ap (λ b. cond b (Some (lesser q (least (falls_from q ps)))) (least (falls_from q ps)))
+    (sym (le_not_lt p q))
 
 -- the least fall and the first place of the notes seen so far
 pub record Fallen (places : List ℕ) (first least_one : Option ℕ) : Type 0 where
@@ -34,7 +35,8 @@ pub record Fallen (places : List ℕ) (first least_one : Option ℕ) : Type 0 wh
 pub nothing_fallen : Fallen [] None None
 nothing_fallen = record { next = refl; fall = refl }
 
-placed : (xs : List Held) (i : ℕ) (n : Held) → i < length xs → n ≡ get_or xs i n → places_in (track_of (take (i + 1) xs)) ≡ cons_option (place_in (note_of n)) (places_in (track_of (take i xs)))
+placed : (xs : List Held) (i : ℕ) (n : Held) → i < length xs → n ≡ get_or xs i n → places_in (track_of (take (i + 1) xs)) ≡ cons_option (place_in (note_of n))
+    (places_in (track_of (take i xs)))
 placed xs i n less is = ap places_in (one_more xs i n less is)
 
 pub fallen_more : (xs : List Held) (i : ℕ) (n : Held) (p : ℕ) (next fall : Option ℕ) → i < length xs → n ≡ get_or xs i n → place_in (note_of n) ≡ Some p →
@@ -44,7 +46,8 @@ fallen_more xs i n p next fall less is place before =
     let now : places_in (track_of (take (i + 1) xs)) ≡ p ∷ behind = placed xs i n less is ∙ ap (λ o. cons_option o behind) place in
     record {
       next = ap first_of (sym now);
-      fall = ap (λ o. fall_with p o fall) before.next ∙ ap (fall_with p (first_of behind)) before.fall ∙ sym (falls_more p behind) ∙ ap (λ l. least (falls l)) (sym now);
+      fall = ap (λ o. fall_with p o fall) before.next ∙ ap (fall_with p (first_of behind)) before.fall ∙ sym (falls_more p behind)
+          ∙ ap (λ l. least (falls l)) (sym now);
     }
 
 pub fallen_same : (xs : List Held) (i : ℕ) (n : Held) (next fall : Option ℕ) → i < length xs → n ≡ get_or xs i n → place_in (note_of n) ≡ None →
@@ -54,7 +57,8 @@ fallen_same xs i n next fall less is place before =
     let now : places_in (track_of (take (i + 1) xs)) ≡ behind = placed xs i n less is ∙ ap (λ o. cons_option o behind) place in
     record { next = before.next ∙ ap first_of (sym now); fall = before.fall ∙ ap (λ l. least (falls l)) (sym now) }
 
-pub fallen_by : (places : List ℕ) (next fall first least_one : Option ℕ) → next ≡ first → fall ≡ least_one → Fallen places first least_one → Fallen places next fall
+pub fallen_by : (places : List ℕ) (next fall first least_one : Option ℕ) → next ≡ first → fall ≡ least_one → Fallen places first least_one →
+    Fallen places next fall
 fallen_by places next fall first least_one n f fallen = record { next = n ∙ fallen.next; fall = f ∙ fallen.fall }
 
 -- All tracks
@@ -82,5 +86,7 @@ pub fall_more : (tracks : List (Vec Held)) (i : ℕ) (t : Vec Held) → i < leng
     lesser_fall (least_fall (tracks_in (take i tracks))) (least (falls (places_in (track_of t.items)))) ≡ least_fall (tracks_in (take (i + 1) tracks))
 fall_more tracks i t less is =
     let before : List (List Note) = tracks_in (take i tracks) in
-    ap (lesser_fall (least_fall before)) (of_one (track_of t.items)) ∙ sym (least_append (flat_map falls_in before) (flat_map falls_in (track_of t.items ∷ []))) ∙ ap least (sym (flat_map-append falls_in before (track_of t.items ∷ [])))
-    ∙ ap least_fall (sym (map-append (λ (v : Vec Held). track_of v.items) (take i tracks) (t ∷ []))) ∙ ap (λ x. least_fall (tracks_in (take i tracks ++ x ∷ []))) is ∙ ap (λ l. least_fall (tracks_in l)) (sym (take_more tracks i t less))
+    ap (lesser_fall (least_fall before)) (of_one (track_of t.items)) ∙ sym (least_append (flat_map falls_in before) (flat_map falls_in (track_of t.items ∷ [])))
+    ∙ ap least (sym (flat_map-append falls_in before (track_of t.items ∷ [])))
+    ∙ ap least_fall (sym (map-append (λ (v : Vec Held). track_of v.items) (take i tracks) (t ∷ [])))
+    ∙ ap (λ x. least_fall (tracks_in (take i tracks ++ x ∷ []))) is ∙ ap (λ l. least_fall (tracks_in l)) (sym (take_more tracks i t less))

@@ -18,15 +18,18 @@ abbrev Gets : List (List Note) → ℕ → Note → List Note → Type 0
 Gets tracks at note notes = slice_get tracks at ≡ Some (note ∷ notes)
 
 -- the first track has the rank
-here_taken : (rank : ℕ) (track : List Note) (tracks : List (List Note)) (later : Option Taken) (note : Note) (notes : List Note) → track ≡ note ∷ notes → has_rank rank (rank_of track) ≡ true →
+here_taken : (rank : ℕ) (track : List Note) (tracks : List (List Note)) (later : Option Taken) (note : Note) (notes : List Note) → track ≡ note ∷ notes →
+    has_rank rank (rank_of track) ≡ true →
     take_from rank track tracks later ≡ Some (record { note = note; rest = notes ∷ tracks })
 here_taken rank track tracks later note notes is passes =
     let passes_here : has_rank rank (rank_of (note ∷ notes)) ≡ true = ap (λ t. has_rank rank (rank_of t)) (sym is) ∙ passes in
     ap (λ t. take_from rank t tracks later) is
-    ∙ ap (λ b. cond b (Some (record { note = note; rest = notes ∷ tracks })) (option_map (λ (t : Taken). record { note = t.note; rest = (note ∷ notes) ∷ t.rest }) later)) passes_here
+    ∙ ap (λ b. cond b (Some (record { note = note; rest = notes ∷ tracks }))
+    (option_map (λ (t : Taken). record { note = t.note; rest = (note ∷ notes) ∷ t.rest }) later)) passes_here
 
 -- the first track does not have the rank
-later_taken : (rank : ℕ) (track : List Note) (tracks : List (List Note)) (x : Taken) → has_rank rank (rank_of track) ≡ false → take_from rank track tracks (Some x) ≡ Some (record { note = x.note; rest = track ∷ x.rest })
+later_taken : (rank : ℕ) (track : List Note) (tracks : List (List Note)) (x : Taken) → has_rank rank (rank_of track) ≡ false →
+    take_from rank track tracks (Some x) ≡ Some (record { note = x.note; rest = track ∷ x.rest })
 later_taken rank [] tracks x fails = refl
 later_taken rank (n ∷ ns) tracks x fails =
     ap (λ b. cond b (Some (record { note = n; rest = ns ∷ tracks })) (Some (record { note = x.note; rest = (n ∷ ns) ∷ x.rest }))) fails
@@ -36,7 +39,8 @@ later_place : (o : Option ℕ) (at : ℕ) → option_map suc o ≡ Some at → (
 later_place None at e = none_some at e
 later_place (Some before) at e = (before, refl, sym (same_some (suc before) at e))
 
-pub taken_at : (rank : ℕ) (tracks : List (List Note)) (at : ℕ) (note : Note) (notes : List Note) → place_at rank tracks ≡ Some at → slice_get tracks at ≡ Some (note ∷ notes) →
+pub taken_at : (rank : ℕ) (tracks : List (List Note)) (at : ℕ) (note : Note) (notes : List Note) → place_at rank tracks ≡ Some at →
+    slice_get tracks at ≡ Some (note ∷ notes) →
     take_at rank tracks ≡ Some (record { note = note; rest = set tracks at notes })
 taken_at rank [] at note notes place got = none_some at place
 taken_at rank (track ∷ tracks) at note notes place got =
@@ -44,7 +48,8 @@ taken_at rank (track ∷ tracks) at note notes place got =
       | inl passes ↦
           let at_once : 0 ≡ at = same_some 0 at (ap (λ b. place_in_rest b (place_at rank tracks)) (sym passes) ∙ place) in
           let is : track ≡ note ∷ notes = same_some track (note ∷ notes) (ap (slice_get (track ∷ tracks)) at_once ∙ got) in
-          here_taken rank track tracks (take_at rank tracks) note notes is passes ∙ ap (λ n. Some (record { note = note; rest = set (track ∷ tracks) n notes })) at_once
+          here_taken rank track tracks (take_at rank tracks) note notes is passes ∙ ap (λ n. Some (record { note = note; rest = set (track ∷ tracks) n notes }))
+          at_once
       | inr fails ↦
           let (before, there, is) = later_place (place_at rank tracks) at (ap (λ b. place_in_rest b (place_at rank tracks)) (sym fails) ∙ place) in
           let rest = taken_at rank tracks before note notes there (ap (slice_get (track ∷ tracks)) (sym is) ∙ got) in
@@ -53,7 +58,8 @@ taken_at rank (track ∷ tracks) at note notes place got =
     ]
 
 -- a track that is found has the rank
-pub found_rank : (rank : ℕ) (tracks : List (List Note)) (at : ℕ) (track : List Note) → place_at rank tracks ≡ Some at → slice_get tracks at ≡ Some track → has_rank rank (rank_of track) ≡ true
+pub found_rank : (rank : ℕ) (tracks : List (List Note)) (at : ℕ) (track : List Note) → place_at rank tracks ≡ Some at → slice_get tracks at ≡ Some track →
+    has_rank rank (rank_of track) ≡ true
 found_rank rank [] at track place got = none_some at place
 found_rank rank (first ∷ tracks) at track place got =
     elim (either (has_rank rank (rank_of first))) [
@@ -81,7 +87,8 @@ found_by false o later = let (at, is) = later refl in (suc at, ap (λ p. option_
 same_eq : (a b : ℕ) → a ≡ b → nat_eq a b ≡ true
 same_eq a b e = grind arith
 
-found_in : (rank : ℕ) (o : Option ℕ) (ranks : List ℕ) (place : Option ℕ) → (least ranks ≡ Some rank → (at : ℕ) × (place ≡ Some at)) → least (cons_option o ranks) ≡ Some rank →
+found_in : (rank : ℕ) (o : Option ℕ) (ranks : List ℕ) (place : Option ℕ) → (least ranks ≡ Some rank → (at : ℕ) × (place ≡ Some at)) →
+    least (cons_option o ranks) ≡ Some rank →
     (at : ℕ) × (place_in_rest (has_rank rank o) place ≡ Some at)
 found_in rank None ranks place rest e = found_by false place (λ _. rest e)
 found_in rank (Some a) ranks place rest e =
@@ -101,16 +108,19 @@ nothing_left [] e = refl
 nothing_left ([] ∷ tracks) e = nothing_left tracks e
 nothing_left ((n ∷ ns) ∷ tracks) e = none_some _ (sym e)
 
-pub one_less : (tracks : List (List Note)) (at : ℕ) (note : Note) (notes : List Note) → slice_get tracks at ≡ Some (note ∷ notes) → count_in tracks ≡ suc (count_in (set tracks at notes))
+pub one_less : (tracks : List (List Note)) (at : ℕ) (note : Note) (notes : List Note) → slice_get tracks at ≡ Some (note ∷ notes) →
+    count_in tracks ≡ suc (count_in (set tracks at notes))
 one_less [] at note notes got = none_some _ got
 one_less (track ∷ tracks) zero note notes got = ap (λ t. length (t ++ flat_map (λ u. u) tracks)) (same_some track (note ∷ notes) got)
 one_less (track ∷ tracks) (suc at) note notes got =
     let others = one_less tracks at note notes got in
-    length-append track (flat_map (λ u. u) tracks) ∙ ap (λ n. length track + n) others ∙ omega arith ∙ ap suc (sym (length-append track (flat_map (λ u. u) (set tracks at notes))))
+    length-append track (flat_map (λ u. u) tracks) ∙ ap (λ n. length track + n) others ∙ omega arith
+    ∙ ap suc (sym (length-append track (flat_map (λ u. u) (set tracks at notes))))
 
 -- The order goes on
 
-double_same : (fall : Option ℕ) (ranks : List ℕ) (place : Option ℕ) (rank : ℕ) → rank_by place ≡ rank → double_of fall ranks place ≡ double_by fall (nat_le 2 (count_of rank ranks)) place
+double_same : (fall : Option ℕ) (ranks : List ℕ) (place : Option ℕ) (rank : ℕ) → rank_by place ≡ rank →
+    double_of fall ranks place ≡ double_by fall (nat_le 2 (count_of rank ranks)) place
 double_same fall ranks None rank e = refl
 double_same None ranks (Some place) rank e = ap (λ t. cond (nat_le 2 (count_of t ranks)) (Some place) None) e
 double_same (Some f) ranks (Some place) rank e = ap (λ t. cond (nat_le f place) (Some f) (cond (nat_le 2 (count_of t ranks)) (Some place) None)) e
@@ -118,12 +128,15 @@ double_same (Some f) ranks (Some place) rank e = ap (λ t. cond (nat_le f place)
 has_same : (rank a : ℕ) → nat_eq a rank ≡ true → a ≡ rank
 has_same rank a e = eqb-true a rank e
 
-pub goes_on : (fall : Option ℕ) (tracks : List (List Note)) (rank at : ℕ) (note : Note) (notes : List Note) → least (ranks_of tracks) ≡ Some rank → place_at rank tracks ≡ Some at → slice_get tracks at ≡ Some (note ∷ notes) →
+pub goes_on : (fall : Option ℕ) (tracks : List (List Note)) (rank at : ℕ) (note : Note) (notes : List Note) → least (ranks_of tracks) ≡ Some rank →
+    place_at rank tracks ≡ Some at → slice_get tracks at ≡ Some (note ∷ notes) →
     order_by (count_in tracks) fall tracks
-    ≡ record { note = note; double = double_by fall (nat_le 2 (count_of rank (ranks_of tracks))) (place_in note) } ∷ order_by (count_in (set tracks at notes)) fall (set tracks at notes)
+    ≡ record { note = note; double = double_by fall (nat_le 2 (count_of rank (ranks_of tracks))) (place_in note) }
+    ∷ order_by (count_in (set tracks at notes)) fall (set tracks at notes)
 goes_on fall tracks rank at note notes first place got =
     let left : ℕ = count_in (set tracks at notes) in
-    let next : next_note tracks ≡ Some (record { note = note; rest = set tracks at notes }) = ap (take_by tracks) first ∙ taken_at rank tracks at note notes place got in
+    let next : next_note tracks ≡ Some (record { note = note; rest = set tracks at notes }) = ap (take_by tracks) first
+    ∙ taken_at rank tracks at note notes place got in
     let in_rank : rank_by (place_in note) ≡ rank = has_same rank (rank_by (place_in note)) (found_rank rank tracks at (note ∷ notes) place got) in
     ap (λ n. order_by n fall tracks) (one_less tracks at note notes got) ∙ ap (order_on fall tracks (λ rest. order_by left fall rest)) next
     ∙ ap (λ d. record { note = note; double = d } ∷ order_by left fall (set tracks at notes)) (double_same fall (ranks_of tracks) (place_in note) rank in_rank)

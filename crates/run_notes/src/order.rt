@@ -116,7 +116,8 @@ impl<'a> Notes<'a> {
         records: &'a [Record],
         entries: &'a [MasterEntry],
     ) -> Result<Notes<'a>, AllocError>
-        ensures { IfOk result (λ notes. order_in notes ≡ order_of (tracks_of records.now entries.now)) }
+        ensures { IfOk result (λ notes.
+            order_in notes ≡ order_of (tracks_of records.now entries.now)) }
     {
         let tracks = tracks(alloc, records, entries)?;
         let fall = least_fall(tracks.as_slice());
@@ -125,7 +126,8 @@ impl<'a> Notes<'a> {
 
     /// Takes the next note; `None` if all are taken. Allocates nothing.
     pub fn take(&mut self) -> Option<OrderedNote<'a>>
-        ensures { MatchOption result (order_in self.old ≡ []) (λ ordered. order_in self.old ≡ ordered_of ordered ∷ order_in self.new) }
+        ensures { MatchOption result (order_in self.old ≡ []) (λ ordered.
+            order_in self.old ≡ ordered_of ordered ∷ order_in self.new) }
     {
         let rank = least_rank(self.tracks.as_slice())?;
         let is_shared = count_at(self.tracks.as_slice(), rank) >= 2;

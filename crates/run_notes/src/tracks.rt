@@ -27,7 +27,8 @@ fn push_steps<'a>(
     kept: &'a Floors,
     entries: &'a [NodeEntry],
 ) -> Result<(), AllocError>
-    ensures { OnOk result (track_of track.new.items ≡ steps_of node is_closing kept.now entries.now ++ track_of track.old.items) }
+    ensures { OnOk result (track_of track.new.items ≡ steps_of node is_closing kept.now entries.now
+        ++ track_of track.old.items) }
 {
     let mut is_closed = is_closing;
     for at in (0..entries.len()).rev() {
@@ -60,7 +61,8 @@ fn push_record<'a>(
     record: &'a Record,
     kept: &'a Floors,
 ) -> Result<(), AllocError>
-    ensures { OnOk result (track_of track.new.items ≡ record_notes record.now kept.now ++ track_of track.old.items) }
+    ensures { OnOk result (track_of track.new.items ≡ record_notes record.now kept.now
+        ++ track_of track.old.items) }
 {
     let entries = record.entries.as_slice();
     let node = record.node;
@@ -83,7 +85,8 @@ fn node_track<'a>(
     records: &'a [Record],
     node: u8,
 ) -> Result<Vec<Note<'a>>, AllocError>
-    ensures { IfOk result (λ track. track_of track.items ≡ notes_of_all (filter (is_of node) records.now)) }
+    ensures { IfOk result (λ track.
+        track_of track.items ≡ notes_of_all (filter (is_of node) records.now)) }
 {
     let mut track = Vec::new(alloc);
     let mut later: Option<&'a Floors> = None;

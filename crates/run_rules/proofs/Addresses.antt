@@ -21,7 +21,8 @@ same_itself a = ap (λ b. b && nat_eq a.port a.port) (same_id a.ip) ∙ same_id 
 same_back : (a b : Address) → same_address a b ≡ true → same_address b a ≡ true
 same_back a b h =
     let (ip, port) = and_parts (nat_eq a.ip b.ip) (nat_eq a.port b.port) h in
-    ap (λ c. c && nat_eq b.port a.port) (subst (λ n. nat_eq n a.ip ≡ true) (ids_same a.ip b.ip ip) (same_id a.ip)) ∙ subst (λ n. nat_eq n a.port ≡ true) (ids_same a.port b.port port) (same_id a.port)
+    ap (λ c. c && nat_eq b.port a.port) (subst (λ n. nat_eq n a.ip ≡ true) (ids_same a.ip b.ip ip) (same_id a.ip))
+    ∙ subst (λ n. nat_eq n a.port ≡ true) (ids_same a.port b.port port) (same_id a.port)
 
 other_back : (a b : Address) → same_address a b ≡ false → same_address b a ≡ false
 other_back a b h = elim (either (same_address b a)) [
@@ -38,7 +39,8 @@ by_either a c udp.Icp icp htcp = icp
 by_either a c udp.Htcp icp htcp = htcp
 
 -- an address that no cache of a list has is no member's in that list
-apart_from : (a : Address) (ms : List Member) (fs : List Cache) (id : ℕ) (m : Member) (by : Udp) → list_any (same_address a) (udp_of (map (λ m. m.cache) ms ++ fs)) ≡ false →
+apart_from : (a : Address) (ms : List Member) (fs : List Cache) (id : ℕ) (m : Member) (by : Udp) →
+    list_any (same_address a) (udp_of (map (λ m. m.cache) ms ++ fs)) ≡ false →
     find (λ m. nat_eq m.cache.id id) ms ≡ Some m → same_address a (address_by by m.cache) ≡ false
 apart_from a [] fs id m by h e = cc
 apart_from a (n ∷ ms) fs id m by h e =
@@ -54,8 +56,10 @@ apart_from a (n ∷ ms) fs id m by h e =
 abbrev at_address : Address → Udp → Member → Bool
 at_address a by m = same_address a (address_by by m.cache)
 
-apart_here : (ms : List Member) (fs : List Cache) (id : ℕ) (m n : Member) (by : Udp) → list_any (same_address n.cache.icp) (udp_of (map (λ m. m.cache) ms ++ fs)) ≡ false →
-    list_any (same_address n.cache.htcp) (udp_of (map (λ m. m.cache) ms ++ fs)) ≡ false → find (λ m. nat_eq m.cache.id id) ms ≡ Some m → same_address (address_by by m.cache) (address_by by n.cache) ≡ false
+apart_here : (ms : List Member) (fs : List Cache) (id : ℕ) (m n : Member) (by : Udp) → list_any (same_address n.cache.icp)
+    (udp_of (map (λ m. m.cache) ms ++ fs)) ≡ false →
+    list_any (same_address n.cache.htcp) (udp_of (map (λ m. m.cache) ms ++ fs)) ≡ false → find (λ m. nat_eq m.cache.id id) ms ≡ Some m →
+    same_address (address_by by m.cache) (address_by by n.cache) ≡ false
 apart_here ms fs id m n udp.Icp icp htcp e = other_back n.cache.icp m.cache.icp (apart_from n.cache.icp ms fs id m udp.Icp icp e)
 apart_here ms fs id m n udp.Htcp icp htcp e = other_back n.cache.htcp m.cache.htcp (apart_from n.cache.htcp ms fs id m udp.Htcp htcp e)
 
@@ -70,10 +74,12 @@ found_by (n ∷ ms) fs id m by h e =
       | inl here ↦
           let is : n ≡ m = same_some n m (sym (ap (λ b. cond b (Some n) (find (λ m. nat_eq m.cache.id id) ms)) here) ∙ e) in
           subst (λ (v : Member). option_map (λ (m : Member). m.cache.id) (find (at_address (address_by by v.cache) by) (n ∷ ms)) ≡ Some id) is
-          (ap (λ b. option_map (λ (m : Member). m.cache.id) (cond b (Some n) (find (at_address (address_by by n.cache) by) ms))) (same_itself (address_by by n.cache)) ∙ ap Some (ids_same n.cache.id id here))
+          (ap (λ b. option_map (λ (m : Member). m.cache.id) (cond b (Some n) (find (at_address (address_by by n.cache) by) ms)))
+          (same_itself (address_by by n.cache)) ∙ ap Some (ids_same n.cache.id id here))
       | inr other ↦
           let below : find (λ m. nat_eq m.cache.id id) ms ≡ Some m = sym (ap (λ b. cond b (Some n) (find (λ m. nat_eq m.cache.id id) ms)) other) ∙ e in
-          ap (λ b. option_map (λ (m : Member). m.cache.id) (cond b (Some n) (find (at_address (address_by by m.cache) by) ms))) (apart_here ms fs id m n by single alone below)
+          ap (λ b. option_map (λ (m : Member). m.cache.id) (cond b (Some n) (find (at_address (address_by by m.cache) by) ms)))
+          (apart_here ms fs id m n by single alone below)
           ∙ found_by ms fs id m by rest below
     ]
 

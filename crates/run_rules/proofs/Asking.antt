@@ -45,9 +45,11 @@ module _ {X : Type 0} (g : Setting) (s : NodeState X) (mark : X) where
 
   -- nothing begins
   nothing : (next : NodeState X) (reply : Reply X) → reply.begin ≡ None → Takes (replies next reply)
-  nothing next reply none = record { block = λ other b same is. absurd (none_some b (sym none ∙ ap (λ (r : Reply X). r.begin) (ok_same reply other _ refl same) ∙ is)) }
+  nothing next reply none =
+      record { block = λ other b same is. absurd (none_some b (sym none ∙ ap (λ (r : Reply X). r.begin) (ok_same reply other _ refl same) ∙ is)) }
 
-  begins : (next : NodeState X) (reply : Reply X) (it : Begin) → reply.begin ≡ Some it → serial_of it / 32 ≡ s.next → next.next ≡ s.next + 1 → Takes (replies next reply)
+  begins : (next : NodeState X) (reply : Reply X) (it : Begin) → reply.begin ≡ Some it → serial_of it / 32 ≡ s.next → next.next ≡ s.next + 1 →
+      Takes (replies next reply)
   begins next reply it has block taken = record {
     block = λ other b same is.
         let here : it ≡ b = some_same it b (sym has ∙ ap (λ (r : Reply X). r.begin) (ok_same reply other _ refl same) ∙ is) in
@@ -57,13 +59,15 @@ module _ {X : Type 0} (g : Setting) (s : NodeState X) (mark : X) where
   refused : (fault : StepFault) → Takes (refuses s fault)
   refused fault = record { block = λ reply b same is. absurd (no_value reply fault same) }
 
-  read_takes : (t : NodeState X) (asker : Option ℕ) (ask : Ask) (now : ℕ) → t.next ≡ s.next + 1 → Takes (read_origin g t (new_ask s.next asker ask None) None now mark)
+  read_takes : (t : NodeState X) (asker : Option ℕ) (ask : Ask) (now : ℕ) → t.next ≡ s.next + 1 →
+      Takes (read_origin g t (new_ask s.next asker ask None) None now mark)
   unfolding read_origin begin_read
   read_takes t asker ask now taken =
       branches Takes (has_origin g.roster ask.key) _ _
       (λ _. begins _ _ _ refl (read_block s.next) taken) (λ _. nothing _ _ refl)
 
-  around_takes : (asker : Option ℕ) (ask : Ask) (now : ℕ) (round : RoundText) (peers : List Peer) → Takes (ask_around g (takes_block s) asker ask s.next now mark round peers)
+  around_takes : (asker : Option ℕ) (ask : Ask) (now : ℕ) (round : RoundText) (peers : List Peer) →
+      Takes (ask_around g (takes_block s) asker ask s.next now mark round peers)
   unfolding ask_around begin_round
   around_takes asker ask now round [] = read_takes _ asker ask now refl
   around_takes asker ask now round (p ∷ peers) = begins _ _ _ refl (round_block s.next) refl
@@ -85,7 +89,8 @@ module _ {X : Type 0} (g : Setting) (s : NodeState X) (mark : X) where
   comes_takes asker ask now false = by_copy_takes (Some asker) ask now _
 
   -- what a member's request begins has a serial of the next block, which is taken
-  pub ask_takes : (asker : ℕ) (ask : Ask) (now : ℕ) (reply : Reply X) (b : Begin) → (step g s (event.PeerAsk asker ask now) mark).outcome ≡ Ok reply → reply.begin ≡ Some b →
+  pub ask_takes : (asker : ℕ) (ask : Ask) (now : ℕ) (reply : Reply X) (b : Begin) → (step g s (event.PeerAsk asker ask now) mark).outcome ≡ Ok reply →
+      reply.begin ≡ Some b →
       (serial_of b / 32 ≡ s.next) × ((step g s (event.PeerAsk asker ask now) mark).state.next ≡ s.next + 1)
   unfolding step
   ask_takes asker ask now = (comes_takes asker ask now s.closed).block

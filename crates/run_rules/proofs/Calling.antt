@@ -68,64 +68,88 @@ module _ (members : List ℕ) (purges : PurgeList) where
   abbrev state : Bool → MasterState
   state closed = record { purges = purges; closed = closed }
 
-  issued_by : (key : List ℕ) (o : Option MasterFault) (next : MasterState) (number : ℕ) → issued purges key o ≡ record { state = next; outcome = Ok (answer.Issue number) } →
+  issued_by : (key : List ℕ) (o : Option MasterFault) (next : MasterState) (number : ℕ) → issued purges key o ≡ record
+      { state = next; outcome = Ok (answer.Issue number) } →
       (o ≡ None) × (next ≡ opened (with_purge purges (purges.last + 1) key)) × (answer.Issue number ≡ answer.Issue (purges.last + 1))
   issued_by key (Some f) next number is = absurd (err_ok f (answer.Issue number) (ap (λ (x : Called). x.outcome) is))
-  issued_by key None next number is = (refl, sym (ap (λ (x : Called). x.state) is), answer_same (answer.Issue number) (answer.Issue (purges.last + 1)) (Ok (answer.Issue number)) refl (sym (ap (λ (x : Called). x.outcome) is)))
+  issued_by key None next number is = (
+    refl,
+    sym (ap (λ (x : Called). x.state) is),
+    answer_same (answer.Issue number) (answer.Issue (purges.last + 1))
+        (Ok (answer.Issue number)) refl (sym (ap (λ (x : Called). x.outcome) is)),
+  )
 
-  issue_called : (closed : Bool) (key : List ℕ) (next : MasterState) (number : ℕ) → called members (state closed) (call.Issue key) ≡ record { state = next; outcome = Ok (answer.Issue number) } →
+  issue_called : (closed : Bool) (key : List ℕ) (next : MasterState) (number : ℕ) → called members (state closed) (call.Issue key) ≡ record
+      { state = next; outcome = Ok (answer.Issue number) } →
       (issue_fault purges ≡ None) × (next ≡ opened (with_purge purges (purges.last + 1) key)) × (answer.Issue number ≡ answer.Issue (purges.last + 1))
   issue_called true key next number is = absurd (err_ok fault.Closed (answer.Issue number) (ap (λ (x : Called). x.outcome) is))
   issue_called false key next number is = issued_by key (issue_fault purges) next number is
 
-  acknowledge_called : (closed : Bool) (id trans code : ℕ) (next : MasterState) (a : MasterAnswer) → called members (state closed) (call.Acknowledge id trans code) ≡ record { state = next; outcome = Ok a } →
+  acknowledge_called : (closed : Bool) (id trans code : ℕ) (next : MasterState) (a : MasterAnswer) →
+      called members (state closed) (call.Acknowledge id trans code) ≡ record { state = next; outcome = Ok a } →
       next ≡ opened (acknowledged members purges id trans code).purges
   acknowledge_called true id trans code next a is = absurd (err_ok fault.Closed a (ap (λ (x : Called). x.outcome) is))
   acknowledge_called false id trans code next a is = sym (ap (λ (x : Called). x.state) is)
 
-  due_called : (closed : Bool) (next : MasterState) (a : MasterAnswer) → called members (state closed) call.Due ≡ record { state = next; outcome = Ok a } → next.purges ≡ purges
+  due_called : (closed : Bool) (next : MasterState) (a : MasterAnswer) → called members (state closed) call.Due ≡ record { state = next; outcome = Ok a } →
+      next.purges ≡ purges
   due_called true next a is = absurd (err_ok fault.Closed a (ap (λ (x : Called). x.outcome) is))
   due_called false next a is = sym (ap (λ (x : Called). x.state.purges) is)
 
-  status_called : (closed : Bool) (number : ℕ) (next : MasterState) (status : Status) → called members (state closed) (call.Status number) ≡ record { state = next; outcome = Ok (answer.Status status) } →
+  status_called : (closed : Bool) (number : ℕ) (next : MasterState) (status : Status) → called members (state closed) (call.Status number) ≡ record
+      { state = next; outcome = Ok (answer.Status status) } →
       (next.purges ≡ purges) × (answer.Status status ≡ answer.Status (status_of members purges number))
-  status_called true number next status is =
-      (sym (ap (λ (x : Called). x.state.purges) is), answer_same (answer.Status status) (answer.Status (status_of members purges number)) (Ok (answer.Status status)) refl (sym (ap (λ (x : Called). x.outcome) is)))
-  status_called false number next status is =
-      (sym (ap (λ (x : Called). x.state.purges) is), answer_same (answer.Status status) (answer.Status (status_of members purges number)) (Ok (answer.Status status)) refl (sym (ap (λ (x : Called). x.outcome) is)))
+  status_called true number next status is = (
+    sym (ap (λ (x : Called). x.state.purges) is),
+    answer_same (answer.Status status) (answer.Status (status_of members purges number))
+        (Ok (answer.Status status)) refl (sym (ap (λ (x : Called). x.outcome) is)),
+  )
+  status_called false number next status is = (
+    sym (ap (λ (x : Called). x.state.purges) is),
+    answer_same (answer.Status status) (answer.Status (status_of members purges number))
+        (Ok (answer.Status status)) refl (sym (ap (λ (x : Called). x.outcome) is)),
+  )
 
-  refused_by : (key : List ℕ) (o : Option MasterFault) (next : MasterState) (f : MasterFault) → issued purges key o ≡ record { state = next; outcome = Err f } → next.purges ≡ purges
+  refused_by : (key : List ℕ) (o : Option MasterFault) (next : MasterState) (f : MasterFault) → issued purges key o ≡ record { state = next; outcome = Err f } →
+      next.purges ≡ purges
   refused_by key (Some other) next f is = sym (ap (λ (x : Called). x.state.purges) is)
   refused_by key None next f is = absurd (ok_err f (answer.Issue (purges.last + 1)) (ap (λ (x : Called). x.outcome) is))
 
   -- a refused call leaves the purges
-  refused_called : (closed : Bool) (c : MasterCall) (next : MasterState) (f : MasterFault) → called members (state closed) c ≡ record { state = next; outcome = Err f } → next.purges ≡ purges
+  refused_called : (closed : Bool) (c : MasterCall) (next : MasterState) (f : MasterFault) →
+      called members (state closed) c ≡ record { state = next; outcome = Err f } → next.purges ≡ purges
   refused_called true (call.Issue key) next f is = sym (ap (λ (x : Called). x.state.purges) is)
   refused_called true (call.Acknowledge id trans code) next f is = sym (ap (λ (x : Called). x.state.purges) is)
   refused_called true call.Due next f is = sym (ap (λ (x : Called). x.state.purges) is)
   refused_called true (call.Status number) next f is = sym (ap (λ (x : Called). x.state.purges) is)
   refused_called false (call.Issue key) next f is = refused_by key (issue_fault purges) next f is
-  refused_called false (call.Acknowledge id trans code) next f is = absurd (ok_err f (answer.Acknowledge (acknowledged members purges id trans code).done) (ap (λ (x : Called). x.outcome) is))
+  refused_called false (call.Acknowledge id trans code) next f is =
+      absurd (ok_err f (answer.Acknowledge (acknowledged members purges id trans code).done) (ap (λ (x : Called). x.outcome) is))
   refused_called false call.Due next f is = sym (ap (λ (x : Called). x.state.purges) is)
   refused_called false (call.Status number) next f is = sym (ap (λ (x : Called). x.state.purges) is)
 
-  fits_issue : (key : List ℕ) (o : Option MasterFault) (next : MasterState) (a : MasterAnswer) → issued purges key o ≡ record { state = next; outcome = Ok a } → fits_call (call.Issue key) a ≡ true
+  fits_issue : (key : List ℕ) (o : Option MasterFault) (next : MasterState) (a : MasterAnswer) → issued purges key o ≡ record { state = next; outcome = Ok a } →
+      fits_call (call.Issue key) a ≡ true
   fits_issue key (Some f) next a is = absurd (err_ok f a (ap (λ (x : Called). x.outcome) is))
-  fits_issue key None next a is = ap (fits_call (call.Issue key)) (answer_same a (answer.Issue (purges.last + 1)) (Ok a) refl (sym (ap (λ (x : Called). x.outcome) is)))
+  fits_issue key None next a is = ap (fits_call (call.Issue key))
+      (answer_same a (answer.Issue (purges.last + 1)) (Ok a) refl (sym (ap (λ (x : Called). x.outcome) is)))
 
-  fits : (closed : Bool) (c : MasterCall) (next : MasterState) (a : MasterAnswer) → called members (state closed) c ≡ record { state = next; outcome = Ok a } → fits_call c a ≡ true
+  fits : (closed : Bool) (c : MasterCall) (next : MasterState) (a : MasterAnswer) → called members (state closed) c ≡ record { state = next; outcome = Ok a } →
+      fits_call c a ≡ true
   fits true (call.Issue key) next a is = absurd (err_ok fault.Closed a (ap (λ (x : Called). x.outcome) is))
   fits true (call.Acknowledge id trans code) next a is = absurd (err_ok fault.Closed a (ap (λ (x : Called). x.outcome) is))
   fits true call.Due next a is = absurd (err_ok fault.Closed a (ap (λ (x : Called). x.outcome) is))
   fits true (call.Status number) next a is = ap (fits_call (call.Status number)) (answer_same a _ (Ok a) refl (sym (ap (λ (x : Called). x.outcome) is)))
   fits false (call.Issue key) next a is = fits_issue key (issue_fault purges) next a is
-  fits false (call.Acknowledge id trans code) next a is = ap (fits_call (call.Acknowledge id trans code)) (answer_same a _ (Ok a) refl (sym (ap (λ (x : Called). x.outcome) is)))
+  fits false (call.Acknowledge id trans code) next a is = ap (fits_call (call.Acknowledge id trans code))
+      (answer_same a _ (Ok a) refl (sym (ap (λ (x : Called). x.outcome) is)))
   fits false call.Due next a is = ap (fits_call call.Due) (answer_same a _ (Ok a) refl (sym (ap (λ (x : Called). x.outcome) is)))
   fits false (call.Status number) next a is = ap (fits_call (call.Status number)) (answer_same a _ (Ok a) refl (sym (ap (λ (x : Called). x.outcome) is)))
 
 -- What the world does
 
-hears_content : (t : Tables) (w : World) (sender : Address) (at trans code : ℕ) (c : Content) → clear_answer_in at c ≡ Some (trans, code) → master_hears_htcp t w sender at c ≡ acknowledged_by t w trans code (member_at t sender udp.Htcp)
+hears_content : (t : Tables) (w : World) (sender : Address) (at trans code : ℕ) (c : Content) → clear_answer_in at c ≡ Some (trans, code) →
+    master_hears_htcp t w sender at c ≡ acknowledged_by t w trans code (member_at t sender udp.Htcp)
 hears_content t w sender at trans code (content.ClrAnswer said) is =
     ap (λ (x : ℕ × ℕ). acknowledged_by t w x.0 x.1 (member_at t sender udp.Htcp)) (same_pair (at, said) (trans, code) is)
 hears_content t w sender at trans code (content.NopAsk desired) is = cc
@@ -138,7 +162,8 @@ hears_content t w sender at trans code (content.Other opcode desired) is = cc
 hears_content t w sender at trans code (content.Overall opcode said) is = cc
 hears_content t w sender at trans code (content.OtherAnswer opcode said) is = cc
 
-hears_clear : (t : Tables) (w : World) (sender : Address) (m : Message) (trans code : ℕ) → clear_answer m ≡ Some (trans, code) → master_hears t w sender m ≡ acknowledged_by t w trans code (member_at t sender udp.Htcp)
+hears_clear : (t : Tables) (w : World) (sender : Address) (m : Message) (trans code : ℕ) → clear_answer m ≡ Some (trans, code) →
+    master_hears t w sender m ≡ acknowledged_by t w trans code (member_at t sender udp.Htcp)
 hears_clear t w sender (message.Icp m) trans code is = cc
 hears_clear t w sender (message.Htcp m) trans code is = hears_content t w sender m.trans trans code m.content is
 
@@ -161,17 +186,39 @@ none_sent t n w c f h = record {
   waiting = h.waiting;
 }
 
-more_sent : (n : Network) (w : World) (more : List Datagram) (purges : PurgeList) → NetworkMatches n w → NetworkMatches (record { datagrams = n.datagrams ++ more; asks = n.asks; answers = n.answers; waiting = n.waiting }) (with_sent (with_master w purges) more)
-more_sent n w more purges h = record { datagrams = datagrams_grow n.datagrams more w.datagrams more h.datagrams (λ d has. has); asks = h.asks; answers = h.answers; waiting = h.waiting }
+more_sent : (n : Network) (w : World) (more : List Datagram) (purges : PurgeList) → NetworkMatches n w →
+    NetworkMatches (record { datagrams = n.datagrams ++ more; asks = n.asks; answers = n.answers; waiting = n.waiting }) (with_sent (with_master w purges) more)
+more_sent n w more purges h = record {
+  datagrams = datagrams_grow n.datagrams more w.datagrams more h.datagrams (λ d has. has);
+  asks = h.asks;
+  answers =
+      h.answers;
+  waiting = h.waiting;
+}
 
-no_more_sent : (n : Network) (w : World) (purges : PurgeList) → NetworkMatches n w → NetworkMatches (record { datagrams = n.datagrams ++ []; asks = n.asks; answers = n.answers; waiting = n.waiting }) (with_master w purges)
-no_more_sent n w purges h = record { datagrams = λ d has. h.datagrams d (without_more n.datagrams d has); asks = h.asks; answers = h.answers; waiting = h.waiting }
+no_more_sent : (n : Network) (w : World) (purges : PurgeList) → NetworkMatches n w →
+    NetworkMatches (record { datagrams = n.datagrams ++ []; asks = n.asks; answers = n.answers; waiting = n.waiting }) (with_master w purges)
+no_more_sent n w purges h = record {
+  datagrams = λ d has. h.datagrams d (without_more n.datagrams d has);
+  asks = h.asks;
+  answers = h.answers;
+  waiting =
+      h.waiting;
+}
 
-nothing_sent : (n : Network) (w : World) → NetworkMatches n w → NetworkMatches (record { datagrams = n.datagrams ++ []; asks = n.asks; answers = n.answers; waiting = n.waiting }) w
+nothing_sent : (n : Network) (w : World) → NetworkMatches n w →
+    NetworkMatches (record { datagrams = n.datagrams ++ []; asks = n.asks; answers = n.answers; waiting = n.waiting }) w
 nothing_sent n w h = record { datagrams = λ d has. h.datagrams d (without_more n.datagrams d has); asks = h.asks; answers = h.answers; waiting = h.waiting }
 
-again_sent : (n : Network) (w : World) (others : List Datagram) → NetworkMatches n w → NetworkMatches (record { datagrams = n.datagrams ++ []; asks = n.asks; answers = n.answers; waiting = n.waiting }) (with_sent w others)
-again_sent n w others h = record { datagrams = λ d has. Contains-append_left w.datagrams others d (h.datagrams d (without_more n.datagrams d has)); asks = h.asks; answers = h.answers; waiting = h.waiting }
+again_sent : (n : Network) (w : World) (others : List Datagram) → NetworkMatches n w →
+    NetworkMatches (record { datagrams = n.datagrams ++ []; asks = n.asks; answers = n.answers; waiting = n.waiting }) (with_sent w others)
+again_sent n w others h = record {
+  datagrams = λ d has. Contains-append_left w.datagrams others d (h.datagrams d (without_more n.datagrams d has));
+  asks =
+      h.asks;
+  answers = h.answers;
+  waiting = h.waiting;
+}
 
 abbrev number_of : MasterAnswer → ℕ
 number_of (answer.Issue number) = number
@@ -203,7 +250,8 @@ module _ (t : Tables) (b : Board) (p : Progress) (m : Matches t b p) (place : �
     abbrev q : Progress
     q = record { world = after; place = p.place + 1; master = next }
 
-    by_event : MasterCalls (members_of t) p.master c a next → CallsIn t p c a (one ∷ []) → IsEventOfKey happens → turn t w happens ≡ Ends seen after → after.master ≡ next.purges → after.states ≡ w.states →
+    by_event : MasterCalls (members_of t) p.master c a next → CallsIn t p c a (one ∷ []) → IsEventOfKey happens → turn t w happens ≡ Ends seen after →
+        after.master ≡ next.purges → after.states ≡ w.states →
         NetworkMatches (with_clears t b.network c a) after → Follows t p (Calls (entry c a) is_closed) (after_call t b (entry c a) next)
     by_event calls stands keyed turns purges states network =
         let goes : Goes t p (one ∷ []) next q = record {
@@ -228,7 +276,8 @@ module _ (t : Tables) (b : Board) (p : Progress) (m : Matches t b p) (place : �
         }
 
   -- the call is no event
-  by_nothing : (c : MasterCall) (f : MasterFault) (next : MasterState) → MasterCalls (members_of t) p.master c (Err f) next → next.purges ≡ w.master → Follows t p (Calls (entry c (Err f)) is_closed) (after_call t b (entry c (Err f)) next)
+  by_nothing : (c : MasterCall) (f : MasterFault) (next : MasterState) → MasterCalls (members_of t) p.master c (Err f) next → next.purges ≡ w.master →
+      Follows t p (Calls (entry c (Err f)) is_closed) (after_call t b (entry c (Err f)) next)
   by_nothing c f next calls same = record {
     steps = [];
     to = record { world = w; place = p.place; master = next };
@@ -251,25 +300,31 @@ module _ (t : Tables) (b : Board) (p : Progress) (m : Matches t b p) (place : �
   in_run : (c : MasterCall) (x : Called) → called (members_of t) b.master c ≡ x → called (members_of t) p.master c ≡ x
   in_run c x is = ap (λ (s : MasterState). called (members_of t) s c) m.master ∙ is
 
-  issues : (key : List ℕ) (number : ℕ) (next : MasterState) → IsOfKey (call.Issue key) → called (members_of t) b.master (call.Issue key) ≡ record { state = next; outcome = Ok (answer.Issue number) } →
-      Follows t p (Calls (entry (call.Issue key) (Ok (answer.Issue number))) is_closed) (after_call t b (entry (call.Issue key) (Ok (answer.Issue number))) next)
+  issues : (key : List ℕ) (number : ℕ) (next : MasterState) → IsOfKey (call.Issue key) → called (members_of t) b.master (call.Issue key) ≡ record
+      { state = next; outcome = Ok (answer.Issue number) } →
+      Follows t p (Calls (entry (call.Issue key) (Ok (answer.Issue number))) is_closed)
+      (after_call t b (entry (call.Issue key) (Ok (answer.Issue number))) next)
   issues key number next keyed is =
       let (none, left, same) = issue_called (members_of t) w.master b.master.closed key next number (in_world (call.Issue key) _ is) in
       let number_is : number ≡ w.master.last + 1 = ap number_of same in
       let after : World = with_sent (with_master w (with_purge w.master (w.master.last + 1) key)) (clears_of t (w.master.last + 1) key) in
       by_event (call.Issue key) (Ok (answer.Issue number)) next (world.Issue key) (Issued number) after (in_run (call.Issue key) _ is) refl keyed
       (ap (issue_by t w key) none ∙ ap (λ (n : ℕ). Ends (Issued n) after) (sym number_is)) (sym (ap (λ (s : MasterState). s.purges) left)) refl
-      (subst (λ (n : ℕ). NetworkMatches (with_clears t b.network (call.Issue key) (Ok (answer.Issue n))) after) (sym number_is) (more_sent b.network w (clears_of t (w.master.last + 1) key) (with_purge w.master (w.master.last + 1) key) m.network))
+      (subst (λ (n : ℕ). NetworkMatches (with_clears t b.network (call.Issue key) (Ok (answer.Issue n))) after) (sym number_is)
+      (more_sent b.network w (clears_of t (w.master.last + 1) key) (with_purge w.master (w.master.last + 1) key) m.network))
 
   acknowledges : (id trans code : ℕ) (finished : Option ℕ) (next : MasterState) → IsCallSent t b.network (call.Acknowledge id trans code) →
       called (members_of t) b.master (call.Acknowledge id trans code) ≡ record { state = next; outcome = Ok (answer.Acknowledge finished) } →
-      Follows t p (Calls (entry (call.Acknowledge id trans code) (Ok (answer.Acknowledge finished))) is_closed) (after_call t b (entry (call.Acknowledge id trans code) (Ok (answer.Acknowledge finished))) next)
+      Follows t p (Calls (entry (call.Acknowledge id trans code) (Ok (answer.Acknowledge finished))) is_closed)
+      (after_call t b (entry (call.Acknowledge id trans code) (Ok (answer.Acknowledge finished))) next)
   acknowledges id trans code finished next (d, has, its) is =
       let (number, there) = contained_item w.datagrams d (m.network.datagrams d has) in
       let purges : PurgeList = (acknowledged (members_of t) w.master id trans code).purges in
       let status : Status = status_of (members_of t) purges trans in
-      let left : next ≡ opened purges = acknowledge_called (members_of t) w.master b.master.closed id trans code next (answer.Acknowledge finished) (in_world (call.Acknowledge id trans code) _ is) in
-      by_event (call.Acknowledge id trans code) (Ok (answer.Acknowledge finished)) next (world.Datagram number) (Reported trans status) (with_master w purges) (in_run (call.Acknowledge id trans code) _ is) (number, d, status, there, its, refl) tt
+      let left : next ≡ opened purges = acknowledge_called (members_of t) w.master b.master.closed id trans code next (answer.Acknowledge finished)
+      (in_world (call.Acknowledge id trans code) _ is) in
+      by_event (call.Acknowledge id trans code) (Ok (answer.Acknowledge finished)) next (world.Datagram number) (Reported trans status) (with_master w purges)
+      (in_run (call.Acknowledge id trans code) _ is) (number, d, status, there, its, refl) tt
       (ap (delivered t w) there
       ∙ ap (λ c. cond c (master_hears t w d.sender d.message) (delivered_to w d.sender d.message (member_at t d.receiver (udp_of d.message)))) its.receiver
       ∙ hears_clear t w d.sender d.message trans code its.says
@@ -280,20 +335,25 @@ module _ (t : Tables) (b : Board) (p : Progress) (m : Matches t b p) (place : �
       Follows t p (Calls (entry call.Due (Ok (answer.Due pairs))) is_closed) (after_call t b (entry call.Due (Ok (answer.Due pairs))) next)
   tells_due pairs next is =
       let same : next.purges ≡ w.master = due_called (members_of t) w.master b.master.closed next (answer.Due pairs) (in_world call.Due _ is) in
-      by_event call.Due (Ok (answer.Due pairs)) next world.Resend Nothing (with_sent w (clears_due t w.master)) (in_run call.Due _ is) refl tt refl (sym same) refl
+      by_event call.Due (Ok (answer.Due pairs)) next world.Resend Nothing (with_sent w (clears_due t w.master)) (in_run call.Due _ is) refl tt refl (sym same)
+      refl
       (again_sent b.network w (clears_due t w.master) m.network)
 
-  tells_status : (number : ℕ) (status : Status) (next : MasterState) → called (members_of t) b.master (call.Status number) ≡ record { state = next; outcome = Ok (answer.Status status) } →
-      Follows t p (Calls (entry (call.Status number) (Ok (answer.Status status))) is_closed) (after_call t b (entry (call.Status number) (Ok (answer.Status status))) next)
+  tells_status : (number : ℕ) (status : Status) (next : MasterState) → called (members_of t) b.master (call.Status number) ≡ record
+      { state = next; outcome = Ok (answer.Status status) } →
+      Follows t p (Calls (entry (call.Status number) (Ok (answer.Status status))) is_closed)
+      (after_call t b (entry (call.Status number) (Ok (answer.Status status))) next)
   tells_status number status next is =
       let (same, told) = status_called (members_of t) w.master b.master.closed number next status (in_world (call.Status number) _ is) in
       by_event (call.Status number) (Ok (answer.Status status)) next (world.Status number) (Reported number status) w (in_run (call.Status number) _ is) refl tt
       (ap (λ (x : Status). Ends (Reported number x) w) (sym (ap (status_in status) told))) (sym same) refl (nothing_sent b.network w m.network)
 
-  misfit : (c : MasterCall) (a : MasterAnswer) (next : MasterState) → called (members_of t) b.master c ≡ record { state = next; outcome = Ok a } → fits_call c a ≡ false → ⊥
+  misfit : (c : MasterCall) (a : MasterAnswer) (next : MasterState) → called (members_of t) b.master c ≡ record { state = next; outcome = Ok a } →
+      fits_call c a ≡ false → ⊥
   misfit c a next is other = true_not_false (sym (fits (members_of t) w.master b.master.closed c next a (in_world c _ is)) ∙ other)
 
-  follows_ok : (c : MasterCall) (a : MasterAnswer) → IsCallSent t b.network c → IsOfKey c → (next : MasterState) → called (members_of t) b.master c ≡ record { state = next; outcome = Ok a } →
+  follows_ok : (c : MasterCall) (a : MasterAnswer) → IsCallSent t b.network c → IsOfKey c → (next : MasterState) →
+      called (members_of t) b.master c ≡ record { state = next; outcome = Ok a } →
       Follows t p (Calls (entry c (Ok a)) is_closed) (after_call t b (entry c (Ok a)) next)
   follows_ok (call.Issue key) (answer.Issue number) sent keyed next is = issues key number next keyed is
   follows_ok (call.Acknowledge id trans code) (answer.Acknowledge finished) sent keyed next is = acknowledges id trans code finished next sent is
@@ -302,20 +362,26 @@ module _ (t : Tables) (b : Board) (p : Progress) (m : Matches t b p) (place : �
   follows_ok (call.Issue key) (answer.Acknowledge finished) sent keyed next is = absurd (misfit (call.Issue key) (answer.Acknowledge finished) next is refl)
   follows_ok (call.Issue key) (answer.Due pairs) sent keyed next is = absurd (misfit (call.Issue key) (answer.Due pairs) next is refl)
   follows_ok (call.Issue key) (answer.Status status) sent keyed next is = absurd (misfit (call.Issue key) (answer.Status status) next is refl)
-  follows_ok (call.Acknowledge id trans code) (answer.Issue number) sent keyed next is = absurd (misfit (call.Acknowledge id trans code) (answer.Issue number) next is refl)
-  follows_ok (call.Acknowledge id trans code) (answer.Due pairs) sent keyed next is = absurd (misfit (call.Acknowledge id trans code) (answer.Due pairs) next is refl)
-  follows_ok (call.Acknowledge id trans code) (answer.Status status) sent keyed next is = absurd (misfit (call.Acknowledge id trans code) (answer.Status status) next is refl)
+  follows_ok (call.Acknowledge id trans code) (answer.Issue number) sent keyed next is =
+      absurd (misfit (call.Acknowledge id trans code) (answer.Issue number) next is refl)
+  follows_ok (call.Acknowledge id trans code) (answer.Due pairs) sent keyed next is =
+      absurd (misfit (call.Acknowledge id trans code) (answer.Due pairs) next is refl)
+  follows_ok (call.Acknowledge id trans code) (answer.Status status) sent keyed next is =
+      absurd (misfit (call.Acknowledge id trans code) (answer.Status status) next is refl)
   follows_ok call.Due (answer.Issue number) sent keyed next is = absurd (misfit call.Due (answer.Issue number) next is refl)
   follows_ok call.Due (answer.Acknowledge finished) sent keyed next is = absurd (misfit call.Due (answer.Acknowledge finished) next is refl)
   follows_ok call.Due (answer.Status status) sent keyed next is = absurd (misfit call.Due (answer.Status status) next is refl)
   follows_ok (call.Status asked) (answer.Issue number) sent keyed next is = absurd (misfit (call.Status asked) (answer.Issue number) next is refl)
-  follows_ok (call.Status asked) (answer.Acknowledge finished) sent keyed next is = absurd (misfit (call.Status asked) (answer.Acknowledge finished) next is refl)
+  follows_ok (call.Status asked) (answer.Acknowledge finished) sent keyed next is =
+      absurd (misfit (call.Status asked) (answer.Acknowledge finished) next is refl)
   follows_ok (call.Status asked) (answer.Due pairs) sent keyed next is = absurd (misfit (call.Status asked) (answer.Due pairs) next is refl)
 
-  plain : (c : MasterCall) (f : MasterFault) (next : MasterState) → called (members_of t) b.master c ≡ record { state = next; outcome = Err f } → next.purges ≡ w.master
+  plain : (c : MasterCall) (f : MasterFault) (next : MasterState) → called (members_of t) b.master c ≡ record { state = next; outcome = Err f } →
+      next.purges ≡ w.master
   plain c f next is = refused_called (members_of t) w.master b.master.closed c next f (in_world c _ is)
 
-  wants_memory : (c : MasterCall) (writes due shuts : Bool) (next : MasterState) → is_written (members_of t) b.master.purges c ≡ writes → is_due c ≡ due → (writes || due) ≡ true → next ≡ left_wanting b.master writes shuts →
+  wants_memory : (c : MasterCall) (writes due shuts : Bool) (next : MasterState) → is_written (members_of t) b.master.purges c ≡ writes → is_due c ≡ due →
+      (writes || due) ≡ true → next ≡ left_wanting b.master writes shuts →
       WantsMemory (members_of t) b.master c next
   wants_memory c true due true next is_writes dues any is = inr (is_writes, is)
   wants_memory c true due false next is_writes dues any is = inl (ap (λ x. x || is_due c) is_writes, is)
@@ -326,26 +392,32 @@ module _ (t : Tables) (b : Board) (p : Progress) (m : Matches t b p) (place : �
   left_purges true false = refl
   left_purges false shuts = refl
 
-  follows_err : (c : MasterCall) (f : MasterFault) (next : MasterState) → CallsBy (members_of t) b.master (entry c (Err f)) is_closed (Err f) next → Follows t p (Calls (entry c (Err f)) is_closed) (after_call t b (entry c (Err f)) next)
+  follows_err : (c : MasterCall) (f : MasterFault) (next : MasterState) → CallsBy (members_of t) b.master (entry c (Err f)) is_closed (Err f) next →
+      Follows t p (Calls (entry c (Err f)) is_closed) (after_call t b (entry c (Err f)) next)
   follows_err c fault.NoMemory next (is_open, any, is) =
       by_nothing c fault.NoMemory next
-      (subst (λ (s : MasterState). MasterCalls (members_of t) s c (Err fault.NoMemory) next) (sym m.master) (is_open, wants_memory c (is_written (members_of t) b.master.purges c) (is_due c) is_closed next refl refl any is))
+      (subst (λ (s : MasterState). MasterCalls (members_of t) s c (Err fault.NoMemory) next) (sym m.master)
+      (is_open, wants_memory c (is_written (members_of t) b.master.purges c) (is_due c) is_closed next refl refl any is))
       (ap (λ (s : MasterState). s.purges) is ∙ left_purges (is_written (members_of t) b.master.purges c) is_closed ∙ sym m.purges)
   follows_err c fault.StoreFault next (is_open, writes, is) =
-      by_nothing c fault.StoreFault next (subst (λ (s : MasterState). MasterCalls (members_of t) s c (Err fault.StoreFault) next) (sym m.master) (is_open, writes, is)) (ap (λ (s : MasterState). s.purges) is ∙ sym m.purges)
+      by_nothing c fault.StoreFault next (subst (λ (s : MasterState). MasterCalls (members_of t) s c (Err fault.StoreFault) next) (sym m.master)
+      (is_open, writes, is)) (ap (λ (s : MasterState). s.purges) is ∙ sym m.purges)
   follows_err c fault.Closed next is = by_nothing c fault.Closed next (in_run c _ is) (plain c fault.Closed next is)
   follows_err c fault.ShiftFull next is = by_nothing c fault.ShiftFull next (in_run c _ is) (plain c fault.ShiftFull next is)
   follows_err c fault.NumbersSpent next is = by_nothing c fault.NumbersSpent next (in_run c _ is) (plain c fault.NumbersSpent next is)
   follows_err c fault.TooManyPending next is = by_nothing c fault.TooManyPending next (in_run c _ is) (plain c fault.TooManyPending next is)
 
-  follows_call : (c : MasterCall) (a : Result MasterAnswer MasterFault) → IsCallSent t b.network c → IsOfKey c → (next : MasterState) → CallsBy (members_of t) b.master (entry c a) is_closed a next →
+  follows_call : (c : MasterCall) (a : Result MasterAnswer MasterFault) → IsCallSent t b.network c → IsOfKey c → (next : MasterState) →
+      CallsBy (members_of t) b.master (entry c a) is_closed a next →
       Follows t p (Calls (entry c a) is_closed) (after_call t b (entry c a) next)
   follows_call c (Ok a) sent keyed next is = follows_ok c a sent keyed next is
   follows_call c (Err f) sent keyed next is = follows_err c f next is
 
 -- a call that may follow stands for events of the world
-pub call_follows : (t : Tables) (b : Board) (p : Progress) → Matches t b p → (e : MasterEntry) (is_closed : Bool) (next : Board) → JudgesCall t b e is_closed (Fine next) → Follows t p (Calls e is_closed) next
+pub call_follows : (t : Tables) (b : Board) (p : Progress) → Matches t b p → (e : MasterEntry) (is_closed : Bool) (next : Board) →
+    JudgesCall t b e is_closed (Fine next) → Follows t p (Calls e is_closed) next
 call_follows t b p m e is_closed next (inl (sent, keyed, state, calls, is)) =
-    subst (Follows t p (Calls e is_closed)) (sym (same_board next (after_call t b e state) is)) (follows_call t b p m e.place is_closed e.call e.answer sent keyed state calls)
+    subst (Follows t p (Calls e is_closed)) (sym (same_board next (after_call t b e state) is))
+    (follows_call t b p m e.place is_closed e.call e.answer sent keyed state calls)
 call_follows t b p m e is_closed next (inr (inl (sent, none, is))) = absurd (not_flawed next OtherReply is)
 call_follows t b p m e is_closed next (inr (inr (unsent, is))) = absurd (not_flawed next NotSent is)

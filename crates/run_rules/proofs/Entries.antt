@@ -57,7 +57,8 @@ pub same_board : (x y : Board) → Fine x ≡ Fine y → x ≡ y
 same_board x y is = cc
 
 -- what a reply is without its marks
-reply_unmarked : (o : Result (Reply ℕ) StepFault) (reply : Reply (Unit {0})) → unmarked_outcome o ≡ Ok reply → (r : Reply ℕ) × (o ≡ Ok r) × (retag_reply (λ _. tt) r ≡ reply)
+reply_unmarked : (o : Result (Reply ℕ) StepFault) (reply : Reply (Unit {0})) → unmarked_outcome o ≡ Ok reply →
+    (r : Reply ℕ) × (o ≡ Ok r) × (retag_reply (λ _. tt) r ≡ reply)
 reply_unmarked (Ok r) reply is = (r, refl, ok_same (retag_reply (λ _. tt) r) reply _ refl is)
 reply_unmarked (Err f) reply is = cc
 
@@ -66,7 +67,8 @@ network_now : {n : Network} {w : World} {now : ℕ} → NetworkMatches n w → N
 network_now h = record { datagrams = h.datagrams; asks = h.asks; answers = h.answers; waiting = h.waiting }
 
 -- what was sent before is still sent
-network_kept : (t : Tables) (n : Network) (w : World) (id : ℕ) (e : Event ℕ) (serial : ℕ) (o : Result (Reply ℕ) StepFault) (next : NodeState ℕ) → NetworkMatches n w → NetworkMatches n (after_node t w id e serial o next)
+network_kept : (t : Tables) (n : Network) (w : World) (id : ℕ) (e : Event ℕ) (serial : ℕ) (o : Result (Reply ℕ) StepFault) (next : NodeState ℕ) →
+    NetworkMatches n w → NetworkMatches n (after_node t w id e serial o next)
 network_kept t n w id e serial o next h = record {
   datagrams = λ d has. Contains-append_left w.datagrams _ d (h.datagrams d has);
   asks = λ a has. let (x, there, same) = h.asks a has in (x, Contains-append_left w.asks _ x there, same);
@@ -74,7 +76,8 @@ network_kept t n w id e serial o next h = record {
   waiting = λ i block x is. let (y, found, same) = h.waiting i block x is in (y, found_still (is_waiting_as i block) w.waiting _ y found, same);
 }
 
-pub network_closed : (n : Network) (w : World) (id : ℕ) (next : NodeState ℕ) → NetworkMatches n w → NetworkMatches (without_waiting n id) (with_member_state w id next)
+pub network_closed : (n : Network) (w : World) (id : ℕ) (next : NodeState ℕ) → NetworkMatches n w →
+    NetworkMatches (without_waiting n id) (with_member_state w id next)
 network_closed n w id next h = record { datagrams = h.datagrams; asks = h.asks; answers = h.answers; waiting = waits_dropped n.waiting w.waiting id h.waiting }
 
 purge_unmarked : (g : Setting) (e : Event ℕ) → purge_in g (unmarked_event e) ≡ purge_in g e
@@ -103,7 +106,8 @@ IsOwn fault.NoMemory = ⊥
 IsOwn fault.StoreFault = ⊥
 IsOwn _ = Unit {0}
 
-own_steps : (g : Setting) (s : NodeState (Unit {0})) (e : Event (Unit {0})) (f : StepFault) → IsOwn f → step g s e tt ≡ record { state = s; outcome = Err f } → NodeStepsBy g s e tt (Err f) s
+own_steps : (g : Setting) (s : NodeState (Unit {0})) (e : Event (Unit {0})) (f : StepFault) → IsOwn f → step g s e tt ≡ record { state = s; outcome = Err f } →
+    NodeStepsBy g s e tt (Err f) s
 own_steps g s e fault.Closed own is = is
 own_steps g s e fault.UnknownSerial own is = is
 own_steps g s e fault.Busy own is = is
@@ -116,7 +120,8 @@ IsClosing fault.NoMemory = Unit {0}
 IsClosing fault.StoreFault = Unit {0}
 IsClosing _ = ⊥
 
-closing_steps : (g : Setting) (s : NodeState (Unit {0})) (e : Event (Unit {0})) (f : StepFault) (next : NodeState (Unit {0})) → IsClosing f → Closes g s e next → NodeStepsBy g s e tt (Err f) next
+closing_steps : (g : Setting) (s : NodeState (Unit {0})) (e : Event (Unit {0})) (f : StepFault) (next : NodeState (Unit {0})) → IsClosing f →
+    Closes g s e next → NodeStepsBy g s e tt (Err f) next
 closing_steps g s e fault.Closed next closing closes = absurd closing
 closing_steps g s e fault.UnknownSerial next closing closes = absurd closing
 closing_steps g s e fault.Busy next closing closes = absurd closing
@@ -124,7 +129,8 @@ closing_steps g s e fault.StoreFault next closing closes = closes
 closing_steps g s e fault.NoMemory next closing closes = inr closes
 
 -- the floors with the purge, if there was room for it, or without
-kept_or_raised : (flag : Bool) (floors : FloorMap) (key : List ℕ) (n : ℕ) → (flag ≡ true → HasRoom floors key) → IsBeforeOrAfter floors key n (cond flag (raised floors key n) floors)
+kept_or_raised : (flag : Bool) (floors : FloorMap) (key : List ℕ) (n : ℕ) → (flag ≡ true → HasRoom floors key) →
+    IsBeforeOrAfter floors key n (cond flag (raised floors key n) floors)
 kept_or_raised true floors key n room = inr (room refl, refl)
 kept_or_raised false floors key n room = inl refl
 
@@ -166,7 +172,8 @@ module _ (t : Tables) (b : Board) (p : Progress) (m : Matches t b p) (id : ℕ) 
     unmarked_step = subst (λ x. step g (unmarked node) x tt ≡ retag_stepped (λ _. tt) r) how.event (step-retag (λ _. tt) g node how.met (p.place + 1))
 
     turns_so : Takes t (p.place + 1) now (turn t now how.happens) (Replied id r.outcome) q.world
-    turns_so = subst (λ x. Takes t (p.place + 1) now x (Replied id r.outcome) q.world) (sym how.turns) (r.outcome, r.state, step_steps g node how.met (p.place + 1), refl, refl)
+    turns_so = subst (λ x. Takes t (p.place + 1) now x (Replied id r.outcome) q.world) (sym how.turns)
+        (r.outcome, r.state, step_steps g node how.met (p.place + 1), refl, refl)
 
     runs : Run t p.place p.world these q.world
     runs = (now, (tt, (refl, refl)), (q.world, (how.keyed, turns_so), refl))
@@ -188,7 +195,8 @@ module _ (t : Tables) (b : Board) (p : Progress) (m : Matches t b p) (id : ℕ) 
         let taken = (m.after.sources.asks id is_open).taken in
         let begins = begins_next g node (p.place + 1) how.met reply reply.begin is refl in
         subst (λ (x : Event (Unit {0})). NetworkMatches (with_reply t b.network id x (retag_reply (λ _. tt) reply)) q.world) how.event
-        (subst (λ (o : Result (Reply ℕ) StepFault). NetworkMatches (with_reply t b.network id (unmarked_event how.met) (retag_reply (λ _. tt) reply)) (after_node t now id how.met how.serial o r.state)) (sym is)
+        (subst (λ (o : Result (Reply ℕ) StepFault). NetworkMatches (with_reply t b.network id (unmarked_event how.met) (retag_reply (λ _. tt) reply))
+        (after_node t now id how.met how.serial o r.state)) (sym is)
         (network_replied t b.network now id how.met how.serial reply r.state (network_now m.network) taken begins))
 
     open_after : r.state.closed ≡ false
@@ -211,10 +219,13 @@ module _ (t : Tables) (b : Board) (p : Progress) (m : Matches t b p) (id : ℕ) 
     note = Steps id entry is_closed kept
 
     -- the step has a reply
-    replied : node.closed ≡ false → Meets t p.world id entry.event → (next : NodeState (Unit {0})) (reply : Reply (Unit {0})) → entry.outcome ≡ Ok reply → IsStep g (unmarked node) entry next → Follows t p note (after_entry t b id entry (Open next))
+    replied : node.closed ≡ false → Meets t p.world id entry.event → (next : NodeState (Unit {0})) (reply : Reply (Unit {0})) → entry.outcome ≡ Ok reply →
+        IsStep g (unmarked node) entry next → Follows t p note (after_entry t b id entry (Open next))
     replied is_open how next reply is_ok is_step =
-        let outcome : unmarked_outcome (r is_open entry.event how).outcome ≡ entry.outcome = ap (λ (x : Stepped (Unit {0})). x.outcome) (sym (unmarked_step is_open entry.event how) ∙ is_step) in
-        let state : unmarked (r is_open entry.event how).state ≡ next = ap (λ (x : Stepped (Unit {0})). x.state) (sym (unmarked_step is_open entry.event how) ∙ is_step) in
+        let outcome : unmarked_outcome (r is_open entry.event how).outcome ≡ entry.outcome =
+        ap (λ (x : Stepped (Unit {0})). x.outcome) (sym (unmarked_step is_open entry.event how) ∙ is_step) in
+        let state : unmarked (r is_open entry.event how).state ≡ next = ap (λ (x : Stepped (Unit {0})). x.state)
+        (sym (unmarked_step is_open entry.event how) ∙ is_step) in
         let (marked, is_marked, same) = reply_unmarked (r is_open entry.event how).outcome reply (outcome ∙ is_ok) in
         record {
           steps = these is_open entry.event how;
@@ -224,12 +235,15 @@ module _ (t : Tables) (b : Board) (p : Progress) (m : Matches t b p) (id : ℕ) 
             past = m.past ++ these is_open entry.event how;
             at = place_goes t b p (these is_open entry.event how) (p.place + 2) m refl;
             after = after_goes t b p (q is_open entry.event how) (these is_open entry.event how) m (runs is_open entry.event how);
-            nodes = each_place t b.posts p.world.states id (Open next) (r is_open entry.event how).state (member, open_after is_open entry.event how, state) (λ i _. m.nodes i);
+            nodes = each_place t b.posts p.world.states id (Open next) (r is_open entry.event how).state (member, open_after is_open entry.event how, state)
+                (λ i _. m.nodes i);
             master = m.master;
             purges = m.purges;
             network =
-                subst (λ (o : Result (Reply (Unit {0})) StepFault). NetworkMatches (with_reply t b.network id entry.event (reply_in o)) (q is_open entry.event how).world) (sym is_ok)
-                (subst (λ (x : Reply (Unit {0})). NetworkMatches (with_reply t b.network id entry.event x) (q is_open entry.event how).world) same (sends is_open entry.event how marked is_marked));
+                subst (λ (o : Result (Reply (Unit {0})) StepFault). NetworkMatches (with_reply t b.network id entry.event (reply_in o))
+                (q is_open entry.event how).world) (sym is_ok)
+                (subst (λ (x : Reply (Unit {0})). NetworkMatches (with_reply t b.network id entry.event x) (q is_open entry.event how).world) same
+                (sends is_open entry.event how marked is_marked));
           };
         }
 
@@ -239,11 +253,20 @@ module _ (t : Tables) (b : Board) (p : Progress) (m : Matches t b p) (id : ℕ) 
         subst (λ (o : Result (Reply (Unit {0})) StepFault). NetworkMatches (with_reply t b.network id entry.event (reply_in o)) p.world) (sym is_err)
         (subst (λ (n : Network). NetworkMatches n p.world) (sym (quiet_network t b.network id entry.event)) m.network)
 
-    unchanged : (f : StepFault) → entry.outcome ≡ Err f → NodeStepsBy g (unmarked node) entry.event tt (Err f) (unmarked node) → ChangesNothing t p id entry [] p
-    unchanged f is_err steps = (f, is_err, refl, refl, subst (λ (o : Result (Reply (Unit {0})) StepFault). NodeStepsBy g (unmarked node) entry.event tt o (unmarked node)) (sym is_err) steps)
+    unchanged : (f : StepFault) → entry.outcome ≡ Err f → NodeStepsBy g (unmarked node) entry.event tt (Err f) (unmarked node) →
+        ChangesNothing t p id entry [] p
+    unchanged f is_err steps = (
+      f,
+      is_err,
+      refl,
+      refl,
+      subst (λ (o : Result (Reply (Unit {0})) StepFault). NodeStepsBy g (unmarked node) entry.event tt o (unmarked node)) (sym is_err)
+          steps,
+    )
 
     -- the step is refused
-    refused : node.closed ≡ false → (f : StepFault) → IsOwn f → (next : NodeState (Unit {0})) → entry.outcome ≡ Err f → IsStep g (unmarked node) entry next → Follows t p note (after_entry t b id entry (Open next))
+    refused : node.closed ≡ false → (f : StepFault) → IsOwn f → (next : NodeState (Unit {0})) → entry.outcome ≡ Err f → IsStep g (unmarked node) entry next →
+        Follows t p note (after_entry t b id entry (Open next))
     refused is_open f own next is_err is_step =
         let outcome : (step g (unmarked node) entry.event tt).outcome ≡ Err f = ap (λ (x : Stepped (Unit {0})). x.outcome) is_step ∙ is_err in
         let same : (step g (unmarked node) entry.event tt).state ≡ unmarked node = refusal_same g (unmarked node) tt entry.event f outcome in
@@ -268,17 +291,26 @@ module _ (t : Tables) (b : Board) (p : Progress) (m : Matches t b p) (id : ℕ) 
     }
 
     -- a closed node refuses so
-    shut : node.closed ≡ true → (floors : FloorMap) → node.floors ≡ floors → entry.outcome ≡ Err fault.Closed → Follows t p note (after_entry t b id entry (Shut floors))
+    shut : node.closed ≡ true → (floors : FloorMap) → node.floors ≡ floors → entry.outcome ≡ Err fault.Closed →
+        Follows t p note (after_entry t b id entry (Shut floors))
     shut is_shut floors has is_err = record {
       steps = [];
       to = p;
       stands = inr (inl (unchanged fault.Closed is_err (closed_refuses g (unmarked node) tt entry.event is_shut)));
-      matches = still (Shut floors) _ (member, is_shut, has) (record { datagrams = m.network.datagrams; asks = m.network.asks; answers = m.network.answers; waiting = waits_dropped_here b.network.waiting p.world.waiting id m.network.waiting });
+      matches = still (Shut floors) _ (member, is_shut, has)
+          (record {
+            datagrams = m.network.datagrams;
+            asks = m.network.asks;
+            answers = m.network.answers;
+            waiting =
+                waits_dropped_here b.network.waiting p.world.waiting id m.network.waiting;
+          });
     }
 
     -- The node closes at a purge: it did not make the purge, or it made it and its response is
     -- never delivered.
-    module _ (is_open : node.closed ≡ false) (f : StepFault) (closing : IsClosing f) (is_err : entry.outcome ≡ Err f) (key : List ℕ) (n : ℕ) (purges : purge_in g entry.event ≡ Some (key, n)) (heard : IsSent t b.network id entry.event) (proper : IsRoster t) where
+    module _ (is_open : node.closed ≡ false) (f : StepFault) (closing : IsClosing f) (is_err : entry.outcome ≡ Err f) (key : List ℕ) (n : ℕ)
+        (purges : purge_in g entry.event ≡ Some (key, n)) (heard : IsSent t b.network id entry.event) (proper : IsRoster t) where
       abbrev flag : Bool
       flag = nat_le n (floor kept key) && not (is_full node.floors key)
 
@@ -294,8 +326,11 @@ module _ (t : Tables) (b : Board) (p : Progress) (m : Matches t b p) (id : ℕ) 
       closes : NodeStepsBy g (unmarked node) entry.event tt entry.outcome closed
       closes =
           subst (λ (o : Result (Reply (Unit {0})) StepFault). NodeStepsBy g (unmarked node) entry.event tt o closed) (sym is_err)
-          (closing_steps g (unmarked node) entry.event f closed closing
-          (is_open, subst (λ (o : Option (List ℕ × ℕ)). ClosesOn (unmarked node) o closed) (sym purges) record { closed = refl; pending = refl; floors = kept_or_raised flag node.floors key n made_with_room }))
+          (closing_steps g (unmarked node) entry.event f closed closing (
+            is_open,
+            subst (λ (o : Option (List ℕ × ℕ)). ClosesOn (unmarked node) o closed) (sym purges) record
+                { closed = refl; pending = refl; floors = kept_or_raised flag node.floors key n made_with_room },
+          ))
 
       abbrev fault_step : Step
       fault_step = event_step (world.Fault id) Nothing
@@ -305,7 +340,15 @@ module _ (t : Tables) (b : Board) (p : Progress) (m : Matches t b p) (id : ℕ) 
 
       fault_goes : (x : Progress) → x.world.master ≡ x.master.purges → Goes t x (fault_step ∷ []) x.master (faulted x)
       fault_goes x purges_same = record {
-        run = ((faulted x).world, (tt, subst (λ (turns : Turn). Takes t x.place x.world turns Nothing (faulted x).world) (sym (ap (λ c. cond c (Ends Nothing (faulted x).world) (TurnRefused NoSuchPacket)) member)) (refl, refl)), refl);
+        run = (
+          (faulted x).world,
+          (
+            tt,
+            subst (λ (turns : Turn). Takes t x.place x.world turns Nothing (faulted x).world)
+                (sym (ap (λ c. cond c (Ends Nothing (faulted x).world) (TurnRefused NoSuchPacket)) member)) (refl, refl),
+          ),
+          refl,
+        );
         place = refl;
         master = refl;
         purges = purges_same;
@@ -323,7 +366,8 @@ module _ (t : Tables) (b : Board) (p : Progress) (m : Matches t b p) (id : ℕ) 
               past = m.past ++ fault_step ∷ [];
               at = place_goes t b p (fault_step ∷ []) (p.place + 1) m refl;
               after = after_goes t b p (faulted p) (fault_step ∷ []) m goes.run;
-              nodes = each_place t b.posts p.world.states id (Shut left) (closed_node node) (member, refl, sym (ap (λ c. cond c (raised node.floors key n) node.floors) not_made)) (λ i _. m.nodes i);
+              nodes = each_place t b.posts p.world.states id (Shut left) (closed_node node)
+                  (member, refl, sym (ap (λ c. cond c (raised node.floors key n) node.floors) not_made)) (λ i _. m.nodes i);
               master = m.master;
               purges = m.purges;
               network = network_closed b.network p.world id (closed_node node) m.network;
@@ -334,16 +378,20 @@ module _ (t : Tables) (b : Board) (p : Progress) (m : Matches t b p) (id : ℕ) 
       with_purge : flag ≡ true → Follows t p note (after_entry t b id entry (Shut left))
       with_purge made =
           let room : is_full node.floors key ≡ false = not_both_true (nat_le n (floor kept key)) (is_full node.floors key) made in
-          let how : Meets t p.world id entry.event = meets t proper p.world id member b.network m.network (unmarked node) refl entry.event heard (purge_reaches g (unmarked node) entry.event (key, n) purges) in
+          let how : Meets t p.world id entry.event = meets t proper p.world id member b.network m.network (unmarked node) refl entry.event heard
+          (purge_reaches g (unmarked node) entry.event (key, n) purges) in
           let meets_purge : purge_in g how.met ≡ Some (key, n) = sym (purge_unmarked g how.met) ∙ ap (purge_in g) how.event ∙ purges in
           let purged : HasPurged node key n (r is_open entry.event how) = step_purges g node (p.place + 1) how.met key n is_open meets_purge room in
           let taken : IsTaken t p id entry.event (Ok purged.reply) (these is_open entry.event how) (q is_open entry.event how) =
-          subst (λ (o : Result (Reply ℕ) StepFault). IsTaken t p id entry.event o (these is_open entry.event how) (q is_open entry.event how)) purged.outcome (is_taken is_open entry.event how) in
+          subst (λ (o : Result (Reply ℕ) StepFault). IsTaken t p id entry.event o (these is_open entry.event how) (q is_open entry.event how)) purged.outcome
+          (is_taken is_open entry.event how) in
           let goes = fault_goes (q is_open entry.event how) (m.purges ∙ sym (ap (λ x. x.purges) m.master)) in
           let all : Run t p.place p.world (these is_open entry.event how ++ fault_step ∷ []) (faulted (q is_open entry.event how)).world =
-          runs_join t p.place (p.place + 2) p.world (q is_open entry.event how).world (faulted (q is_open entry.event how)).world (these is_open entry.event how) (fault_step ∷ []) refl (runs is_open entry.event how) goes.run in
+          runs_join t p.place (p.place + 2) p.world (q is_open entry.event how).world (faulted (q is_open entry.event how)).world
+          (these is_open entry.event how) (fault_step ∷ []) refl (runs is_open entry.event how) goes.run in
           let floors : (node_in (q is_open entry.event how) id).floors ≡ left =
-          ap (λ (x : NodeState ℕ). x.floors) (node_at-same p.world.states id (r is_open entry.event how).state) ∙ purged.floors ∙ sym (ap (λ c. cond c (raised node.floors key n) node.floors) made) in
+          ap (λ (x : NodeState ℕ). x.floors) (node_at-same p.world.states id (r is_open entry.event how).state) ∙ purged.floors
+          ∙ sym (ap (λ c. cond c (raised node.floors key n) node.floors) made) in
           record {
             steps = these is_open entry.event how ++ fault_step ∷ [];
             to = faulted (q is_open entry.event how);
@@ -352,10 +400,14 @@ module _ (t : Tables) (b : Board) (p : Progress) (m : Matches t b p) (id : ℕ) 
               past = m.past ++ (these is_open entry.event how ++ fault_step ∷ []);
               at = place_goes t b p (these is_open entry.event how ++ fault_step ∷ []) (p.place + 2 + 1) m (omega arith);
               after = after_goes t b p (faulted (q is_open entry.event how)) (these is_open entry.event how ++ fault_step ∷ []) m all;
-              nodes = each_place t b.posts (q is_open entry.event how).world.states id (Shut left) (closed_node (node_in (q is_open entry.event how) id)) (member, refl, floors) (λ i ne. subst (StandsIn t i (standing_at b.posts i)) (sym (node_at-other p.world.states id i (r is_open entry.event how).state ne)) (m.nodes i));
+              nodes = each_place t b.posts (q is_open entry.event how).world.states id (Shut left) (closed_node (node_in (q is_open entry.event how) id))
+                  (member, refl, floors) (λ i ne. subst (StandsIn t i (standing_at b.posts i))
+                  (sym (node_at-other p.world.states id i (r is_open entry.event how).state ne)) (m.nodes i));
               master = m.master;
               purges = m.purges;
-              network = network_closed b.network (q is_open entry.event how).world id _ (network_kept t b.network (now is_open entry.event how) id how.met how.serial (r is_open entry.event how).outcome (r is_open entry.event how).state (network_now m.network));
+              network = network_closed b.network (q is_open entry.event how).world id _
+                  (network_kept t b.network (now is_open entry.event how) id how.met how.serial (r is_open entry.event how).outcome
+                  (r is_open entry.event how).state (network_now m.network));
             };
           }
 
@@ -364,29 +416,38 @@ module _ (t : Tables) (b : Board) (p : Progress) (m : Matches t b p) (id : ℕ) 
 
     -- what an entry of an open node stands for
     module _ (proper : IsRoster t) (heard : IsSent t b.network id entry.event) (is_open : node.closed ≡ false) where
-      replied_by : (reply : Reply (Unit {0})) → entry.outcome ≡ Ok reply → Reaches (unmarked node) entry.event → (st : Standing) (result : Result Standing Cause) → result ≡ Ok st → StepsBy g (unmarked node) entry result → Follows t p note (after_entry t b id entry st)
+      replied_by : (reply : Reply (Unit {0})) → entry.outcome ≡ Ok reply → Reaches (unmarked node) entry.event →
+          (st : Standing) (result : Result Standing Cause) → result ≡ Ok st → StepsBy g (unmarked node) entry result →
+          Follows t p note (after_entry t b id entry st)
       replied_by reply is_ok reaches st result fine (inl (next, is_step, is)) =
           subst (λ (x : Standing). Follows t p note (after_entry t b id entry x)) (ok_same (Open next) st result is fine)
           (replied is_open (meets t proper p.world id member b.network m.network (unmarked node) refl entry.event heard reaches) next reply is_ok is_step)
       replied_by reply is_ok reaches st result fine (inr (other, is)) = absurd (no_fault st OtherReply (sym fine ∙ is))
 
-      refused_by : (f : StepFault) → entry.outcome ≡ Err f → IsOwn f → (st : Standing) (result : Result Standing Cause) → result ≡ Ok st → StepsBy g (unmarked node) entry result → Follows t p note (after_entry t b id entry st)
+      refused_by : (f : StepFault) → entry.outcome ≡ Err f → IsOwn f → (st : Standing) (result : Result Standing Cause) → result ≡ Ok st →
+          StepsBy g (unmarked node) entry result → Follows t p note (after_entry t b id entry st)
       refused_by f is_err own st result fine (inl (next, is_step, is)) =
-          subst (λ (x : Standing). Follows t p note (after_entry t b id entry x)) (ok_same (Open next) st result is fine) (refused is_open f own next is_err is_step)
+          subst (λ (x : Standing). Follows t p note (after_entry t b id entry x)) (ok_same (Open next) st result is fine)
+          (refused is_open f own next is_err is_step)
       refused_by f is_err own st result fine (inr (other, is)) = absurd (no_fault st OtherReply (sym fine ∙ is))
 
-      wanting_by : entry.outcome ≡ Err fault.NoMemory → (st : Standing) (o : Option (List ℕ × ℕ)) (c : Bool) → purge_in g entry.event ≡ o → is_closed ≡ c → st ≡ wanting (unmarked node) o c kept → Follows t p note (after_entry t b id entry st)
+      wanting_by : entry.outcome ≡ Err fault.NoMemory → (st : Standing) (o : Option (List ℕ × ℕ)) (c : Bool) → purge_in g entry.event ≡ o → is_closed ≡ c →
+          st ≡ wanting (unmarked node) o c kept → Follows t p note (after_entry t b id entry st)
       wanting_by is_err st (Some x) true purges ended is =
           subst (λ (s : Standing). Follows t p note (after_entry t b id entry s)) (sym is) (ends is_open fault.NoMemory tt is_err x.0 x.1 purges heard proper)
-      wanting_by is_err st (Some x) false purges ended is = subst (λ (s : Standing). Follows t p note (after_entry t b id entry s)) (sym is) (wants is_open is_err)
+      wanting_by is_err st (Some x) false purges ended is = subst (λ (s : Standing). Follows t p note (after_entry t b id entry s)) (sym is)
+          (wants is_open is_err)
       wanting_by is_err st None c purges ended is = subst (λ (s : Standing). Follows t p note (after_entry t b id entry s)) (sym is) (wants is_open is_err)
 
-      failing_by : entry.outcome ≡ Err fault.StoreFault → (st : Standing) (o : Option (List ℕ × ℕ)) → purge_in g entry.event ≡ o → Ok st ≡ failing (unmarked node) o kept → Follows t p note (after_entry t b id entry st)
+      failing_by : entry.outcome ≡ Err fault.StoreFault → (st : Standing) (o : Option (List ℕ × ℕ)) → purge_in g entry.event ≡ o →
+          Ok st ≡ failing (unmarked node) o kept → Follows t p note (after_entry t b id entry st)
       failing_by is_err st (Some x) purges is =
-          subst (λ (s : Standing). Follows t p note (after_entry t b id entry s)) (ok_same _ st _ refl (sym is)) (ends is_open fault.StoreFault tt is_err x.0 x.1 purges heard proper)
+          subst (λ (s : Standing). Follows t p note (after_entry t b id entry s)) (ok_same _ st _ refl (sym is))
+          (ends is_open fault.StoreFault tt is_err x.0 x.1 purges heard proper)
       failing_by is_err st None purges is = absurd (no_fault st OtherReply is)
 
-      open_by : (o : Result (Reply (Unit {0})) StepFault) → entry.outcome ≡ o → (st : Standing) (result : Result Standing Cause) → result ≡ Ok st → OpenStepsBy g (unmarked node) entry is_closed kept o result → Follows t p note (after_entry t b id entry st)
+      open_by : (o : Result (Reply (Unit {0})) StepFault) → entry.outcome ≡ o → (st : Standing) (result : Result Standing Cause) → result ≡ Ok st →
+          OpenStepsBy g (unmarked node) entry is_closed kept o result → Follows t p note (after_entry t b id entry st)
       open_by (Ok reply) is_ok st result fine (inl (reaches, steps)) = replied_by reply is_ok reaches st result fine steps
       open_by (Ok reply) is_ok st result fine (inr (none, is)) = absurd (no_fault st OtherReply (sym fine ∙ is))
       open_by (Err fault.NoMemory) is_err st result fine is = wanting_by is_err st (purge_in g entry.event) is_closed refl refl (ok_same st _ result fine is)
@@ -396,7 +457,8 @@ module _ (t : Tables) (b : Board) (p : Progress) (m : Matches t b p) (id : ℕ) 
       open_by (Err fault.Busy) is_err st result fine steps = refused_by fault.Busy is_err tt st result fine steps
 
     -- what an entry of a closed node stands for
-    shut_by_outcome : node.closed ≡ true → (floors : FloorMap) → node.floors ≡ floors → (o : Result (Reply (Unit {0})) StepFault) → entry.outcome ≡ o → (st : Standing) → Ok st ≡ shut_by floors o → Follows t p note (after_entry t b id entry st)
+    shut_by_outcome : node.closed ≡ true → (floors : FloorMap) → node.floors ≡ floors → (o : Result (Reply (Unit {0})) StepFault) → entry.outcome ≡ o →
+        (st : Standing) → Ok st ≡ shut_by floors o → Follows t p note (after_entry t b id entry st)
     shut_by_outcome is_shut floors has (Err fault.Closed) is_err st is =
         subst (λ (s : Standing). Follows t p note (after_entry t b id entry s)) (ok_same (Shut floors) st _ refl (sym is)) (shut is_shut floors has is_err)
     shut_by_outcome is_shut floors has (Ok reply) is_ok st is = absurd (no_fault st OtherReply is)
@@ -405,24 +467,29 @@ module _ (t : Tables) (b : Board) (p : Progress) (m : Matches t b p) (id : ℕ) 
     shut_by_outcome is_shut floors has (Err fault.UnknownSerial) is_err st is = absurd (no_fault st OtherReply is)
     shut_by_outcome is_shut floors has (Err fault.Busy) is_err st is = absurd (no_fault st OtherReply is)
 
-module _ (t : Tables) (proper : IsRoster t) (b : Board) (p : Progress) (m : Matches t b p) (id : ℕ) (entry : NodeEntry) (is_closed : Bool) (kept : FloorMap) where
-  stands_by : (now_so : Standing) → standing_at b.posts id ≡ now_so → StandsIn t id now_so (node_in p id) → (is_astray now_so ≡ false → IsSent t b.network id entry.event) →
-      (st : Standing) (result : Result Standing Cause) → result ≡ Ok st → StepsSo (setting t id) now_so entry is_closed kept result → Follows t p (Steps id entry is_closed kept) (after_entry t b id entry st)
-  stands_by New so stands heard st result fine is = absurd (no_fault st OtherReply (sym fine ∙ is))
-  stands_by Astray so stands heard st result fine is = absurd stands
-  stands_by (Open s) so (member, is_open, same) heard st result fine steps =
-      open_by t b p m id member entry is_closed kept proper (heard refl) is_open entry.outcome refl st result fine
-      (subst (λ (x : NodeState (Unit {0})). OpenStepsBy (setting t id) x entry is_closed kept entry.outcome result) (sym same) steps)
-  stands_by (Shut floors) so (member, is_shut, has) heard st result fine is = shut_by_outcome t b p m id member entry is_closed kept is_shut floors has entry.outcome refl st (sym fine ∙ is)
+module _ (t : Tables) (proper : IsRoster t) (b : Board) (p : Progress) (m : Matches t b p) (id : ℕ) (entry : NodeEntry) (is_closed : Bool) (kept : FloorMap)
+  where
+    stands_by : (now_so : Standing) → standing_at b.posts id ≡ now_so → StandsIn t id now_so (node_in p id) →
+        (is_astray now_so ≡ false → IsSent t b.network id entry.event) →
+        (st : Standing) (result : Result Standing Cause) → result ≡ Ok st → StepsSo (setting t id) now_so entry is_closed kept result →
+        Follows t p (Steps id entry is_closed kept) (after_entry t b id entry st)
+    stands_by New so stands heard st result fine is = absurd (no_fault st OtherReply (sym fine ∙ is))
+    stands_by Astray so stands heard st result fine is = absurd stands
+    stands_by (Open s) so (member, is_open, same) heard st result fine steps =
+        open_by t b p m id member entry is_closed kept proper (heard refl) is_open entry.outcome refl st result fine
+        (subst (λ (x : NodeState (Unit {0})). OpenStepsBy (setting t id) x entry is_closed kept entry.outcome result) (sym same) steps)
+    stands_by (Shut floors) so (member, is_shut, has) heard st result fine is = shut_by_outcome t b p m id member entry is_closed kept is_shut floors has
+        entry.outcome refl st (sym fine ∙ is)
 
-  fine_by : (r : Result Standing Cause) (next : Board) → Fine next ≡ judged t b id entry r → (st : Standing) × (r ≡ Ok st) × (next ≡ after_entry t b id entry st)
-  fine_by (Ok st) next is = (st, refl, same_board next (after_entry t b id entry st) is)
-  fine_by (Err cause) next is = absurd (not_flawed next cause is)
+    fine_by : (r : Result Standing Cause) (next : Board) → Fine next ≡ judged t b id entry r → (st : Standing) × (r ≡ Ok st)
+        × (next ≡ after_entry t b id entry st)
+    fine_by (Ok st) next is = (st, refl, same_board next (after_entry t b id entry st) is)
+    fine_by (Err cause) next is = absurd (not_flawed next cause is)
 
-  -- an entry that may follow stands for events of the world
-  pub entry_follows : (next : Board) → JudgesEntry t b id entry is_closed kept (Fine next) → Follows t p (Steps id entry is_closed kept) next
-  entry_follows next (inl (heard, r, steps, is)) =
-      let (st, fine, same) = fine_by r next is in
-      subst (Follows t p (Steps id entry is_closed kept)) (sym same)
-      (stands_by (standing_at b.posts id) refl (m.nodes id) heard st r fine steps)
-  entry_follows next (inr (unheard, is)) = absurd (not_flawed next NotSent is)
+    -- an entry that may follow stands for events of the world
+    pub entry_follows : (next : Board) → JudgesEntry t b id entry is_closed kept (Fine next) → Follows t p (Steps id entry is_closed kept) next
+    entry_follows next (inl (heard, r, steps, is)) =
+        let (st, fine, same) = fine_by r next is in
+        subst (Follows t p (Steps id entry is_closed kept)) (sym same)
+        (stands_by (standing_at b.posts id) refl (m.nodes id) heard st r fine steps)
+    entry_follows next (inr (unheard, is)) = absurd (not_flawed next NotSent is)

@@ -38,7 +38,8 @@ yes_no place cause is = cc
 abbrev GoesAstray : Board → Type 0
 GoesAstray b = (id : ℕ) × (standing_at b.posts id ≡ Astray)
 
-standing_changed : (ps : List Post) (id other : ℕ) (st : Standing) → standing_at ps other ≡ Astray → ((other ≡ id) → st ≡ Astray) → standing_at (with_standing ps id st) other ≡ Astray
+standing_changed : (ps : List Post) (id other : ℕ) (st : Standing) → standing_at ps other ≡ Astray → ((other ≡ id) → st ≡ Astray) →
+    standing_at (with_standing ps id st) other ≡ Astray
 standing_changed ps id other st astray mine = elim (ℕ_discrete other id) [
   | yes e ↦ subst (λ n. standing_at (with_standing ps id st) n ≡ Astray) (sym e) (standing_at-same ps id st ∙ mine e)
   | no ne ↦ standing_at-other ps id other st ne ∙ astray
@@ -48,11 +49,14 @@ not_open : (st : Standing) (state : NodeState (Unit {0})) → st ≡ Astray → 
 not_open st state astray opens = subst (λ (s : Standing). OpensAs s state) astray opens
 
 module _ (t : Tables) (b : Board) (who : ℕ) (astray : standing_at b.posts who ≡ Astray) where
-  steps_astray : (id : ℕ) (entry : NodeEntry) (is_closed : Bool) (kept : FloorMap) (r : Result Standing Cause) (next : Board) → StepsSo (setting t id) (standing_at b.posts id) entry is_closed kept r → Fine next ≡ judged t b id entry r → standing_at next.posts who ≡ Astray
+  steps_astray : (id : ℕ) (entry : NodeEntry) (is_closed : Bool) (kept : FloorMap) (r : Result Standing Cause) (next : Board) →
+      StepsSo (setting t id) (standing_at b.posts id) entry is_closed kept r → Fine next ≡ judged t b id entry r → standing_at next.posts who ≡ Astray
   steps_astray id entry is_closed kept (Err cause) next steps is = absurd (not_flawed next cause is)
   steps_astray id entry is_closed kept (Ok st) next steps is =
       ap (λ (x : Board). standing_at x.posts who) (same_board next (after_entry t b id entry st) is)
-      ∙ standing_changed b.posts id who st astray (λ same. ok_same st Astray (Ok st) refl (subst (λ (s : Standing). StepsSo (setting t id) s entry is_closed kept (Ok st)) (ap (standing_at b.posts) (sym same) ∙ astray) steps))
+      ∙ standing_changed b.posts id who st astray
+      (λ same. ok_same st Astray (Ok st) refl (subst (λ (s : Standing). StepsSo (setting t id) s entry is_closed kept (Ok st))
+      (ap (standing_at b.posts) (sym same) ∙ astray) steps))
 
   -- a node that is astray stays so
   stays_astray : (note : Note) (next : Board) → Judges t b note (Fine next) → standing_at next.posts who ≡ Astray
@@ -65,7 +69,8 @@ module _ (t : Tables) (b : Board) (who : ℕ) (astray : standing_at b.posts who 
   stays_astray (Steps id entry is_closed kept) next (inr (unheard, is)) = absurd (not_flawed next NotSent is)
   stays_astray (Closes id place state) next (inl (closes, is)) = ap (λ (x : Board). standing_at x.posts who) (same_board next b is) ∙ astray
   stays_astray (Closes id place state) next (inr (cannot, is)) = absurd (not_flawed next OtherState is)
-  stays_astray (Calls e is_closed) next (inl (sent, keyed, state, calls, is)) = ap (λ (x : Board). standing_at x.posts who) (same_board next (after_call t b e state) is) ∙ astray
+  stays_astray (Calls e is_closed) next (inl (sent, keyed, state, calls, is)) = ap (λ (x : Board). standing_at x.posts who)
+      (same_board next (after_call t b e state) is) ∙ astray
   stays_astray (Calls e is_closed) next (inr (inl (sent, none, is))) = absurd (not_flawed next OtherReply is)
   stays_astray (Calls e is_closed) next (inr (inr (unsent, is))) = absurd (not_flawed next NotSent is)
 
@@ -80,7 +85,8 @@ any_astray (p ∷ ps) id astray =
     (λ _ here. ap (λ (s : Standing). is_unknown s || list_any is_astray ps) here)
     (λ _ there. or_right (is_astray p) (list_any is_astray ps) (any_astray ps id there))) astray
 
-never_by : (t : Tables) (b : Board) (note : Note) (double : Option ℕ) (Later : Board → Type 0) → GoesAstray b → ((next : Board) → GoesAstray next → Later next → ⊥) → HasVerdictBy t b note double Later Yes → ⊥
+never_by : (t : Tables) (b : Board) (note : Note) (double : Option ℕ) (Later : Board → Type 0) → GoesAstray b →
+    ((next : Board) → GoesAstray next → Later next → ⊥) → HasVerdictBy t b note double Later Yes → ⊥
 never_by t b note (Some place) Later astray later v = yes_no place DoublePlace v
 never_by t b note None Later (who, astray) later (inl (next, judges, rest)) = later next (who, stays_astray t b who astray note next judges) rest
 never_by t b note None Later astray later (inr (cause, judges, v)) = yes_no (place_of note) cause v
@@ -91,8 +97,10 @@ never_yes t [] b (who, astray) v = yes_no 0 OtherState (v ∙ ap (λ c. cond c (
 never_yes t (l ∷ ls) b astray v = never_by t b l.note l.double (λ next. HasVerdict t next ls Yes) astray (λ next. never_yes t ls next) v
 
 -- a note that may follow, and makes no node go astray, stands for events of the world
-note_follows : (t : Tables) → IsRoster t → (b : Board) (p : Progress) → Matches t b p → (note : Note) (next : Board) → (GoesAstray next → ⊥) → Judges t b note (Fine next) → Follows t p note next
-note_follows t proper b p m (Opens id state) next none (inl (can, is)) = opening_follows t b p m id state next can (same_board next (opened_board b id state) is)
+note_follows : (t : Tables) → IsRoster t → (b : Board) (p : Progress) → Matches t b p → (note : Note) (next : Board) → (GoesAstray next → ⊥) →
+    Judges t b note (Fine next) → Follows t p note next
+note_follows t proper b p m (Opens id state) next none (inl (can, is)) = opening_follows t b p m id state next can
+    (same_board next (opened_board b id state) is)
 note_follows t proper b p m (Opens id state) next none (inr (cannot, is)) =
     absurd (none (id, ap (λ (x : Board). standing_at x.posts id) (same_board next (with_node b id Astray) is) ∙ standing_at-same b.posts id Astray))
 note_follows t proper b p m (Steps id entry is_closed kept) next none judges = entry_follows t proper b p m id entry is_closed kept next judges
@@ -109,8 +117,10 @@ pub record Flawless (t : Tables) (p : Progress) (ls : List OrderedNote) : Type 0
   pub stand : AllStand t p (map note_in ls) steps end
   pub single : AllByRecursion (λ (l : OrderedNote). l.double ≡ None) ls
 
-follow_by : (t : Tables) → IsRoster t → (b : Board) (p : Progress) → Matches t b p → (note : Note) (double : Option ℕ) (ls : List OrderedNote) (Later : Board → Type 0) →
-    ((next : Board) → GoesAstray next → Later next → ⊥) → ((next : Board) (q : Progress) → Matches t next q → Later next → Flawless t q ls) → HasVerdictBy t b note double Later Yes →
+follow_by : (t : Tables) → IsRoster t → (b : Board) (p : Progress) → Matches t b p → (note : Note) (double : Option ℕ) (ls : List OrderedNote)
+    (Later : Board → Type 0) →
+    ((next : Board) → GoesAstray next → Later next → ⊥) → ((next : Board) (q : Progress) → Matches t next q → Later next → Flawless t q ls) →
+    HasVerdictBy t b note double Later Yes →
     Flawless t p (record { note = note; double = double } ∷ ls)
 follow_by t proper b p m note (Some place) ls Later none later v = absurd (yes_no place DoublePlace v)
 follow_by t proper b p m note None ls Later none later (inr (cause, judges, v)) = absurd (yes_no (place_of note) cause v)

@@ -53,24 +53,28 @@ standing_at-other (p ∷ ps) id other st ne =
     (λ _. ap (cond (nat_eq p.id other) p.standing) (standing_at-other ps id other st ne))
 
 -- a node and its standing have changed, and all others not
-pub each_place : (t : Tables) (posts : List Post) (states : List MemberState) (id : ℕ) (st : Standing) (node : NodeState ℕ) → StandsIn t id st node → ((i : ℕ) → i ≢ id → StandsIn t i (standing_at posts i) (node_at states i)) →
+pub each_place : (t : Tables) (posts : List Post) (states : List MemberState) (id : ℕ) (st : Standing) (node : NodeState ℕ) → StandsIn t id st node →
+    ((i : ℕ) → i ≢ id → StandsIn t i (standing_at posts i) (node_at states i)) →
     (i : ℕ) → StandsIn t i (standing_at (with_standing posts id st) i) (node_at (with_node states id node) i)
 each_place t posts states id st node this those i =
     elim (ℕ_discrete i id) [
       | yes e ↦
           subst (λ n. StandsIn t n (standing_at (with_standing posts id st) n) (node_at (with_node states id node) n)) (sym e)
-          (subst (λ x. StandsIn t id x (node_at (with_node states id node) id)) (sym (standing_at-same posts id st)) (subst (StandsIn t id st) (sym (node_at-same states id node)) this))
+          (subst (λ x. StandsIn t id x (node_at (with_node states id node) id)) (sym (standing_at-same posts id st))
+          (subst (StandsIn t id st) (sym (node_at-same states id node)) this))
       | no ne ↦
           subst (λ x. StandsIn t i x (node_at (with_node states id node) i)) (sym (standing_at-other posts id i st ne))
           (subst (StandsIn t i (standing_at posts i)) (sym (node_at-other states id i node ne)) (those i ne))
     ]
 
 -- a node's standing has changed, and the world not
-pub each_post : (t : Tables) (posts : List Post) (states : List MemberState) (id : ℕ) (st : Standing) → StandsIn t id st (node_at states id) → ((i : ℕ) → StandsIn t i (standing_at posts i) (node_at states i)) →
+pub each_post : (t : Tables) (posts : List Post) (states : List MemberState) (id : ℕ) (st : Standing) → StandsIn t id st (node_at states id) →
+    ((i : ℕ) → StandsIn t i (standing_at posts i) (node_at states i)) →
     (i : ℕ) → StandsIn t i (standing_at (with_standing posts id st) i) (node_at states i)
 each_post t posts states id st this those i =
     elim (ℕ_discrete i id) [
-      | yes e ↦ subst (λ n. StandsIn t n (standing_at (with_standing posts id st) n) (node_at states n)) (sym e) (subst (λ x. StandsIn t id x (node_at states id)) (sym (standing_at-same posts id st)) this)
+      | yes e ↦ subst (λ n. StandsIn t n (standing_at (with_standing posts id st) n) (node_at states n)) (sym e)
+          (subst (λ x. StandsIn t id x (node_at states id)) (sym (standing_at-same posts id st)) this)
       | no ne ↦ subst (λ x. StandsIn t i x (node_at states i)) (sym (standing_at-other posts id i st ne)) (those i)
     ]
 
@@ -91,22 +95,27 @@ appends [] step steps = refl
 appends (first ∷ past) step steps = ap (λ (l : List Step). first ∷ l) (appends past step steps)
 
 -- what holds after some steps holds after more steps
-pub after_run : (t : Tables) (past steps : List Step) (old new : World) → IsAfter t past old → Run t (length past + 1) old steps new → IsAfter t (past ++ steps) new
+pub after_run : (t : Tables) (past steps : List Step) (old new : World) → IsAfter t past old → Run t (length past + 1) old steps new →
+    IsAfter t (past ++ steps) new
 after_run t past [] old new after run = subst (λ (l : List Step). IsAfter t l new) (sym (append_nil past)) (subst (IsAfter t past) (sym run) after)
 after_run t past (step ∷ steps) old new after (next, happens, run) =
     subst (λ (l : List Step). IsAfter t l new) (appends past step steps)
-    (after_run t (past ++ step ∷ []) steps next new (after_one t past old after step.event step.seen next happens) (subst (λ (n : ℕ). Run t n next steps new) (sym (next_place past step)) run))
+    (after_run t (past ++ step ∷ []) steps next new (after_one t past old after step.event step.seen next happens)
+    (subst (λ (n : ℕ). Run t n next steps new) (sym (next_place past step)) run))
 
 -- the same for the progress of a run, with its place
-pub after_goes : (t : Tables) (b : Board) (p q : Progress) (steps : List Step) → (m : Matches t b p) → Run t p.place p.world steps q.world → IsAfter t (m.past ++ steps) q.world
+pub after_goes : (t : Tables) (b : Board) (p q : Progress) (steps : List Step) → (m : Matches t b p) → Run t p.place p.world steps q.world →
+    IsAfter t (m.past ++ steps) q.world
 after_goes t b p q steps m run = after_run t m.past steps p.world q.world m.after (subst (λ (n : ℕ). Run t n p.world steps q.world) m.at run)
 
-pub place_goes : (t : Tables) (b : Board) (p : Progress) (steps : List Step) (place : ℕ) → (m : Matches t b p) → place ≡ p.place + length steps → place ≡ length (m.past ++ steps) + 1
+pub place_goes : (t : Tables) (b : Board) (p : Progress) (steps : List Step) (place : ℕ) → (m : Matches t b p) → place ≡ p.place + length steps →
+    place ≡ length (m.past ++ steps) + 1
 place_goes t b p steps place m is = omega (is, m.at, length-append m.past steps, arith)
 
 -- What a reply sends
 
-pub begins_next : (g : Setting) (s : NodeState ℕ) (mark : ℕ) (e : Event ℕ) (reply : Reply ℕ) (b : Option Begin) → (step g s e mark).outcome ≡ Ok reply → reply.begin ≡ b → BeginsNext e b s (step g s e mark).state
+pub begins_next : (g : Setting) (s : NodeState ℕ) (mark : ℕ) (e : Event ℕ) (reply : Reply ℕ) (b : Option Begin) → (step g s e mark).outcome ≡ Ok reply →
+    reply.begin ≡ b → BeginsNext e b s (step g s e mark).state
 begins_next g s mark (event.Client ask now) reply b is begins = tt
 begins_next g s mark (event.Datagram from m now) reply b is begins = tt
 begins_next g s mark (event.PeerAsk asker ask now) reply None is begins = tt
@@ -122,7 +131,8 @@ pub network_replied : (t : Tables) (n : Network) (w : World) (id : ℕ) (e : Eve
     AllByRecursion (λ x. x.node ≡ id → x.block < (node_at w.states id).next) w.waiting → BeginsNext e reply.begin (node_at w.states id) next →
     NetworkMatches (with_reply t n id (unmarked_event e) (retag_reply (λ _. tt) reply)) (after_node t w id e serial (Ok reply) next)
 network_replied t n w id e serial reply next matches taken begins = record {
-  datagrams = datagrams_grow n.datagrams (datagrams_from (member_of t id) reply.send) w.datagrams (datagrams_from (member_of t id) reply.send) matches.datagrams (λ d has. has);
+  datagrams = datagrams_grow n.datagrams (datagrams_from (member_of t id) reply.send) w.datagrams (datagrams_from (member_of t id) reply.send) matches.datagrams
+      (λ d has. has);
   asks = asks_grow n.asks _ w.asks _ matches.asks (asks_same id reply.begin);
   answers = answers_grow n.answers _ w.answers _ matches.answers (answers_same n.waiting w.waiting id e serial reply.serve matches.waiting);
   waiting = waits_by_event n.waiting w.waiting id e serial reply.begin (node_at w.states id) next matches.waiting taken begins;
@@ -145,9 +155,12 @@ sends_nothing (Some m) = refl
 -- a quiet entry sends nothing
 pub quiet_network : (t : Tables) (n : Network) (id : ℕ) (e : Event (Unit {0})) → with_reply t n id e quiet ≡ n
 quiet_network t n id e =
-    let datagrams : n.datagrams ++ datagrams_from (member_of t id) [] ≡ n.datagrams = ap (λ (l : List Datagram). n.datagrams ++ l) (sends_nothing (member_of t id)) ∙ append_nil n.datagrams in
+    let datagrams : n.datagrams ++ datagrams_from (member_of t id) [] ≡ n.datagrams = ap (λ (l : List Datagram). n.datagrams ++ l)
+    (sends_nothing (member_of t id)) ∙ append_nil n.datagrams in
     let waiting : n.waiting ++ waits_by id e None ≡ n.waiting = ap (λ (l : List Waits). n.waiting ++ l) (waits_nothing id e) ∙ append_nil n.waiting in
     ap (λ (l : List Datagram). record { datagrams = l; asks = n.asks ++ []; answers = n.answers ++ []; waiting = n.waiting ++ waits_by id e None }) datagrams
-    ∙ ap (λ (l : List SentAsk). record { datagrams = n.datagrams; asks = l; answers = n.answers ++ []; waiting = n.waiting ++ waits_by id e None }) (append_nil n.asks)
-    ∙ ap (λ (l : List SentAnswer). record { datagrams = n.datagrams; asks = n.asks; answers = l; waiting = n.waiting ++ waits_by id e None }) (append_nil n.answers)
+    ∙ ap (λ (l : List SentAsk). record { datagrams = n.datagrams; asks = l; answers = n.answers ++ []; waiting = n.waiting ++ waits_by id e None })
+    (append_nil n.asks)
+    ∙ ap (λ (l : List SentAnswer). record { datagrams = n.datagrams; asks = n.asks; answers = l; waiting = n.waiting ++ waits_by id e None })
+    (append_nil n.answers)
     ∙ ap (λ (l : List Waits). record { datagrams = n.datagrams; asks = n.asks; answers = n.answers; waiting = l }) waiting

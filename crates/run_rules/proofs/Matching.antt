@@ -44,7 +44,8 @@ abbrev pub AnswersMatch : List SentAnswer → List PeerAnswer → Type 0
 AnswersMatch answers ws = (a : SentAnswer) → Contains answers a → (w : PeerAnswer) × Contains ws w × IsSameAnswer a w
 
 abbrev pub WaitsMatch : List Waits → List Waiting → Type 0
-WaitsMatch waits ws = (id block : ℕ) (x : Waits) → find (is_waiting id block) waits ≡ Some x → (y : Waiting) × (find (is_waiting_as id block) ws ≡ Some y) × (y.key ≡ x.key)
+WaitsMatch waits ws = (id block : ℕ) (x : Waits) → find (is_waiting id block) waits ≡ Some x → (y : Waiting) × (find (is_waiting_as id block) ws ≡ Some y)
+    × (y.key ≡ x.key)
 
 pub record NetworkMatches (n : Network) (w : World) : Type 0 where
   pub datagrams : (d : Datagram) → Contains n.datagrams d → Contains w.datagrams d
@@ -54,7 +55,8 @@ pub record NetworkMatches (n : Network) (w : World) : Type 0 where
 
 -- Both lists grow
 
-pub datagrams_grow : (xs more ys others : List Datagram) → ((d : Datagram) → Contains xs d → Contains ys d) → ((d : Datagram) → Contains more d → Contains others d) → (d : Datagram) → Contains (xs ++ more) d → Contains (ys ++ others) d
+pub datagrams_grow : (xs more ys others : List Datagram) → ((d : Datagram) → Contains xs d → Contains ys d) →
+    ((d : Datagram) → Contains more d → Contains others d) → (d : Datagram) → Contains (xs ++ more) d → Contains (ys ++ others) d
 datagrams_grow xs more ys others old new d has = elim (Contains-append_cases xs more d has) [
   | inl left ↦ Contains-append_left ys others d (old d left)
   | inr right ↦ Contains-append_right ys others d (new d right)
@@ -66,7 +68,8 @@ asks_grow xs more ys others old new a has = elim (Contains-append_cases xs more 
   | inr right ↦ let (w, there, same) = new a right in (w, Contains-append_right ys others w there, same)
 ]
 
-pub answers_grow : (xs more : List SentAnswer) (ys others : List PeerAnswer) → AnswersMatch xs ys → AnswersMatch more others → AnswersMatch (xs ++ more) (ys ++ others)
+pub answers_grow : (xs more : List SentAnswer) (ys others : List PeerAnswer) → AnswersMatch xs ys → AnswersMatch more others →
+    AnswersMatch (xs ++ more) (ys ++ others)
 answers_grow xs more ys others old new a has = elim (Contains-append_cases xs more a has) [
   | inl left ↦ let (w, there, same) = old a left in (w, Contains-append_left ys others w there, same)
   | inr right ↦ let (w, there, same) = new a right in (w, Contains-append_right ys others w there, same)
@@ -74,11 +77,15 @@ answers_grow xs more ys others old new a has = elim (Contains-append_cases xs mo
 
 -- What a reply sends
 
-ask_by_id : (id serial peer : ℕ) (ask : Ask) (foreign : Bool) → AsksMatch (cond foreign [] (record { sender = id; receiver = peer; ask = ask } ∷ [])) (cond foreign [] (record { sender = id; receiver = peer; serial = serial; ask = ask } ∷ []))
+ask_by_id : (id serial peer : ℕ) (ask : Ask) (foreign : Bool) → AsksMatch (cond foreign [] (record { sender = id; receiver = peer; ask = ask } ∷ []))
+    (cond foreign [] (record { sender = id; receiver = peer; serial = serial; ask = ask } ∷ []))
 ask_by_id id serial peer ask true a has = absurd (contains_none a has)
 ask_by_id id serial peer ask false a has =
-    let here = contains_one record { sender = id; receiver = peer; ask = ask } a has in
-    (record { sender = id; receiver = peer; serial = serial; ask = ask }, one_contains _, record { sender = ap (λ (x : SentAsk). x.sender) here; receiver = ap (λ (x : SentAsk). x.receiver) here; ask = ap (λ (x : SentAsk). x.ask) here })
+    let here = contains_one record { sender = id; receiver = peer; ask = ask } a has in (
+      record { sender = id; receiver = peer; serial = serial; ask = ask },
+      one_contains _,
+      record { sender = ap (λ (x : SentAsk). x.sender) here; receiver = ap (λ (x : SentAsk). x.receiver) here; ask = ap (λ (x : SentAsk). x.ask) here },
+    )
 
 pub asks_same : (id : ℕ) (b : Option Begin) → AsksMatch (asks_by id b) (asks_in id b)
 asks_same id None a has = absurd (contains_none a has)
@@ -105,18 +112,22 @@ now_matches (event.ForeignAnswer s peer key answer tag now) serial k h = cc
 now_matches (event.FetchFailed s now) serial k h = cc
 now_matches (event.Expired s now) serial k h = cc
 
-before_by : (o : Option Waits) (ws : Option Waiting) (k : List ℕ) → ((x : Waits) → o ≡ Some x → (y : Waiting) × (ws ≡ Some y) × (y.key ≡ x.key)) → option_map (λ (x : Waits). x.key) o ≡ Some k →
+before_by : (o : Option Waits) (ws : Option Waiting) (k : List ℕ) → ((x : Waits) → o ≡ Some x → (y : Waiting) × (ws ≡ Some y) × (y.key ≡ x.key)) →
+    option_map (λ (x : Waits). x.key) o ≡ Some k →
     (a : Answered) × (option_map (λ (w : Waiting). record { serial = w.serial; key = w.key }) ws ≡ Some a) × (a.key ≡ k)
 before_by None ws k h e = cc
 before_by (Some x) ws k h e =
     let (y, is, same) = h x refl in
     (record { serial = y.serial; key = y.key }, ap (option_map (λ (w : Waiting). record { serial = w.serial; key = w.key })) is, same ∙ same_some x.key k e)
 
-key_matches : (waits : List Waits) (ws : List Waiting) (id : ℕ) (e : Event ℕ) (serial : ℕ) (waiter : Option ℕ) → WaitsMatch waits ws → KeyMatches (key_by waits id (unmarked_event e) waiter) (asked_by ws id e serial waiter)
+key_matches : (waits : List Waits) (ws : List Waiting) (id : ℕ) (e : Event ℕ) (serial : ℕ) (waiter : Option ℕ) → WaitsMatch waits ws →
+    KeyMatches (key_by waits id (unmarked_event e) waiter) (asked_by ws id e serial waiter)
 key_matches waits ws id e serial None match = now_matches e serial
-key_matches waits ws id e serial (Some block) match = λ k h. before_by (find (is_waiting id block) waits) (find (is_waiting_as id block) ws) k (match id block) h
+key_matches waits ws id e serial (Some block) match = λ k h. before_by (find (is_waiting id block) waits) (find (is_waiting_as id block) ws) k (match id block)
+    h
 
-answer_by_key : (id : ℕ) (asker : Option ℕ) (served : Served ℕ) (key : Option (List ℕ)) (asked : Option Answered) → KeyMatches key asked → AnswersMatch (answer_for id asker (retag_served (λ _. tt) served) key) (answer_to id asker served asked)
+answer_by_key : (id : ℕ) (asker : Option ℕ) (served : Served ℕ) (key : Option (List ℕ)) (asked : Option Answered) → KeyMatches key asked →
+    AnswersMatch (answer_for id asker (retag_served (λ _. tt) served) key) (answer_to id asker served asked)
 answer_by_key id None served key asked h a has = absurd (contains_none a has)
 answer_by_key id (Some asker) served None asked h a has = absurd (contains_none a has)
 answer_by_key id (Some asker) served (Some key) asked h a has =
@@ -137,7 +148,8 @@ pub answers_same : (waits : List Waits) (ws : List Waiting) (id : ℕ) (e : Even
     AnswersMatch (answers_by waits id (unmarked_event e) (option_map (retag_serve (λ _. tt)) serve)) (answers_in ws id e serial serve)
 answers_same waits ws id e serial None match a has = absurd (contains_none a has)
 answers_same waits ws id e serial (Some serve) match a has =
-    answer_by_key id serve.asker serve.served (key_by waits id (unmarked_event e) serve.waiter) (asked_by ws id e serial serve.waiter) (key_matches waits ws id e serial serve.waiter match) a has
+    answer_by_key id serve.asker serve.served (key_by waits id (unmarked_event e) serve.waiter) (asked_by ws id e serial serve.waiter)
+    (key_matches waits ws id e serial serve.waiter match) a has
 
 none_some : {A : Type 0} (x : A) → None ≡ Some x → ⊥
 none_some x e = cc
@@ -172,21 +184,27 @@ waits_new ws node at serial key none id block x e =
       | inl is_so ↦
           let (is_node, is_block) = and_parts (nat_eq node id) (nat_eq at block) is_so in
           let free : find (is_waiting_as id block) ws ≡ None =
-          subst (λ b. find (is_waiting_as id b) ws ≡ None) (ids_same at block is_block) (subst (λ i. find (is_waiting_as i at) ws ≡ None) (ids_same node id is_node) none) in
-          (its, found_later (is_waiting_as id block) ws (its ∷ []) free ∙ ap (λ b. cond b (Some its) None) is_so, ap (λ (w : Waits). w.key) (same_some new x (sym (ap (λ b. cond b (Some new) None) is_so) ∙ e)))
+          subst (λ b. find (is_waiting_as id b) ws ≡ None) (ids_same at block is_block)
+          (subst (λ i. find (is_waiting_as i at) ws ≡ None) (ids_same node id is_node) none) in (
+            its,
+            found_later (is_waiting_as id block) ws (its ∷ []) free ∙ ap (λ b. cond b (Some its) None) is_so,
+            ap (λ (w : Waits). w.key) (same_some new x (sym (ap (λ b. cond b (Some new) None) is_so) ∙ e)),
+          )
       | inr is_not ↦ absurd (none_some x (sym (ap (λ b. cond b (Some new) None) is_not) ∙ e))
     ]
 
 waits_more : (waits : List Waits) (ws : List Waiting) (node at serial : ℕ) (key : List ℕ) → WaitsMatch waits ws → find (is_waiting_as node at) ws ≡ None →
     WaitsMatch (waits ++ record { node = node; block = at; key = key } ∷ []) (ws ++ record { node = node; block = at; serial = serial; key = key } ∷ [])
-waits_more waits ws node at serial key match none id block x e = elim (found_where (is_waiting id block) waits (record { node = node; block = at; key = key } ∷ []) x e) [
-  | inl here ↦ let (y, is, same) = match id block x here in (y, found_still (is_waiting_as id block) ws _ y is, same)
-  | inr new ↦ waits_new ws node at serial key none id block x new
-]
+waits_more waits ws node at serial key match none id block x e =
+    elim (found_where (is_waiting id block) waits (record { node = node; block = at; key = key } ∷ []) x e) [
+      | inl here ↦ let (y, is, same) = match id block x here in (y, found_still (is_waiting_as id block) ws _ y is, same)
+      | inr new ↦ waits_new ws node at serial key none id block x new
+    ]
 
 -- a block is taken when the next one changes
 changed_waits : (id : ℕ) (serial : ℕ) (key : List ℕ) (before after : ℕ) → after ≡ before + 1 →
-    cond {A = List Waiting} (nat_eq before after) [] (record { node = id; block = before; serial = serial; key = key } ∷ []) ≡ record { node = id; block = before; serial = serial; key = key } ∷ []
+    cond {A = List Waiting} (nat_eq before after) [] (record { node = id; block = before; serial = serial; key = key } ∷ []) ≡ record
+    { node = id; block = before; serial = serial; key = key } ∷ []
 changed_waits id serial key before after taken =
     let one : List Waiting = record { node = id; block = before; serial = serial; key = key } ∷ [] in
     ap (λ b. cond {A = List Waiting} b [] one) (other_id before after (λ same. omega (same, taken, arith)))
@@ -196,7 +214,8 @@ abbrev pub BeginsNext : Event ℕ → Option Begin → NodeState ℕ → NodeSta
 BeginsNext (event.PeerAsk asker ask now) (Some b) old new = (serial_of b / 32 ≡ old.next) × (new.next ≡ old.next + 1)
 BeginsNext _ _ old new = Unit {0}
 
-pub waits_by_event : (waits : List Waits) (ws : List Waiting) (id : ℕ) (e : Event ℕ) (serial : ℕ) (b : Option Begin) (old new : NodeState ℕ) → WaitsMatch waits ws → AllByRecursion (IsTaken id old.next) ws →
+pub waits_by_event : (waits : List Waits) (ws : List Waiting) (id : ℕ) (e : Event ℕ) (serial : ℕ) (b : Option Begin) (old new : NodeState ℕ) →
+    WaitsMatch waits ws → AllByRecursion (IsTaken id old.next) ws →
     BeginsNext e b old new → WaitsMatch (waits ++ waits_by id (unmarked_event e) b) (ws ++ waits_now id e serial old new)
 waits_by_event waits ws id (event.Client ask now) serial b old new match all begins = waits_stay waits ws _ match
 waits_by_event waits ws id (event.Datagram from m now) serial b old new match all begins = waits_stay waits ws _ match
@@ -207,8 +226,10 @@ waits_by_event waits ws id (event.FetchFailed s now) serial b old new match all 
 waits_by_event waits ws id (event.Expired s now) serial b old new match all begins = waits_stay waits ws _ match
 waits_by_event waits ws id (event.PeerAsk asker ask now) serial None old new match all begins = waits_stay waits ws _ match
 waits_by_event waits ws id (event.PeerAsk asker ask now) serial (Some b) old new match all (block, taken) =
-    subst (λ (more : List Waiting). WaitsMatch (waits ++ record { node = id; block = serial_of b / 32; key = ask.key } ∷ []) (ws ++ more)) (sym (changed_waits id serial ask.key old.next new.next taken))
-    (subst (λ (n : ℕ). WaitsMatch (waits ++ record { node = id; block = n; key = ask.key } ∷ []) (ws ++ record { node = id; block = old.next; serial = serial; key = ask.key } ∷ [])) (sym block)
+    subst (λ (more : List Waiting). WaitsMatch (waits ++ record { node = id; block = serial_of b / 32; key = ask.key } ∷ []) (ws ++ more))
+    (sym (changed_waits id serial ask.key old.next new.next taken))
+    (subst (λ (n : ℕ). WaitsMatch (waits ++ record { node = id; block = n; key = ask.key } ∷ [])
+    (ws ++ record { node = id; block = old.next; serial = serial; key = ask.key } ∷ [])) (sym block)
     (waits_more waits ws id old.next serial ask.key match (not_taken id old.next ws all)))
 
 -- a request that is found for a node waits at that node
@@ -221,33 +242,39 @@ not_dropped node n h = elim (either (nat_eq n node)) [ inl is_so ↦ absurd (tru
 apart : (node id : ℕ) → nat_eq node id ≡ false → node ≢ id
 apart node id other same = true_not_false (sym (ap (nat_eq node) (sym same) ∙ same_id node) ∙ other)
 
-gone_here : (waits : List Waits) (node id block : ℕ) → nat_eq node id ≡ true → find (is_waiting id block) (filter (λ (w : Waits). not (nat_eq w.node node)) waits) ≡ None
+gone_here : (waits : List Waits) (node id block : ℕ) → nat_eq node id ≡ true → find (is_waiting id block)
+    (filter (λ (w : Waits). not (nat_eq w.node node)) waits) ≡ None
 gone_here waits node id block here =
     found_gone (is_waiting id block) (λ (w : Waits). not (nat_eq w.node node))
     (λ w kept. elim (either (nat_eq w.node id && nat_eq w.block block)) [
-      | inl is_so ↦ absurd (true_not_false (sym (ap (λ n. nat_eq n node) (waits_at id block w.node w.block is_so ∙ sym (ids_same node id here)) ∙ same_id node) ∙ not_dropped node w.node kept))
+      | inl is_so ↦ absurd (true_not_false (sym (ap (λ n. nat_eq n node) (waits_at id block w.node w.block is_so ∙ sym (ids_same node id here)) ∙ same_id node)
+          ∙ not_dropped node w.node kept))
       | inr is_not ↦ is_not
     ]) waits
 
-kept_here : (waits : List Waits) (node id block : ℕ) → nat_eq node id ≡ false → find (is_waiting id block) (filter (λ (w : Waits). not (nat_eq w.node node)) waits) ≡ find (is_waiting id block) waits
+kept_here : (waits : List Waits) (node id block : ℕ) → nat_eq node id ≡ false → find (is_waiting id block)
+    (filter (λ (w : Waits). not (nat_eq w.node node)) waits) ≡ find (is_waiting id block) waits
 kept_here waits node id block other =
     found_kept (is_waiting id block) (λ (w : Waits). not (nat_eq w.node node))
     (λ w is_so. ap not (other_id w.node node (λ same. apart node id other (sym same ∙ waits_at id block w.node w.block is_so)))) waits
 
-kept_there : (ws : List Waiting) (node id block : ℕ) → nat_eq node id ≡ false → find (is_waiting_as id block) (filter (λ (w : Waiting). not (nat_eq w.node node)) ws) ≡ find (is_waiting_as id block) ws
+kept_there : (ws : List Waiting) (node id block : ℕ) → nat_eq node id ≡ false → find (is_waiting_as id block)
+    (filter (λ (w : Waiting). not (nat_eq w.node node)) ws) ≡ find (is_waiting_as id block) ws
 kept_there ws node id block other =
     found_kept (is_waiting_as id block) (λ (w : Waiting). not (nat_eq w.node node))
     (λ w is_so. ap not (other_id w.node node (λ same. apart node id other (sym same ∙ waits_at id block w.node w.block is_so)))) ws
 
 -- What waited at a node is dropped
 
-pub waits_dropped_here : (waits : List Waits) (ws : List Waiting) (node : ℕ) → WaitsMatch waits ws → WaitsMatch (filter (λ (w : Waits). not (nat_eq w.node node)) waits) ws
+pub waits_dropped_here : (waits : List Waits) (ws : List Waiting) (node : ℕ) → WaitsMatch waits ws →
+    WaitsMatch (filter (λ (w : Waits). not (nat_eq w.node node)) waits) ws
 waits_dropped_here waits ws node match id block x e = elim (either (nat_eq node id)) [
   | inl here ↦ absurd (none_some x (sym (gone_here waits node id block here) ∙ e))
   | inr other ↦ match id block x (sym (kept_here waits node id block other) ∙ e)
 ]
 
-pub waits_dropped : (waits : List Waits) (ws : List Waiting) (node : ℕ) → WaitsMatch waits ws → WaitsMatch (filter (λ (w : Waits). not (nat_eq w.node node)) waits) (filter (λ (w : Waiting). not (nat_eq w.node node)) ws)
+pub waits_dropped : (waits : List Waits) (ws : List Waiting) (node : ℕ) → WaitsMatch waits ws →
+    WaitsMatch (filter (λ (w : Waits). not (nat_eq w.node node)) waits) (filter (λ (w : Waiting). not (nat_eq w.node node)) ws)
 waits_dropped waits ws node match id block x e = elim (either (nat_eq node id)) [
   | inl here ↦ absurd (none_some x (sym (gone_here waits node id block here) ∙ e))
   | inr other ↦

@@ -50,14 +50,17 @@ module _ (t : Tables) (proper : IsRoster t) (w : World) (id : ℕ) (member : is_
   comes : (turn : Turn) → at_member t id turn ≡ turn
   comes turn = ap (λ b. cond b turn (Refused NoSuchPacket)) member
 
-  datagram_turn : (now number : ℕ) (d : Datagram) → item w.datagrams number ≡ Some d → is_master t d.receiver ≡ false → member_at t d.receiver (udp_of d.message) ≡ Some id →
+  datagram_turn : (now number : ℕ) (d : Datagram) → item w.datagrams number ≡ Some d → is_master t d.receiver ≡ false →
+      member_at t d.receiver (udp_of d.message) ≡ Some id →
       turn t (with_clock w now) (world.Datagram number) ≡ NodeSteps id (event.Datagram d.sender d.message now) 0
   datagram_turn now number d is other to =
       ap (delivered t (with_clock w now)) is
-      ∙ ap (λ b. cond b (master_hears t (with_clock w now) d.sender d.message) (delivered_to (with_clock w now) d.sender d.message (member_at t d.receiver (udp_of d.message)))) other
+      ∙ ap (λ b. cond b (master_hears t (with_clock w now) d.sender d.message)
+      (delivered_to (with_clock w now) d.sender d.message (member_at t d.receiver (udp_of d.message)))) other
       ∙ ap (delivered_to (with_clock w now) d.sender d.message) to
 
-  own_meets : (n : Network) → NetworkMatches n w → (from : Address) (m : Message) (now : ℕ) → IsDatagramSent t n id from m → Meets t w id (event.Datagram from m now)
+  own_meets : (n : Network) → NetworkMatches n w → (from : Address) (m : Message) (now : ℕ) → IsDatagramSent t n id from m →
+      Meets t w id (event.Datagram from m now)
   own_meets n matches from m now (d, has, sender, says, (other, to)) =
       let (number, is) = contained_item w.datagrams d (matches.datagrams d has) in
       record {
@@ -77,11 +80,13 @@ module _ (t : Tables) (proper : IsRoster t) (w : World) (id : ℕ) (member : is_
         met = event.Datagram from m now;
         serial = 0;
         keyed = tt;
-        turns = ap (λ b. cond b (Refused NoSuchPacket) (delivered_to (with_clock w now) from m (member_at t to (udp_of m)))) stranger ∙ ap (delivered_to (with_clock w now) from m) found;
+        turns = ap (λ b. cond b (Refused NoSuchPacket) (delivered_to (with_clock w now) from m (member_at t to (udp_of m)))) stranger
+            ∙ ap (delivered_to (with_clock w now) from m) found;
         event = refl;
       }
 
-  ask_meets : (n : Network) → NetworkMatches n w → (asker : ℕ) (ask : Ask) (now : ℕ) → Contains n.asks (record { sender = asker; receiver = id; ask = ask }) → Meets t w id (event.PeerAsk asker ask now)
+  ask_meets : (n : Network) → NetworkMatches n w → (asker : ℕ) (ask : Ask) (now : ℕ) → Contains n.asks (record { sender = asker; receiver = id; ask = ask }) →
+      Meets t w id (event.PeerAsk asker ask now)
   ask_meets n matches asker ask now has =
       let (a, there, same) = matches.asks record { sender = asker; receiver = id; ask = ask } has in
       let (number, is) = contained_item w.asks a there in
@@ -90,11 +95,13 @@ module _ (t : Tables) (proper : IsRoster t) (w : World) (id : ℕ) (member : is_
         met = event.PeerAsk a.sender a.ask now;
         serial = a.serial;
         keyed = tt;
-        turns = ap (ask_delivered t (with_clock w now)) is ∙ ap (λ i. at_member t i (NodeSteps i (event.PeerAsk a.sender a.ask now) a.serial)) same.receiver ∙ comes _;
+        turns = ap (ask_delivered t (with_clock w now)) is ∙ ap (λ i. at_member t i (NodeSteps i (event.PeerAsk a.sender a.ask now) a.serial)) same.receiver
+            ∙ comes _;
         event = ap (λ i. event.PeerAsk i a.ask now) same.sender ∙ ap (λ (x : Ask). event.PeerAsk asker x now) same.ask;
       }
 
-  answer_meets : (n : Network) → NetworkMatches n w → (serial peer : ℕ) (key : List ℕ) (answer : AnswerText) (tag : Unit {0}) (now : ℕ) → Contains n.answers (record { sender = peer; receiver = id; key = key; answer = answer }) →
+  answer_meets : (n : Network) → NetworkMatches n w → (serial peer : ℕ) (key : List ℕ) (answer : AnswerText) (tag : Unit {0}) (now : ℕ) →
+      Contains n.answers (record { sender = peer; receiver = id; key = key; answer = answer }) →
       Meets t w id (event.PeerAnswer serial peer key answer tag now)
   answer_meets n matches serial peer key answer tag now has =
       let (a, there, same) = matches.answers record { sender = peer; receiver = id; key = key; answer = answer } has in
@@ -104,7 +111,8 @@ module _ (t : Tables) (proper : IsRoster t) (w : World) (id : ℕ) (member : is_
         met = event.PeerAnswer serial a.sender a.key a.answer a.mark now;
         serial = 0;
         keyed = tt;
-        turns = ap (answer_delivered t (with_clock w now) (Some serial)) is ∙ ap (λ i. at_member t i (NodeSteps i (event.PeerAnswer serial a.sender a.key a.answer a.mark now) 0)) same.receiver ∙ comes _;
+        turns = ap (answer_delivered t (with_clock w now) (Some serial)) is
+            ∙ ap (λ i. at_member t i (NodeSteps i (event.PeerAnswer serial a.sender a.key a.answer a.mark now) 0)) same.receiver ∙ comes _;
         event =
             ap (λ i. event.PeerAnswer serial i a.key a.answer tag now) same.sender
             ∙ ap (λ (k : List ℕ). event.PeerAnswer serial peer k a.answer tag now) same.key
@@ -130,19 +138,23 @@ module _ (t : Tables) (proper : IsRoster t) (w : World) (id : ℕ) (member : is_
   abbrev IsFetching : Option (Pending ℕ) → List ℕ → (Fetch (Unit {0}) → Bool) → Type 0
   IsFetching o key is_such = (p : Pending ℕ) × (o ≡ Some p) × (p.ask.key ≡ key) × (is_such (retag_fetch (λ _. tt) p.fetch) ≡ true)
 
-  fetching_of : (o : Option (Pending ℕ)) (key : List ℕ) (is_such : Fetch (Unit {0}) → Bool) → MatchOption (option_map (retag_pending (λ _. tt)) o) ⊥ (λ p. (p.ask.key ≡ key) × (is_such p.fetch ≡ true)) → IsFetching o key is_such
+  fetching_of : (o : Option (Pending ℕ)) (key : List ℕ) (is_such : Fetch (Unit {0}) → Bool) →
+      MatchOption (option_map (retag_pending (λ _. tt)) o) ⊥ (λ p. (p.ask.key ≡ key) × (is_such p.fetch ≡ true)) → IsFetching o key is_such
   fetching_of None key is_such h = absurd h
   fetching_of (Some p) key is_such h = (p, refl, h.0, h.1)
 
-  fetching : (s : NodeState (Unit {0})) → unmarked (node_at w.states id) ≡ s → (serial : ℕ) (key : List ℕ) (is_such : Fetch (Unit {0}) → Bool) → IsPending s serial key is_such → IsFetching (fetching_at w id serial) key is_such
+  fetching : (s : NodeState (Unit {0})) → unmarked (node_at w.states id) ≡ s → (serial : ℕ) (key : List ℕ) (is_such : Fetch (Unit {0}) → Bool) →
+      IsPending s serial key is_such → IsFetching (fetching_at w id serial) key is_such
   fetching s same serial key is_such h =
       fetching_of (fetching_at w id serial) key is_such
       (subst (λ (o : Option (Pending (Unit {0}))). MatchOption o ⊥ (λ p. (p.ask.key ≡ key) × (is_such p.fetch ≡ true)))
       (find_of_map (retag_pending (λ _. tt)) (λ p. nat_eq (fetch_serial p) serial) (node_at w.states id).pending)
       (subst (λ (x : NodeState (Unit {0})). IsPending x serial key is_such) (sym same) h))
 
-  pub meets : (n : Network) → NetworkMatches n w → (s : NodeState (Unit {0})) → unmarked (node_at w.states id) ≡ s → (e : Event (Unit {0})) → IsSent t n id e → Reaches s e → Meets t w id e
-  meets n matches s same (event.Client ask now) sent reaches = record { happens = world.Client id ask; met = event.Client ask now; serial = 0; keyed = tt; turns = comes _; event = refl }
+  pub meets : (n : Network) → NetworkMatches n w → (s : NodeState (Unit {0})) → unmarked (node_at w.states id) ≡ s → (e : Event (Unit {0})) → IsSent t n id e →
+      Reaches s e → Meets t w id e
+  meets n matches s same (event.Client ask now) sent reaches =
+      record { happens = world.Client id ask; met = event.Client ask now; serial = 0; keyed = tt; turns = comes _; event = refl }
   meets n matches s same (event.Datagram from m now) sent reaches = elim (either (is_own t from)) [
     | inl own ↦ own_meets n matches from m now (sent own)
     | inr stranger ↦ stranger_meets from m now stranger
@@ -169,5 +181,7 @@ module _ (t : Tables) (proper : IsRoster t) (w : World) (id : ℕ) (member : is_
         turns = comes _ ∙ ap (foreign_to (with_clock w now) id serial answer) is ∙ foreign_turn serial peer now answer p.ask.key p.fetch fetches;
         event = ap (λ (k : List ℕ). event.ForeignAnswer serial peer k answer tag now) its;
       }
-  meets n matches s same (event.FetchFailed serial now) sent reaches = record { happens = world.Fail id serial; met = event.FetchFailed serial now; serial = 0; keyed = tt; turns = comes _; event = refl }
-  meets n matches s same (event.Expired serial now) sent reaches = record { happens = world.Expire id serial; met = event.Expired serial now; serial = 0; keyed = tt; turns = comes _; event = refl }
+  meets n matches s same (event.FetchFailed serial now) sent reaches =
+      record { happens = world.Fail id serial; met = event.FetchFailed serial now; serial = 0; keyed = tt; turns = comes _; event = refl }
+  meets n matches s same (event.Expired serial now) sent reaches =
+      record { happens = world.Expire id serial; met = event.Expired serial now; serial = 0; keyed = tt; turns = comes _; event = refl }

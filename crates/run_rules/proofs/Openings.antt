@@ -23,7 +23,13 @@ use Rattle.run_rules.proofs.Entries.{Follows, network_closed, same_board, not_fl
 
 -- what waits at a node is dropped, or not
 opened_network : (n : Network) (w : World) (id : ℕ) (c : Bool) → NetworkMatches n w → NetworkMatches (cond c (without_waiting n id) n) w
-opened_network n w id true h = record { datagrams = h.datagrams; asks = h.asks; answers = h.answers; waiting = waits_dropped_here n.waiting w.waiting id h.waiting }
+opened_network n w id true h = record {
+  datagrams = h.datagrams;
+  asks = h.asks;
+  answers = h.answers;
+  waiting =
+      waits_dropped_here n.waiting w.waiting id h.waiting;
+}
 opened_network n w id false h = h
 
 module _ (t : Tables) (b : Board) (p : Progress) (m : Matches t b p) (id : ℕ) (state : NodeState (Unit {0})) (member : is_member t id ≡ true) where
@@ -58,7 +64,15 @@ module _ (t : Tables) (b : Board) (p : Progress) (m : Matches t b p) (id : ℕ) 
 
   goes : Goes t p (restart ∷ []) p.master again
   goes = record {
-    run = (again.world, (tt, subst (λ (turns : Turn). Takes t p.place p.world turns Nothing again.world) (sym (ap (λ c. cond c (Ends Nothing again.world) (Refused NoSuchPacket)) member)) (refl, refl)), refl);
+    run = (
+      again.world,
+      (
+        tt,
+        subst (λ (turns : Turn). Takes t p.place p.world turns Nothing again.world)
+            (sym (ap (λ c. cond c (Ends Nothing again.world) (Refused NoSuchPacket)) member)) (refl, refl),
+      ),
+      refl,
+    );
     place = refl;
     master = refl;
     purges = m.purges ∙ sym (ap (λ x. x.purges) m.master);
@@ -101,16 +115,20 @@ module _ (t : Tables) (b : Board) (p : Progress) (m : Matches t b p) (id : ℕ) 
   opens_by Astray stands is = absurd stands
 
 -- a record of a member that may open so
-pub opening_follows : (t : Tables) (b : Board) (p : Progress) → Matches t b p → (id : ℕ) (state : NodeState (Unit {0})) (next : Board) → CanOpen t b id state → next ≡ opened_board b id state → Follows t p (Opens id state) next
-opening_follows t b p m id state next (member, opens) is = subst (Follows t p (Opens id state)) (sym is) (opens_by t b p m id state member (standing_at b.posts id) (m.nodes id) opens)
+pub opening_follows : (t : Tables) (b : Board) (p : Progress) → Matches t b p → (id : ℕ) (state : NodeState (Unit {0})) (next : Board) → CanOpen t b id state →
+    next ≡ opened_board b id state → Follows t p (Opens id state) next
+opening_follows t b p m id state next (member, opens) is = subst (Follows t p (Opens id state)) (sym is)
+    (opens_by t b p m id state member (standing_at b.posts id) (m.nodes id) opens)
 
-closes_by : (t : Tables) (id : ℕ) (its : NodeState ℕ) (state : NodeState (Unit {0})) (now_so : Standing) → StandsIn t id now_so its → ClosesAs now_so state → IsKept (unmarked its) state
+closes_by : (t : Tables) (id : ℕ) (its : NodeState ℕ) (state : NodeState (Unit {0})) (now_so : Standing) → StandsIn t id now_so its → ClosesAs now_so state →
+    IsKept (unmarked its) state
 closes_by t id its state New stands closes = absurd closes
 closes_by t id its state (Open s) (mine, is_open, same) is = inl (is ∙ sym same)
 closes_by t id its state (Shut floors) (mine, is_shut, has) (closed, none) = inr (is_shut, closed, none)
 closes_by t id its state Astray stands closes = absurd closes
 
-pub closing_follows : (t : Tables) (b : Board) (p : Progress) → Matches t b p → (id place : ℕ) (state : NodeState (Unit {0})) (next : Board) → JudgesClosing b id state (Fine next) → Follows t p (Closes id place state) next
+pub closing_follows : (t : Tables) (b : Board) (p : Progress) → Matches t b p → (id place : ℕ) (state : NodeState (Unit {0})) (next : Board) →
+    JudgesClosing b id state (Fine next) → Follows t p (Closes id place state) next
 closing_follows t b p m id place state next (inl (closes, is)) = record {
   steps = [];
   to = p;

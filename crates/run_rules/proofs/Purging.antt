@@ -37,39 +37,45 @@ module _ {X : Type 0} (g : Setting) (s : NodeState X) (mark : X) where
   desired_purges key n true from m = record { reply = _; outcome = refl; floors = refl }
   desired_purges key n false from m = record { reply = _; outcome = refl; floors = refl }
 
-  purge_purges : (from : Address) (trans : ℕ) (desired : Bool) (key : List ℕ) (n : ℕ) → is_full s.floors key ≡ false → IsPurged key n (purge s from trans desired key n)
+  purge_purges : (from : Address) (trans : ℕ) (desired : Bool) (key : List ℕ) (n : ℕ) → is_full s.floors key ≡ false →
+      IsPurged key n (purge s from trans desired key n)
   unfolding purge
   purge_purges from trans desired key n room =
       branches (IsPurged key n) (is_full s.floors key) _ _ (λ full. absurd (true_not_false (sym full ∙ room))) (λ _. desired_purges key n desired from _)
 
-  numbered_purges : (from : Address) (trans : ℕ) (desired : Bool) (o : Option (List ℕ × ℕ)) (key : List ℕ) (n : ℕ) → o ≡ Some (key, n) → is_full s.floors key ≡ false → IsPurged key n (numbered_clr s from trans desired o)
+  numbered_purges : (from : Address) (trans : ℕ) (desired : Bool) (o : Option (List ℕ × ℕ)) (key : List ℕ) (n : ℕ) → o ≡ Some (key, n) →
+      is_full s.floors key ≡ false → IsPurged key n (numbered_clr s from trans desired o)
   unfolding numbered_clr
   numbered_purges from trans desired None key n is room = cc
   numbered_purges from trans desired (Some x) key n is room =
       let same : x ≡ (key, n) = same_pair x (key, n) is in
       subst (λ (y : List ℕ × ℕ). IsPurged key n (purge s from trans desired y.0 y.1)) (sym same) (purge_purges from trans desired key n room)
 
-  line_purges : (from : Address) (trans : ℕ) (desired : Bool) (read : Option (List ℕ)) (line : Result (Option ℕ) HtcpFault) (key : List ℕ) (n : ℕ) → purge_by_line g from trans read line ≡ Some (key, n) → is_full s.floors key ≡ false →
+  line_purges : (from : Address) (trans : ℕ) (desired : Bool) (read : Option (List ℕ)) (line : Result (Option ℕ) HtcpFault) (key : List ℕ) (n : ℕ) →
+      purge_by_line g from trans read line ≡ Some (key, n) → is_full s.floors key ≡ false →
       IsPurged key n (clr_by_line g s from trans desired read line)
   unfolding clr_by_line
   line_purges from trans desired read (Ok None) key n is room = cc
   line_purges from trans desired read (Ok (Some number)) key n is room = numbered_purges from trans desired (purge_of g from trans read number) key n is room
   line_purges from trans desired read (Err fault) key n is room = cc
 
-  htcp_purges : (from : Address) (trans now : ℕ) (c : Content) (key : List ℕ) (n : ℕ) → purge_in_content g from trans c ≡ Some (key, n) → is_full s.floors key ≡ false → IsPurged key n (htcp_comes g s from trans now mark c)
+  htcp_purges : (from : Address) (trans now : ℕ) (c : Content) (key : List ℕ) (n : ℕ) → purge_in_content g from trans c ≡ Some (key, n) →
+      is_full s.floors key ≡ false → IsPurged key n (htcp_comes g s from trans now mark c)
   unfolding htcp_comes htcp_clr
   htcp_purges from trans now (content.NopAsk desired) key n is room = cc
   htcp_purges from trans now content.NopAnswer key n is room = cc
   htcp_purges from trans now (content.TstAsk desired spec) key n is room = cc
   htcp_purges from trans now (content.TstHit detail) key n is room = cc
   htcp_purges from trans now (content.TstMiss cache) key n is room = cc
-  htcp_purges from trans now (content.ClrAsk desired reason spec) key n is room = line_purges from trans desired (g.key_of spec.uri) (number_in_text spec.request_headers PurgeNumber) key n is room
+  htcp_purges from trans now (content.ClrAsk desired reason spec) key n is room = line_purges from trans desired (g.key_of spec.uri)
+      (number_in_text spec.request_headers PurgeNumber) key n is room
   htcp_purges from trans now (content.ClrAnswer code) key n is room = cc
   htcp_purges from trans now (content.Other opcode desired) key n is room = cc
   htcp_purges from trans now (content.Overall opcode code) key n is room = cc
   htcp_purges from trans now (content.OtherAnswer opcode code) key n is room = cc
 
-  datagram_purges : (from : Address) (now : ℕ) (m : Message) (key : List ℕ) (n : ℕ) → purge_in_message g from m ≡ Some (key, n) → is_full s.floors key ≡ false → IsPurged key n (datagram g s from now mark m)
+  datagram_purges : (from : Address) (now : ℕ) (m : Message) (key : List ℕ) (n : ℕ) → purge_in_message g from m ≡ Some (key, n) → is_full s.floors key ≡ false →
+      IsPurged key n (datagram g s from now mark m)
   unfolding datagram
   datagram_purges from now (message.Icp m) key n is room = cc
   datagram_purges from now (message.Htcp m) key n is room = htcp_purges from m.trans now m.content key n is room
@@ -85,12 +91,14 @@ module _ {X : Type 0} (g : Setting) (s : NodeState X) (mark : X) where
   open_purges (event.FetchFailed serial now) key n is room = cc
   open_purges (event.Expired serial now) key n is room = cc
 
-  if_purges : (e : Event X) (closed : Bool) (key : List ℕ) (n : ℕ) → closed ≡ false → purge_in g e ≡ Some (key, n) → is_full s.floors key ≡ false → IsPurged key n (step_if g s e mark closed)
+  if_purges : (e : Event X) (closed : Bool) (key : List ℕ) (n : ℕ) → closed ≡ false → purge_in g e ≡ Some (key, n) → is_full s.floors key ≡ false →
+      IsPurged key n (step_if g s e mark closed)
   unfolding step_if
   if_purges e true key n is_open is room = absurd (true_not_false is_open)
   if_purges e false key n is_open is room = open_purges e key n is room
 
   -- an open node makes a purge of the master, if there is room for its floor
-  pub step_purges : (e : Event X) (key : List ℕ) (n : ℕ) → s.closed ≡ false → purge_in g e ≡ Some (key, n) → is_full s.floors key ≡ false → IsPurged key n (step g s e mark)
+  pub step_purges : (e : Event X) (key : List ℕ) (n : ℕ) → s.closed ≡ false → purge_in g e ≡ Some (key, n) → is_full s.floors key ≡ false →
+      IsPurged key n (step g s e mark)
   unfolding step
   step_purges e key n is_open is room = if_purges e s.closed key n is_open is room

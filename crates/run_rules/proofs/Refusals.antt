@@ -71,7 +71,8 @@ module _ {X : Type 0} (g : Setting) (s : NodeState X) (mark : X) where
   unfolding go_on
   go_on_fair t p now = go_to_fair t p now _
 
-  ask_around_fair : (t : NodeState X) (asker : Option ℕ) (ask : Ask) (block now : ℕ) (round : RoundText) (peers : List Peer) → Fair (ask_around g t asker ask block now mark round peers)
+  ask_around_fair : (t : NodeState X) (asker : Option ℕ) (ask : Ask) (block now : ℕ) (round : RoundText) (peers : List Peer) →
+      Fair (ask_around g t asker ask block now mark round peers)
   unfolding ask_around begin_round
   ask_around_fair t asker ask block now round [] = read_origin_fair _ _ None now
   ask_around_fair t asker ask block now round (p ∷ peers) = replied _ _
@@ -95,26 +96,30 @@ module _ {X : Type 0} (g : Setting) (s : NodeState X) (mark : X) where
   unfolding use_answer
   use_answer_fair p stamp asked answer tag now = replied _ _
 
-  peer_gave_fair : (p : Pending X) (peer asked stamp : ℕ) (answer : AnswerText) (tag : X) (now : ℕ) → Fair (peer_gave g s p peer asked stamp answer tag now mark)
+  peer_gave_fair : (p : Pending X) (peer asked stamp : ℕ) (answer : AnswerText) (tag : X) (now : ℕ) →
+      Fair (peer_gave g s p peer asked stamp answer tag now mark)
   unfolding peer_gave try_on
   peer_gave_fair p peer asked stamp answer tag now =
       branches Fair (nat_le (floor s.floors p.ask.key) stamp && not (is_gateway_fault answer.status)) _ _
       (λ _. use_answer_fair p stamp asked answer tag now) (λ _. go_on_fair s _ now)
 
-  origin_gave_fair : (p : Pending X) (stamp asked : ℕ) (read_mark : X) (answer : AnswerText) (now : ℕ) → Fair (origin_gave g s p stamp asked read_mark answer now mark)
+  origin_gave_fair : (p : Pending X) (stamp asked : ℕ) (read_mark : X) (answer : AnswerText) (now : ℕ) →
+      Fair (origin_gave g s p stamp asked read_mark answer now mark)
   unfolding origin_gave
   origin_gave_fair p stamp asked read_mark answer now =
       branches Fair (nat_le (floor s.floors p.ask.key) stamp) _ _
       (λ _. use_answer_fair p stamp asked answer read_mark now) (λ _. go_on_fair s _ now)
 
-  from_peer_fair : (p : Pending X) (peer stamp : ℕ) (answer : AnswerText) (tag : X) (now : ℕ) (fetch : Fetch X) → Fair (from_peer g s p peer stamp answer tag now mark fetch)
+  from_peer_fair : (p : Pending X) (peer stamp : ℕ) (answer : AnswerText) (tag : X) (now : ℕ) (fetch : Fetch X) →
+      Fair (from_peer g s p peer stamp answer tag now mark fetch)
   unfolding from_peer
   from_peer_fair p peer stamp answer tag now (AtPeer at asked) =
       branches Fair (nat_eq at peer) _ _ (λ _. peer_gave_fair p peer asked stamp answer tag now) (λ _. refused _)
   from_peer_fair p peer stamp answer tag now (AtOrigin read asked read_mark) = refused _
   from_peer_fair p peer stamp answer tag now Nowhere = refused _
 
-  peer_answer_to_fair : (peer stamp : ℕ) (answer : AnswerText) (tag : X) (now : ℕ) (o : Option (Pending X)) → Fair (peer_answer_to g s peer stamp answer tag now mark o)
+  peer_answer_to_fair : (peer stamp : ℕ) (answer : AnswerText) (tag : X) (now : ℕ) (o : Option (Pending X)) →
+      Fair (peer_answer_to g s peer stamp answer tag now mark o)
   unfolding peer_answer_to
   peer_answer_to_fair peer stamp answer tag now None = refused _
   peer_answer_to_fair peer stamp answer tag now (Some p) = from_peer_fair p peer stamp answer tag now p.fetch
@@ -186,9 +191,11 @@ module _ {X : Type 0} (g : Setting) (s : NodeState X) (mark : X) where
   plain_clr_fair : (from : Address) (trans : ℕ) (desired : Bool) (key : Option (List ℕ)) → Fair (plain_clr g s from trans desired key)
   unfolding plain_clr
   plain_clr_fair from trans desired key =
-      branches Fair (is_known g.roster g.id udp.Htcp from || is_master g.roster from) _ _ (λ _. if_desired_fair _ desired from _) (λ _. if_desired_fair _ desired from _)
+      branches Fair (is_known g.roster g.id udp.Htcp from || is_master g.roster from) _ _ (λ _. if_desired_fair _ desired from _)
+      (λ _. if_desired_fair _ desired from _)
 
-  clr_by_line_fair : (from : Address) (trans : ℕ) (desired : Bool) (key : Option (List ℕ)) (line : Result (Option ℕ) HtcpFault) → Fair (clr_by_line g s from trans desired key line)
+  clr_by_line_fair : (from : Address) (trans : ℕ) (desired : Bool) (key : Option (List ℕ)) (line : Result (Option ℕ) HtcpFault) →
+      Fair (clr_by_line g s from trans desired key line)
   unfolding clr_by_line
   clr_by_line_fair from trans desired key (Ok None) = plain_clr_fair from trans desired key
   clr_by_line_fair from trans desired key (Ok (Some n)) = numbered_clr_fair from trans desired _

@@ -67,8 +67,11 @@ least_least [] o is rank below = tt
 least_least ([] ∷ tracks) o is rank below = ((λ a none. cc), least_least tracks o is rank below)
 least_least ((note ∷ notes) ∷ tracks) o is rank below =
     let first = below (lesser (rank_by (place_in note)) (least (ranks_of tracks))) (sym is) in
-    let (here, there) = lesser_least (rank_by (place_in note)) (least (ranks_of tracks)) (lesser (rank_by (place_in note)) (least (ranks_of tracks))) refl in
-    ((λ a same. omega (first, here, same_some (rank_by (place_in note)) a same, arith)), least_least tracks (least (ranks_of tracks)) refl rank (λ b same. omega (first, there b same, arith)))
+    let (here, there) = lesser_least (rank_by (place_in note)) (least (ranks_of tracks)) (lesser (rank_by (place_in note)) (least (ranks_of tracks))) refl in (
+      (λ a same. omega (first, here, same_some (rank_by (place_in note)) a same, arith)),
+      least_least tracks (least (ranks_of tracks)) refl rank
+          (λ b same. omega (first, there b same, arith)),
+    )
 
 -- no other track has this rank
 abbrev HasNone : ℕ → List (List Note) → Type 0
@@ -77,7 +80,8 @@ HasNone rank (track ∷ tracks) = (rank_of track ≡ Some rank → ⊥) × HasNo
 
 count_more : (rank : ℕ) (o : Option ℕ) (ranks : List ℕ) → count_of rank ranks ≤ count_of rank (cons_option o ranks)
 count_more rank None ranks = omega arith
-count_more rank (Some a) ranks = branches (λ (l : List ℕ). count_of rank ranks ≤ length l) (nat_eq a rank) (a ∷ filter (λ t. nat_eq t rank) ranks) (filter (λ t. nat_eq t rank) ranks) (λ _. omega arith) (λ _. omega arith)
+count_more rank (Some a) ranks = branches (λ (l : List ℕ). count_of rank ranks ≤ length l) (nat_eq a rank) (a ∷ filter (λ t. nat_eq t rank) ranks)
+    (filter (λ t. nat_eq t rank) ranks) (λ _. omega arith) (λ _. omega arith)
 
 count_here : (rank : ℕ) (ranks : List ℕ) → count_of rank (rank ∷ ranks) ≡ suc (count_of rank ranks)
 count_here rank ranks = ap (λ b. length (cond b (rank ∷ filter (λ t. nat_eq t rank) ranks) (filter (λ t. nat_eq t rank) ranks))) (same_id rank)
@@ -98,7 +102,8 @@ next_of fall p (f ∷ fs) late =
     (branches (λ (l : List ℕ). AllLate fall l → ((p < f) ⊎ IsLate fall f) × AllLate fall (falls_from f fs)) (nat_lt p f) (falls_from f fs) (f ∷ falls_from f fs)
     (λ rises h. (inl (less p f rises), h)) (λ stays h. (inr h.0, h.1))) late
 
-place_up : (fall : Option ℕ) (rank p : ℕ) (o : Option ℕ) (ps : List ℕ) → rank ≡ p + 1 → ((a : ℕ) → rank_by o ≡ a → rank ≤ a) → (rank_by o ≡ rank → ⊥) → IsNext fall (Some p) (cons_option o ps)
+place_up : (fall : Option ℕ) (rank p : ℕ) (o : Option ℕ) (ps : List ℕ) → rank ≡ p + 1 → ((a : ℕ) → rank_by o ≡ a → rank ≤ a) → (rank_by o ≡ rank → ⊥) →
+    IsNext fall (Some p) (cons_option o ps)
 place_up fall rank p None ps is least other = absurd (omega (least 0 refl, is, arith))
 place_up fall rank p (Some f) ps is least other = elim (either (nat_lt p f)) [
   | inl rises ↦ inl (less p f rises)
@@ -110,37 +115,53 @@ above_by fall last q p same (inl above) early = subst (Above last) same above
 above_by fall last q p same (inr late) early = absurd (early (subst (IsLate fall) same late))
 
 -- a track whose rank is neither this nor an earlier one has a later place
-track_up : (fall : Option ℕ) (rank p : ℕ) (track : List Note) → rank ≡ p + 1 → ((a : ℕ) → rank_of track ≡ Some a → rank ≤ a) → (rank_of track ≡ Some rank → ⊥) → IsNext fall (Some p) (places_in track)
+track_up : (fall : Option ℕ) (rank p : ℕ) (track : List Note) → rank ≡ p + 1 → ((a : ℕ) → rank_of track ≡ Some a → rank ≤ a) → (rank_of track ≡ Some rank → ⊥) →
+    IsNext fall (Some p) (places_in track)
 track_up fall rank p [] is least other = tt
 track_up fall rank p (note ∷ notes) is least other =
     place_up fall rank p (place_in note) (places_in notes) is (λ a same. least a (ap Some same)) (λ same. other (ap Some same))
 
 -- all other tracks have later places
-others_up : (fall : Option ℕ) (last : Option ℕ) (rank p : ℕ) (tracks : List (List Note)) → rank ≡ p + 1 → GoOn fall last tracks → AreAtLeast rank tracks → HasNone rank tracks → GoOn fall (Some p) tracks
+others_up : (fall : Option ℕ) (last : Option ℕ) (rank p : ℕ) (tracks : List (List Note)) → rank ≡ p + 1 → GoOn fall last tracks → AreAtLeast rank tracks →
+    HasNone rank tracks → GoOn fall (Some p) tracks
 others_up fall last rank p [] is on least none = tt
-others_up fall last rank p (track ∷ tracks) is on least none = ((track_up fall rank p track is least.0 none.0, on.0.1), others_up fall last rank p tracks is on.1 least.1 none.1)
+others_up fall last rank p (track ∷ tracks) is on least none =
+    ((track_up fall rank p track is least.0 none.0, on.0.1), others_up fall last rank p tracks is on.1 least.1 none.1)
 
-taken_up : (fall last : Option ℕ) (p : ℕ) (notes : List Note) (o : Option ℕ) → o ≡ Some p → (IsLate fall p → ⊥) → IsNext fall last (cons_option o (places_in notes)) × AllLate fall (falls (cons_option o (places_in notes))) →
+taken_up : (fall last : Option ℕ) (p : ℕ) (notes : List Note) (o : Option ℕ) → o ≡ Some p → (IsLate fall p → ⊥) →
+    IsNext fall last (cons_option o (places_in notes)) × AllLate fall (falls (cons_option o (places_in notes))) →
     Above last p × (IsNext fall (Some p) (places_in notes) × AllLate fall (falls (places_in notes)))
 taken_up fall last p notes None is early (first, late) = none_some_place is
 taken_up fall last p notes (Some q) is early (first, late) =
-    let same : q ≡ p = same_some q p is in
-    (above_by fall last q p same first early, subst (λ n. IsNext fall (Some n) (places_in notes) × AllLate fall (falls (places_in notes))) same (next_of fall q (places_in notes) late))
+    let same : q ≡ p = same_some q p is in (
+      above_by fall last q p same first early,
+      subst (λ n. IsNext fall (Some n) (places_in notes) × AllLate fall (falls (places_in notes))) same
+          (next_of fall q (places_in notes) late),
+    )
 
-steps_up : (fall last : Option ℕ) (rank p : ℕ) (tracks rest : List (List Note)) (note : Note) → Took rank tracks note rest → place_in note ≡ Some p → rank ≡ p + 1 → GoOn fall last tracks → AreAtLeast rank tracks → count_of rank (ranks_of tracks) ≤ 1 → (IsLate fall p → ⊥) →
+steps_up : (fall last : Option ℕ) (rank p : ℕ) (tracks rest : List (List Note)) (note : Note) → Took rank tracks note rest → place_in note ≡ Some p →
+    rank ≡ p + 1 → GoOn fall last tracks → AreAtLeast rank tracks → count_of rank (ranks_of tracks) ≤ 1 → (IsLate fall p → ⊥) →
     Above last p × GoOn fall (Some p) rest
 steps_up fall last rank p [] rest note took place is on least single early = absurd took
 steps_up fall last rank p (track ∷ tracks) rest note (inl (notes, its, left, ranks)) place is on least single early =
-    let (above, here) = taken_up fall last p notes (place_in note) place early (subst (λ (l : List Note). IsNext fall last (places_in l) × AllLate fall (falls (places_in l))) its on.0) in
+    let (above, here) = taken_up fall last p notes (place_in note) place early
+    (subst (λ (l : List Note). IsNext fall last (places_in l) × AllLate fall (falls (places_in l))) its on.0) in
     let alone : count_of rank (ranks_of tracks) ≡ 0 =
-    omega (subst (λ (l : List Note). count_of rank (ranks_of (l ∷ tracks)) ≤ 1) its single, ap (λ n. count_of rank (n ∷ ranks_of tracks)) ranks, count_here rank (ranks_of tracks), arith) in
+    omega (
+      subst (λ (l : List Note). count_of rank (ranks_of (l ∷ tracks)) ≤ 1) its single,
+      ap (λ n. count_of rank (n ∷ ranks_of tracks)) ranks,
+      count_here rank (ranks_of tracks),
+      arith,
+    ) in
     (above, subst (GoOn fall (Some p)) (sym left) (here, others_up fall last rank p tracks is on.1 least.1 (none_has rank tracks alone)))
 steps_up fall last rank p (track ∷ tracks) rest note (inr (others, left, elsewhere, took)) place is on least single early =
-    let (above, there) = steps_up fall last rank p tracks others note took place is on.1 least.1 (omega (count_more rank (rank_of track) (ranks_of tracks), single, arith)) early in
+    let (above, there) = steps_up fall last rank p tracks others note took place is on.1 least.1
+    (omega (count_more rank (rank_of track) (ranks_of tracks), single, arith)) early in
     (above, subst (GoOn fall (Some p)) (sym left) ((track_up fall rank p track is least.0 elsewhere, on.0.1), there))
 
 -- a note without a place is taken
-steps_past : (fall last : Option ℕ) (rank : ℕ) (tracks rest : List (List Note)) (note : Note) → Took rank tracks note rest → place_in note ≡ None → GoOn fall last tracks → GoOn fall last rest
+steps_past : (fall last : Option ℕ) (rank : ℕ) (tracks rest : List (List Note)) (note : Note) → Took rank tracks note rest → place_in note ≡ None →
+    GoOn fall last tracks → GoOn fall last rest
 steps_past fall last rank [] rest note took none on = absurd took
 steps_past fall last rank (track ∷ tracks) rest note (inl (notes, its, left, ranks)) none on =
     let same : places_in track ≡ places_in notes = ap places_in its ∙ ap (λ (o : Option ℕ). cons_option o (places_in notes)) none in
@@ -160,7 +181,8 @@ rise_more (Some last) p ps above rise = (above, rise)
 
 shared_by : (ranks : List ℕ) (p : ℕ) → double_of None ranks (Some p) ≡ None → count_of (p + 1) ranks ≤ 1
 shared_by ranks p is =
-    (branches (λ (o : Option ℕ). o ≡ None → count_of (p + 1) ranks ≤ 1) (nat_le 2 (count_of (p + 1) ranks)) (Some p) None (λ two h. some_none_place p h) (λ one h. omega (greater 2 (count_of (p + 1) ranks) one, arith))) is
+    (branches (λ (o : Option ℕ). o ≡ None → count_of (p + 1) ranks ≤ 1) (nat_le 2 (count_of (p + 1) ranks)) (Some p) None (λ two h. some_none_place p h)
+    (λ one h. omega (greater 2 (count_of (p + 1) ranks) one, arith))) is
 
 single_by : (fall : Option ℕ) (ranks : List ℕ) (p : ℕ) → double_of fall ranks (Some p) ≡ None → (IsLate fall p → ⊥) × (count_of (p + 1) ranks ≤ 1)
 single_by None ranks p is = ((λ late. no_fall late.0 late.1), shared_by ranks p is)
@@ -183,28 +205,37 @@ took_rank rank (track ∷ tracks) rest note (inr (others, left, elsewhere, took)
 
 module _ (fall : Option ℕ) where
   -- a note is taken, and the rest goes on after it
-  taken_rise : (tracks : List (List Note)) (last : Option ℕ) (x : Taken) (rank : ℕ) (later : List (List Note) → List OrderedNote) (place : Option ℕ) → least (ranks_of tracks) ≡ Some rank → Took rank tracks x.note x.rest → place_in x.note ≡ place →
-      GoOn fall last tracks → double_of fall (ranks_of tracks) (place_in x.note) ≡ None → ((behind : Option ℕ) → GoOn fall behind x.rest → RiseFrom behind (places_of (later x.rest))) →
+  taken_rise : (tracks : List (List Note)) (last : Option ℕ) (x : Taken) (rank : ℕ) (later : List (List Note) → List OrderedNote) (place : Option ℕ) →
+      least (ranks_of tracks) ≡ Some rank → Took rank tracks x.note x.rest → place_in x.note ≡ place →
+      GoOn fall last tracks → double_of fall (ranks_of tracks) (place_in x.note) ≡ None →
+      ((behind : Option ℕ) → GoOn fall behind x.rest → RiseFrom behind (places_of (later x.rest))) →
       RiseFrom last (cons_option (place_in x.note) (places_of (later x.rest)))
   taken_rise tracks last x rank later None has took is on single rises =
-      subst (λ (o : Option ℕ). RiseFrom last (cons_option o (places_of (later x.rest)))) (sym is) (rises last (steps_past fall last rank tracks x.rest x.note took is on))
+      subst (λ (o : Option ℕ). RiseFrom last (cons_option o (places_of (later x.rest)))) (sym is)
+      (rises last (steps_past fall last rank tracks x.rest x.note took is on))
   taken_rise tracks last x rank later (Some p) has took is on single rises =
       let rank_is : rank ≡ p + 1 = sym (took_rank rank tracks x.rest x.note took) ∙ ap rank_by is in
       let (early, alone) = single_by fall (ranks_of tracks) p (ap (double_of fall (ranks_of tracks)) (sym is) ∙ single) in
       let below = least_least tracks (least (ranks_of tracks)) refl rank (λ b same. omega (same_some rank b (sym has ∙ same), arith)) in
-      let (above, on_later) = steps_up fall last rank p tracks x.rest x.note took is rank_is on below (subst (λ n. count_of n (ranks_of tracks) ≤ 1) (sym rank_is) alone) early in
-      subst (λ (o : Option ℕ). RiseFrom last (cons_option o (places_of (later x.rest)))) (sym is) (rise_more last p (places_of (later x.rest)) above (rises (Some p) on_later))
+      let (above, on_later) = steps_up fall last rank p tracks x.rest x.note took is rank_is on below
+      (subst (λ n. count_of n (ranks_of tracks) ≤ 1) (sym rank_is) alone) early in
+      subst (λ (o : Option ℕ). RiseFrom last (cons_option o (places_of (later x.rest)))) (sym is)
+      (rise_more last p (places_of (later x.rest)) above (rises (Some p) on_later))
 
-  rise_on : (tracks : List (List Note)) (last : Option ℕ) (later : List (List Note) → List OrderedNote) (o : Option Taken) → next_note tracks ≡ o → GoOn fall last tracks → AllByRecursion (λ (l : OrderedNote). l.double ≡ None) (order_on fall tracks later o) →
-      ((rest : List (List Note)) (behind : Option ℕ) → GoOn fall behind rest → AllByRecursion (λ (l : OrderedNote). l.double ≡ None) (later rest) → RiseFrom behind (places_of (later rest))) → RiseFrom last (places_of (order_on fall tracks later o))
+  rise_on : (tracks : List (List Note)) (last : Option ℕ) (later : List (List Note) → List OrderedNote) (o : Option Taken) → next_note tracks ≡ o →
+      GoOn fall last tracks → AllByRecursion (λ (l : OrderedNote). l.double ≡ None) (order_on fall tracks later o) →
+      ((rest : List (List Note)) (behind : Option ℕ) → GoOn fall behind rest → AllByRecursion (λ (l : OrderedNote). l.double ≡ None) (later rest) →
+      RiseFrom behind (places_of (later rest))) → RiseFrom last (places_of (order_on fall tracks later o))
   rise_on tracks last later None is on single rises = nothing_rises last
   rise_on tracks last later (Some x) is on (single, others) rises =
       let (rank, has, took) = taken_by (least (ranks_of tracks)) tracks x is in
       taken_rise tracks last x rank later (place_in x.note) has took refl on single (λ behind on_later. rises x.rest behind on_later others)
 
-  rise : (count : ℕ) (tracks : List (List Note)) (last : Option ℕ) → GoOn fall last tracks → AllByRecursion (λ (l : OrderedNote). l.double ≡ None) (order_by count fall tracks) → RiseFrom last (places_of (order_by count fall tracks))
+  rise : (count : ℕ) (tracks : List (List Note)) (last : Option ℕ) → GoOn fall last tracks →
+      AllByRecursion (λ (l : OrderedNote). l.double ≡ None) (order_by count fall tracks) → RiseFrom last (places_of (order_by count fall tracks))
   rise zero tracks last on single = nothing_rises last
-  rise (suc count) tracks last on single = rise_on tracks last (λ rest. order_by count fall rest) (next_note tracks) refl on single (λ rest behind on_later others. rise count rest behind on_later others)
+  rise (suc count) tracks last on single = rise_on tracks last (λ rest. order_by count fall rest) (next_note tracks) refl on single
+      (λ rest behind on_later others. rise count rest behind on_later others)
 
 -- At the start
 
@@ -219,7 +250,10 @@ all_later a o (place ∷ places) late = (later_late a o place late.0, all_later 
 
 all_late : (places : List ℕ) → AllLate (least places) places
 all_late [] = tt
-all_late (a ∷ places) = ((lesser a (least places), refl, (lesser_least a (least places) (lesser a (least places)) refl).0), all_later a (least places) places (all_late places))
+all_late (a ∷ places) = (
+  (lesser a (least places), refl, (lesser_least a (least places) (lesser a (least places)) refl).0),
+  all_later a (least places) places (all_late places),
+)
 
 late_parts : (fall : Option ℕ) (xs ys : List ℕ) → AllLate fall (xs ++ ys) → AllLate fall xs × AllLate fall ys
 late_parts fall [] ys late = (tt, late)
@@ -236,5 +270,7 @@ begin_on fall (track ∷ tracks) late =
     ((first_next fall (places_in track), here), begin_on fall tracks there)
 
 -- if no place is doubled, all places rise
-pub order_rises : (tracks : List (List Note)) → AllByRecursion (λ (l : OrderedNote). l.double ≡ None) (order_of tracks) → AllRise (filter_map place_in (map note_of (order_of tracks)))
-order_rises tracks single = rise (least_fall tracks) (count_in tracks) tracks None (begin_on (least_fall tracks) tracks (all_late (flat_map (λ track. falls (places_in track)) tracks))) single
+pub order_rises : (tracks : List (List Note)) → AllByRecursion (λ (l : OrderedNote). l.double ≡ None) (order_of tracks) →
+    AllRise (filter_map place_in (map note_of (order_of tracks)))
+order_rises tracks single = rise (least_fall tracks) (count_in tracks) tracks None
+    (begin_on (least_fall tracks) tracks (all_late (flat_map (λ track. falls (places_in track)) tracks))) single

@@ -12,7 +12,8 @@ pub record Leads (roster : Tables) (p : Progress) (steps : List Step) (q : Progr
   pub run : Run roster p.place p.world steps q.world
   pub place : q.place ≡ p.place + length steps
 
-pub runs_join : (t : Tables) (place there : ℕ) (a b c : World) (one two : List Step) → there ≡ place + length one → Run t place a one b → Run t there b two c → Run t place a (one ++ two) c
+pub runs_join : (t : Tables) (place there : ℕ) (a b c : World) (one two : List Step) → there ≡ place + length one → Run t place a one b → Run t there b two c →
+    Run t place a (one ++ two) c
 runs_join t place there a b c [] two is same run = subst (λ (w : World). Run t place w two c) same (subst (λ (n : ℕ). Run t n b two c) (omega (is, arith)) run)
 runs_join t place there a b c (step ∷ one) two is (next, happens, more) run =
     let here : there ≡ place + 1 + length one = omega (is, arith) in

@@ -18,7 +18,8 @@ use Rattle.run_rules.proofs.Taking.{parts, Sole}
 filter_append : (test : Note → Bool) (xs ys : List Note) → filter test (xs ++ ys) ≡ filter test xs ++ filter test ys
 filter_append test [] ys = refl
 filter_append test (x ∷ xs) ys =
-    branches (λ (l : List Note). l ≡ cond (test x) (x ∷ filter test xs) (filter test xs) ++ filter test ys) (test x) (x ∷ filter test (xs ++ ys)) (filter test (xs ++ ys))
+    branches (λ (l : List Note). l ≡ cond (test x) (x ∷ filter test xs) (filter test xs) ++ filter test ys) (test x) (x ∷ filter test (xs ++ ys))
+    (filter test (xs ++ ys))
     (λ keeps. ap (λ (l : List Note). x ∷ l) (filter_append test xs ys) ∙ sym (ap (λ b. cond b (x ∷ filter test xs) (filter test xs) ++ filter test ys) keeps))
     (λ drops. filter_append test xs ys ∙ sym (ap (λ b. cond b (x ∷ filter test xs) (filter test xs) ++ filter test ys) drops))
 
@@ -44,20 +45,24 @@ when_joined true xs ys = refl
 when_joined false xs ys = refl
 
 module _ (test : Note → Bool) (b : ℕ → Bool) (tells : TellsNodes test b) where
-  steps_told : (id : ℕ) (closing : Bool) (kept : FloorMap) (es : List NodeEntry) → filter test (steps_of id closing kept es) ≡ when (b id) (steps_of id closing kept es)
+  steps_told : (id : ℕ) (closing : Bool) (kept : FloorMap) (es : List NodeEntry) → filter test (steps_of id closing kept es) ≡ when (b id)
+      (steps_of id closing kept es)
   steps_told id closing kept [] = none_when (b id)
   steps_told id closing kept (e ∷ es) =
       let note : Note = Steps id e (is_closed_before es closing) kept in
-      ap (λ c. cond c (note ∷ filter test (steps_of id closing kept es)) (filter test (steps_of id closing kept es))) (tells.steps id e (is_closed_before es closing) kept)
+      ap (λ c. cond c (note ∷ filter test (steps_of id closing kept es)) (filter test (steps_of id closing kept es)))
+      (tells.steps id e (is_closed_before es closing) kept)
       ∙ ap (λ (l : List Note). cond (b id) (note ∷ l) l) (steps_told id closing kept es) ∙ when_more (b id) note (steps_of id closing kept es)
 
   record_told : (r : Record) (rs : List Record) → filter test (notes_of r rs) ≡ when (b r.node) (notes_of r rs)
   record_told r rs =
       let steps : List Note = steps_of r.node r.closing.closed (kept_by r.closing.floors rs) r.entries in
       let last : Note = Closes r.node (last_place 0 r.entries) r.closing in
-      let ends : filter test (last ∷ []) ≡ when (b r.node) (last ∷ []) = ap (λ c. cond c (last ∷ []) []) (tells.closes r.node (last_place 0 r.entries) r.closing) in
+      let ends : filter test (last ∷ []) ≡ when (b r.node) (last ∷ []) = ap (λ c. cond c (last ∷ []) [])
+      (tells.closes r.node (last_place 0 r.entries) r.closing) in
       let rest : filter test (steps ++ last ∷ []) ≡ when (b r.node) (steps ++ last ∷ []) =
-      filter_append test steps (last ∷ []) ∙ ap (λ (l : List Note). l ++ filter test (last ∷ [])) (steps_told r.node r.closing.closed (kept_by r.closing.floors rs) r.entries)
+      filter_append test steps (last ∷ []) ∙ ap (λ (l : List Note). l ++ filter test (last ∷ []))
+      (steps_told r.node r.closing.closed (kept_by r.closing.floors rs) r.entries)
       ∙ ap (λ (l : List Note). when (b r.node) steps ++ l) ends ∙ when_joined (b r.node) steps (last ∷ []) in
       ap (λ c. cond c (Opens r.node r.opening ∷ filter test (steps ++ last ∷ [])) (filter test (steps ++ last ∷ []))) (tells.opens r.node r.opening)
       ∙ ap (λ (l : List Note). cond (b r.node) (Opens r.node r.opening ∷ l) l) rest ∙ when_more (b r.node) (Opens r.node r.opening) (steps ++ last ∷ [])
@@ -66,7 +71,8 @@ module _ (test : Note → Bool) (b : ℕ → Bool) (tells : TellsNodes test b) w
   own_told : (id : ℕ) (rs : List Record) → filter test (notes_of_all (filter (is_of id) rs)) ≡ when (b id) (notes_of_all (filter (is_of id) rs))
   own_told id [] = none_when (b id)
   own_told id (r ∷ rs) =
-      branches (λ (l : List Record). filter test (notes_of_all l) ≡ when (b id) (notes_of_all l)) (nat_eq r.node id) (r ∷ filter (is_of id) rs) (filter (is_of id) rs)
+      branches (λ (l : List Record). filter test (notes_of_all l) ≡ when (b id) (notes_of_all l)) (nat_eq r.node id) (r ∷ filter (is_of id) rs)
+      (filter (is_of id) rs)
       (λ here.
       filter_append test (notes_of r (filter (is_of id) rs)) (notes_of_all (filter (is_of id) rs))
       ∙ ap (λ (l : List Note). l ++ filter test (notes_of_all (filter (is_of id) rs))) (record_told r (filter (is_of id) rs))
@@ -105,11 +111,13 @@ left_out : (test : ℕ → Bool) (id : ℕ) (ids : List ℕ) → has_id id ids �
 left_out test id [] none = refl
 left_out test id (i ∷ ids) none =
     let (here, there) = or_parts (nat_eq i id) (has_id id ids) none in
-    branches (λ (l : List ℕ). has_id id l ≡ false) (test i) (i ∷ filter test ids) (filter test ids) (λ _. or_none (nat_eq i id) _ here (left_out test id ids there)) (λ _. left_out test id ids there)
+    branches (λ (l : List ℕ). has_id id l ≡ false) (test i) (i ∷ filter test ids) (filter test ids)
+    (λ _. or_none (nat_eq i id) _ here (left_out test id ids there)) (λ _. left_out test id ids there)
 
 once_left : (test : ℕ → Bool) (ids : List ℕ) → Once ids → Once (filter test ids)
 once_left test [] once = tt
-once_left test (i ∷ ids) (first, once) = branches Once (test i) (i ∷ filter test ids) (filter test ids) (λ _. (left_out test i ids first, once_left test ids once)) (λ _. once_left test ids once)
+once_left test (i ∷ ids) (first, once) = branches Once (test i) (i ∷ filter test ids) (filter test ids)
+    (λ _. (left_out test i ids first, once_left test ids once)) (λ _. once_left test ids once)
 
 gone : (id : ℕ) (ids : List ℕ) → has_id id (filter (λ i. not (nat_eq i id)) ids) ≡ false
 gone id [] = refl
@@ -125,9 +133,11 @@ once_in (r ∷ rs) = (gone r.node (nodes_in rs), once_left (λ i. not (nat_eq i 
 still_there : (id other : ℕ) (ids : List ℕ) → nat_eq other id ≡ false → has_id id (filter (λ i. not (nat_eq i other)) ids) ≡ false → has_id id ids ≡ false
 still_there id other [] apart none = refl
 still_there id other (i ∷ ids) apart none =
-    (branches (λ (l : List ℕ). has_id id l ≡ false → has_id id (i ∷ ids) ≡ false) (not (nat_eq i other)) (i ∷ filter (λ i. not (nat_eq i other)) ids) (filter (λ i. not (nat_eq i other)) ids)
+    (branches (λ (l : List ℕ). has_id id l ≡ false → has_id id (i ∷ ids) ≡ false) (not (nat_eq i other)) (i ∷ filter (λ i. not (nat_eq i other)) ids)
+    (filter (λ i. not (nat_eq i other)) ids)
     (λ _ h. let (here, there) = or_parts (nat_eq i id) _ h in or_none (nat_eq i id) _ here (still_there id other ids apart there))
-    (λ dropped h. or_none (nat_eq i id) _ (ap (λ n. nat_eq n id) (ids_same i other (not_dropped (nat_eq i other) dropped)) ∙ apart) (still_there id other ids apart h))) none
+    (λ dropped h. or_none (nat_eq i id) _ (ap (λ n. nat_eq n id) (ids_same i other (not_dropped (nat_eq i other) dropped)) ∙ apart)
+    (still_there id other ids apart h))) none
 
 no_records : (id : ℕ) (rs : List Record) → has_id id (nodes_in rs) ≡ false → filter (is_of id) rs ≡ []
 no_records id [] none = refl
@@ -165,14 +175,19 @@ module _ (records : List Record) (entries : List MasterEntry) where
       let mine : filter (is_of_node id) (track i) ≡ when (nat_eq i id) (track i) = own_told (is_of_node id) (λ n. nat_eq n id) (tells_node id) i records in
       elim (either (nat_eq i id)) [
         | inl here ↦
-            let none : parts (is_of_node id) (tracks ids) ≡ [] = rest ∙ ap (λ b. when b (track id)) (subst (λ n. has_id n ids ≡ false) (ids_same i id here) first) in (
+            let none : parts (is_of_node id) (tracks ids) ≡ [] = rest ∙ ap (λ b. when b (track id))
+            (subst (λ n. has_id n ids ≡ false) (ids_same i id here) first) in (
               inr none,
-              ap (λ (l : List Note). filter (is_of_node id) (track i) ++ l) none ∙ append_nil (filter (is_of_node id) (track i)) ∙ mine ∙ ap (λ b. when b (track i)) here ∙ ap track (ids_same i id here)
+              ap (λ (l : List Note). filter (is_of_node id) (track i) ++ l) none ∙ append_nil (filter (is_of_node id) (track i)) ∙ mine
+                  ∙ ap (λ b. when b (track i)) here ∙ ap track (ids_same i id here)
                   ∙ sym (ap (λ b. when (b || has_id id ids) (track id)) here),
             )
         | inr other ↦
-            let none : filter (is_of_node id) (track i) ≡ [] = mine ∙ ap (λ b. when b (track i)) other in
-            (inl (none, sole), ap (λ (l : List Note). l ++ parts (is_of_node id) (tracks ids)) none ∙ rest ∙ sym (ap (λ b. when (b || has_id id ids) (track id)) other))
+            let none : filter (is_of_node id) (track i) ≡ [] = mine ∙ ap (λ b. when b (track i)) other in (
+              inl (none, sole),
+              ap (λ (l : List Note). l ++ parts (is_of_node id) (tracks ids)) none ∙ rest
+                  ∙ sym (ap (λ b. when (b || has_id id ids) (track id)) other),
+            )
       ]
 
   its_notes : (id : ℕ) (b : Bool) → has_id id (nodes_in records) ≡ b → when b (track id) ≡ track id

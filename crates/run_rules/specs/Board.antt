@@ -42,7 +42,8 @@ standing_at (p ∷ ps) id = if p.id == id then p.standing else standing_at ps id
 -- the posts with this standing of the node
 abbrev pub with_standing : List Post → ℕ → Standing → List Post
 with_standing [] id standing = record { id = id; standing = standing } ∷ []
-with_standing (p ∷ ps) id standing = if p.id == id then record { id = id; standing = standing } ∷ ps else p ∷ with_standing ps id standing
+with_standing (p ∷ ps) id standing = if p.id == id then record { id = id; standing = standing } ∷ ps else p
+    ∷ with_standing ps id standing
 
 -- the board with this standing of the node
 abbrev pub with_node : Board → ℕ → Standing → Board

@@ -60,7 +60,8 @@ standing_in standing state = Open state
 -- restarted, has nothing that waits.
 abbrev pub opened_board : Board → ℕ → NodeState (Unit {0}) → Board
 opened_board b id state =
-    with_network (with_node b id (standing_in (standing_at b.posts id) state)) (if state.next == 1 then without_waiting b.network id else b.network)
+    with_network (with_node b id (standing_in (standing_at b.posts id) state))
+    (if state.next == 1 then without_waiting b.network id else b.network)
 
 -- the node is a member's, and its record may open in this state [Record 11]
 abbrev pub CanOpen : Tables → Board → ℕ → NodeState (Unit {0}) → Type 0
@@ -93,7 +94,8 @@ JudgesClosing b id state j =
 -- the node next opens tell whether the purge is in them. If no more keys may have floors, it is
 -- not.
 abbrev pub stored_by : FloorMap → List ℕ → ℕ → FloorMap → FloorMap
-stored_by floors key number kept = if nat_le number (floor kept key) && not (is_full floors key) then raised floors key number else floors
+stored_by floors key number kept = if nat_le number (floor kept key) && not (is_full floors key)
+    then raised floors key number else floors
 
 -- The standing after a step that lacked memory: it changes nothing, but at a purge it may have
 -- closed the node. [Record 7]
@@ -119,7 +121,8 @@ is_foreign_fetch peer _ = false
 
 -- a request for this key is pending under this serial, and its fetch is of this kind
 abbrev pub IsPending : NodeState (Unit {0}) → ℕ → List ℕ → (Fetch (Unit {0}) → Bool) → Type 0
-IsPending s serial key is_such = MatchOption (find (λ p. fetch_serial p == serial) s.pending) ⊥ (λ p. (p.ask.key ≡ key) × (is_such p.fetch ≡ true))
+IsPending s serial key is_such = MatchOption (find (λ p. fetch_serial p == serial) s.pending) ⊥
+    (λ p. (p.ask.key ≡ key) × (is_such p.fetch ≡ true))
 
 -- a response of an origin or a foreign cache reaches a read or a fetch that is pending [Record 9]
 abbrev pub Reaches : NodeState (Unit {0}) → Event (Unit {0}) → Type 0
@@ -138,11 +141,13 @@ StepsBy g s e r =
     ⊎ (((step g s e.event tt).outcome ≢ e.outcome) × (r ≡ Err OtherReply))
 
 -- an open node's entry with this outcome, and the node's standing after it or the flaw [Record 7]
-abbrev pub OpenStepsBy : Setting → NodeState (Unit {0}) → NodeEntry → Bool → FloorMap → Result (Reply (Unit {0})) StepFault → Result Standing Cause → Type 0
+abbrev pub OpenStepsBy : Setting → NodeState (Unit {0}) → NodeEntry → Bool → FloorMap →
+    Result (Reply (Unit {0})) StepFault → Result Standing Cause → Type 0
 OpenStepsBy g s e is_closed kept (Err fault.NoMemory) r = r ≡ Ok (wanting s (purge_in g e.event) is_closed kept)
 OpenStepsBy g s e is_closed kept (Err fault.StoreFault) r = r ≡ failing s (purge_in g e.event) kept
 OpenStepsBy g s e is_closed kept (Err f) r = StepsBy g s e r
-OpenStepsBy g s e is_closed kept (Ok reply) r = (Reaches s e.event × StepsBy g s e r) ⊎ ((Reaches s e.event → ⊥) × (r ≡ Err OtherReply))
+OpenStepsBy g s e is_closed kept (Ok reply) r = (Reaches s e.event × StepsBy g s e r)
+    ⊎ ((Reaches s e.event → ⊥) × (r ≡ Err OtherReply))
 
 -- a closed node refuses each step with Closed
 abbrev pub shut_by : FloorMap → Result (Reply (Unit {0})) StepFault → Result Standing Cause
@@ -163,7 +168,8 @@ network_after roster n id e standing = with_reply roster n id e.event (reply_in 
 
 -- the board after an entry
 abbrev pub after_entry : Tables → Board → ℕ → NodeEntry → Standing → Board
-after_entry roster b id e standing = with_network (with_node b id standing) (network_after roster b.network id e standing)
+after_entry roster b id e standing = with_network (with_node b id standing)
+    (network_after roster b.network id e standing)
 
 -- the judgement, by the node's standing after the entry or the flaw
 abbrev pub judged : Tables → Board → ℕ → NodeEntry → Result Standing Cause → Judgement
@@ -182,7 +188,8 @@ IsHeard roster b id e = is_astray (standing_at b.posts id) ≡ false → IsSent 
 -- an entry of a node: whether what it received was sent, then whether its step is right
 abbrev pub JudgesEntry : Tables → Board → ℕ → NodeEntry → Bool → FloorMap → Judgement → Type 0
 JudgesEntry roster b id e is_closed kept j =
-    (IsHeard roster b id e.event × (r : Result Standing Cause) × StepsSo (setting roster id) (standing_at b.posts id) e is_closed kept r × (j ≡ judged roster b id e r))
+    (IsHeard roster b id e.event × (r : Result Standing Cause) × StepsSo (setting roster id) (standing_at b.posts id) e
+    is_closed kept r × (j ≡ judged roster b id e r))
     ⊎ ((IsHeard roster b id e.event → ⊥) × (j ≡ Flawed NotSent))
 
 -- An entry of the master
@@ -196,8 +203,10 @@ left_wanting m _ _ = m
 -- the master's call may have this answer and lead to this state [Record 6, Record 8]
 abbrev pub CallsBy : List ℕ → MasterState → MasterEntry → Bool → Result MasterAnswer MasterFault → MasterState → Type 0
 CallsBy members m e is_closed (Err master_fault.NoMemory) next =
-    (m.closed ≡ false) × ((is_written members m.purges e.call || is_due e.call) ≡ true) × (next ≡ left_wanting m (is_written members m.purges e.call) is_closed)
-CallsBy members m e is_closed (Err master_fault.StoreFault) next = (m.closed ≡ false) × (is_written members m.purges e.call ≡ true) × (next ≡ closing m)
+    (m.closed ≡ false) × ((is_written members m.purges e.call || is_due e.call) ≡ true)
+    × (next ≡ left_wanting m (is_written members m.purges e.call) is_closed)
+CallsBy members m e is_closed (Err master_fault.StoreFault) next = (m.closed ≡ false)
+    × (is_written members m.purges e.call ≡ true) × (next ≡ closing m)
 CallsBy members m e is_closed answer next = called members m e.call ≡ record { state = next; outcome = answer }
 
 -- the same, with the answer of the entry
@@ -216,8 +225,10 @@ IsOfKey _ = Unit {0}
 -- an entry of the master: whether what it received was sent, then whether its answer is right
 abbrev pub JudgesCall : Tables → Board → MasterEntry → Bool → Judgement → Type 0
 JudgesCall roster b e is_closed j =
-    (IsCallSent roster b.network e.call × IsOfKey e.call × (next : MasterState) × CallsSo roster b.master e is_closed next × (j ≡ Fine (after_call roster b e next)))
-    ⊎ (IsCallSent roster b.network e.call × ((next : MasterState) → CallsSo roster b.master e is_closed next → ⊥) × (j ≡ Flawed OtherReply))
+    (IsCallSent roster b.network e.call × IsOfKey e.call × (next : MasterState)
+    × CallsSo roster b.master e is_closed next × (j ≡ Fine (after_call roster b e next)))
+    ⊎ (IsCallSent roster b.network e.call × ((next : MasterState) → CallsSo roster b.master e is_closed next → ⊥)
+    × (j ≡ Flawed OtherReply))
     ⊎ ((IsCallSent roster b.network e.call → ⊥) × (j ≡ Flawed NotSent))
 
 -- All notes

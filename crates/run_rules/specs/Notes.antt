@@ -57,7 +57,8 @@ kept_by floors (r ∷ rs) = if r.opening.closed then kept_by floors rs else r.op
 
 -- the notes of a record after which the node next opens with these floors
 abbrev pub record_notes : Record → FloorMap → List Note
-record_notes r kept = Opens r.node r.opening ∷ steps_of r.node r.closing.closed kept r.entries ++ Closes r.node (last_place 0 r.entries) r.closing ∷ []
+record_notes r kept = Opens r.node r.opening ∷ steps_of r.node r.closing.closed kept r.entries
+    ++ Closes r.node (last_place 0 r.entries) r.closing ∷ []
 
 -- the notes of a record that these records follow
 abbrev pub notes_of : Record → List Record → List Note
@@ -109,7 +110,8 @@ nodes_in (r ∷ rs) = r.node ∷ filter (λ id. not (id == r.node)) (nodes_in rs
 
 -- The tracks: the notes of each node, and of the master, in the order in which they were handed in.
 abbrev pub tracks_of : List Record → List MasterEntry → List (List Note)
-tracks_of records entries = map (λ id. notes_of_all (filter (is_of id) records)) (nodes_in records) ++ calls_of entries ∷ []
+tracks_of records entries = map (λ id. notes_of_all (filter (is_of id) records)) (nodes_in records) ++ calls_of entries
+    ∷ []
 
 -- the place of a note; opening and closing have none
 abbrev pub place_in : Note → Option ℕ
@@ -125,7 +127,8 @@ places_in track = filter_map place_in track
 -- the places that are not greater than the one before; the first argument is before the first
 abbrev pub falls_from : ℕ → List ℕ → List ℕ
 falls_from last [] = []
-falls_from last (place ∷ places) = if nat_lt last place then falls_from place places else place ∷ falls_from place places
+falls_from last (place ∷ places) = if nat_lt last place then falls_from place places else place
+    ∷ falls_from place places
 
 -- the places of a list that are not greater than the one before
 abbrev pub falls : List ℕ → List ℕ

@@ -81,10 +81,12 @@ abbrev pub OpensSo : Tables → Progress → ℕ → NodeState (Unit {0}) → Li
 OpensSo roster p id state steps q =
     (is_member roster id ≡ true)
     × (((steps ≡ []) × (q ≡ p) × IsKept (unmarked (node_in p id)) state)
-    ⊎ ((steps ≡ event_step (world.Restart id) Nothing ∷ []) × Goes roster p steps p.master q × (state ≡ opened (node_in p id).floors)))
+    ⊎ ((steps ≡ event_step (world.Restart id) Nothing ∷ []) × Goes roster p steps p.master q
+    × (state ≡ opened (node_in p id).floors)))
 
 -- the clock is set to the entry's time, and then the node takes the entry's step, with this outcome
-pub record IsTaken (roster : Tables) (p : Progress) (id : ℕ) (e : Event (Unit {0})) (outcome : Result (Reply ℕ) StepFault) (these : List Step) (q : Progress) : Type 0 where
+pub record IsTaken (roster : Tables) (p : Progress) (id : ℕ) (e : Event (Unit {0}))
+    (outcome : Result (Reply ℕ) StepFault) (these : List Step) (q : Progress) : Type 0 where
   pub happens : WorldEvent
   pub met : Event ℕ
   pub serial : ℕ
@@ -106,13 +108,16 @@ ClosesNode roster p id e steps q =
     (closed : NodeState (Unit {0})) × (closed.closed ≡ true)
     × NodeSteps (setting roster id) (unmarked (node_in p id)) e.event tt e.outcome closed
     × (((steps ≡ event_step (world.Fault id) Nothing ∷ []) × Goes roster p steps p.master q)
-    ⊎ ((taken : List Step) × (middle : Progress) × (reply : Reply ℕ) × IsTaken roster p id e.event (Ok reply) taken middle
-    × (steps ≡ taken ++ event_step (world.Fault id) Nothing ∷ []) × Goes roster middle (event_step (world.Fault id) Nothing ∷ []) p.master q))
+    ⊎ ((taken : List Step) × (middle : Progress) × (reply : Reply ℕ)
+    × IsTaken roster p id e.event (Ok reply) taken middle
+    × (steps ≡ taken ++ event_step (world.Fault id) Nothing ∷ [])
+    × Goes roster middle (event_step (world.Fault id) Nothing ∷ []) p.master q))
 
 -- an entry of a node: a step with its outcome, or no change, or the node closes
 abbrev pub StepsSo : Tables → Progress → ℕ → NodeEntry → List Step → Progress → Type 0
 StepsSo roster p id e steps q =
-    ((outcome : Result (Reply ℕ) StepFault) × IsTaken roster p id e.event outcome steps q × (unmarked_outcome outcome ≡ e.outcome))
+    ((outcome : Result (Reply ℕ) StepFault) × IsTaken roster p id e.event outcome steps q
+    × (unmarked_outcome outcome ≡ e.outcome))
     ⊎ ChangesNothing roster p id e steps q
     ⊎ ClosesNode roster p id e steps q
 
@@ -123,12 +128,15 @@ ClosesSo p id state steps q = (steps ≡ []) × (q ≡ p) × IsKept (unmarked (n
 -- The event that an answered call of the master stands for. An acknowledgement is the arrival of a
 -- datagram that was sent and says just that.
 abbrev pub AnswersSo : Tables → Progress → MasterCall → MasterAnswer → List Step → Type 0
-AnswersSo roster p (call.Issue key) (answer.Issue number) steps = steps ≡ event_step (world.Issue key) (Issued number) ∷ []
+AnswersSo roster p (call.Issue key) (answer.Issue number) steps = steps ≡ event_step (world.Issue key) (Issued number)
+    ∷ []
 AnswersSo roster p (call.Acknowledge id trans code) (answer.Acknowledge finished) steps =
-    (number : ℕ) × (d : Datagram) × (status : Status) × (item p.world.datagrams number ≡ Some d) × IsAnswerOf roster id trans code d
+    (number : ℕ) × (d : Datagram) × (status : Status) × (item p.world.datagrams number ≡ Some d)
+    × IsAnswerOf roster id trans code d
     × (steps ≡ event_step (world.Datagram number) (Reported trans status) ∷ [])
 AnswersSo roster p call.Due (answer.Due pairs) steps = steps ≡ event_step world.Resend Nothing ∷ []
-AnswersSo roster p (call.Status number) (answer.Status status) steps = steps ≡ event_step (world.Status number) (Reported number status) ∷ []
+AnswersSo roster p (call.Status number) (answer.Status status) steps =
+    steps ≡ event_step (world.Status number) (Reported number status) ∷ []
 AnswersSo roster p c a steps = ⊥
 
 -- the same for each call; one that failed stands for no event
@@ -154,7 +162,8 @@ Stands roster p (Calls e is_closed) steps q = CallsSo roster p e steps q
 abbrev pub AllStand : Tables → Progress → List Note → List Step → Progress → Type 0
 AllStand roster p [] steps q = (steps ≡ []) × (q ≡ p)
 AllStand roster p (note ∷ notes) steps q =
-    (here : List Step) × (rest : List Step) × (next : Progress) × Stands roster p note here next × (steps ≡ here ++ rest) × AllStand roster next notes rest q
+    (here : List Step) × (rest : List Step) × (next : Progress) × Stands roster p note here next
+    × (steps ≡ here ++ rest) × AllStand roster next notes rest q
 
 -- whether a note is of this node
 abbrev pub is_of_node : ℕ → Note → Bool
@@ -180,7 +189,8 @@ AllRise (place ∷ places) = Rise place places
 
 -- Records and entries are a run of the model: all notes can be put into one order of rising places,
 -- with each node's and the master's in their own order, in which they stand for these events.
-pub record IsRecordedRun (roster : Tables) (records : List Record) (entries : List MasterEntry) (steps : List Step) : Type 0 where
+pub record IsRecordedRun (roster : Tables) (records : List Record) (entries : List MasterEntry) (steps : List Step) :
+    Type 0 where
   pub notes : List Note
   pub nodes : (id : ℕ) → filter (is_of_node id) notes ≡ notes_of_all (filter (is_of id) records)
   pub master : filter is_of_master notes ≡ calls_of entries

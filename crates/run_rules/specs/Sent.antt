@@ -62,7 +62,8 @@ silence = record { datagrams = []; asks = []; answers = []; waiting = [] }
 
 -- the request that it sends to a member, if any
 abbrev pub asks_by : ℕ → Option Begin → List SentAsk
-asks_by id (Some (begin.Peer serial peer ask)) = if is_foreign_id peer then [] else record { sender = id; receiver = peer; ask = ask } ∷ []
+asks_by id (Some (begin.Peer serial peer ask)) = if is_foreign_id peer then []
+    else record { sender = id; receiver = peer; ask = ask } ∷ []
 asks_by id _ = []
 
 -- whether this request waits at this node as this block
@@ -85,7 +86,8 @@ text_of served = answer_of (retag_served (λ _. 0) served)
 
 -- the response to the member that asked, if a member did
 abbrev pub answer_for : ℕ → Option ℕ → Served (Unit {0}) → Option (List ℕ) → List SentAnswer
-answer_for id (Some asker) served (Some key) = record { sender = id; receiver = asker; key = key; answer = text_of served } ∷ []
+answer_for id (Some asker) served (Some key) =
+    record { sender = id; receiver = asker; key = key; answer = text_of served } ∷ []
 answer_for id _ served _ = []
 
 -- the response that it sends to a member, if any; responses to clients are not part of the network
@@ -128,18 +130,21 @@ with_clears roster n c a = record n { datagrams = n.datagrams ++ clears_by roste
 
 -- the datagram is for this member
 abbrev pub ComesTo : Tables → ℕ → Datagram → Type 0
-ComesTo roster id d = (is_master roster d.receiver ≡ false) × (member_at roster d.receiver (protocol_of d.message) ≡ Some id)
+ComesTo roster id d = (is_master roster d.receiver ≡ false)
+    × (member_at roster d.receiver (protocol_of d.message) ≡ Some id)
 
 -- a datagram with this sender and this message was sent to the member
 abbrev pub IsDatagramSent : Tables → Network → ℕ → Address → Message → Type 0
-IsDatagramSent roster n id from m = (d : Datagram) × Contains n.datagrams d × (d.sender ≡ from) × (d.message ≡ m) × ComesTo roster id d
+IsDatagramSent roster n id from m = (d : Datagram) × Contains n.datagrams d × (d.sender ≡ from) × (d.message ≡ m)
+    × ComesTo roster id d
 
 -- What an entry received from a member or from the master was sent to it before. Anybody else may
 -- have sent anything. [Record 4]
 abbrev pub IsSent : Tables → Network → ℕ → Event (Unit {0}) → Type 0
 IsSent roster n id (event.Datagram from m now) = is_own roster from ≡ true → IsDatagramSent roster n id from m
 IsSent roster n id (event.PeerAsk asker ask now) = Contains n.asks (record { sender = asker; receiver = id; ask = ask })
-IsSent roster n id (event.PeerAnswer serial peer key answer tag now) = Contains n.answers (record { sender = peer; receiver = id; key = key; answer = answer })
+IsSent roster n id (event.PeerAnswer serial peer key answer tag now) =
+    Contains n.answers (record { sender = peer; receiver = id; key = key; answer = answer })
 IsSent roster n id _ = Unit {0}
 
 -- the datagram is a member's response to a CLR, to the master, with this TRANS-ID and this code
@@ -150,5 +155,6 @@ pub record IsAnswerOf (roster : Tables) (id trans code : ℕ) (d : Datagram) : T
 
 -- the acknowledgement that the master counts was sent before; other calls receive nothing [Record 4]
 abbrev pub IsCallSent : Tables → Network → MasterCall → Type 0
-IsCallSent roster n (call.Acknowledge id trans code) = (d : Datagram) × Contains n.datagrams d × IsAnswerOf roster id trans code d
+IsCallSent roster n (call.Acknowledge id trans code) = (d : Datagram) × Contains n.datagrams d
+    × IsAnswerOf roster id trans code d
 IsCallSent roster n _ = Unit {0}

@@ -23,7 +23,8 @@ pub record OrderedNote : Type 0 where
 abbrev pub double_by : Option ℕ → Bool → Option ℕ → Option ℕ
 double_by fall is_shared None = None
 double_by None is_shared (Some place) = if is_shared then Some place else None
-double_by (Some fall) is_shared (Some place) = if nat_le fall place then Some fall else (if is_shared then Some place else None)
+double_by (Some fall) is_shared (Some place) = if nat_le fall place then Some fall
+    else (if is_shared then Some place else None)
 
 -- the same, by the ranks of all tracks [Record 3]
 abbrev pub double_of : Option ℕ → List ℕ → Option ℕ → Option ℕ
@@ -34,7 +35,8 @@ abbrev pub ordered : Option ℕ → List (List Note) → Note → OrderedNote
 ordered fall tracks note = record { note = note; double = double_of fall (ranks_of tracks) (place_in note) }
 
 -- the note that was taken, and the order of the rest
-abbrev pub order_on : Option ℕ → List (List Note) → (List (List Note) → List OrderedNote) → Option Taken → List OrderedNote
+abbrev pub order_on : Option ℕ → List (List Note) → (List (List Note) → List OrderedNote) → Option Taken →
+    List OrderedNote
 order_on fall tracks later None = []
 order_on fall tracks later (Some t) = ordered fall tracks t.note ∷ later t.rest
 

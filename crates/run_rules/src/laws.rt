@@ -12,13 +12,18 @@ ghost use Rattle.run_rules.specs.Recorded.{IsRecordedRun};
 
 /// Records and entries with the verdict `Yes` are a run of the model.
 pub fn flawless_runs_are_runs_of_the_world()
-    ensures { (roster : Tables) (records : List Record) (entries : List MasterEntry) → IsRoster roster → IsVerdictOn roster records entries Yes →
+    ensures { (roster : Tables) (records : List Record) (entries : List MasterEntry) →
+        IsRoster roster → IsVerdictOn roster records entries Yes →
         (steps : List Step) × IsRecordedRun roster records entries steps }
 {}
 
 /// Purges are safe in each recorded run. `served`: once a purge is reported done, nothing old is
 /// served. `siblings`: no request to a sibling begins anything.
 pub fn recorded_runs_are_safe()
-    ensures served { (roster : Tables) (records : List Record) (entries : List MasterEntry) (steps : List Step) → IsRoster roster → IsRecordedRun roster records entries steps → NothingOldIsServed steps }
-    ensures siblings { (roster : Tables) (records : List Record) (entries : List MasterEntry) (steps : List Step) → IsRecordedRun roster records entries steps → SiblingsAskNothing roster steps }
+    ensures served { (roster : Tables) (records : List Record) (entries : List MasterEntry)
+        (steps : List Step) → IsRoster roster → IsRecordedRun roster records entries steps →
+        NothingOldIsServed steps }
+    ensures siblings { (roster : Tables) (records : List Record) (entries : List MasterEntry)
+        (steps : List Step) → IsRecordedRun roster records entries steps →
+        SiblingsAskNothing roster steps }
 {}

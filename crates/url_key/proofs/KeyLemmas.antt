@@ -23,7 +23,9 @@ use Rattle.url_key.proofs.HostLemmas.{written_host, written_port, written_valid,
 use Rattle.url_key.proofs.PlainLemmas.{is_plain, none_at, list_any-none, list_any-from_reads, list_all-weaker, plain_from_parts, plain_authority, plain_shown, plain_tail, all_right, all_both}
 
 -- the outcome of a URI is that of the text that spells it
-pub spelled_outcome : {V : Type 0} (items : V → List ℕ) (text : List ℕ) (u : Uri) (r : Result V KeyFault) → Spells text u → MatchResult r (λ key. Ok (items key) ≡ key_of_uri u) (λ fault. UnlessNoMemory fault (Err fault ≡ key_of_uri u)) → MatchResult r (λ key. HasUriKey text (Ok (items key))) (λ fault. UnlessNoMemory fault (HasUriKey text (Err fault)))
+pub spelled_outcome : {V : Type 0} (items : V → List ℕ) (text : List ℕ) (u : Uri) (r : Result V KeyFault) → Spells text u →
+    MatchResult r (λ key. Ok (items key) ≡ key_of_uri u) (λ fault. UnlessNoMemory fault (Err fault ≡ key_of_uri u)) →
+    MatchResult r (λ key. HasUriKey text (Ok (items key))) (λ fault. UnlessNoMemory fault (HasUriKey text (Err fault)))
 spelled_outcome items text u (Ok key) spells is = inr (u, spells, is)
 spelled_outcome items text u (Err fault) spells is = λ memory. inr (u, spells, is memory)
 
@@ -116,7 +118,8 @@ absolute text (Some s) (Some authority) kept e form =
     let same : s ≡ codes "http" = cc in
     (authority, refl, subst (λ s. IsAbsoluteForm text s authority kept) same form)
 
-pub key_of_host-some : (host : List ℕ) (port : ℕ) (path : List ℕ) (query : Option (List ℕ)) → 0 < length host → key_of_host host (Some port) path query ≡ key_within (canonical_text host port path query)
+pub key_of_host-some : (host : List ℕ) (port : ℕ) (path : List ℕ) (query : Option (List ℕ)) → 0 < length host →
+    key_of_host host (Some port) path query ≡ key_within (canonical_text host port path query)
 key_of_host-some [] port path query some = absurd (omega arith)
 key_of_host-some (b ∷ host) port path query some = refl
 
@@ -190,7 +193,8 @@ module _ (text key : List ℕ) (u : Uri) (early : Early text) (spells : Spells t
       let tail = all_right is_plain (form.name ++ codes "://" ++ authority) form.tail (ap (list_all is_plain) (sym form.spelled) ∙ early.plain) in
       let kept = plain_tail form.tail (uri_data u) form.is_tail tail in
       ap (list_all is_plain) key_parts
-      ∙ all_both is_plain (http_prefix ++ w) (uri_path u ++ shown_query) (all_both is_plain http_prefix w refl (plain_authority w w_valid)) (plain_shown (uri_data u) _ kept)
+      ∙ all_both is_plain (http_prefix ++ w) (uri_path u ++ shown_query) (all_both is_plain http_prefix w refl (plain_authority w w_valid))
+      (plain_shown (uri_data u) _ kept)
 
   written_key : key_of_authority w (uri_path u) (uri_query u) ≡ Ok key
   written_key =
@@ -225,7 +229,8 @@ module _ (text key : List ℕ) (u : Uri) (early : Early text) (spells : Spells t
 
   -- the path that is shown begins with a slash
   shown_path : uri_path u ≡ path_of (uri_data u)
-  shown_path = ap (λ s. cond (not (length (uri_data u) == 0) || is_some s) (path_of (uri_data u)) []) scheme_is ∙ shows_path (length (uri_data u) == 0) (path_of (uri_data u))
+  shown_path = ap (λ s. cond (not (length (uri_data u) == 0) || is_some s) (path_of (uri_data u)) []) scheme_is
+      ∙ shows_path (length (uri_data u) == 0) (path_of (uri_data u))
 
   shown_first : get_or (uri_path u ++ shown_query) 0 0 ≡ 47
   shown_first =
@@ -252,7 +257,8 @@ module _ (text key : List ℕ) (u : Uri) (early : Early text) (spells : Spells t
       let port = written_port authority n.port form.is_authority n.some n.port_is no_at_all in
       record {
         host = ap host_of kept_authority ∙ host ∙ ap (λ a. lowercase (host_of a)) same;
-        port = ap (λ a. Some (unwrap_or (port_of (after_host a)) 80)) kept_authority ∙ ap (λ p. Some (unwrap_or p 80)) port ∙ sym n.port_is ∙ ap (λ a. port_of (after_host a)) same;
+        port = ap (λ a. Some (unwrap_or (port_of (after_host a)) 80)) kept_authority ∙ ap (λ p. Some (unwrap_or p 80)) port ∙ sym n.port_is
+            ∙ ap (λ a. port_of (after_host a)) same;
         path = ap (λ rest. drop (authority_len rest) rest) behind_prefix ∙ drop_at w (uri_path u ++ shown_query) _ (sym authority_end);
       }
 

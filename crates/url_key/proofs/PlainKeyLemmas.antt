@@ -239,7 +239,8 @@ module _ (text host tail : List ℕ) (c : Cut text host tail) where
   own_key : key_of_uri u ≡ Ok text
   own_key =
       let short = c.short in
-      let found : key_of_uri u ≡ key_of_host (host_of host) (port_of (after_host host)) (uri_path u) (uri_query u) = rw (host_without_at host c.some c.in_host) refl in
+      let found : key_of_uri u ≡ key_of_host (host_of host) (port_of (after_host host)) (uri_path u) (uri_query u) =
+      rw (host_without_at host c.some c.in_host) refl in
       let fits : key_within text ≡ Ok text = rw (le-ltb 1024 (length text) short) refl in
       found
       ∙ ap₂ (λ h p. key_of_host h p (uri_path u) (uri_query u)) (host_is host c.some c.in_host) (port_is host c.some c.in_host)
@@ -271,7 +272,8 @@ cut_of text h =
     let some = ltb-true 0 n behind.0 in
     let len = length-take-le n rest (prefix_len-le-length is_host_byte rest) in
     record {
-      whole = sym (take-append-drop 7 text) ∙ ap₂ (λ a b. a ++ b) prefix (sym (take-append-drop n rest)) ∙ sym (append_assoc http_prefix (take n rest) (drop n rest));
+      whole = sym (take-append-drop 7 text) ∙ ap₂ (λ a b. a ++ b) prefix (sym (take-append-drop n rest))
+          ∙ sym (append_assoc http_prefix (take n rest) (drop n rest));
       short = leb-true (length text) 1024 front.0;
       some = omega arith;
       in_host = list_all-from_AllPass is_host_byte (take n rest) (AllPass-take is_host_byte rest n (run_passes is_host_byte rest));

@@ -30,4 +30,5 @@ is_host_and_path text =
 -- the text is a plain key: `http://`, a host and a path, of at most 1,024 octets
 abbrev pub plain_key : List ℕ → Bool
 plain_key text =
-    nat_le (length text) longest_key && bytes_eq (take (length http_prefix) text) http_prefix && is_host_and_path (drop (length http_prefix) text)
+    nat_le (length text) longest_key && bytes_eq (take (length http_prefix) text) http_prefix
+    && is_host_and_path (drop (length http_prefix) text)

@@ -22,7 +22,8 @@ key_by scheme authority kept =
 same_key : (text : List ℕ) (u v : Uri) → Spells text u → Spells text v → key_of_uri u ≡ key_of_uri v
 same_key text u v h g =
     let same = Spells_unique text u v h g in
-    ap (λ s. key_by s (uri_authority u) (uri_data u)) same.0 ∙ ap (λ a. key_by (uri_scheme v) a (uri_data u)) same.1 ∙ ap (key_by (uri_scheme v) (uri_authority v)) same.2
+    ap (λ s. key_by s (uri_authority u) (uri_data u)) same.0 ∙ ap (λ a. key_by (uri_scheme v) a (uri_data u)) same.1
+    ∙ ap (key_by (uri_scheme v) (uri_authority v)) same.2
 
 spelled_outcome : (text : List ℕ) (o : Option Uri) → Reads text o → HasUriKey text (outcome_by None o)
 spelled_outcome text None none = inl (none, refl)
@@ -38,7 +39,8 @@ found_by : (text : List ℕ) (early : Option KeyFault) → early_fault text ≡ 
 found_by text (Some fault) is = refl
 found_by text None is = spelled_outcome text (uri_in text) (uri_in_reads text (plain_text text is))
 
-only_by : (text : List ℕ) (early : Option KeyFault) → early_fault text ≡ early → (outcome : Result (List ℕ) KeyFault) → HasKeyBy early text outcome → outcome ≡ outcome_by early (uri_in text)
+only_by : (text : List ℕ) (early : Option KeyFault) → early_fault text ≡ early → (outcome : Result (List ℕ) KeyFault) → HasKeyBy early text outcome →
+    outcome ≡ outcome_by early (uri_in text)
 only_by text (Some fault) is outcome has = has
 only_by text None is outcome has = only_spelled text (uri_in text) (uri_in_reads text (plain_text text is)) outcome has
 

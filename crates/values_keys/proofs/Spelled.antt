@@ -25,7 +25,8 @@ KeptTail tail = (tail ≡ []) ⊎ (IsTrue (is_delimiter (get_or tail 0 0)) × Is
 Decides-is_tail : (tail : List ℕ) → IsPlain tail → Decides (is_tail tail) (KeptTail tail)
 Decides-is_tail tail plain =
     Decides-or _ _ (bytes_eq-Decides tail [])
-    (Decides-and _ _ (λ (e : IsTrue (is_delimiter (get_or tail 0 0))). e, λ (e : IsTrue (is_delimiter (get_or tail 0 0))). e) (Decides-is_path_and_query tail plain))
+    (Decides-and _ _ (λ (e : IsTrue (is_delimiter (get_or tail 0 0))). e, λ (e : IsTrue (is_delimiter (get_or tail 0 0))). e)
+    (Decides-is_path_and_query tail plain))
 
 or_slash_some : (tail : List ℕ) → IsTrue (is_delimiter (get_or tail 0 0)) → or_slash tail ≡ tail
 or_slash_some [] mark = cc
@@ -41,49 +42,50 @@ tail_back tail kept plain (inr h) = inr (h.0, path_kept tail plain h.1)
 
 -- The absolute form
 
-module _ (text : List ℕ) (plain : IsPlain text) (none : ((scheme authority kept : List ℕ) → ¬ (IsAbsoluteForm text scheme authority kept)) → SpellsNone text) where
-  abbrev name : List ℕ
-  name = take (scheme_len text) text
+module _ (text : List ℕ) (plain : IsPlain text) (none : ((scheme authority kept : List ℕ) → ¬ (IsAbsoluteForm text scheme authority kept)) → SpellsNone text)
+  where
+    abbrev name : List ℕ
+    name = take (scheme_len text) text
 
-  abbrev rest : List ℕ
-  rest = drop (scheme_len text + 3) text
+    abbrev rest : List ℕ
+    rest = drop (scheme_len text + 3) text
 
-  abbrev authority : List ℕ
-  authority = take (authority_len rest) rest
+    abbrev authority : List ℕ
+    authority = take (authority_len rest) rest
 
-  abbrev tail : List ℕ
-  tail = drop (authority_len rest) rest
+    abbrev tail : List ℕ
+    tail = drop (authority_len rest) rest
 
-  plain_tail : IsPlain tail
-  plain_tail = IsPlain-drop (authority_len rest) rest (IsPlain-drop (scheme_len text + 3) text plain)
+    plain_tail : IsPlain tail
+    plain_tail = IsPlain-drop (authority_len rest) rest (IsPlain-drop (scheme_len text + 3) text plain)
 
-  Decides-parts : Decides (is_scheme name && is_authority authority && is_tail tail) ((IsScheme name × IsAuthority authority) × KeptTail tail)
-  Decides-parts = Decides-and _ _ (Decides-and _ _ (Decides-is_scheme name) (Decides-is_authority authority)) (Decides-is_tail tail plain_tail)
+    Decides-parts : Decides (is_scheme name && is_authority authority && is_tail tail) ((IsScheme name × IsAuthority authority) × KeptTail tail)
+    Decides-parts = Decides-and _ _ (Decides-and _ _ (Decides-is_scheme name) (Decides-is_authority authority)) (Decides-is_tail tail plain_tail)
 
-  parts_of : (s a k : List ℕ) → IsAbsoluteForm text s a k → (IsScheme name × IsAuthority authority) × KeptTail tail
-  parts_of s a k h =
-      let authority_is : authority ≡ a = ap (λ r. take (authority_len r) r) (cut_rest text s a k h) ∙ cut_authority text s a k h in
-      let tail_is : tail ≡ h.tail = ap (λ r. drop (authority_len r) r) (cut_rest text s a k h) ∙ cut_tail text s a k h in (
-        (subst IsScheme (sym (cut_name text s a k h)) h.is_scheme, subst IsAuthority (sym authority_is) h.is_authority),
-        subst KeptTail (sym tail_is) (tail_back h.tail k (subst IsPlain tail_is plain_tail) h.is_tail),
-      )
+    parts_of : (s a k : List ℕ) → IsAbsoluteForm text s a k → (IsScheme name × IsAuthority authority) × KeptTail tail
+    parts_of s a k h =
+        let authority_is : authority ≡ a = ap (λ r. take (authority_len r) r) (cut_rest text s a k h) ∙ cut_authority text s a k h in
+        let tail_is : tail ≡ h.tail = ap (λ r. drop (authority_len r) r) (cut_rest text s a k h) ∙ cut_tail text s a k h in (
+          (subst IsScheme (sym (cut_name text s a k h)) h.is_scheme, subst IsAuthority (sym authority_is) h.is_authority),
+          subst KeptTail (sym tail_is) (tail_back h.tail k (subst IsPlain tail_is plain_tail) h.is_tail),
+        )
 
-  parts_read : HasScheme text → Reads text (uri_of_parts name authority tail)
-  parts_read has =
-      cond_both (is_scheme name && is_authority authority && is_tail tail) _ _ (Reads text)
-      (λ passed.
-      let parts = Decides-parts.0 passed in
-      let short = plain.short in (
-        omega arith,
-        absolute_from_cuts text (normal_scheme name) authority (or_slash tail) (scheme_len text) (authority_len rest) has refl parts.0.0 refl refl parts.0.1
-            (tail_from tail plain_tail parts.1),
-      ))
-      (λ failed. none λ s a k h. both_ways _ failed (Decides-parts.1 (parts_of s a k h)))
+    parts_read : HasScheme text → Reads text (uri_of_parts name authority tail)
+    parts_read has =
+        cond_both (is_scheme name && is_authority authority && is_tail tail) _ _ (Reads text)
+        (λ passed.
+        let parts = Decides-parts.0 passed in
+        let short = plain.short in (
+          omega arith,
+          absolute_from_cuts text (normal_scheme name) authority (or_slash tail) (scheme_len text) (authority_len rest) has refl parts.0.0 refl refl parts.0.1
+              (tail_from tail plain_tail parts.1),
+        ))
+        (λ failed. none λ s a k h. both_ways _ failed (Decides-parts.1 (parts_of s a k h)))
 
-  absolute_read : Reads text (absolute_in text)
-  absolute_read =
-      cond_both (has_scheme text) _ _ (Reads text) (λ has. parts_read ((Decides-has_scheme text).0 has))
-      (λ failed. none λ s a k h. both_ways _ failed ((Decides-has_scheme text).1 (cut_scheme text s a k h)))
+    absolute_read : Reads text (absolute_in text)
+    absolute_read =
+        cond_both (has_scheme text) _ _ (Reads text) (λ has. parts_read ((Decides-has_scheme text).0 has))
+        (λ failed. none λ s a k h. both_ways _ failed ((Decides-has_scheme text).1 (cut_scheme text s a k h)))
 
 -- All forms
 

@@ -37,7 +37,8 @@ Decides-may_follow : (front : List ℕ) (b : ℕ) → Decides (may_follow front 
 Decides-may_follow front b =
     let byte : Decides (is_authority_byte b) (IsTrue (is_authority_byte b)) = (λ e. e, λ e. e) in
     let colons = Decides-implies _ _ (Decides-eqb b 58) (Decides-ltb (count_of 58 (last_piece front)) 8) in
-    let opening = Decides-implies _ _ (Decides-eqb b 91) (Decides-and _ _ (Decides-eqb (count_of 91 front) 0) (Decides-eqb (count_of 37 (last_piece front)) 0)) in
+    let opening = Decides-implies _ _ (Decides-eqb b 91) (Decides-and _ _ (Decides-eqb (count_of 91 front) 0) (Decides-eqb (count_of 37 (last_piece front)) 0))
+    in
     let closing = Decides-implies _ _ (Decides-eqb b 93) (Decides-and _ _ (Decides-ltb 0 (count_of 91 front)) (Decides-eqb (count_of 93 front) 0)) in
     Decides-like (may_follow front b) (λ h. record { byte = h.0.0.0; colons = h.0.0.1; opening = h.0.1; closing = h.1 })
     (λ h. (((h.byte, h.colons), h.opening), h.closing)) (Decides-and _ _ (Decides-and _ _ (Decides-and _ _ byte colons) opening) closing)
@@ -54,7 +55,8 @@ Decides-is_authority text =
     Decides-like (is_authority text)
     (λ h. record { nonempty = h.0.0.0.0.0; bytes = h.0.0.0.0.1; closed = h.0.0.0.1; one_colon = h.0.0.1; no_percent = h.0.1; has_host = h.1 })
     (λ h. (((((h.nonempty, h.bytes), h.closed), h.one_colon), h.no_percent), h.has_host))
-    (Decides-and _ _ (Decides-and _ _ (Decides-and _ _ (Decides-and _ _ (Decides-and _ _ (Decides-ltb 0 (length text)) bytes) closed) one_colon) no_percent) has_host)
+    (Decides-and _ _ (Decides-and _ _ (Decides-and _ _ (Decides-and _ _ (Decides-and _ _ (Decides-ltb 0 (length text)) bytes) closed) one_colon) no_percent)
+    has_host)
 
 pub Decides-starts_origin : (text : List ℕ) → Decides (starts_origin text) (StartsOrigin text)
 Decides-starts_origin text = Decides-or _ _ (bytes_eq-Decides text (codes "*")) (Decides-eqb (get_or text 0 0) 47)
@@ -97,7 +99,8 @@ plain_utf8 text h = IsUtf8-from_ascii text (IsAscii-from_reads text (length text
 -- it has no fragment
 pub plain_whole : (text : List ℕ) → IsPlain text → without_fragment text ≡ text
 plain_whole text h =
-    take_all _ text (let at = index_of_is 35 text (length text) (omega arith) (λ k within. (plain_at text h k within).1) (λ lt. absurd (omega arith)) in omega arith)
+    take_all _ text (let at = index_of_is 35 text (length text) (omega arith) (λ k within. (plain_at text h k within).1) (λ lt. absurd (omega arith)) in
+    omega arith)
 
 pub Decides-is_path_and_query : (text : List ℕ) → IsPlain text → Decides (is_path_and_query text) (IsPathAndQuery text)
 Decides-is_path_and_query text plain =

@@ -27,4 +27,5 @@ key_of text = key_in (outcome_of text)
 
 -- this function gives the key that each text has, and none if the text has none
 abbrev pub GivesKeys : (List ℕ → Option (List ℕ)) → Type 0
-GivesKeys given = (text : List ℕ) (outcome : Result (List ℕ) KeyFault) → HasKey text outcome → given text ≡ key_in outcome
+GivesKeys given = (text : List ℕ) (outcome : Result (List ℕ) KeyFault) → HasKey text outcome →
+    given text ≡ key_in outcome

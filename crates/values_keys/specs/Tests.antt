@@ -20,7 +20,9 @@ abbrev pub may_follow : List ℕ → ℕ → Bool
 may_follow front b =
     is_authority_byte b
     && (not (b == colon) || nat_lt (count_of colon (last_piece front)) 8)
-    && (not (b == left_bracket) || ((count_of left_bracket front == 0) && (count_of percent_sign (last_piece front) == 0)))
+    &&
+    (not (b == left_bracket) || ((count_of left_bracket front == 0)
+    && (count_of percent_sign (last_piece front) == 0)))
     && (not (b == right_bracket) || (nat_lt 0 (count_of left_bracket front) && (count_of right_bracket front == 0)))
 
 -- userinfo, host and port; one pair of brackets may hold an address (`IsAuthority`)

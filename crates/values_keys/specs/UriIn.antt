@@ -40,13 +40,15 @@ absolute_form scheme authority tail = record {
 -- the URI of a scheme, an authority and a tail, if each passes its test; an empty path reads as `/`
 abbrev pub uri_of_parts : List ℕ → List ℕ → List ℕ → Option Uri
 uri_of_parts name authority tail =
-    if is_scheme name && is_authority authority && is_tail tail then Some (absolute_form (normal_scheme name) authority (or_slash tail)) else None
+    if is_scheme name && is_authority authority && is_tail tail
+    then Some (absolute_form (normal_scheme name) authority (or_slash tail)) else None
 
 -- the absolute form, cut where the octets of the scheme end and where the authority ends
 abbrev pub absolute_in : List ℕ → Option Uri
 absolute_in text =
     let rest = drop (scheme_len text + 3) text in
-    if has_scheme text then uri_of_parts (take (scheme_len text) text) (take (authority_len rest) rest) (drop (authority_len rest) rest) else None
+    if has_scheme text then uri_of_parts (take (scheme_len text) text) (take (authority_len rest) rest)
+    (drop (authority_len rest) rest) else None
 
 -- the URI that the text spells, if it spells one; a text has one form at most
 abbrev pub uri_in : List ℕ → Option Uri

@@ -10,13 +10,15 @@ ghost use Rattle.values_keys.specs.KeyOf.{outcome_of, key_of, GivesKeys};
 /// For a text without an early fault, `uri_in` gives the URI that the text spells, and none exactly
 /// if it spells none.
 pub fn uri_in_decides_the_grammar()
-    ensures { (text : List ℕ) → early_fault text ≡ None → MatchOption (uri_in text) (SpellsNone text) (Spells text) }
+    ensures { (text : List ℕ) → early_fault text ≡ None →
+        MatchOption (uri_in text) (SpellsNone text) (Spells text) }
 {}
 
 /// Each text has one outcome, a key or its first fault, and it is the one that `outcome_of` gives.
 pub fn each_text_has_one_outcome()
     ensures found { (text : List ℕ) → HasKey text (outcome_of text) }
-    ensures only { (text : List ℕ) (outcome : Result (List ℕ) KeyFault) → HasKey text outcome → outcome ≡ outcome_of text }
+    ensures only { (text : List ℕ) (outcome : Result (List ℕ) KeyFault) → HasKey text outcome →
+        outcome ≡ outcome_of text }
 {}
 
 /// `key_of` gives the key that each text has, and none if it has none.

@@ -15,7 +15,8 @@ counted_kept turns (Some xs) None kept = kept
 counted_kept turns (Some xs) (Some ys) kept = omega (arith, ap length kept)
 
 -- a piece was read, and no more reads were counted than it has octets
-pub counted_read : (old new : ℕ) (before after : Option (List ℕ)) (piece : List ℕ) → Consumes before after piece → new ≤ old + length piece → IsCounted old before new after
+pub counted_read : (old new : ℕ) (before after : Option (List ℕ)) (piece : List ℕ) → Consumes before after piece → new ≤ old + length piece →
+    IsCounted old before new after
 counted_read old new None after piece read more = tt
 counted_read old new (Some xs) None piece read more = read
 counted_read old new (Some xs) (Some ys) piece read more = omega (arith, ap length read, length-append piece ys, more)

@@ -42,7 +42,8 @@ lines_of-open (b ∷ c ∷ line) rest some none =
     record {
       tail = shorter.tail;
       others = shorter.others;
-      is = ap (λ t. cond t ([] ∷ lines_of ((c ∷ line) ++ rest)) (in_first b (lines_of ((c ∷ line) ++ rest)))) (ne_eqb b newline (none 0 (omega arith))) ∙ ap (in_first b) shorter.is;
+      is = ap (λ t. cond t ([] ∷ lines_of ((c ∷ line) ++ rest)) (in_first b (lines_of ((c ∷ line) ++ rest)))) (ne_eqb b newline (none 0 (omega arith)))
+          ∙ ap (in_first b) shorter.is;
     }
 
 -- the last line, without an end
@@ -68,12 +69,14 @@ front_open n held within none k lt =
 joined : (old piece new rest : List ℕ) → new ≡ old ++ piece → old ++ (piece ++ rest) ≡ new ++ rest
 joined old piece new rest is = sym (append_assoc old piece rest) ∙ ap (λ t. t ++ rest) (sym is)
 
-pub takes_line : (old : List ℕ) (before : Option (List ℕ)) (held : List ℕ) (after : Option (List ℕ)) (n : ℕ) → Takes old before held after → EndsAt n held → n ≤ 140000 → TakesLine old before (drop (n + 1) held) after (take n held)
+pub takes_line : (old : List ℕ) (before : Option (List ℕ)) (held : List ℕ) (after : Option (List ℕ)) (n : ℕ) → Takes old before held after → EndsAt n held →
+    n ≤ 140000 → TakesLine old before (drop (n + 1) held) after (take n held)
 takes_line old None held after n took at short = tt
 takes_line old (Some xs) held None n took at short = took.2
 takes_line old (Some xs) held (Some ys) n took at short =
     let whole : old ++ xs ≡ take n held ++ newline ∷ (drop (n + 1) held ++ ys) =
-    ap (λ t. old ++ t) took.2 ∙ joined old took.0 held ys took.1 ∙ ap (λ t. t ++ ys) (cut n held at) ∙ append_assoc (take n held) (newline ∷ drop (n + 1) held) ys in
+    ap (λ t. old ++ t) took.2 ∙ joined old took.0 held ys took.1 ∙ ap (λ t. t ++ ys) (cut n held at)
+    ∙ append_assoc (take n held) (newline ∷ drop (n + 1) held) ys in
     let within : n ≤ length held = omega (arith, at.0) in
     (ap lines_of whole ∙ lines_of-line (take n held) (drop (n + 1) held ++ ys) (front_open n held within at.2), le-ltb _ _ (omega (arith, length-take n held)))
 
@@ -84,7 +87,8 @@ long_line front lines starts long =
     ap begins_long starts.is ∙ first
 
 -- what is held has no end so far: the line that it begins is too long, if it is
-pub fails_open : (old : List ℕ) (before : Option (List ℕ)) (held : List ℕ) (after : Option (List ℕ)) (n : ℕ) (fault : RunFault) → Takes old before held after → n ≤ length held → HasNoEnd n held → (fault ≡ LineTooLong → 140000 < n) → FailsToTake old before fault
+pub fails_open : (old : List ℕ) (before : Option (List ℕ)) (held : List ℕ) (after : Option (List ℕ)) (n : ℕ) (fault : RunFault) → Takes old before held after →
+    n ≤ length held → HasNoEnd n held → (fault ≡ LineTooLong → 140000 < n) → FailsToTake old before fault
 fails_open old None held after n fault took within none long = tt
 fails_open old (Some xs) held None n fault took within none long = absurd took.2
 fails_open old (Some xs) held (Some ys) n fault took within none long = λ e.
@@ -97,7 +101,8 @@ fails_open old (Some xs) held (Some ys) n fault took within none long = λ e.
     ∙ long_line front (lines_of (front ++ (drop n held ++ ys))) (lines_of-open front (drop n held ++ ys) (omega arith) (front_open n held within none)) over
 
 -- at the end of the input, what is held is the last line, if it is not empty
-pub takes_rest : (old : List ℕ) (before : Option (List ℕ)) (held : List ℕ) (after : Option (List ℕ)) → Takes old before held after → IsAtEnd after → HasNoEnd (length held) held → held ≢ [] → length held ≤ 140000 → TakesLine old before [] after held
+pub takes_rest : (old : List ℕ) (before : Option (List ℕ)) (held : List ℕ) (after : Option (List ℕ)) → Takes old before held after → IsAtEnd after →
+    HasNoEnd (length held) held → held ≢ [] → length held ≤ 140000 → TakesLine old before [] after held
 takes_rest old None held after took ended none some short = tt
 takes_rest old (Some xs) held None took ended none some short = took.2
 takes_rest old (Some xs) held (Some ys) took ended none some short =
@@ -105,19 +110,25 @@ takes_rest old (Some xs) held (Some ys) took ended none some short =
     ap (λ t. old ++ t) took.2 ∙ joined old took.0 held ys took.1 ∙ ap (λ t. held ++ t) ended ∙ append-nil held in
     (ap lines_of whole ∙ lines_of-last held some none ∙ ap (λ t. held ∷ lines_of t) (sym ended), le-ltb _ _ (omega arith))
 
-pub takes_none : (old : List ℕ) (before : Option (List ℕ)) (held : List ℕ) (after : Option (List ℕ)) → Takes old before held after → IsAtEnd after → held ≡ [] → TakesNone old before
+pub takes_none : (old : List ℕ) (before : Option (List ℕ)) (held : List ℕ) (after : Option (List ℕ)) → Takes old before held after → IsAtEnd after → held ≡ [] →
+    TakesNone old before
 takes_none old None held after took ended none = tt
 takes_none old (Some xs) held None took ended none = absurd took.2
 takes_none old (Some xs) held (Some ys) took ended none =
     ap lines_of (ap (λ t. old ++ t) took.2 ∙ joined old took.0 held ys took.1 ∙ ap (λ t. t ++ ys) none ∙ ended)
 
 -- one read after another
-pub takes_then : (old : List ℕ) (before : Option (List ℕ)) (held : List ℕ) (middle : Option (List ℕ)) (new : List ℕ) (after : Option (List ℕ)) → Takes old before held middle → Takes held middle new after → Takes old before new after
-takes_then old before held middle new after (first, first_is, first_read) (second, second_is, second_read) =
-    (first ++ second, second_is ∙ ap (λ t. t ++ second) first_is ∙ append_assoc old first second, Consumes-trans before middle after first second first_read second_read)
+pub takes_then : (old : List ℕ) (before : Option (List ℕ)) (held : List ℕ) (middle : Option (List ℕ)) (new : List ℕ) (after : Option (List ℕ)) →
+    Takes old before held middle → Takes held middle new after → Takes old before new after
+takes_then old before held middle new after (first, first_is, first_read) (second, second_is, second_read) = (
+  first ++ second,
+  second_is ∙ ap (λ t. t ++ second) first_is ∙ append_assoc old first second,
+  Consumes-trans before middle after first second first_read second_read,
+)
 
 -- what `take_line` did, as what it took from the input
-pub line_taken : (old : List ℕ) (before : Option (List ℕ)) (held : List ℕ) (after : Option (List ℕ)) (n : ℕ) (line rest : List ℕ) (r : Result Bool RunFault) → Takes old before held after → EndsAt n held
+pub line_taken : (old : List ℕ) (before : Option (List ℕ)) (held : List ℕ) (after : Option (List ℕ)) (n : ℕ) (line rest : List ℕ) (r : Result Bool RunFault) →
+    Takes old before held after → EndsAt n held
     → IfOk r (λ found. (found ≡ true) × (n ≤ 140000) × (line ≡ take n held) × (rest ≡ drop (n + 1) held))
     → IfOk r (λ found. MatchBool found (TakesLine old before rest after line) (TakesNone old before))
 line_taken old before held after n line rest (Err fault) took at ok = tt
@@ -126,7 +137,8 @@ line_taken old before held after n line rest (Ok true) took at ok =
     rw (ok.2, ok.3) (takes_line old before held after n took at ok.1)
 
 -- the fault of `take_line`
-pub line_fails : (old : List ℕ) (before : Option (List ℕ)) (held : List ℕ) (after : Option (List ℕ)) (n : ℕ) (r : Result Bool RunFault) → Takes old before held after → EndsAt n held
+pub line_fails : (old : List ℕ) (before : Option (List ℕ)) (held : List ℕ) (after : Option (List ℕ)) (n : ℕ) (r : Result Bool RunFault) →
+    Takes old before held after → EndsAt n held
     → IfErr r (λ fault. fault ≡ LineTooLong → 140000 < n) → IfErr r (FailsToTake old before)
 line_fails old before held after n (Ok found) took at err = tt
 line_fails old before held after n (Err fault) took at err =
@@ -134,7 +146,8 @@ line_fails old before held after n (Err fault) took at err =
     fails_open old before held after n fault took (omega arith) at.2 err
 
 -- what `take_rest` did at the end of the input
-pub rest_taken : (old : List ℕ) (before : Option (List ℕ)) (held now : List ℕ) (after : Option (List ℕ)) (line rest : List ℕ) (r : Result Bool RunFault) → Takes old before now after → IsAtEnd after → now ≡ held → HasNoEnd (length held) held → length held ≤ 140000
+pub rest_taken : (old : List ℕ) (before : Option (List ℕ)) (held now : List ℕ) (after : Option (List ℕ)) (line rest : List ℕ) (r : Result Bool RunFault) →
+    Takes old before now after → IsAtEnd after → now ≡ held → HasNoEnd (length held) held → length held ≤ 140000
     → IfOk r (λ found. MatchBool found ((line ≡ now) × (now ≢ []) × (rest ≡ [])) (now ≡ []))
     → IfOk r (λ found. MatchBool found (TakesLine old before rest after line) (TakesNone old before))
 rest_taken old before held now after line rest (Err fault) took ended same none short ok = tt
@@ -143,5 +156,6 @@ rest_taken old before held now after line rest (Ok true) took ended same none sh
 rest_taken old before held now after line rest (Ok false) took ended same none short ok = takes_none old before now after took ended ok
 
 -- the fault of a line that is too long, before its end came
-pub open_fails : (old : List ℕ) (before : Option (List ℕ)) (held : List ℕ) (after : Option (List ℕ)) → Takes old before held after → HasNoEnd (length held) held → 140000 < length held → FailsToTake old before LineTooLong
+pub open_fails : (old : List ℕ) (before : Option (List ℕ)) (held : List ℕ) (after : Option (List ℕ)) → Takes old before held after →
+    HasNoEnd (length held) held → 140000 < length held → FailsToTake old before LineTooLong
 open_fails old before held after took none long = fails_open old before held after (length held) LineTooLong took (omega arith) none (λ _. long)

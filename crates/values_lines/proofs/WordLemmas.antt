@@ -30,7 +30,8 @@ first_test m = grind (arith, nat_tests)
 
 -- the place of the first space, where an octet stands in front
 abbrev place_by : Bool → List ℕ → Option ℕ
-place_by b cs = cond (nat_lt (cond (not b) (1 + position_or_len is_space cs) 0) (suc (length cs))) (Some (cond (not b) (1 + position_or_len is_space cs) 0)) None
+place_by b cs = cond (nat_lt (cond (not b) (1 + position_or_len is_space cs) 0) (suc (length cs))) (Some (cond (not b) (1 + position_or_len is_space cs) 0))
+    None
 
 place_of_space : (cs : List ℕ) → place_by true cs ≡ Some 0
 place_of_space cs = ap (λ t. cond t (Some 0) None) (first_test (length cs))

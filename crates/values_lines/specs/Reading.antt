@@ -22,7 +22,8 @@ EndsAt n text = (n < length text) × (slice_index text n ≡ newline) × HasNoEn
 abbrev pub TakesLine : List ℕ → Option (List ℕ) → List ℕ → Option (List ℕ) → List ℕ → Type 0
 TakesLine old None new unread line = ⊤
 TakesLine old (Some xs) new None line = ⊥
-TakesLine old (Some xs) new (Some ys) line = (lines_of (old ++ xs) ≡ line ∷ lines_of (new ++ ys)) × (is_long line ≡ false)
+TakesLine old (Some xs) new (Some ys) line = (lines_of (old ++ xs) ≡ line ∷ lines_of (new ++ ys))
+    × (is_long line ≡ false)
 
 -- no line was left
 abbrev pub TakesNone : List ℕ → Option (List ℕ) → Type 0

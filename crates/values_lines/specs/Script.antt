@@ -12,10 +12,12 @@ use Rattle.values_plain.specs.Writing.{AppendsFront}
 abbrev pub Plays : {S : Type 0} → (S → List ℕ → List ℕ → S → Type 0) → S → List (List ℕ) → List ℕ → S → Type 0
 Plays answers old [] text new = (text ≡ []) × (new ≡ old)
 Plays {S} answers old (line ∷ lines) text new =
-    (answer : List ℕ) × (rest : List ℕ) × (middle : S) × answers old line answer middle × (text ≡ answer ++ newline ∷ rest) × Plays answers middle lines rest new
+    (answer : List ℕ) × (rest : List ℕ) × (middle : S) × answers old line answer middle
+    × (text ≡ answer ++ newline ∷ rest) × Plays answers middle lines rest new
 
 -- all of these lines are answered and the answers written, and no line is too long
-pub record PlaysAll {S : Type 0} (answers : S → List ℕ → List ℕ → S → Type 0) (start : S) (lines : List (List ℕ)) (old new : Option (List ℕ)) (end : S) : Type 0 where
+pub record PlaysAll {S : Type 0} (answers : S → List ℕ → List ℕ → S → Type 0) (start : S) (lines : List (List ℕ))
+    (old new : Option (List ℕ)) (end : S) : Type 0 where
   pub text : List ℕ
   pub plays : Plays answers start lines text end
   pub written : Appends old new text
@@ -23,7 +25,8 @@ pub record PlaysAll {S : Type 0} (answers : S → List ℕ → List ℕ → S �
 
 -- after a fault: some first lines, of those before the last one if one is named, were answered; a
 -- front of the answers was written; and two faults have the cause that they name
-pub record PlaysSome {S : Type 0} (answers : S → List ℕ → List ℕ → S → Type 0) (start : S) (last : Option (List ℕ)) (input : List ℕ) (old new : Option (List ℕ)) (fault : RunFault) : Type 0 where
+pub record PlaysSome {S : Type 0} (answers : S → List ℕ → List ℕ → S → Type 0) (start : S) (last : Option (List ℕ))
+    (input : List ℕ) (old new : Option (List ℕ)) (fault : RunFault) : Type 0 where
   pub count : ℕ
   pub text : List ℕ
   pub end : S
@@ -37,15 +40,19 @@ pub record PlaysSome {S : Type 0} (answers : S → List ℕ → List ℕ → S �
 
 -- what a run up to a last line, if one is named, leaves in its writer, if the octets of its reader
 -- are known
-abbrev pub HasPlayedBefore : {S : Type 0} → (S → List ℕ → List ℕ → S → Type 0) → Option (List ℕ) → S → Option (List ℕ) → Option (List ℕ) → Option (List ℕ) → Result (Unit {0}) RunFault → S → Type 0
+abbrev pub HasPlayedBefore : {S : Type 0} → (S → List ℕ → List ℕ → S → Type 0) → Option (List ℕ) → S → Option (List ℕ) →
+    Option (List ℕ) → Option (List ℕ) → Result (Unit {0}) RunFault → S → Type 0
 HasPlayedBefore answers last start None old new r end = ⊤
 HasPlayedBefore answers last start (Some input) old new r end =
-    MatchResult r (λ _. PlaysAll answers start (lines_before last (lines_of input)) old new end) (λ fault. PlaysSome answers start last input old new fault)
+    MatchResult r (λ _. PlaysAll answers start (lines_before last (lines_of input)) old new end)
+    (λ fault. PlaysSome answers start last input old new fault)
 
 -- a run over all lines
-abbrev pub HasPlayed : {S : Type 0} → (S → List ℕ → List ℕ → S → Type 0) → S → Option (List ℕ) → Option (List ℕ) → Option (List ℕ) → Result (Unit {0}) RunFault → S → Type 0
+abbrev pub HasPlayed : {S : Type 0} → (S → List ℕ → List ℕ → S → Type 0) → S → Option (List ℕ) → Option (List ℕ) →
+    Option (List ℕ) → Result (Unit {0}) RunFault → S → Type 0
 HasPlayed answers start input old new r end = HasPlayedBefore answers None start input old new r end
 
 -- a run over the lines before the first that is the last one
-abbrev pub HasPlayedUntil : {S : Type 0} → (S → List ℕ → List ℕ → S → Type 0) → List ℕ → S → Option (List ℕ) → Option (List ℕ) → Option (List ℕ) → Result (Unit {0}) RunFault → S → Type 0
+abbrev pub HasPlayedUntil : {S : Type 0} → (S → List ℕ → List ℕ → S → Type 0) → List ℕ → S → Option (List ℕ) →
+    Option (List ℕ) → Option (List ℕ) → Result (Unit {0}) RunFault → S → Type 0
 HasPlayedUntil answers last start input old new r end = HasPlayedBefore answers (Some last) start input old new r end

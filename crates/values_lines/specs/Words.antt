@@ -39,4 +39,5 @@ is_decimal text =
 
 -- the number below the limit that the text spells in decimal, none for any other text
 abbrev pub decimal_below : ℕ → List ℕ → Option ℕ
-decimal_below limit text = if is_decimal text && nat_lt (digits_value 10 text) limit then Some (digits_value 10 text) else None
+decimal_below limit text = if is_decimal text && nat_lt (digits_value 10 text) limit then Some (digits_value 10 text)
+    else None

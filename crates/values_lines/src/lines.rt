@@ -33,7 +33,8 @@ pub(crate) struct LineReader {
 impl LineReader {
     /// A reader of lines that has read nothing.
     pub(crate) fn new(alloc: Global) -> Result<LineReader, AllocError>
-        ensures { IfOk result (λ made. (made.next ≡ 0) × (made.held.items ≡ []) × (made.turns ≡ 0)) }
+        ensures { IfOk result (λ made. (made.next ≡ 0) × (made.held.items ≡ [])
+            × (made.turns ≡ 0)) }
     {
         Ok(LineReader {
             held: Vec::new(alloc),
@@ -67,12 +68,17 @@ impl LineReader {
         line: &mut Vec<u8>,
     ) -> Result<bool, RunFault>
         ensures ok { IfOk result (λ found. MatchBool found
-            (TakesLine (drop self.old.next self.old.held.items) (R.remaining reader.old) (drop self.new.next self.new.held.items) (R.remaining reader.new) line.new.items)
+            (TakesLine (drop self.old.next self.old.held.items) (R.remaining reader.old)
+            (drop self.new.next self.new.held.items)
+            (R.remaining reader.new) line.new.items)
             (TakesNone (drop self.old.next self.old.held.items) (R.remaining reader.old))) }
-        ensures err { IfErr result (FailsToTake (drop self.old.next self.old.held.items) (R.remaining reader.old)) }
-        ensures fewer { IfOk result (λ found. IsTrue found → most_left self.new.turns (drop self.new.next self.new.held.items)
+        ensures err { IfErr result (FailsToTake (drop self.old.next self.old.held.items)
+            (R.remaining reader.old)) }
+        ensures fewer { IfOk result (λ found. IsTrue found →
+            most_left self.new.turns (drop self.new.next self.new.held.items)
             < most_left self.old.turns (drop self.old.next self.old.held.items)) }
-        ensures counted { IsCounted self.old.turns (R.remaining reader.old) self.new.turns (R.remaining reader.new) }
+        ensures counted { IsCounted self.old.turns (R.remaining reader.old) self.new.turns
+            (R.remaining reader.new) }
         ensures spent { result ≡ Err RunFault.TooManyTurns → self.new.turns ≡ 70000 }
     {
         'pieces: loop {
@@ -96,7 +102,8 @@ impl LineReader {
         requires { EndsAt length (drop self.old.next self.old.held.items) }
         ensures ok { IfOk result (λ found. (found ≡ true) × (length ≤ 140000)
             × (line.new.items ≡ take length (drop self.old.next self.old.held.items))
-            × (drop self.new.next self.new.held.items ≡ drop (length + 1) (drop self.old.next self.old.held.items))) }
+            × (drop self.new.next self.new.held.items
+            ≡ drop (length + 1) (drop self.old.next self.old.held.items))) }
         ensures turns { self.new.turns ≡ self.old.turns }
         ensures err { IfErr result (λ fault. (fault ≡ RunFault.LineTooLong → 140000 < length)) }
         ensures faults { result ≢ Err RunFault.TooManyTurns }
@@ -114,7 +121,9 @@ impl LineReader {
     /// Takes what is held as the last line. `false` if nothing is held.
     fn take_rest(&mut self, line: &mut Vec<u8>) -> Result<bool, RunFault>
         ensures ok { IfOk result (λ found. MatchBool found
-            ((line.new.items ≡ drop self.old.next self.old.held.items) × (drop self.old.next self.old.held.items ≢ []) × (drop self.new.next self.new.held.items ≡ []))
+            ((line.new.items ≡ drop self.old.next self.old.held.items)
+            × (drop self.old.next self.old.held.items ≢ [])
+            × (drop self.new.next self.new.held.items ≡ []))
             (drop self.old.next self.old.held.items ≡ [])) }
         ensures turns { self.new.turns ≡ self.old.turns }
         ensures err { IfErr result (λ fault. fault ≡ RunFault.NoMemory) }
@@ -133,10 +142,13 @@ impl LineReader {
         ensures taken { Takes (drop self.old.next self.old.held.items) (R.remaining reader.old)
             (drop self.new.next self.new.held.items) (R.remaining reader.new) }
         ensures more { IfOk result (λ more. MatchBool more (self.new.turns ≡ self.old.turns + 1)
-            (IsAtEnd (R.remaining reader.new) × (drop self.new.next self.new.held.items ≡ drop self.old.next self.old.held.items))) }
+            (IsAtEnd (R.remaining reader.new)
+            × (drop self.new.next self.new.held.items
+            ≡ drop self.old.next self.old.held.items))) }
         ensures fewer { most_left self.new.turns (drop self.new.next self.new.held.items)
             ≤ most_left self.old.turns (drop self.old.next self.old.held.items) }
-        ensures counted { IsCounted self.old.turns (R.remaining reader.old) self.new.turns (R.remaining reader.new) }
+        ensures counted { IsCounted self.old.turns (R.remaining reader.old) self.new.turns
+            (R.remaining reader.new) }
         ensures spent { result ≡ Err RunFault.TooManyTurns → self.new.turns ≡ 70000 }
         ensures faults { IfErr result (λ fault. fault ≢ RunFault.LineTooLong) }
     {
@@ -162,7 +174,8 @@ impl LineReader {
 
     /// Drops what was taken, and makes room for one read.
     fn make_room(&mut self) -> Result<(), AllocError>
-        ensures rest { drop self.new.next self.new.held.items ≡ drop self.old.next self.old.held.items }
+        ensures rest { drop self.new.next self.new.held.items
+            ≡ drop self.old.next self.old.held.items }
         ensures turns { self.new.turns ≡ self.old.turns }
         ensures room { OnOk result (vec_len self.new.held + 65536 ≤ vec_capacity self.new.held) }
         ensures piece { self.new.piece ≡ self.old.piece }

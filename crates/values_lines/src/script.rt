@@ -55,7 +55,8 @@ pub fn play_until<S: Script, R: Read, W: Write>(
     reader: &mut R,
     writer: &mut W,
 ) -> Result<(), RunFault>
-    ensures { HasPlayedUntil S.answers last.now script.old (R.remaining reader.old) (W.contents writer.old)
+    ensures { HasPlayedUntil S.answers last.now script.old (R.remaining reader.old)
+        (W.contents writer.old)
         (W.contents writer.new) result script.new }
 {
     play_before(alloc, script, Some(last), reader, writer)
@@ -69,7 +70,8 @@ fn play_before<S: Script, R: Read, W: Write>(
     reader: &mut R,
     writer: &mut W,
 ) -> Result<(), RunFault>
-    ensures { HasPlayedBefore S.answers (option_map (λ text. text.now) last.entry) script.old (R.remaining reader.old)
+    ensures { HasPlayedBefore S.answers (option_map (λ text. text.now) last.entry) script.old
+        (R.remaining reader.old)
         (W.contents writer.old) (W.contents writer.new) result script.new }
 {
     let mut source = match LineReader::new(alloc) {

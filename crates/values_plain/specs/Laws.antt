@@ -61,7 +61,8 @@ bytes-above (suc n) above x =
     rw (shift, top, rest) refl
 
 -- the octets of the number that octets spell are those octets
-pub big_bytes-big_number : (n : ℕ) (octets : List ℕ) → IsOctets octets → length octets ≡ n → big_bytes n (big_number n octets) ≡ octets
+pub big_bytes-big_number : (n : ℕ) (octets : List ℕ) → IsOctets octets → length octets ≡ n →
+    big_bytes n (big_number n octets) ≡ octets
 big_bytes-big_number zero [] fits size = refl
 big_bytes-big_number zero (octet ∷ octets) fits size = absurd (omega arith)
 big_bytes-big_number (suc n) [] fits size = absurd (omega arith)
@@ -69,17 +70,21 @@ big_bytes-big_number (suc n) (octet ∷ octets) fits size =
     let tail_fits = IsOctets-rest octet octets fits in
     let low = big_number n octets in
     let low-lt : low < 256 ^ n = big_from-lt 0 n octets tail_fits in
-    let moved : big_number (suc n) (octet ∷ octets) ≡ octet * 256 ^ n + low = ap (λ (r : ℕ). octet * 256 ^ n + r) (big_from-cons 0 n octet octets) in
+    let moved : big_number (suc n) (octet ∷ octets) ≡ octet * 256 ^ n + low =
+    ap (λ (r : ℕ). octet * 256 ^ n + r) (big_from-cons 0 n octet octets) in
     let first : byte_at n (octet * 256 ^ n + low) ≡ octet =
-    byte_at-pow n (octet * 256 ^ n + low) ∙ ap (λ (q : ℕ). q % 256) (div-mul-add octet (256 ^ n) low low-lt) ∙ mod-eq_of_lt (fits 0) in
+    byte_at-pow n (octet * 256 ^ n + low) ∙ ap (λ (q : ℕ). q % 256) (div-mul-add octet (256 ^ n) low low-lt)
+    ∙ mod-eq_of_lt (fits 0) in
     let others : bytes_high_first n (octet * 256 ^ n + low) ≡ octets =
     bytes-above n octet low ∙ big_bytes-big_number n octets tail_fits (omega arith) in
     ap (big_bytes (suc n)) moved ∙ rw (first, others) refl
 
 -- octets begin with those of the number that is read at their front
-pub cut_number : (n : ℕ) (octets : List ℕ) → IsOctets octets → n ≤ length octets → octets ≡ big_bytes n (big_number n octets) ++ drop n octets
+pub cut_number : (n : ℕ) (octets : List ℕ) → IsOctets octets → n ≤ length octets →
+    octets ≡ big_bytes n (big_number n octets) ++ drop n octets
 cut_number n octets fits long =
-    let front : big_bytes n (big_number n (take n octets)) ≡ take n octets = big_bytes-big_number n (take n octets) (IsOctets-take n octets fits) (omega (arith, length-take n octets)) in
+    let front : big_bytes n (big_number n (take n octets)) ≡ take n octets =
+    big_bytes-big_number n (take n octets) (IsOctets-take n octets fits) (omega (arith, length-take n octets)) in
     let same : big_number n (take n octets) ≡ big_number n octets = big_from-take 0 n n octets (omega arith) in
     sym (take-append-drop n octets) ∙ ap (λ (t : List ℕ). t ++ drop n octets) (sym front ∙ ap (big_bytes n) same)
 
@@ -106,14 +111,18 @@ pub length-counted : (text : List ℕ) → length (counted text) ≡ 2 + length 
 length-counted text = omega arith
 
 -- a counted text that was written is read again, whatever follows it
-pub split_counted-counted : (text rest : List ℕ) → length text < 2 ^ 16 → split_counted (counted text ++ rest) ≡ Some (text, rest)
+pub split_counted-counted : (text rest : List ℕ) → length text < 2 ^ 16 →
+    split_counted (counted text ++ rest) ≡ Some (text, rest)
 unfolding split_counted
 split_counted-counted text rest short =
     let count = length text in
-    let spelled : counted text ++ rest ≡ big_bytes 2 count ++ (text ++ rest) = append_assoc (big_bytes 2 count) text rest in
-    let number : big_number 2 (counted text ++ rest) ≡ count = ap (big_number 2) spelled ∙ big_number-big_bytes 2 count (text ++ rest) short in
+    let spelled : counted text ++ rest ≡ big_bytes 2 count ++ (text ++ rest) =
+    append_assoc (big_bytes 2 count) text rest in
+    let number : big_number 2 (counted text ++ rest) ≡ count = ap (big_number 2) spelled
+    ∙ big_number-big_bytes 2 count (text ++ rest) short in
     let long : ltb (length (text ++ rest)) count ≡ false = le-ltb _ _ (omega (arith, length-append text rest)) in
-    let enough : ltb (length (counted text ++ rest)) 2 ≡ false = le-ltb _ _ (omega (arith, length-append (counted text) rest)) in
+    let enough : ltb (length (counted text ++ rest)) 2 ≡ false =
+    le-ltb _ _ (omega (arith, length-append (counted text) rest)) in
     rw (enough, number, long, take_at text rest count refl, drop_at text rest count refl) refl
 
 -- the tests that a counted text passed, and its parts
@@ -128,24 +137,36 @@ abbrev cut : Bool → Bool → List ℕ → List ℕ → Option (List ℕ × Lis
 cut no_count past_end front behind = cond (no_count || past_end) None (Some (front, behind))
 
 -- where something is read, both tests passed
-cut_parts : (no_count past_end : Bool) (front behind text rest : List ℕ) → cut no_count past_end front behind ≡ Some (text, rest) → IsCut no_count past_end front behind text rest
+cut_parts : (no_count past_end : Bool) (front behind text rest : List ℕ) →
+    cut no_count past_end front behind ≡ Some (text, rest) → IsCut no_count past_end front behind text rest
 cut_parts true past_end front behind text rest e = absurd cc
 cut_parts false true front behind text rest e = absurd cc
 cut_parts false false front behind text rest e =
     let made : List ℕ × List ℕ = (front, behind) in
     let read : List ℕ × List ℕ = (text, rest) in
     let same : made ≡ read = cc in
-    record { counted = refl; long = refl; first = ap (λ (p : List ℕ × List ℕ). p.0) same; second = ap (λ (p : List ℕ × List ℕ). p.1) same }
+    record {
+      counted = refl;
+      long = refl;
+      first = ap (λ (p : List ℕ × List ℕ). p.0) same;
+      second =
+          ap (λ (p : List ℕ × List ℕ). p.1) same;
+    }
 
 -- a counted text that is read stands at the front
-pub split_counted-Some : (octets text rest : List ℕ) → IsOctets octets → split_counted octets ≡ Some (text, rest) → (octets ≡ counted text ++ rest) × (length text < 2 ^ 16)
+pub split_counted-Some : (octets text rest : List ℕ) → IsOctets octets → split_counted octets ≡ Some (text, rest) →
+    (octets ≡ counted text ++ rest) × (length text < 2 ^ 16)
 unfolding split_counted
 split_counted-Some octets text rest fits e =
     let count = big_number 2 octets in
     let behind = drop 2 octets in
-    let parts = cut_parts (ltb (length octets) 2) (ltb (length behind) count) (take count behind) (drop count behind) text rest e in
+    let parts = cut_parts (ltb (length octets) 2) (ltb (length behind) count) (take count behind) (drop count behind)
+    text rest e in
     let whole : octets ≡ big_bytes 2 count ++ behind = cut_number 2 octets fits (ltb-false _ _ parts.counted) in
-    let size : length text ≡ count = rw (← parts.first) (omega (arith, ltb-false _ _ parts.long, length-take count behind)) in
+    let size : length text ≡ count =
+    rw (← parts.first) (omega (arith, ltb-false _ _ parts.long, length-take count behind)) in
     let second : behind ≡ text ++ rest = rw (← parts.first, ← parts.second) (sym (take-append-drop count behind)) in
-    let spelled : octets ≡ big_bytes 2 (length text) ++ (text ++ rest) = rw (size, ← second) whole in
-    (spelled ∙ sym (append_assoc (big_bytes 2 (length text)) text rest), omega (arith, size, big_number-lt 2 octets fits))
+    let spelled : octets ≡ big_bytes 2 (length text) ++ (text ++ rest) = rw (size, ← second) whole in (
+      spelled ∙ sym (append_assoc (big_bytes 2 (length text)) text rest),
+      omega (arith, size, big_number-lt 2 octets fits),
+    )

@@ -20,7 +20,8 @@ with_last rest last = option_and_then (λ xs. option_and_then (λ x. Some (xs ++
 abbrev with_first : {A : Type 0} → Option A → Option (List A) → Option (List A)
 with_first first rest = option_and_then (λ y. option_and_then (λ ys. Some (y ∷ ys)) rest) first
 
-both_ends : {A : Type 0} (first : Option A) (rest : Option (List A)) (last : Option A) → with_first first (with_last rest last) ≡ with_last (with_first first rest) last
+both_ends : {A : Type 0} (first : Option A) (rest : Option (List A)) (last : Option A) → with_first first (with_last rest last) ≡ with_last
+    (with_first first rest) last
 both_ends None rest last = refl
 both_ends (Some y) None last = refl
 both_ends (Some y) (Some ys) None = refl
@@ -30,7 +31,8 @@ alone : {A : Type 0} (first : Option A) → with_first first (Some []) ≡ with_
 alone None = refl
 alone (Some y) = refl
 
-pub all_of-last : {A : Type 0} (f : Data → Option A) (vs : List Value) (v : Value) → all_of f (items_view (vs ++ v ∷ [])) ≡ with_last (all_of f (items_view vs)) (f (view v))
+pub all_of-last : {A : Type 0} (f : Data → Option A) (vs : List Value) (v : Value) → all_of f (items_view (vs ++ v ∷ [])) ≡ with_last (all_of f (items_view vs))
+    (f (view v))
 all_of-last f [] v = alone (f (view v))
 all_of-last f (w ∷ vs) v = rw (all_of-last f vs v) (both_ends (f (view w)) (all_of f (items_view vs)) (f (view v)))
 
@@ -45,18 +47,21 @@ nothing_after None = refl
 nothing_after (Some y) = refl
 
 -- one entry that is bad
-pub all_of-none : {A : Type 0} (f : Data → Option A) (vs : List Value) (i : ℕ) (v : Value) → i < length vs → v ≡ get_or vs i v → f (view v) ≡ None → all_of f (items_view vs) ≡ None
+pub all_of-none : {A : Type 0} (f : Data → Option A) (vs : List Value) (i : ℕ) (v : Value) → i < length vs → v ≡ get_or vs i v → f (view v) ≡ None →
+    all_of f (items_view vs) ≡ None
 all_of-none f [] i v h is bad = absurd (omega arith)
 all_of-none f (w ∷ vs) zero v h is bad = rw (← is, bad)
 all_of-none f (w ∷ vs) (suc i) v h is bad = rw (all_of-none f vs i v (omega arith) is bad) (nothing_after (f (view w)))
 
 -- the fault of one entry is one of all
-pub bad_entry : {A : Type 0} (f : Data → Option A) (vs : List Value) (i : ℕ) (v : Value) (fault : TablesFault) → i < length vs → v ≡ get_or vs i v → IsFieldFault fault (f (view v) ≡ None) → IsFieldFault fault (all_of f (items_view vs) ≡ None)
+pub bad_entry : {A : Type 0} (f : Data → Option A) (vs : List Value) (i : ℕ) (v : Value) (fault : TablesFault) → i < length vs → v ≡ get_or vs i v →
+    IsFieldFault fault (f (view v) ≡ None) → IsFieldFault fault (all_of f (items_view vs) ≡ None)
 bad_entry f vs i v (BadToml p) h is bad = bad
 bad_entry f vs i v (BadField p) h is bad = all_of-none f vs i v h is bad
 bad_entry f vs i v NoMemory h is bad = bad
 
 -- the keys of a map, and those of its members
-pub has_only-keys : (keys : List (List ℕ)) (es : List (String Global × Value)) → list_all (λ key. is_among keys (string_bytes key)) (keys_of es) ≡ has_only keys (members_view es)
+pub has_only-keys : (keys : List (List ℕ)) (es : List (String Global × Value)) → list_all (λ key. is_among keys (string_bytes key)) (keys_of es) ≡ has_only keys
+    (members_view es)
 has_only-keys keys [] = refl
 has_only-keys keys (e ∷ es) = ap (λ b. is_among keys (string_bytes e.0) && b) (has_only-keys keys es)

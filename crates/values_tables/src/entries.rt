@@ -72,7 +72,8 @@ fn is_cache_key(key: &str) -> bool
 
 /// Whether a table of this kind may have all the keys that this one has.
 fn are_keys(kind: TableKind, table: &Table) -> bool
-    ensures { result ≡ list_all (λ key. is_among (keys_of kind) (string_bytes key)) (keys table.now) }
+    ensures { result ≡ list_all (λ key.
+        is_among (keys_of kind) (string_bytes key)) (keys table.now) }
 {
     table.keys().all(|key| is_key(kind, key.as_str()))
 }
@@ -91,8 +92,10 @@ pub(crate) fn known_table(
     place: TextPlace,
 ) -> Result<&Table, TablesFault>
     ensures { MatchResult result
-        (λ t. checked (has_only_keys (keys_of kind)) (table_view table.now) ≡ Some (table_view t.now))
-        (λ fault. IsFieldFault fault (checked (has_only_keys (keys_of kind)) (table_view table.now) ≡ None)) }
+        (λ t. checked (has_only_keys (keys_of kind)) (table_view table.now)
+        ≡ Some (table_view t.now))
+        (λ fault. IsFieldFault fault (checked (has_only_keys (keys_of kind)) (table_view table.now)
+        ≡ None)) }
 {
     if has_only(kind, table) {
         Ok(table)
@@ -110,7 +113,8 @@ pub(crate) fn table_of(
 ) -> Result<&Table, TablesFault>
     ensures { MatchResult result
         (λ t. table_in kind (option_map (λ v. view v.now) value.entry) ≡ Some (table_view t.now))
-        (λ fault. IsFieldFault fault (table_in kind (option_map (λ v. view v.now) value.entry) ≡ None)) }
+        (λ fault. IsFieldFault fault (table_in kind (option_map (λ v. view v.now) value.entry)
+        ≡ None)) }
 {
     match value {
         Some(Value::Table(table)) => known_table(kind, table, place),
@@ -158,7 +162,8 @@ fn read_cache(
 ) -> Result<Cache, TablesFault>
     requires { high < 256 }
     ensures { MatchResult result
-        (λ c. (cache_of low high (table_view table.now) ≡ Some c) × (is_cache c ≡ true) × (is_between low high c.id ≡ true))
+        (λ c. (cache_of low high (table_view table.now) ≡ Some c) × (is_cache c ≡ true)
+        × (is_between low high c.id ≡ true))
         (λ fault. IsFieldFault fault (cache_of low high (table_view table.now) ≡ None)) }
 {
     let id = number(table, "id", low, high, place)?;
@@ -227,8 +232,10 @@ pub(crate) fn read_list<T: Entry>(
     place: TextPlace,
 ) -> Result<Listed<T>, TablesFault>
     ensures { MatchResult result
-        (λ xs. (list_in T.reads (get_member key.now (table_view table.now)) ≡ Some xs) × (list_all T.is_sound xs ≡ true))
-        (λ fault. IsFieldFault fault (list_in T.reads (get_member key.now (table_view table.now)) ≡ None)) }
+        (λ xs. (list_in T.reads (get_member key.now (table_view table.now)) ≡ Some xs)
+        × (list_all T.is_sound xs ≡ true))
+        (λ fault. IsFieldFault fault (list_in T.reads (get_member key.now (table_view table.now))
+        ≡ None)) }
 {
     match value_at(table, key) {
         None => Ok(Listed::new(Vec::new(alloc))),

@@ -61,8 +61,10 @@ pub(crate) fn number(
     place: TextPlace,
 ) -> Result<u64, TablesFault>
     ensures { MatchResult result
-        (λ n. (number_within low high key.now (table_view table.now) ≡ Some n) × (is_between low high n ≡ true))
-        (λ fault. IsFieldFault fault (number_within low high key.now (table_view table.now) ≡ None)) }
+        (λ n. (number_within low high key.now (table_view table.now) ≡ Some n)
+        × (is_between low high n ≡ true))
+        (λ fault. IsFieldFault fault (number_within low high key.now (table_view table.now)
+        ≡ None)) }
 {
     match natural_at(table, key) {
         Some(number) if low <= number && number <= high => Ok(number),

@@ -50,7 +50,8 @@ fn bad_toml(text: &[u8], start: usize) -> TablesFault
 /// What a document says.
 fn tables_of(alloc: Global, document: &Table) -> Result<Tables, TablesFault>
     ensures { MatchResult result
-        (λ tables. (tables_in_document (table_view document.now) ≡ Some tables) × (are_tables tables ≡ true))
+        (λ tables. (tables_in_document (table_view document.now) ≡ Some tables)
+        × (are_tables tables ≡ true))
         (λ fault. IsFieldFault fault (tables_in_document (table_view document.now) ≡ None)) }
 {
     let place = TextPlace::of(TableKind::Top);
@@ -103,7 +104,8 @@ fn master(table: &Table) -> Result<Address, TablesFault>
 /// The members, at least one.
 fn members(alloc: Global, table: &Table) -> Result<Listed<Member>, TablesFault>
     ensures { MatchResult result
-        (λ ms. (members_of (table_view table.now) ≡ Some ms) × (nat_le 1 (length ms) ≡ true) × (list_all is_member ms ≡ true))
+        (λ ms. (members_of (table_view table.now) ≡ Some ms) × (nat_le 1 (length ms) ≡ true)
+        × (list_all is_member ms ≡ true))
         (λ fault. IsFieldFault fault (members_of (table_view table.now) ≡ None)) }
 {
     let place = TextPlace::of(TableKind::Node);

@@ -17,8 +17,20 @@ module _ (h : Tables) (place : ℕ) (w : World) (event : WorldEvent) (key : IsOf
   turn_done (NodeSteps id e serial) is =
       let r = step (setting h id) (node_at w.states id) e place in
       let seen : Seen = Replied id r.outcome in
-      let new : World = after_node h w id e serial r.outcome r.state in
-      (seen, (key, subst (λ (t : Turn). Takes h place w t seen new) (sym is) (r.outcome, r.state, step_steps (setting h id) (node_at w.states id) e place, refl, refl)), refl)
+      let new : World = after_node h w id e serial r.outcome r.state in (
+        seen,
+        (
+          key,
+          subst (λ (t : Turn). Takes h place w t seen new) (sym is) (
+            r.outcome,
+            r.state,
+            step_steps (setting h id) (node_at w.states id) e place,
+            refl,
+            refl,
+          ),
+        ),
+        refl,
+      )
   turn_done (Ends seen new) is = (seen, (key, subst (λ (t : Turn). Takes h place w t seen new) (sym is) (refl, refl)), refl)
   turn_done (Refused fault) is = is
 
@@ -30,7 +42,8 @@ module _ (h : Tables) (place : ℕ) (w : World) (event : WorldEvent) (key : IsOf
 abbrev IsPlayed : Tables → List WorldEvent → ℕ → World → Type 0
 IsPlayed h events place w = (steps : List Step) × (new : World) × Plays h place w events steps new
 
-played_on : (h : Tables) (place : ℕ) (w : World) (event : WorldEvent) (events : List WorldEvent) → ((place : ℕ) (w : World) → IsPlayed h events place w) → (a : Applied) → IsDone h place w event a → IsPlayed h (event ∷ events) place w
+played_on : (h : Tables) (place : ℕ) (w : World) (event : WorldEvent) (events : List WorldEvent) → ((place : ℕ) (w : World) → IsPlayed h events place w) →
+    (a : Applied) → IsDone h place w event a → IsPlayed h (event ∷ events) place w
 played_on h place w event events rest (Did outcome new) (seen, happens, same) =
     let r = rest (place + 1) new in
     (record { event = event; seen = seen } ∷ r.0, r.1, inr (seen, new, r.0, happens, refl, r.2))

@@ -72,11 +72,15 @@ module _ {X : Type 0} (g : Setting) (s : NodeState X) (e : Event X) (mark : X) (
   plainly : (t : NodeState X) (outcome : Result (Reply X) StepFault) → GoesOn t → ServesRightly s e outcome → Answers record { state = t; outcome = outcome }
   plainly t outcome on serves = record { asks = on.0; blocks = λ _. (is_open, on.1); serves = serves }
 
-  ended_so : (t : NodeState X) (block : ℕ) (outcome : Result (Reply X) StepFault) → GoesOn t → ServesRightly s e outcome → Answers record { state = ending t block; outcome = outcome }
-  ended_so t block outcome on serves = plainly (ending t block) outcome (all_left (IsAskAfter s e t.next) (λ q. not (is_of_block block q)) t.pending on.0, on.1) serves
+  ended_so : (t : NodeState X) (block : ℕ) (outcome : Result (Reply X) StepFault) → GoesOn t → ServesRightly s e outcome →
+      Answers record { state = ending t block; outcome = outcome }
+  ended_so t block outcome on serves = plainly (ending t block) outcome (all_left (IsAskAfter s e t.next) (λ q. not (is_of_block block q)) t.pending on.0, on.1)
+      serves
 
-  changed_so : (t : NodeState X) (p : Pending X) (outcome : Result (Reply X) StepFault) → GoesOn t → IsAskAfter s e t.next p → ServesRightly s e outcome → Answers record { state = changing t p; outcome = outcome }
-  changed_so t p outcome on is serves = plainly (changing t p) outcome (all_changed (IsAskAfter s e t.next) (is_of_block p.block) p t.pending is on.0, on.1) serves
+  changed_so : (t : NodeState X) (p : Pending X) (outcome : Result (Reply X) StepFault) → GoesOn t → IsAskAfter s e t.next p → ServesRightly s e outcome →
+      Answers record { state = changing t p; outcome = outcome }
+  changed_so t p outcome on is serves = plainly (changing t p) outcome (all_changed (IsAskAfter s e t.next) (is_of_block p.block) p t.pending is on.0, on.1)
+      serves
 
   was_waiting : (p : Pending X) → Contains s.pending p → Waits s p.block p.asker p.ask
   was_waiting p has = record { was = p; waits = has; block_same = refl; asker_same = refl; ask_same = refl }
@@ -102,11 +106,13 @@ module _ {X : Type 0} (g : Setting) (s : NodeState X) (e : Event X) (mark : X) (
 
   -- Going on
 
-  read_origin_answers : (t : NodeState X) → GoesOn t → (p : Pending X) → IsAskAfter s e t.next p → (waiter : Option ℕ) → ((key : List ℕ) × IsFor s e waiter p.asker key) → (now : ℕ) → Answers (read_origin g t p waiter now mark)
+  read_origin_answers : (t : NodeState X) → GoesOn t → (p : Pending X) → IsAskAfter s e t.next p → (waiter : Option ℕ) →
+      ((key : List ℕ) × IsFor s e waiter p.asker key) → (now : ℕ) → Answers (read_origin g t p waiter now mark)
   unfolding read_origin begin_read
   read_origin_answers t on p is waiter serves now =
       branches Answers (nat_le 3 p.reads) _ _ (λ _. ended_so t p.block _ on serves)
-      (λ _. branches Answers (has_origin g.roster p.ask.key) _ _ (λ _. changed_so t (fetching p (p.reads + 1) (AtOrigin (seen t.floors) now mark)) _ on is tt) (λ _. ended_so t p.block _ on serves))
+      (λ _. branches Answers (has_origin g.roster p.ask.key) _ _ (λ _. changed_so t (fetching p (p.reads + 1) (AtOrigin (seen t.floors) now mark)) _ on is tt)
+      (λ _. ended_so t p.block _ on serves))
 
   go_to_answers : (t : NodeState X) → GoesOn t → (p : Pending X) → Waits s p.block p.asker p.ask → (now : ℕ) (to : Source) → Answers (go_to g t p now mark to)
   unfolding go_to ask_peer
@@ -129,7 +135,8 @@ module _ {X : Type 0} (g : Setting) (s : NodeState X) (e : Event X) (mark : X) (
 
     ask_around_answers : (round : RoundText) (peers : List Peer) → Answers (ask_around g (takes_block s) asker ask s.next now mark round peers)
     unfolding ask_around begin_round
-    ask_around_answers round [] = read_origin_answers _ (one_more None, omega arith) (new_ask s.next asker ask None) (new_is None) None (ask.key, (ask, asks, refl)) now
+    ask_around_answers round [] = read_origin_answers _ (one_more None, omega arith) (new_ask s.next asker ask None) (new_is None) None
+        (ask.key, (ask, asks, refl)) now
     ask_around_answers round (p ∷ peers) = plainly _ _ (one_more (Some round), omega arith) tt
 
     not_held_answers : Answers (not_held g s asker ask now mark)
@@ -159,7 +166,8 @@ module _ {X : Type 0} (g : Setting) (s : NodeState X) (e : Event X) (mark : X) (
     use_answer_answers : (stamp asked : ℕ) (answer : AnswerText) (tag : X) → Answers (use_answer g s p stamp asked answer tag now)
     unfolding use_answer
     use_answer_answers stamp asked answer tag =
-        plainly _ _ (all_left (IsAskAfter s e s.next) (λ q. not (is_of_block p.block q)) s.pending here.0, here.1) (ap (served_age (new_copy p.ask.key stamp asked (lifetime answer g.roster.limits.default_lifetime) answer tag)) at, (p, has, refl, refl, refl))
+        plainly _ _ (all_left (IsAskAfter s e s.next) (λ q. not (is_of_block p.block q)) s.pending here.0, here.1)
+        (ap (served_age (new_copy p.ask.key stamp asked (lifetime answer g.roster.limits.default_lifetime) answer tag)) at, (p, has, refl, refl, refl))
 
     peer_gave_answers : (peer asked stamp : ℕ) (answer : AnswerText) (tag : X) → Answers (peer_gave g s p peer asked stamp answer tag now mark)
     unfolding peer_gave try_on
@@ -204,7 +212,8 @@ module _ {X : Type 0} (g : Setting) (s : NodeState X) (e : Event X) (mark : X) (
     hears_answers : (peer : Peer) (said : Said) (o : Option RoundText) → Answers (hears g s p peer said now mark o)
     unfolding hears
     hears_answers peer said None = silent
-    hears_answers peer said (Some r) = branches Answers (has_answered r.answers peer.id) _ _ (λ _. silent) (λ _. moves_answers (with_round p (answered r peer.id said)) (was_waiting p has))
+    hears_answers peer said (Some r) = branches Answers (has_answered r.answers peer.id) _ _ (λ _. silent)
+        (λ _. moves_answers (with_round p (answered r peer.id said)) (was_waiting p has))
 
     told_by_answers : (said : Peer → Said) (o : Option Peer) → Answers (told_by g s p said now mark o)
     unfolding told_by
@@ -212,12 +221,14 @@ module _ {X : Type 0} (g : Setting) (s : NodeState X) (e : Event X) (mark : X) (
     told_by_answers said (Some peer) = hears_answers peer (said peer) p.round
 
   module _ (now : ℕ) (at : now ≡ moment e) where
-    peer_answer_to_answers : (peer stamp : ℕ) (answer : AnswerText) (tag : X) (test : Pending X → Bool) (o : Option (Pending X)) → find test s.pending ≡ o → Answers (peer_answer_to g s peer stamp answer tag now mark o)
+    peer_answer_to_answers : (peer stamp : ℕ) (answer : AnswerText) (tag : X) (test : Pending X → Bool) (o : Option (Pending X)) → find test s.pending ≡ o →
+        Answers (peer_answer_to g s peer stamp answer tag now mark o)
     unfolding peer_answer_to
     peer_answer_to_answers peer stamp answer tag test None waits = refused _
     peer_answer_to_answers peer stamp answer tag test (Some p) waits = from_peer_answers p (waiting test p waits) now at peer stamp answer tag p.fetch
 
-    origin_answer_to_answers : (answer : AnswerText) (test : Pending X → Bool) (o : Option (Pending X)) → find test s.pending ≡ o → Answers (origin_answer_to g s answer now mark o)
+    origin_answer_to_answers : (answer : AnswerText) (test : Pending X → Bool) (o : Option (Pending X)) → find test s.pending ≡ o →
+        Answers (origin_answer_to g s answer now mark o)
     unfolding origin_answer_to
     origin_answer_to_answers answer test None waits = refused _
     origin_answer_to_answers answer test (Some p) waits = from_origin_answers p (waiting test p waits) now at answer p.fetch
@@ -232,7 +243,8 @@ module _ {X : Type 0} (g : Setting) (s : NodeState X) (e : Event X) (mark : X) (
     expiry_of_answers test None waits = refused _
     expiry_of_answers test (Some p) waits = expires_answers p (waiting test p waits) now at p.round
 
-    told_to_answers : (by : Udp) (from : Address) (said : Peer → Said) (test : Pending X → Bool) (o : Option (Pending X)) → find test s.pending ≡ o → Answers (told_to g s by from said now mark o)
+    told_to_answers : (by : Udp) (from : Address) (said : Peer → Said) (test : Pending X → Bool) (o : Option (Pending X)) → find test s.pending ≡ o →
+        Answers (told_to g s by from said now mark o)
     unfolding told_to
     told_to_answers by from said test None waits = silent
     told_to_answers by from said test (Some p) waits = told_by_answers p (waiting test p waits) now at said _
@@ -246,7 +258,8 @@ module _ {X : Type 0} (g : Setting) (s : NodeState X) (e : Event X) (mark : X) (
     purge_answers : (from : Address) (trans : ℕ) (desired : Bool) (key : List ℕ) (n : ℕ) → Answers (purge s from trans desired key n)
     unfolding purge
     purge_answers from trans desired key n =
-        branches Answers (is_full s.floors key) _ _ (λ _. if_desired_answers s here desired from _) (λ _. if_desired_answers (purged s key n) here desired from _)
+        branches Answers (is_full s.floors key) _ _ (λ _. if_desired_answers s here desired from _)
+        (λ _. if_desired_answers (purged s key n) here desired from _)
 
     numbered_answers : (from : Address) (trans : ℕ) (desired : Bool) (o : Option (List ℕ × ℕ)) → Answers (numbered_clr s from trans desired o)
     unfolding numbered_clr
@@ -263,7 +276,8 @@ module _ {X : Type 0} (g : Setting) (s : NodeState X) (e : Event X) (mark : X) (
         branches Answers (is_known g.roster g.id udp.Htcp from || is_master g.roster from) _ _
         (λ _. if_desired_answers (dropped s key) (dropped_goes_on key) desired from _) (λ _. if_desired_answers s here desired from _)
 
-    clr_by_line_answers : (from : Address) (trans : ℕ) (desired : Bool) (key : Option (List ℕ)) (line : Result (Option ℕ) HtcpFault) → Answers (clr_by_line g s from trans desired key line)
+    clr_by_line_answers : (from : Address) (trans : ℕ) (desired : Bool) (key : Option (List ℕ)) (line : Result (Option ℕ) HtcpFault) →
+        Answers (clr_by_line g s from trans desired key line)
     unfolding clr_by_line
     clr_by_line_answers from trans desired key (Ok None) = plain_clr_answers from trans desired key
     clr_by_line_answers from trans desired key (Ok (Some n)) = numbered_answers from trans desired _
@@ -321,7 +335,8 @@ module _ {X : Type 0} (g : Setting) (s : NodeState X) (mark : X) where
   -- a closed node serves nothing, and what waits there stays
   closed_answers : (e : Event X) → s.closed ≡ true → (f : StepFault) → AnswersAsks s e (Err f) s
   closed_answers e is f = record {
-    asks = all_mapped (Contains s.pending) (IsAskAfter s e s.next) (λ p has. inl record { was = p; waits = has; block_same = refl; asker_same = refl; ask_same = refl }) s.pending (all_contained s.pending);
+    asks = all_mapped (Contains s.pending) (IsAskAfter s e s.next)
+        (λ p has. inl record { was = p; waits = has; block_same = refl; asker_same = refl; ask_same = refl }) s.pending (all_contained s.pending);
     blocks = λ is_open. absurd (true_not_false (sym is ∙ is_open));
     serves = tt;
   }
@@ -337,7 +352,8 @@ module _ {X : Type 0} (g : Setting) (s : NodeState X) (mark : X) where
 
   same_answers : (e : Event X) (f : StepFault) → AnswersAsks s e (Err f) s
   same_answers e f = record {
-    asks = all_mapped (Contains s.pending) (IsAskAfter s e s.next) (λ p has. inl record { was = p; waits = has; block_same = refl; asker_same = refl; ask_same = refl }) s.pending (all_contained s.pending);
+    asks = all_mapped (Contains s.pending) (IsAskAfter s e s.next)
+        (λ p has. inl record { was = p; waits = has; block_same = refl; asker_same = refl; ask_same = refl }) s.pending (all_contained s.pending);
     blocks = λ is_open. (is_open, omega arith);
     serves = tt;
   }
@@ -354,6 +370,7 @@ module _ {X : Type 0} (g : Setting) (s : NodeState X) (mark : X) where
   }
 
   -- each step of a node answers what was requested
-  pub steps_answer_asks : (e : Event X) (outcome : Result (Reply X) StepFault) (next : NodeState X) → Steps g s e mark outcome next → AnswersAsks s e outcome next
+  pub steps_answer_asks : (e : Event X) (outcome : Result (Reply X) StepFault) (next : NodeState X) → Steps g s e mark outcome next →
+      AnswersAsks s e outcome next
   steps_answer_asks e outcome next steps =
       steps_case g s e mark (λ r. AnswersAsks s e r.outcome r.state) (step_answers e) (same_answers e _) (λ n f h. closing_answers e n f h) outcome next steps

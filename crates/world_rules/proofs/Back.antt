@@ -55,7 +55,8 @@ module _ {X : Type 0} (g : Setting) (s : NodeState X) where
       branches (λ (r : Stepped X). IsSilent r) (is_cached_only g (Some asker) ask) _ _ (λ _. record { none = refl })
       (λ no. absurd (true_not_false (sym (or_true ask.only_if_cached (names_sibling g.roster asker g.id) h) ∙ no)))
 
-  by_copy_silent : (asker : ℕ) (ask : Ask) (now : ℕ) (mark : X) (o : Option (WebCopy X)) → names_sibling g.roster asker g.id ≡ true → IsSilent (by_copy g s (Some asker) ask now mark o)
+  by_copy_silent : (asker : ℕ) (ask : Ask) (now : ℕ) (mark : X) (o : Option (WebCopy X)) → names_sibling g.roster asker g.id ≡ true →
+      IsSilent (by_copy g s (Some asker) ask now mark o)
   unfolding by_copy
   by_copy_silent asker ask now mark None h = not_held_silent asker ask now mark h
   by_copy_silent asker ask now mark (Some c) h = record { none = refl }
@@ -87,7 +88,9 @@ module _ {X : Type 0} (g : Setting) (s : NodeState X) where
   step_if_back e mark false h = open_step_back mark e h
 
   -- at a sibling's question nothing is sent but a response to its source
-  pub sibling_sends_back : (e : Event X) (mark : X) (outcome : Result (Reply X) StepFault) (next : NodeState X) → is_from_sibling g e ≡ true → Steps g s e mark outcome next → SendsBack e (sent outcome)
+  pub sibling_sends_back : (e : Event X) (mark : X) (outcome : Result (Reply X) StepFault) (next : NodeState X) → is_from_sibling g e ≡ true →
+      Steps g s e mark outcome next → SendsBack e (sent outcome)
   unfolding step
   sibling_sends_back e mark outcome next h =
-      steps_case g s e mark (λ (r : Stepped X). SendsBack e (sent r.outcome)) (step_if_back e mark s.closed h) (nothing_back e) (λ n f closes. nothing_back e) outcome next
+      steps_case g s e mark (λ (r : Stepped X). SendsBack e (sent r.outcome)) (step_if_back e mark s.closed h) (nothing_back e) (λ n f closes. nothing_back e)
+      outcome next

@@ -13,7 +13,8 @@ purges-append past more = filter_map-append (λ (step : Step). purged_by step.ev
 -- more steps have issued at least as many purges
 purges_of_more : (part whole rest : List Step) → whole ≡ part ++ rest → length (purges part) ≤ length (purges whole)
 purges_of_more part whole rest e =
-    let f : length (purges whole) ≡ length (purges part) + length (purges rest) = ap (λ l. length (purges l)) e ∙ ap length (purges-append part rest) ∙ length-append (purges part) (purges rest) in
+    let f : length (purges whole) ≡ length (purges part) + length (purges rest) = ap (λ l. length (purges l)) e ∙ ap length (purges-append part rest)
+    ∙ length-append (purges part) (purges rest) in
     omega arith
 
 pub count_later : (past more : List Step) → length (purges past) ≤ length (purges (past ++ more))

@@ -17,10 +17,31 @@ use Rattle.values_keys.proofs.Outcomes.{gives_keys}
 
 -- a URI of these parts
 uri_of : (text : List ℕ) (scheme authority : Option (List ℕ)) (kept : List ℕ) → IsUriText text scheme authority kept → (u : Uri) × Spells text u
-uri_of text None None kept is = (record { scheme = None; authority = None; path_and_query = kept; absolute = λ x e. absurd (none-some x e); authority_alone = λ none x e. absurd (none-some x e) }, is)
-uri_of text None (Some authority) kept is = (record { scheme = None; authority = Some authority; path_and_query = kept; absolute = λ x e. refl; authority_alone = λ none x e. is.1.3 }, is)
+uri_of text None None kept is = (
+  record {
+    scheme = None;
+    authority = None;
+    path_and_query = kept;
+    absolute = λ x e. absurd (none-some x e);
+    authority_alone =
+        λ none x e. absurd (none-some x e);
+  },
+  is,
+)
+uri_of text None (Some authority) kept is =
+    (record { scheme = None; authority = Some authority; path_and_query = kept; absolute = λ x e. refl; authority_alone = λ none x e. is.1.3 }, is)
 uri_of text (Some scheme) None kept is = absurd is.1
-uri_of text (Some scheme) (Some authority) kept is = (record { scheme = Some scheme; authority = Some authority; path_and_query = kept; absolute = λ x e. refl; authority_alone = λ none. absurd (none-some scheme (sym none)) }, is)
+uri_of text (Some scheme) (Some authority) kept is = (
+  record {
+    scheme = Some scheme;
+    authority = Some authority;
+    path_and_query = kept;
+    absolute = λ x e. refl;
+    authority_alone =
+        λ none. absurd (none-some scheme (sym none));
+  },
+  is,
+)
 
 module _ (h : Tables) (key : List ℕ) (is : IsKey key) where
   -- a text that spells a URI whose outcome is known
@@ -39,7 +60,8 @@ module _ (h : Tables) (key : List ℕ) (is : IsKey key) where
 
   by_text : (read : List ℕ) → key_of key ≡ Some read → (b : Bool) → bytes_eq read key ≡ b → key_of key ≡ Some key
   by_text read e true same = e ∙ ap Some (same_text read key same)
-  by_text read e false other = absurd (not_other (early_fault key) refl (λ own. true_not_false (sym (text_same read key (ap (λ o. unwrap_or o []) (sym e ∙ own))) ∙ other)))
+  by_text read e false other =
+      absurd (not_other (early_fault key) refl (λ own. true_not_false (sym (text_same read key (ap (λ o. unwrap_or o []) (sym e ∙ own))) ∙ other)))
 
   by_read : (o : Option (List ℕ)) → key_of key ≡ o → key_of key ≡ Some key
   by_read None e = absurd (not_other (early_fault key) refl (λ own. none-some key (sym e ∙ own)))

@@ -35,8 +35,10 @@ Grows old new = (id : ℕ) (key : List ℕ) → floor (node_at old id).floors ke
 pub grows_itself : (states : List MemberState) → Grows states states
 grows_itself states = λ id key. omega arith
 
-pub grows_by : (states : List MemberState) (id : ℕ) (s : NodeState ℕ) → ((key : List ℕ) → floor (node_at states id).floors key ≤ floor s.floors key) → Grows states (with_node states id s)
-grows_by states id s h = each_node (λ each (now : NodeState ℕ). (key : List ℕ) → floor (node_at states each).floors key ≤ floor now.floors key) states id s h (λ each key. omega arith)
+pub grows_by : (states : List MemberState) (id : ℕ) (s : NodeState ℕ) → ((key : List ℕ) → floor (node_at states id).floors key ≤ floor s.floors key) →
+    Grows states (with_node states id s)
+grows_by states id s h = each_node (λ each (now : NodeState ℕ). (key : List ℕ) → floor (node_at states each).floors key ≤ floor now.floors key) states id s h
+    (λ each key. omega arith)
 
 module _ (past now : List Step) (extends : Extends past now) where
   pub stamped_later : (stamp mark : ℕ) → IsStamped past stamp mark → IsStamped now stamp mark
@@ -55,20 +57,33 @@ module _ (past now : List Step) (extends : Extends past now) where
   }
 
   pub answers_later : (answers : List PeerAnswer) → AllByRecursion (IsSentAnswer past) answers → AllByRecursion (IsSentAnswer now) answers
-  answers_later answers all = all_mapped (IsSentAnswer past) (IsSentAnswer now) (λ a h. elim h [ inl bare ↦ inl bare | inr is ↦ inr (stamped_later _ a.mark is) ]) answers all
+  answers_later answers all = all_mapped (IsSentAnswer past) (IsSentAnswer now)
+      (λ a h. elim h [ inl bare ↦ inl bare | inr is ↦ inr (stamped_later _ a.mark is) ]) answers all
 
-  pub raised_later : (old new : NodeState ℕ) (number : ℕ) → ((key : List ℕ) → floor old.floors key ≤ floor new.floors key) → HasRaised past old number → HasRaised now new number
+  pub raised_later : (old new : NodeState ℕ) (number : ℕ) → ((key : List ℕ) → floor old.floors key ≤ floor new.floors key) → HasRaised past old number →
+      HasRaised now new number
   raised_later old new number floors h = (h.0, extends.keys number h.0 h.1, omega (arith, floors h.0, h.2))
 
   pub clear_later : (m : Message) → IsClear past m → IsClear now m
-  clear_later m is = record { number = is.number; key = is.key; is_clear = is.is_clear; issued_key = extends.keys is.number is.key is.issued_key; small = is.small; is_key = is.is_key }
+  clear_later m is = record {
+    number = is.number;
+    key = is.key;
+    is_clear = is.is_clear;
+    issued_key = extends.keys is.number is.key is.issued_key;
+    small =
+        is.small;
+    is_key = is.is_key;
+  }
 
-  pub masters_later : (h : Tables) (datagrams : List Datagram) → AllByRecursion (IsMastersRightly h past) datagrams → AllByRecursion (IsMastersRightly h now) datagrams
+  pub masters_later : (h : Tables) (datagrams : List Datagram) → AllByRecursion (IsMastersRightly h past) datagrams →
+      AllByRecursion (IsMastersRightly h now) datagrams
   masters_later h datagrams all = all_mapped (IsMastersRightly h past) (IsMastersRightly h now) (λ d is from. clear_later d.message (is from)) datagrams all
 
   module _ (h : Tables) (old new : List MemberState) (grows : Grows old new) where
     pub obeyed_later : (datagrams : List Datagram) → AllByRecursion (IsObeyed h past old) datagrams → AllByRecursion (IsObeyed h now new) datagrams
-    obeyed_later datagrams all = all_mapped (IsObeyed h past old) (IsObeyed h now new) (λ d is to number acknowledges id from. raised_later (node_at old id) (node_at new id) number (grows id) (is to number acknowledges id from)) datagrams all
+    obeyed_later datagrams all = all_mapped (IsObeyed h past old) (IsObeyed h now new)
+        (λ d is to number acknowledges id from. raised_later (node_at old id) (node_at new id) number (grows id) (is to number acknowledges id from)) datagrams
+        all
 
     pub purge_later : (p : Purge) → PurgeHasLineage past old p → PurgeHasLineage now new p
     purge_later p is = record {

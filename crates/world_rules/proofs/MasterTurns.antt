@@ -41,7 +41,15 @@ module _ (h : Tables) (past : List Step) (states : List MemberState) where
   pub clear_right : (p : Purge) → length (purges past) ≤ 4294967295 → PurgeHasLineage past states p → IsClear past (message.Htcp (clear p.number p.key))
   clear_right p short is =
       let l : p.number - 1 < length (purges past) = slice_get_within (purges past) (p.number - 1) p.key is.issued_key.1 in
-      record { number = p.number; key = p.key; is_clear = refl; issued_key = is.issued_key; small = omega (arith, l, short, is.issued_key.0); is_key = is.is_key }
+      record {
+        number = p.number;
+        key = p.key;
+        is_clear = refl;
+        issued_key = is.issued_key;
+        small = omega (arith, l, short, is.issued_key.0);
+        is_key =
+            is.is_key;
+      }
 
   to_right : (m : Htcp) → IsClear past (message.Htcp m) → (o : Option Member) → AllByRecursion (IsMastersRightly h past) (clear_to h (Some m) o)
   to_right m is None = tt
@@ -51,27 +59,35 @@ module _ (h : Tables) (past : List Step) (states : List MemberState) where
   to_obeyed number key None = tt
   to_obeyed number key (Some member) = ((λ to n acknowledges. absurd (none-some n acknowledges)), tt)
 
-  pub new_right : (number : ℕ) (key : List ℕ) → IsClear past (message.Htcp (clear number key)) → AllByRecursion (IsMastersRightly h past) (clears_of h number key)
-  new_right number key is = all_flat (IsMastersRightly h past) (λ id. clear_to h (Some (clear number key)) (member_of h id)) (λ id. to_right (clear number key) is (member_of h id)) (members_of h)
+  pub new_right : (number : ℕ) (key : List ℕ) → IsClear past (message.Htcp (clear number key)) →
+      AllByRecursion (IsMastersRightly h past) (clears_of h number key)
+  new_right number key is = all_flat (IsMastersRightly h past) (λ id. clear_to h (Some (clear number key)) (member_of h id))
+      (λ id. to_right (clear number key) is (member_of h id)) (members_of h)
 
   pub new_obeyed : (number : ℕ) (key : List ℕ) → AllByRecursion (IsObeyed h past states) (clears_of h number key)
-  new_obeyed number key = all_flat (IsObeyed h past states) (λ id. clear_to h (Some (clear number key)) (member_of h id)) (λ id. to_obeyed number key (member_of h id)) (members_of h)
+  new_obeyed number key = all_flat (IsObeyed h past states) (λ id. clear_to h (Some (clear number key)) (member_of h id))
+      (λ id. to_obeyed number key (member_of h id)) (members_of h)
 
   module _ (master : PurgeList) where
-    one_right : length (purges past) ≤ 4294967295 → AllByRecursion (PurgeHasLineage past states) master.pending → (number : ℕ) (o : Option Purge) → pending_at master number ≡ o → (m : Option Member) →
+    one_right : length (purges past) ≤ 4294967295 → AllByRecursion (PurgeHasLineage past states) master.pending → (number : ℕ) (o : Option Purge) →
+        pending_at master number ≡ o → (m : Option Member) →
         AllByRecursion (IsMastersRightly h past) (clear_to h (option_map (λ p. clear p.number p.key) o) m)
     one_right short all number None is m = tt
-    one_right short all number (Some p) is m = to_right (clear p.number p.key) (clear_right p short (found (PurgeHasLineage past states) (is_numbered number) master.pending p all is)) m
+    one_right short all number (Some p) is m = to_right (clear p.number p.key)
+        (clear_right p short (found (PurgeHasLineage past states) (is_numbered number) master.pending p all is)) m
 
     one_obeyed : (o : Option Purge) (m : Option Member) → AllByRecursion (IsObeyed h past states) (clear_to h (option_map (λ p. clear p.number p.key) o) m)
     one_obeyed None m = tt
     one_obeyed (Some p) m = to_obeyed p.number p.key m
 
-    due_right : length (purges past) ≤ 4294967295 → AllByRecursion (PurgeHasLineage past states) master.pending → AllByRecursion (IsMastersRightly h past) (clears_due h master)
-    due_right short all = all_flat (IsMastersRightly h past) (λ d. clear_to h (message_of master d.0) (member_of h d.1)) (λ d. one_right short all d.0 (pending_at master d.0) refl (member_of h d.1)) (due (members_of h) master)
+    due_right : length (purges past) ≤ 4294967295 → AllByRecursion (PurgeHasLineage past states) master.pending →
+        AllByRecursion (IsMastersRightly h past) (clears_due h master)
+    due_right short all = all_flat (IsMastersRightly h past) (λ d. clear_to h (message_of master d.0) (member_of h d.1))
+        (λ d. one_right short all d.0 (pending_at master d.0) refl (member_of h d.1)) (due (members_of h) master)
 
     due_obeyed : AllByRecursion (IsObeyed h past states) (clears_due h master)
-    due_obeyed = all_flat (IsObeyed h past states) (λ d. clear_to h (message_of master d.0) (member_of h d.1)) (λ d. one_obeyed (pending_at master d.0) (member_of h d.1)) (due (members_of h) master)
+    due_obeyed = all_flat (IsObeyed h past states) (λ d. clear_to h (message_of master d.0) (member_of h d.1))
+        (λ d. one_obeyed (pending_at master d.0) (member_of h d.1)) (due (members_of h) master)
 
 module _ (h : Tables) (past : List Step) (w : World) (lineage : HasLineage h past w) where
   pub clock_keeps : (now : ℕ) → HasLineage h past (with_clock w now)
@@ -95,7 +111,8 @@ module _ (h : Tables) (past : List Step) (w : World) (lineage : HasLineage h pas
         last = lineage.last;
         small = lineage.small;
         nodes = lineage.nodes;
-        masters = all_joined (IsMastersRightly h past) w.datagrams (clears_due h w.master) lineage.masters (due_right h past w.states w.master short lineage.pending);
+        masters = all_joined (IsMastersRightly h past) w.datagrams (clears_due h w.master) lineage.masters
+            (due_right h past w.states w.master short lineage.pending);
         obeyed = all_joined (IsObeyed h past w.states) w.datagrams (clears_due h w.master) lineage.obeyed (due_obeyed h past w.states w.master);
         answers = lineage.answers;
         pending = lineage.pending;
@@ -107,7 +124,8 @@ module _ (h : Tables) (past : List Step) (w : World) (lineage : HasLineage h pas
 
   -- only the pending purges change, and no purge is issued
   alone_keeps : (pending : List Purge) → AllByRecursion (PurgeHasLineage past w.states) pending →
-      ((number : ℕ) → 1 ≤ number → number ≤ w.master.last → pending_at record { last = w.master.last; pending = pending } number ≡ None → AllHaveRaised h past w.states number) →
+      ((number : ℕ) → 1 ≤ number → number ≤ w.master.last → pending_at record { last = w.master.last; pending = pending } number ≡ None →
+      AllHaveRaised h past w.states number) →
       HasLineage h past (with_master w record { last = w.master.last; pending = pending })
   alone_keeps pending all done = record {
     last = lineage.last;
@@ -123,7 +141,8 @@ module _ (h : Tables) (past : List Step) (w : World) (lineage : HasLineage h pas
 
   module _ (roster : IsRoster h) (id number : ℕ) (raised : HasRaised past (node_at w.states id) number) where
     -- each member that is marked has raised its floor
-    mark_raised : (p : Purge) → p.number ≡ number → PurgeHasLineage past w.states p → (other : ℕ) → is_among other (with_id id p.marked) ≡ true → HasRaised past (node_at w.states other) p.number
+    mark_raised : (p : Purge) → p.number ≡ number → PurgeHasLineage past w.states p → (other : ℕ) → is_among other (with_id id p.marked) ≡ true →
+        HasRaised past (node_at w.states other) p.number
     mark_raised p same is other has = elim (mark_cases p.marked id other has) [
       | inl was ↦ is.marked other was
       | inr this ↦ subst (λ n. HasRaised past (node_at w.states n) p.number) (sym this) (subst (HasRaised past (node_at w.states id)) (sym same) raised)
@@ -132,7 +151,8 @@ module _ (h : Tables) (past : List Step) (w : World) (lineage : HasLineage h pas
     marked_right : (p : Purge) → p.number ≡ number → PurgeHasLineage past w.states p → PurgeHasLineage past w.states (marked_by id p)
     marked_right p same is = record { issued_key = is.issued_key; is_key = is.is_key; marked = mark_raised p same is }
 
-    all_marked : (which : ℕ) → which ≡ number → (due : List Purge) → AllByRecursion (PurgeHasLineage past w.states) due → AllByRecursion (PurgeHasLineage past w.states) (map (λ p. cond (is_numbered which p) (marked_by id p) p) due)
+    all_marked : (which : ℕ) → which ≡ number → (due : List Purge) → AllByRecursion (PurgeHasLineage past w.states) due →
+        AllByRecursion (PurgeHasLineage past w.states) (map (λ p. cond (is_numbered which p) (marked_by id p) p) due)
     all_marked which this [] all = tt
     all_marked which this (p ∷ due) all = (
       branches (PurgeHasLineage past w.states) (nat_eq p.number which) (marked_by id p) p
@@ -141,7 +161,8 @@ module _ (h : Tables) (past : List Step) (w : World) (lineage : HasLineage h pas
     )
 
     -- if all members are marked, all have raised their floors
-    complete_raised : (p : Purge) → p.number ≡ number → PurgeHasLineage past w.states p → are_among (members_of h) (with_id id p.marked) ≡ true → AllHaveRaised h past w.states p.number
+    complete_raised : (p : Purge) → p.number ≡ number → PurgeHasLineage past w.states p → are_among (members_of h) (with_id id p.marked) ≡ true →
+        AllHaveRaised h past w.states p.number
     complete_raised p same is complete other member =
         mark_raised p same is other (among_has (members_of h) (with_id id p.marked) other complete (member_counts h roster.ranges other member))
 
@@ -152,18 +173,23 @@ module _ (h : Tables) (past : List Step) (w : World) (lineage : HasLineage h pas
         let was : PurgeHasLineage past w.states p = found (PurgeHasLineage past w.states) (is_numbered number) w.master.pending p lineage.pending is in
         branches (λ (a : Acknowledged). HasLineage h past (with_master w a.purges)) (are_among (members_of h) (with_id id p.marked))
         record { purges = without_purge w.master p.number; done = Some p.number } record { purges = with_mark w.master p.number id; done = None }
-        (λ complete. alone_keeps (filter (λ q. not (is_numbered p.number q)) w.master.pending) (all_left (PurgeHasLineage past w.states) (λ q. not (is_numbered p.number q)) w.master.pending lineage.pending)
+        (λ complete. alone_keeps (filter (λ q. not (is_numbered p.number q)) w.master.pending)
+        (all_left (PurgeHasLineage past w.states) (λ q. not (is_numbered p.number q)) w.master.pending lineage.pending)
         (λ other low high none. elim (ℕ_discrete other p.number) [
           | yes e ↦ subst (AllHaveRaised h past w.states) (sym e) (complete_raised p same was complete)
           | no ne ↦ lineage.done other low high (pending-none_of_without w.master.pending p.number other ne none)
         ]))
-        (λ _. alone_keeps (map (λ q. cond (is_numbered p.number q) (marked_by id q) q) w.master.pending) (all_marked p.number same w.master.pending lineage.pending)
+        (λ _. alone_keeps (map (λ q. cond (is_numbered p.number q) (marked_by id q) q) w.master.pending)
+        (all_marked p.number same w.master.pending lineage.pending)
         (λ other low high none. lineage.done other low high (pending-none_of_marked w.master.pending p.number id other none)))
 
-  pub acknowledge_keeps : IsRoster h → (id number code : ℕ) → (is_acknowledging code ≡ true → HasRaised past (node_at w.states id) number) → HasLineage h past (with_master w (acknowledged (members_of h) w.master id number code).purges)
+  pub acknowledge_keeps : IsRoster h → (id number code : ℕ) → (is_acknowledging code ≡ true → HasRaised past (node_at w.states id) number) →
+      HasLineage h past (with_master w (acknowledged (members_of h) w.master id number code).purges)
   acknowledge_keeps roster id number code raised =
-      branches (λ (a : Acknowledged). HasLineage h past (with_master w a.purges)) (is_acknowledging code && is_among id (members_of h)) (counted (members_of h) w.master id (pending_at w.master number)) (unchanged w.master)
-      (λ counts. counted_keeps roster id number (raised (and_parts (is_acknowledging code) (is_among id (members_of h)) counts).0) (pending_at w.master number) refl) (λ _. lineage)
+      branches (λ (a : Acknowledged). HasLineage h past (with_master w a.purges)) (is_acknowledging code && is_among id (members_of h))
+      (counted (members_of h) w.master id (pending_at w.master number)) (unchanged w.master)
+      (λ counts. counted_keeps roster id number (raised (and_parts (is_acknowledging code) (is_among id (members_of h)) counts).0) (pending_at w.master number)
+      refl) (λ _. lineage)
 
   -- What the master reports
 
@@ -171,12 +197,15 @@ module _ (h : Tables) (past : List Step) (w : World) (lineage : HasLineage h pas
   none_by None e = refl
   none_by (Some p) e = cc
 
-  status_done : (number : ℕ) → status_of (members_of h) w.master number ≡ status.Done → (1 ≤ number) × (number ≤ w.master.last) × (pending_at w.master number ≡ None)
+  status_done : (number : ℕ) → status_of (members_of h) w.master number ≡ status.Done → (1 ≤ number) × (number ≤ w.master.last)
+      × (pending_at w.master number ≡ None)
   status_done number =
-      branches (λ s. s ≡ status.Done → (1 ≤ number) × (number ≤ w.master.last) × (pending_at w.master number ≡ None)) (nat_eq number 0 || nat_lt w.master.last number) status.Unknown (status_by (members_of h) (pending_at w.master number))
+      branches (λ s. s ≡ status.Done → (1 ≤ number) × (number ≤ w.master.last) × (pending_at w.master number ≡ None))
+      (nat_eq number 0 || nat_lt w.master.last number) status.Unknown (status_by (members_of h) (pending_at w.master number))
       (λ _ e. cc) (λ known e. (grind (arith, known), grind (arith, known), none_by (pending_at w.master number) e))
 
-  reported_by : (number : ℕ) (s : Status) → status_of (members_of h) w.master number ≡ s → (told : ℕ) → TellsDone told (Reported number s) → AllHaveRaised h past w.states told
+  reported_by : (number : ℕ) (s : Status) → status_of (members_of h) w.master number ≡ s → (told : ℕ) → TellsDone told (Reported number s) →
+      AllHaveRaised h past w.states told
   reported_by number status.Done is told e =
       let known = status_done number is in
       subst (AllHaveRaised h past w.states) e (lineage.done number known.0 known.1 known.2)

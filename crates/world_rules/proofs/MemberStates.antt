@@ -71,7 +71,8 @@ node_at-other (state ∷ states) id other s ne =
     (λ _. ap (cond (nat_eq state.id other) state.node) (node_at-other states id other s ne))
 
 -- what holds of the changed node and of all old ones holds of all new ones
-pub each_node : (P : ℕ → NodeState ℕ → Type 0) (states : List MemberState) (id : ℕ) (s : NodeState ℕ) → P id s → ((other : ℕ) → P other (node_at states other)) → (each : ℕ) → P each (node_at (with_node states id s) each)
+pub each_node : (P : ℕ → NodeState ℕ → Type 0) (states : List MemberState) (id : ℕ) (s : NodeState ℕ) → P id s →
+    ((other : ℕ) → P other (node_at states other)) → (each : ℕ) → P each (node_at (with_node states id s) each)
 each_node P states id s this those each =
     elim (ℕ_discrete each id) [
       | yes e ↦ subst (λ n. P n (node_at (with_node states id s) n)) (sym e) (subst (P id) (sym (node_at-same states id s)) this)
@@ -91,7 +92,8 @@ none_first false x y rest other h e = h e
 
 pub pending-none_of_append : (purges more : List Purge) (number : ℕ) → pending_in (purges ++ more) number ≡ None → pending_in purges number ≡ None
 pending-none_of_append [] more number e = refl
-pending-none_of_append (p ∷ purges) more number e = none_first (nat_eq p.number number) p p (pending_in (purges ++ more) number) (pending_in purges number) (pending-none_of_append purges more number) e
+pending-none_of_append (p ∷ purges) more number e = none_first (nat_eq p.number number) p p (pending_in (purges ++ more) number) (pending_in purges number)
+    (pending-none_of_append purges more number) e
 
 pub pending-pushed : (purges : List Purge) (p : Purge) → pending_in (purges ++ p ∷ []) p.number ≡ None → ⊥
 pending-pushed [] p e = none-some p (sym (sym (ap (λ b. cond b (Some p) None) (same_id p.number)) ∙ e))
@@ -99,20 +101,29 @@ pending-pushed (q ∷ purges) p e =
     branches (λ (o : Option Purge). o ≡ None → ⊥) (nat_eq q.number p.number) (Some q) (pending_in (purges ++ p ∷ []) p.number)
     (λ _ f. none-some q (sym f)) (λ _. pending-pushed purges p) e
 
-pub pending-none_of_marked : (purges : List Purge) (number id other : ℕ) → pending_in (map (λ p. cond (is_numbered number p) (marked_by id p) p) purges) other ≡ None → pending_in purges other ≡ None
+pub pending-none_of_marked : (purges : List Purge) (number id other : ℕ) → pending_in (map (λ p. cond (is_numbered number p) (marked_by id p) p) purges)
+    other ≡ None → pending_in purges other ≡ None
 pending-none_of_marked [] number id other e = refl
 pending-none_of_marked (p ∷ purges) number id other e =
-    branches (λ (q : Purge). cond (nat_eq q.number other) (Some q) (pending_in (map (λ p. cond (is_numbered number p) (marked_by id p) p) purges) other) ≡ None → pending_in (p ∷ purges) other ≡ None)
+    branches (λ (q : Purge). cond (nat_eq q.number other) (Some q) (pending_in (map (λ p. cond (is_numbered number p) (marked_by id p) p) purges) other) ≡ None
+    → pending_in (p ∷ purges) other ≡ None)
     (nat_eq p.number number) (marked_by id p) p
-    (λ _ f. none_first (nat_eq p.number other) (marked_by id p) p (pending_in (map (λ p. cond (is_numbered number p) (marked_by id p) p) purges) other) (pending_in purges other) (pending-none_of_marked purges number id other) f)
-    (λ _ f. none_first (nat_eq p.number other) p p (pending_in (map (λ p. cond (is_numbered number p) (marked_by id p) p) purges) other) (pending_in purges other) (pending-none_of_marked purges number id other) f) e
+    (λ _ f. none_first (nat_eq p.number other) (marked_by id p) p (pending_in (map (λ p. cond (is_numbered number p) (marked_by id p) p) purges) other)
+    (pending_in purges other) (pending-none_of_marked purges number id other) f)
+    (λ _ f. none_first (nat_eq p.number other) p p (pending_in (map (λ p. cond (is_numbered number p) (marked_by id p) p) purges) other)
+    (pending_in purges other) (pending-none_of_marked purges number id other) f) e
 
-pub pending-none_of_without : (purges : List Purge) (number other : ℕ) → other ≢ number → pending_in (filter (λ p. not (is_numbered number p)) purges) other ≡ None → pending_in purges other ≡ None
+pub pending-none_of_without : (purges : List Purge) (number other : ℕ) → other ≢ number → pending_in (filter (λ p. not (is_numbered number p)) purges)
+    other ≡ None → pending_in purges other ≡ None
 pending-none_of_without [] number other ne e = refl
 pending-none_of_without (p ∷ purges) number other ne e =
-    branches (λ (xs : List Purge). pending_in xs other ≡ None → pending_in (p ∷ purges) other ≡ None) (not (nat_eq p.number number)) (p ∷ filter (λ p. not (is_numbered number p)) purges) (filter (λ p. not (is_numbered number p)) purges)
-    (λ _ f. none_first (nat_eq p.number other) p p (pending_in (filter (λ p. not (is_numbered number p)) purges) other) (pending_in purges other) (pending-none_of_without purges number other ne) f)
-    (λ gone f. ap (λ b. cond b (Some p) (pending_in purges other)) (other_id p.number other (λ e. ne (sym e ∙ ids_same p.number number (not_false (nat_eq p.number number) gone)))) ∙ pending-none_of_without purges number other ne f) e
+    branches (λ (xs : List Purge). pending_in xs other ≡ None → pending_in (p ∷ purges) other ≡ None) (not (nat_eq p.number number))
+    (p ∷ filter (λ p. not (is_numbered number p)) purges) (filter (λ p. not (is_numbered number p)) purges)
+    (λ _ f. none_first (nat_eq p.number other) p p (pending_in (filter (λ p. not (is_numbered number p)) purges) other) (pending_in purges other)
+    (pending-none_of_without purges number other ne) f)
+    (λ gone f. ap (λ b. cond b (Some p) (pending_in purges other))
+    (other_id p.number other (λ e. ne (sym e ∙ ids_same p.number number (not_false (nat_eq p.number number) gone))))
+    ∙ pending-none_of_without purges number other ne f) e
 
 pub pending-found : (purges : List Purge) (number : ℕ) (p : Purge) → pending_in purges number ≡ Some p → p.number ≡ number
 pending-found [] number p e = absurd (none-some p e)
@@ -124,11 +135,14 @@ pending-found (q ∷ purges) number p e =
 
 -- who is marked was marked before, or is the one that acknowledges
 pub mark_cases : (marked : List ℕ) (id other : ℕ) → is_among other (with_id id marked) ≡ true → (is_among other marked ≡ true) ⊎ (other ≡ id)
-mark_cases [] id other = λ h. elim (or_cases (nat_eq id other) false h) [ inl same ↦ inr (sym (ids_same id other same)) | inr none ↦ absurd (true_not_false (sym none)) ]
+mark_cases [] id other = λ h. elim (or_cases (nat_eq id other) false h)
+    [ inl same ↦ inr (sym (ids_same id other same)) | inr none ↦ absurd (true_not_false (sym none)) ]
 mark_cases (i ∷ marked) id other =
-    branches (λ (ids : List ℕ). is_among other ids ≡ true → (is_among other (i ∷ marked) ≡ true) ⊎ (other ≡ id)) (nat_lt id i) (id ∷ i ∷ marked) (cond (nat_eq i id) (i ∷ marked) (i ∷ with_id id marked))
+    branches (λ (ids : List ℕ). is_among other ids ≡ true → (is_among other (i ∷ marked) ≡ true) ⊎ (other ≡ id)) (nat_lt id i) (id ∷ i ∷ marked)
+    (cond (nat_eq i id) (i ∷ marked) (i ∷ with_id id marked))
     (λ _ h. elim (or_cases (nat_eq id other) (is_among other (i ∷ marked)) h) [ inl same ↦ inr (sym (ids_same id other same)) | inr has ↦ inl has ])
-    (λ _. branches (λ (ids : List ℕ). is_among other ids ≡ true → (is_among other (i ∷ marked) ≡ true) ⊎ (other ≡ id)) (nat_eq i id) (i ∷ marked) (i ∷ with_id id marked)
+    (λ _. branches (λ (ids : List ℕ). is_among other ids ≡ true → (is_among other (i ∷ marked) ≡ true) ⊎ (other ≡ id)) (nat_eq i id) (i ∷ marked)
+    (i ∷ with_id id marked)
     (λ _ h. inl h)
     (λ _ h. elim (or_cases (nat_eq i other) (is_among other (with_id id marked)) h) [
       | inl first ↦ inl (or_left (nat_eq i other) (is_among other marked) first)

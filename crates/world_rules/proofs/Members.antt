@@ -24,7 +24,8 @@ unfolding ids_from
 among_from first zero id low high = absurd (omega (arith, low, high))
 among_from first (suc count) id low high = elim (ℕ_discrete first id) [
   | yes e ↦ or_left (nat_eq first id) (is_among id (ids_from (first + 1) count)) (subst (λ n. nat_eq first n ≡ true) e (same_id first))
-  | no ne ↦ or_true (nat_eq first id) (is_among id (ids_from (first + 1) count)) (among_from (first + 1) count id (omega (arith, low, ne)) (omega (arith, high)))
+  | no ne ↦ or_true (nat_eq first id) (is_among id (ids_from (first + 1) count))
+      (among_from (first + 1) count id (omega (arith, low, ne)) (omega (arith, high)))
 ]
 
 among_possible : (id : ℕ) → 1 ≤ id → id ≤ 16 → is_among id possible_ids ≡ true
@@ -45,8 +46,10 @@ kept_among test (i ∷ ids) id passes has = elim (or_cases (nat_eq i id) (is_amo
 -- each member's tables are in their ranges
 members_fit : (t : Tables) → are_tables t ≡ true → list_all ranges.is_member t.members ≡ true
 members_fit t fit =
-    let origins = and_parts (are_limits t.limits && is_port t.master.port && nat_le 1 _ && list_all ranges.is_member t.members && list_all is_foreign t.foreign) (list_all is_origin t.origins) fit in
-    let foreign = and_parts (are_limits t.limits && is_port t.master.port && nat_le 1 _ && list_all ranges.is_member t.members) (list_all is_foreign t.foreign) origins.0 in
+    let origins = and_parts (are_limits t.limits && is_port t.master.port && nat_le 1 _ && list_all ranges.is_member t.members && list_all is_foreign t.foreign)
+    (list_all is_origin t.origins) fit in
+    let foreign = and_parts (are_limits t.limits && is_port t.master.port && nat_le 1 _ && list_all ranges.is_member t.members) (list_all is_foreign t.foreign)
+    origins.0 in
     (and_parts (are_limits t.limits && is_port t.master.port && nat_le 1 _) (list_all ranges.is_member t.members) foreign.0).1
 
 pub all_tested : {A : Type 0} (test : A → Bool) (xs : List A) → list_all test xs ≡ true → AllByRecursion (λ x. test x ≡ true) xs
@@ -61,10 +64,12 @@ id_fits m id fits same =
     let both = and_parts (nat_le 1 m.cache.id) (nat_le m.cache.id 16) cache.0 in
     subst (λ n. (1 ≤ n) × (n ≤ 16)) (ids_same m.cache.id id same) (grind (arith, both.0), grind (arith, both.1))
 
-member_id : (t : Tables) → are_tables t ≡ true → (id : ℕ) (o : Option Member) → find (λ m. nat_eq m.cache.id id) t.members ≡ o → is_some o ≡ true → (1 ≤ id) × (id ≤ 16)
+member_id : (t : Tables) → are_tables t ≡ true → (id : ℕ) (o : Option Member) → find (λ m. nat_eq m.cache.id id) t.members ≡ o → is_some o ≡ true →
+    (1 ≤ id) × (id ≤ 16)
 member_id t fit id None is some = absurd (true_not_false (sym some))
 member_id t fit id (Some m) is some =
-    id_fits m id (found (λ m. ranges.is_member m ≡ true) (λ m. nat_eq m.cache.id id) t.members m (all_tested ranges.is_member t.members (members_fit t fit)) is) (found_passes (λ m. nat_eq m.cache.id id) t.members m is)
+    id_fits m id (found (λ m. ranges.is_member m ≡ true) (λ m. nat_eq m.cache.id id) t.members m (all_tested ranges.is_member t.members (members_fit t fit)) is)
+    (found_passes (λ m. nat_eq m.cache.id id) t.members m is)
 
 -- a member is among those that the master counts
 pub member_counts : (t : Tables) → are_tables t ≡ true → (id : ℕ) → is_member t id ≡ true → is_among id (members_of t) ≡ true

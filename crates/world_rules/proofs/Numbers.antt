@@ -65,7 +65,14 @@ one_written : (n : ℕ) → n < 10 → IsWritten n ((48 + n) ∷ [])
 unfolding IsDigit
 one_written n small =
     let is : (48 ≤ 48 + n) × (48 + n ≤ 57) = (omega arith, omega arith) in
-    record { digits = (is, tt); some = omega arith; alone = λ h. refl; front = λ some. other_id (48 + n) 48 (λ e. omega (arith, some, e)); last = ends_here (48 + n) [] is }
+    record {
+      digits = (is, tt);
+      some = omega arith;
+      alone = λ h. refl;
+      front = λ some. other_id (48 + n) 48 (λ e. omega (arith, some, e));
+      last =
+          ends_here (48 + n) [] is;
+    }
 
 more_written : (n : ℕ) (ds : List ℕ) → 10 ≤ n → IsWritten (n / 10) ds → IsWritten n (ds ++ ((48 + n % 10) ∷ []))
 unfolding IsDigit
@@ -129,7 +136,8 @@ unfolding value_in
 no_value = refl
 
 the_values : (n : ℕ) → filter_map (value_in (line_name PurgeNumber)) ((codes "X-Purge-Number: " ++ decimal n) ∷ [] ∷ []) ≡ trim_end (trim_front (32 ∷ decimal n)) ∷ []
-the_values n = ap (λ o. cons_option o (filter_map (value_in (line_name PurgeNumber)) ([] ∷ []))) (the_value (decimal n)) ∙ ap (λ o. trim_end (trim_front (32 ∷ decimal n)) ∷ cons_option o []) no_value
+the_values n = ap (λ o. cons_option o (filter_map (value_in (line_name PurgeNumber)) ([] ∷ []))) (the_value (decimal n))
+    ∙ ap (λ o. trim_end (trim_front (32 ∷ decimal n)) ∷ cons_option o []) no_value
 
 -- The number
 
@@ -175,8 +183,10 @@ at_least_one : (n : ℕ) → 1 ≤ n → nat_le 1 n ≡ true
 at_least_one n positive = grind (arith, positive)
 
 -- the master's CLR brings its purge
-pub clear_is_purge : (h : Tables) (id number : ℕ) (key : List ℕ) (from : Address) → is_master h from ≡ true → 1 ≤ number → number ≤ 4294967295 → key_of key ≡ Some key → purge_in_message (setting h id) from (message.Htcp (clear number key)) ≡ Some (key, number)
+pub clear_is_purge : (h : Tables) (id number : ℕ) (key : List ℕ) (from : Address) → is_master h from ≡ true → 1 ≤ number → number ≤ 4294967295 →
+    key_of key ≡ Some key → purge_in_message (setting h id) from (message.Htcp (clear number key)) ≡ Some (key, number)
 clear_is_purge h id number key from master positive small is_key =
     ap (λ o. purge_by_line (setting h id) from number o (number_in_text (number_line number) PurgeNumber)) is_key
     ∙ ap (λ line. purge_by_line (setting h id) from number (Some key) line) (number_read number small)
-    ∙ ap (λ b. cond b (Some (key, number)) None) (all_three (is_master h from) (nat_eq number number) (nat_le 1 number) master (same_id number) (at_least_one number positive))
+    ∙ ap (λ b. cond b (Some (key, number)) None) (all_three (is_master h from) (nat_eq number number) (nat_le 1 number) master (same_id number)
+    (at_least_one number positive))

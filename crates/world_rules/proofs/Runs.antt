@@ -50,7 +50,8 @@ module _ (h : Tables) (proper : IsRoster h) where
       (run_on steps (past ++ step ∷ []) next new (happens_keeps h proper past old holds step.event step.seen next happens) (rw next_place run))
 
   -- the worlds before and after the step at a place
-  run_at : (steps past : List Step) (old new : World) → HasLineage h past old → Run h (length past + 1) old steps new → (k : ℕ) (step : Step) → slice_get steps k ≡ Some step →
+  run_at : (steps past : List Step) (old new : World) → HasLineage h past old → Run h (length past + 1) old steps new → (k : ℕ) (step : Step) →
+      slice_get steps k ≡ Some step →
       (before after : World) × HasLineage h (past ++ take k steps) before × Happens h (length (past ++ take k steps) + 1) before step.event step.seen after
   run_at [] past old new holds run k step is = cc
   run_at (first ∷ steps) past old new holds (next, happens, run) zero step is =
@@ -69,7 +70,8 @@ module _ (h : Tables) (proper : IsRoster h) where
   lineage_before steps w run place step is = run_at steps [] (new_world h) w (new_lineage h) run (place - 1) step is.1
 
 -- a list of events that is played gives a run of those that were not refused
-pub plays_run : (h : Tables) (place : ℕ) (old : World) (events : List WorldEvent) (steps : List Step) (new : World) → Plays h place old events steps new → Run h place old steps new
+pub plays_run : (h : Tables) (place : ℕ) (old : World) (events : List WorldEvent) (steps : List Step) (new : World) → Plays h place old events steps new →
+    Run h place old steps new
 plays_run h place old [] steps new (none, same) = subst (λ s. Run h place old s new) (sym none) same
 plays_run h place old (event ∷ events) steps new (inl refused) = plays_run h place old events steps new refused.2
 plays_run h place old (event ∷ events) steps new (inr (seen, next, rest, happens, is, plays)) =

@@ -40,7 +40,8 @@ record IsServedRightly (h : Tables) (past : List Step) (w : World) (c : WebCopy 
   current : floor (node_at w.states id).floors c.key ≤ c.stamp
   stamped : IsStamped past c.stamp c.tag
 
-module _ (h : Tables) (proper : IsRoster h) (past : List Step) (old : World) (lineage : HasLineage h past old) (event : WorldEvent) (seen : Seen) (new : World) (c : WebCopy ℕ) (serves : ServesCopy seen c) where
+module _ (h : Tables) (proper : IsRoster h) (past : List Step) (old : World) (lineage : HasLineage h past old) (event : WorldEvent) (seen : Seen) (new : World)
+    (c : WebCopy ℕ) (serves : ServesCopy seen c) where
   turn_served : (t : Turn) → IsRight h past event t → Takes h (length past + 1) old t seen new → IsServedRightly h past old c
   turn_served (NodeSteps id e serial) right (outcome, next, steps, is_seen, is_new) =
       let law = steps_are_lawful (setting h id) (node_at old.states id) e (length past + 1) outcome next steps in
@@ -62,17 +63,21 @@ given_number : Seen → ℕ
 given_number (Issued number) = number
 given_number _ = 0
 
-issue_number : (h : Tables) (place : ℕ) (old : World) (key : List ℕ) (number : ℕ) (new : World) (o : Option MasterFault) → Takes h place old (issue_by h old key o) (Issued number) new → number ≡ old.master.last + 1
+issue_number : (h : Tables) (place : ℕ) (old : World) (key : List ℕ) (number : ℕ) (new : World) (o : Option MasterFault) →
+    Takes h place old (issue_by h old key o) (Issued number) new → number ≡ old.master.last + 1
 unfolding given_number
 issue_number h place old key number new (Some fault) (is_seen, is_new) = cc
 issue_number h place old key number new None (is_seen, is_new) = ap given_number is_seen
 
 -- the purge that is issued after some steps has the next number and its key
-issued_item : (steps part rest : List Step) (number : ℕ) (key : List ℕ) → steps ≡ (part ++ record { event = Issue key; seen = Issued number } ∷ []) ++ rest → number ≡ length (purges part) + 1 → IsItem (purges steps) number key
+issued_item : (steps part rest : List Step) (number : ℕ) (key : List ℕ) → steps ≡ (part ++ record { event = Issue key; seen = Issued number } ∷ []) ++ rest →
+    number ≡ length (purges part) + 1 → IsItem (purges steps) number key
 issued_item steps part rest number key e f =
     let g : purges steps ≡ (purges part ++ key ∷ []) ++ purges rest =
-    ap (λ l. purges l) e ∙ purges-append (part ++ record { event = Issue key; seen = Issued number } ∷ []) rest ∙ ap (λ l. l ++ purges rest) (purges-append part (record { event = Issue key; seen = Issued number } ∷ [])) in
-    let i : IsItem (purges steps) (length (purges part) + 1) key = rw g (item_later (purges part ++ key ∷ []) (purges rest) (length (purges part) + 1) key (item_pushed (purges part) key)) in
+    ap (λ l. purges l) e ∙ purges-append (part ++ record { event = Issue key; seen = Issued number } ∷ []) rest
+    ∙ ap (λ l. l ++ purges rest) (purges-append part (record { event = Issue key; seen = Issued number } ∷ [])) in
+    let i : IsItem (purges steps) (length (purges part) + 1) key =
+    rw g (item_later (purges part ++ key ∷ []) (purges rest) (length (purges part) + 1) key (item_pushed (purges part) key)) in
     subst (λ n. IsItem (purges steps) n key) (sym f) i
 
 module _ (h : Tables) (proper : IsRoster h) (steps : List Step) (w : World) (run : Run h 1 (new_world h) steps w) where
@@ -92,11 +97,13 @@ module _ (h : Tables) (proper : IsRoster h) (steps : List Step) (w : World) (run
       let (old, new, lineage, happens) = lineage_before h proper steps w run serve_place step is_served in
       let part : List Step = take (serve_place - 1) steps in
       let right = served_rightly h proper part old lineage step.event step.seen new c serves happens in
-      let raised = lineage.reported report_place number (report, item_taken steps report_place serve_place report before is_reported, tells) right.id right.member in
+      let raised = lineage.reported report_place number (report, item_taken steps report_place serve_place report before is_reported, tells) right.id
+      right.member in
       let whole : part ++ drop (serve_place - 1) steps ≡ steps = take-append-drop (serve_place - 1) steps in
       let known : IsItem (purges steps) number raised.0 = rw whole at (key_later part (drop (serve_place - 1) steps) number raised.0 raised.1) in
       let same : raised.0 ≡ key = same_item (purges steps) number raised.0 key known (issued_key issue_place number key is_issued) in
-      let low : number ≤ floor (node_at old.states right.id).floors c.key = subst (λ u. number ≤ floor (node_at old.states right.id).floors u) (same ∙ sym same_key) raised.2 in
+      let low : number ≤ floor (node_at old.states right.id).floors c.key = subst (λ u. number ≤ floor (node_at old.states right.id).floors u)
+      (same ∙ sym same_key) raised.2 in
       let later : issued part c.tag ≤ issued steps c.tag = rw whole at (issued_later part (drop (serve_place - 1) steps) c.tag) in
       let next : number ≡ issued steps issue_place + 1 = issued_number issue_place number key is_issued in
       elim (dec_lt issue_place c.tag) [
@@ -122,6 +129,7 @@ siblings_ask_nothing h steps past rest event id outcome before after e serial is
     let at_id : node_at after.states id ≡ next = ap (λ (w : World). node_at w.states id) is_new ∙ node_at-same before.states id next in
     let none : BeginsNothing (node_at before.states id) result next = law.siblings asks in
     let back : SendsBack e (sent result) = sibling_sends_back (setting h id) (node_at before.states id) e (length past + 1) result next asks node_steps in (
-      subst (λ r. BeginsNothing (node_at before.states id) r (node_at after.states id)) (sym same) (subst (BeginsNothing (node_at before.states id) result) (sym at_id) none),
+      subst (λ r. BeginsNothing (node_at before.states id) r (node_at after.states id)) (sym same)
+          (subst (BeginsNothing (node_at before.states id) result) (sym at_id) none),
       subst (λ (r : Result (Reply ℕ) StepFault). SendsBack e (sent r)) (sym same) back,
     )

@@ -91,7 +91,8 @@ module _ (h : Tables) (past : List Step) (w : World) (sources : HasSources h pas
   delivered_known : (o : Option Datagram) → Knows h past w (delivered h w o)
   delivered_known None = tt
   delivered_known (Some d) =
-      branches (Knows h past w) (is_master h d.receiver) (master_hears h w d.sender d.message) (delivered_to w d.sender d.message (member_at h d.receiver (udp_of d.message)))
+      branches (Knows h past w) (is_master h d.receiver) (master_hears h w d.sender d.message)
+      (delivered_to w d.sender d.message (member_at h d.receiver (udp_of d.message)))
       (λ _. hears_known d.sender d.message) (λ _. to_known d.sender d.message (member_at h d.receiver (udp_of d.message)))
 
   ask_known : (o : Option PeerAsk) → Knows h past w (ask_delivered h w o)
@@ -101,7 +102,8 @@ module _ (h : Tables) (past : List Step) (w : World) (sources : HasSources h pas
   answer_known : (number : ℕ) (serial : Option ℕ) (o : Option PeerAnswer) → item w.answers number ≡ o → Knows h past w (answer_delivered h w serial o)
   answer_known number serial None is = tt
   answer_known number serial (Some a) is =
-      at_member_known a.receiver _ (plainly_known (event.PeerAnswer (unwrap_or serial a.serial) a.sender a.key a.answer a.mark w.clock) refl (all_item (AnswerHasSource h past) w.answers number a sources.answers is))
+      at_member_known a.receiver _ (plainly_known (event.PeerAnswer (unwrap_or serial a.serial) a.sender a.key a.answer a.mark w.clock) refl
+      (all_item (AnswerHasSource h past) w.answers number a sources.answers is))
 
   origin_by_known : (id serial : ℕ) (answer : AnswerText) (key : List ℕ) (fetch : Fetch ℕ) → Knows h past w (origin_by w id serial answer key fetch)
   origin_by_known id serial answer key (AtOrigin stamp asked mark) = plainly_known (event.OriginAnswer serial key answer w.clock) refl tt
@@ -133,8 +135,10 @@ module _ (h : Tables) (past : List Step) (w : World) (sources : HasSources h pas
       (record {
         nodes = each_node (λ each (s : NodeState ℕ). NodeHasSources h past each s) w.states id s node sources.nodes;
         answers = sources.answers;
-        asks = each_but (λ each (s : NodeState ℕ). s.closed ≡ false → NodeHasAsks (filter (λ (x : Waiting). not (nat_eq x.node id)) w.waiting) each s) w.states id s
-            (λ is_open. own_restart id w.waiting s empty) (λ other ne is_open. others_restart id w.waiting other (node_at w.states other) ne (sources.asks other is_open));
+        asks = each_but (λ each (s : NodeState ℕ). s.closed ≡ false → NodeHasAsks (filter (λ (x : Waiting). not (nat_eq x.node id)) w.waiting) each s) w.states
+            id s
+            (λ is_open. own_restart id w.waiting s empty) (λ other ne is_open. others_restart id w.waiting other (node_at w.states other) ne
+            (sources.asks other is_open));
       }) (λ c s. absurd s)
 
   pub turn_known : (cause : WorldEvent) → Knows h past w (turn h w cause)
@@ -146,10 +150,12 @@ module _ (h : Tables) (past : List Step) (w : World) (sources : HasSources h pas
   turn_known (world.Origin id serial answer) = at_member_known id _ (origin_known id serial answer (fetching_at w id serial))
   turn_known (world.Foreign id serial answer) = at_member_known id _ (foreign_known id serial answer (fetching_at w id serial))
   turn_known (world.Strange to sender m) =
-      branches (Knows h past w) (is_own h sender) (Refused NoSuchPacket) (delivered_to w sender m (member_at h to (udp_of m))) (λ _. tt) (λ _. to_known sender m (member_at h to (udp_of m)))
+      branches (Knows h past w) (is_own h sender) (Refused NoSuchPacket) (delivered_to w sender m (member_at h to (udp_of m))) (λ _. tt)
+      (λ _. to_known sender m (member_at h to (udp_of m)))
   turn_known (world.Fail id serial) = at_member_known id _ (plainly_known (event.FetchFailed serial w.clock) refl tt)
   turn_known (world.Expire id serial) = at_member_known id _ (plainly_known (event.Expired serial w.clock) refl tt)
-  turn_known (world.Fault id) = at_member_known id _ (state_known id (closed_node (node_at w.states id)) record { copies = λ is_open. absurd (true_not_false is_open); reads = tt } refl)
+  turn_known (world.Fault id) = at_member_known id _ (state_known id (closed_node (node_at w.states id)) record
+      { copies = λ is_open. absurd (true_not_false is_open); reads = tt } refl)
   turn_known (world.Restart id) = at_member_known id _ (state_known id (opened (node_at w.states id).floors) record { copies = λ is_open. tt; reads = tt } refl)
   turn_known (world.Issue key) = issue_known key (issue_fault w.master)
   turn_known world.Resend = same_known Nothing _ (sent_known w.master _) (λ c s. absurd s)

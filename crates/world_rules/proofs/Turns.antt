@@ -65,16 +65,22 @@ IsRight h past event (Refused fault) = Unit {0}
 -- Look-ups
 
 -- the id found by an address is a member's
-found_known : (members : List Member) (test : Member → Bool) (c : Member) → find test members ≡ Some c → is_some (find (λ m. nat_eq m.cache.id c.cache.id) members) ≡ true
+found_known : (members : List Member) (test : Member → Bool) (c : Member) → find test members ≡ Some c →
+    is_some (find (λ m. nat_eq m.cache.id c.cache.id) members) ≡ true
 found_known [] test c e = absurd (none-some c e)
 found_known (d ∷ members) test c e =
-    (branches (λ (o : Option Member). o ≡ Some c → is_some (find (λ m. nat_eq m.cache.id c.cache.id) (d ∷ members)) ≡ true) (test d) (Some d) (find test members)
-    (λ _ f. ap (λ b. is_some (cond b (Some d) (find (λ m. nat_eq m.cache.id c.cache.id) members))) (subst (λ (x : Member). nat_eq d.cache.id x.cache.id ≡ true) (same_Some d c f) (same_id d.cache.id)))
-    (λ _ f. branches (λ (o : Option Member). is_some o ≡ true) (nat_eq d.cache.id c.cache.id) (Some d) (find (λ m. nat_eq m.cache.id c.cache.id) members) (λ _. refl) (λ _. found_known members test c f))) e
+    (branches (λ (o : Option Member). o ≡ Some c → is_some (find (λ m. nat_eq m.cache.id c.cache.id) (d ∷ members)) ≡ true) (test d) (Some d)
+    (find test members)
+    (λ _ f. ap (λ b. is_some (cond b (Some d) (find (λ m. nat_eq m.cache.id c.cache.id) members)))
+    (subst (λ (x : Member). nat_eq d.cache.id x.cache.id ≡ true) (same_Some d c f) (same_id d.cache.id)))
+    (λ _ f. branches (λ (o : Option Member). is_some o ≡ true) (nat_eq d.cache.id c.cache.id) (Some d) (find (λ m. nat_eq m.cache.id c.cache.id) members)
+    (λ _. refl) (λ _. found_known members test c f))) e
 
-member_by : (members : List Member) (test : Member → Bool) (o : Option Member) (id : ℕ) → find test members ≡ o → option_map (λ (c : Member). c.cache.id) o ≡ Some id → is_some (find (λ m. nat_eq m.cache.id id) members) ≡ true
+member_by : (members : List Member) (test : Member → Bool) (o : Option Member) (id : ℕ) → find test members ≡ o →
+    option_map (λ (c : Member). c.cache.id) o ≡ Some id → is_some (find (λ m. nat_eq m.cache.id id) members) ≡ true
 member_by members test None id is e = absurd (none-some id e)
-member_by members test (Some c) id is e = subst (λ n. is_some (find (λ m. nat_eq m.cache.id n) members) ≡ true) (same_Some c.cache.id id e) (found_known members test c is)
+member_by members test (Some c) id is e = subst (λ n. is_some (find (λ m. nat_eq m.cache.id n) members) ≡ true) (same_Some c.cache.id id e)
+    (found_known members test c is)
 
 member_at_known : (h : Tables) (by : Udp) (address : Address) (id : ℕ) → member_at h address by ≡ Some id → is_member h id ≡ true
 member_at_known h by address id e = member_by h.members (λ c. same_address address (address_by by c.cache)) _ id refl e
@@ -89,28 +95,44 @@ module _ (h : Tables) (proper : IsRoster h) (past : List Step) (w : World) (line
   at_member_right event id t right = branches (IsRight h past event) (is_member h id) t (Refused NoSuchPacket) right (λ _. tt)
 
   -- an event without a node's step that issues nothing
-  end_right : (event : WorldEvent) (seen : Seen) (new : World) → purged_by event seen ≡ None → HasLineage h past new → ((number : ℕ) → TellsDone number seen → AllHaveRaised h past new.states number) → ((c : WebCopy ℕ) → ServesCopy seen c → ⊥) → IsRight h past event (Ends seen new)
-  end_right event seen new silent kept tells none = record { lineage = counted h past event seen new silent record { lineage = kept; tells = tells }; serves_none = none }
+  end_right : (event : WorldEvent) (seen : Seen) (new : World) → purged_by event seen ≡ None → HasLineage h past new →
+      ((number : ℕ) → TellsDone number seen → AllHaveRaised h past new.states number) → ((c : WebCopy ℕ) → ServesCopy seen c → ⊥) →
+      IsRight h past event (Ends seen new)
+  end_right event seen new silent kept tells none = record {
+    lineage = counted h past event seen new silent record { lineage = kept; tells = tells };
+    serves_none = none;
+  }
 
   quiet_right : (event : WorldEvent) (new : World) → purged_by event Nothing ≡ None → HasLineage h past new → IsRight h past event (Ends Nothing new)
   quiet_right event new silent kept = end_right event Nothing new silent kept (λ number t. absurd t) (λ c s. absurd s)
 
   -- The master
 
-  reported_right : (event : WorldEvent) (number : ℕ) (new : World) → ((s : Seen) → purged_by event (Reported number (status_of (members_of h) new.master number)) ≡ None) → HasLineage h past new → IsRight h past event (told h new number)
-  reported_right event number new silent kept = end_right event (Reported number (status_of (members_of h) new.master number)) new (silent Nothing) kept (λ n t. reported_raised h past new kept number n t) (λ c s. absurd s)
+  reported_right : (event : WorldEvent) (number : ℕ) (new : World) →
+      ((s : Seen) → purged_by event (Reported number (status_of (members_of h) new.master number)) ≡ None) → HasLineage h past new →
+      IsRight h past event (told h new number)
+  reported_right event number new silent kept = end_right event (Reported number (status_of (members_of h) new.master number)) new (silent Nothing) kept
+      (λ n t. reported_raised h past new kept number n t) (λ c s. absurd s)
 
-  acknowledged_right : (which : ℕ) (number code : ℕ) (o : Option ℕ) → ((id : ℕ) → o ≡ Some id → is_acknowledging code ≡ true → HasRaised past (node_at w.states id) number) → IsRight h past (world.Datagram which) (acknowledged_by h w number code o)
+  acknowledged_right : (which : ℕ) (number code : ℕ) (o : Option ℕ) →
+      ((id : ℕ) → o ≡ Some id → is_acknowledging code ≡ true → HasRaised past (node_at w.states id) number) →
+      IsRight h past (world.Datagram which) (acknowledged_by h w number code o)
   acknowledged_right which number code None raised = quiet_right (world.Datagram which) w refl lineage
   acknowledged_right which number code (Some id) raised =
-      reported_right (world.Datagram which) number (with_master w (acknowledged (members_of h) w.master id number code).purges) (λ s. refl) (acknowledge_keeps h past w lineage proper id number code (raised id refl))
+      reported_right (world.Datagram which) number (with_master w (acknowledged (members_of h) w.master id number code).purges) (λ s. refl)
+      (acknowledge_keeps h past w lineage proper id number code (raised id refl))
 
-  master_htcp_right : (which : ℕ) (sender : Address) (minor trans : ℕ) (c : Content) → ((number : ℕ) → acknowledged_by_message (message.Htcp record { minor = minor; trans = trans; content = c }) ≡ Some number → (id : ℕ) → member_at h sender udp.Htcp ≡ Some id → HasRaised past (node_at w.states id) number) → IsRight h past (world.Datagram which) (master_hears_htcp h w sender trans c)
+  master_htcp_right : (which : ℕ) (sender : Address) (minor trans : ℕ) (c : Content) →
+      ((number : ℕ) → acknowledged_by_message (message.Htcp record { minor = minor; trans = trans; content = c }) ≡ Some number → (id : ℕ) →
+      member_at h sender udp.Htcp ≡ Some id → HasRaised past (node_at w.states id) number) →
+      IsRight h past (world.Datagram which) (master_hears_htcp h w sender trans c)
   master_htcp_right which sender minor trans (content.ClrAnswer code) raised =
       acknowledged_right which trans code (member_at h sender udp.Htcp) (λ id from counts. raised trans (ap (λ b. cond b (Some trans) None) counts) id from)
   master_htcp_right which sender minor trans _ raised = quiet_right (world.Datagram which) w refl lineage
 
-  master_right : (which : ℕ) (sender : Address) (m : Message) → ((number : ℕ) → acknowledged_by_message m ≡ Some number → (id : ℕ) → member_at h sender udp.Htcp ≡ Some id → HasRaised past (node_at w.states id) number) → IsRight h past (world.Datagram which) (master_hears h w sender m)
+  master_right : (which : ℕ) (sender : Address) (m : Message) →
+      ((number : ℕ) → acknowledged_by_message m ≡ Some number → (id : ℕ) → member_at h sender udp.Htcp ≡ Some id →
+      HasRaised past (node_at w.states id) number) → IsRight h past (world.Datagram which) (master_hears h w sender m)
   master_right which sender (message.Icp m) raised = quiet_right (world.Datagram which) w refl lineage
   master_right which sender (message.Htcp m) raised = master_htcp_right which sender m.minor m.trans m.content raised
 
@@ -120,7 +142,8 @@ module _ (h : Tables) (proper : IsRoster h) (past : List Step) (w : World) (line
 
   -- Deliveries
 
-  to_right : (event : WorldEvent) (sender : Address) (m : Message) (by : Udp) (address : Address) → (is_master h sender ≡ true → IsClear past m) → (o : Option ℕ) → member_at h address by ≡ o → IsRight h past event (delivered_to w sender m o)
+  to_right : (event : WorldEvent) (sender : Address) (m : Message) (by : Udp) (address : Address) → (is_master h sender ≡ true → IsClear past m) →
+      (o : Option ℕ) → member_at h address by ≡ o → IsRight h past event (delivered_to w sender m o)
   to_right event sender m by address right None at = tt
   to_right event sender m by address right (Some id) at = record { comes = right; member = member_at_known h by address id at }
 
@@ -129,37 +152,46 @@ module _ (h : Tables) (proper : IsRoster h) (past : List Step) (w : World) (line
   delivered_right which (Some d) is =
       let masters : IsMastersRightly h past d = all_item (IsMastersRightly h past) w.datagrams which d lineage.masters is in
       let obeyed : IsObeyed h past w.states d = all_item (IsObeyed h past w.states) w.datagrams which d lineage.obeyed is in
-      branches (IsRight h past (world.Datagram which)) (is_master h d.receiver) (master_hears h w d.sender d.message) (delivered_to w d.sender d.message (member_at h d.receiver (udp_of d.message)))
-      (λ to_master. master_right which d.sender d.message (obeyed to_master)) (λ _. to_right (world.Datagram which) d.sender d.message (udp_of d.message) d.receiver masters (member_at h d.receiver (udp_of d.message)) refl)
+      branches (IsRight h past (world.Datagram which)) (is_master h d.receiver) (master_hears h w d.sender d.message)
+      (delivered_to w d.sender d.message (member_at h d.receiver (udp_of d.message)))
+      (λ to_master. master_right which d.sender d.message (obeyed to_master))
+      (λ _. to_right (world.Datagram which) d.sender d.message (udp_of d.message) d.receiver masters (member_at h d.receiver (udp_of d.message)) refl)
 
   ask_right : (which : ℕ) (o : Option PeerAsk) → IsRight h past (world.Ask which) (ask_delivered h w o)
   ask_right which None = tt
-  ask_right which (Some a) = at_member_right (world.Ask which) a.receiver (NodeSteps a.receiver (event.PeerAsk a.sender a.ask w.clock) a.serial) (λ member. record { comes = tt; member = member })
+  ask_right which (Some a) = at_member_right (world.Ask which) a.receiver (NodeSteps a.receiver (event.PeerAsk a.sender a.ask w.clock) a.serial)
+      (λ member. record { comes = tt; member = member })
 
-  answer_right : (which : ℕ) (serial : Option ℕ) (o : Option PeerAnswer) → item w.answers which ≡ o → IsRight h past (world.Answer which serial) (answer_delivered h w serial o)
+  answer_right : (which : ℕ) (serial : Option ℕ) (o : Option PeerAnswer) → item w.answers which ≡ o →
+      IsRight h past (world.Answer which serial) (answer_delivered h w serial o)
   answer_right which serial None is = tt
   answer_right which serial (Some a) is =
-      at_member_right (world.Answer which serial) a.receiver (NodeSteps a.receiver (event.PeerAnswer (unwrap_or serial a.serial) a.sender a.key a.answer a.mark w.clock) 0)
+      at_member_right (world.Answer which serial) a.receiver
+      (NodeSteps a.receiver (event.PeerAnswer (unwrap_or serial a.serial) a.sender a.key a.answer a.mark w.clock) 0)
       (λ member. record { comes = all_item (IsSentAnswer past) w.answers which a lineage.answers is; member = member })
 
   -- Responses from outside
 
-  origin_by_right : (id serial : ℕ) (answer : AnswerText) (key : List ℕ) (fetch : Fetch ℕ) → is_member h id ≡ true → IsRight h past (world.Origin id serial answer) (origin_by w id serial answer key fetch)
+  origin_by_right : (id serial : ℕ) (answer : AnswerText) (key : List ℕ) (fetch : Fetch ℕ) → is_member h id ≡ true →
+      IsRight h past (world.Origin id serial answer) (origin_by w id serial answer key fetch)
   origin_by_right id serial answer key (AtOrigin stamp asked mark) member = record { comes = tt; member = member }
   origin_by_right id serial answer key (AtPeer peer asked) member = tt
   origin_by_right id serial answer key Nowhere member = tt
 
-  origin_right : (id serial : ℕ) (answer : AnswerText) (o : Option (Pending ℕ)) → is_member h id ≡ true → IsRight h past (world.Origin id serial answer) (origin_to w id serial answer o)
+  origin_right : (id serial : ℕ) (answer : AnswerText) (o : Option (Pending ℕ)) → is_member h id ≡ true →
+      IsRight h past (world.Origin id serial answer) (origin_to w id serial answer o)
   origin_right id serial answer None member = tt
   origin_right id serial answer (Some p) member = origin_by_right id serial answer p.ask.key p.fetch member
 
-  foreign_by_right : (id serial : ℕ) (answer : AnswerText) (key : List ℕ) (fetch : Fetch ℕ) → is_member h id ≡ true → IsRight h past (world.Foreign id serial answer) (foreign_by w id serial answer key fetch)
+  foreign_by_right : (id serial : ℕ) (answer : AnswerText) (key : List ℕ) (fetch : Fetch ℕ) → is_member h id ≡ true →
+      IsRight h past (world.Foreign id serial answer) (foreign_by w id serial answer key fetch)
   foreign_by_right id serial answer key (AtPeer peer asked) member =
       branches (IsRight h past (world.Foreign id serial answer)) (is_foreign_id peer) _ _ (λ _. record { comes = tt; member = member }) (λ _. tt)
   foreign_by_right id serial answer key (AtOrigin stamp asked mark) member = tt
   foreign_by_right id serial answer key Nowhere member = tt
 
-  foreign_right : (id serial : ℕ) (answer : AnswerText) (o : Option (Pending ℕ)) → is_member h id ≡ true → IsRight h past (world.Foreign id serial answer) (foreign_to w id serial answer o)
+  foreign_right : (id serial : ℕ) (answer : AnswerText) (o : Option (Pending ℕ)) → is_member h id ≡ true →
+      IsRight h past (world.Foreign id serial answer) (foreign_to w id serial answer o)
   foreign_right id serial answer None member = tt
   foreign_right id serial answer (Some p) member = foreign_by_right id serial answer p.ask.key p.fetch member
 
@@ -174,38 +206,52 @@ module _ (h : Tables) (proper : IsRoster h) (past : List Step) (w : World) (line
   -- each event's turn is right
   pub turn_right : (event : WorldEvent) → IsOfKey event → IsRight h past event (turn h w event)
   turn_right (world.Clock now) key = quiet_right (world.Clock now) (with_clock w now) refl (clock_keeps h past w lineage now)
-  turn_right (world.Client id ask) key = at_member_right (world.Client id ask) id (NodeSteps id (event.Client ask w.clock) 0) (λ member. record { comes = tt; member = member })
+  turn_right (world.Client id ask) key = at_member_right (world.Client id ask) id (NodeSteps id (event.Client ask w.clock) 0)
+      (λ member. record { comes = tt; member = member })
   turn_right (world.Datagram number) key = delivered_right number (item w.datagrams number) refl
   turn_right (world.Ask number) key = ask_right number (item w.asks number)
   turn_right (world.Answer number serial) key = answer_right number serial (item w.answers number) refl
-  turn_right (world.Origin id serial answer) key = at_member_right (world.Origin id serial answer) id _ (origin_right id serial answer (fetching_at w id serial))
-  turn_right (world.Foreign id serial answer) key = at_member_right (world.Foreign id serial answer) id _ (foreign_right id serial answer (fetching_at w id serial))
-  turn_right (world.Fail id serial) key = at_member_right (world.Fail id serial) id (NodeSteps id (event.FetchFailed serial w.clock) 0) (λ member. record { comes = tt; member = member })
-  turn_right (world.Expire id serial) key = at_member_right (world.Expire id serial) id (NodeSteps id (event.Expired serial w.clock) 0) (λ member. record { comes = tt; member = member })
-  turn_right (world.Fault id) key = at_member_right (world.Fault id) id _ (λ member. quiet_right (world.Fault id) (with_member_state w id (closed_node (node_at w.states id))) refl (silent_keeps h past w lineage id _ (λ key. omega arith) (closed_right id)))
-  turn_right (world.Restart id) key = at_member_right (world.Restart id) id _ (λ member. quiet_right (world.Restart id) (with_member_state w id (opened (node_at w.states id).floors)) refl (silent_keeps h past w lineage id _ (λ key. omega arith) (opened_right id)))
+  turn_right (world.Origin id serial answer) key = at_member_right (world.Origin id serial answer) id _
+      (origin_right id serial answer (fetching_at w id serial))
+  turn_right (world.Foreign id serial answer) key = at_member_right (world.Foreign id serial answer) id _
+      (foreign_right id serial answer (fetching_at w id serial))
+  turn_right (world.Fail id serial) key = at_member_right (world.Fail id serial) id (NodeSteps id (event.FetchFailed serial w.clock) 0)
+      (λ member. record { comes = tt; member = member })
+  turn_right (world.Expire id serial) key = at_member_right (world.Expire id serial) id (NodeSteps id (event.Expired serial w.clock) 0)
+      (λ member. record { comes = tt; member = member })
+  turn_right (world.Fault id) key = at_member_right (world.Fault id) id _
+      (λ member. quiet_right (world.Fault id) (with_member_state w id (closed_node (node_at w.states id))) refl
+      (silent_keeps h past w lineage id _ (λ key. omega arith) (closed_right id)))
+  turn_right (world.Restart id) key = at_member_right (world.Restart id) id _
+      (λ member. quiet_right (world.Restart id) (with_member_state w id (opened (node_at w.states id).floors)) refl
+      (silent_keeps h past w lineage id _ (λ key. omega arith) (opened_right id)))
   turn_right (world.Issue key) is_key = issue_right key is_key (issue_fault w.master) refl
   turn_right world.Resend key = quiet_right world.Resend _ refl (resend_keeps h past w lineage)
   turn_right (world.Status number) key = reported_right (world.Status number) number w (λ s. refl) lineage
   turn_right world.RestartMaster key = quiet_right world.RestartMaster w refl lineage
   turn_right (world.Strange to sender m) key =
       branches (IsRight h past (world.Strange to sender m)) (is_own h sender) (Refused NoSuchPacket) _ (λ _. tt)
-      (λ strange. to_right (world.Strange to sender m) sender m (udp_of m) to (λ master. absurd (true_not_false (sym master ∙ or_false (is_master h sender) _ strange))) (member_at h to (udp_of m)) refl)
+      (λ strange. to_right (world.Strange to sender m) sender m (udp_of m) to
+      (λ master. absurd (true_not_false (sym master ∙ or_false (is_master h sender) _ strange))) (member_at h to (udp_of m)) refl)
 
 -- a node's step issues no purge
 issues_nothing : (event : WorldEvent) (id : ℕ) (outcome : Result (Reply ℕ) StepFault) → purged_by event (Replied id outcome) ≡ None
 issues_nothing (world.Issue key) id outcome = refl
 issues_nothing _ id outcome = refl
 
-module _ (h : Tables) (proper : IsRoster h) (past : List Step) (old : World) (lineage : HasLineage h past old) (event : WorldEvent) (seen : Seen) (new : World) where
-  takes_on : (t : Turn) → IsRight h past event t → Takes h (length past + 1) old t seen new → HasLineage h (with_step past event seen) new
-  takes_on (NodeSteps id e serial) right (outcome, next, steps, is_seen, is_new) =
-      let law = steps_are_lawful (setting h id) (node_at old.states id) e (length past + 1) outcome next steps in
-      let kept : HasLineage h past (after_node h old id e serial outcome next) = takes_keeps h proper past old lineage id e right.comes serial outcome next law in
-      rw (is_seen, is_new) (counted h past event (Replied id outcome) (after_node h old id e serial outcome next) (issues_nothing event id outcome) record { lineage = kept; tells = λ number t. absurd t })
-  takes_on (Ends what world) right (is_seen, is_new) = rw (is_seen, is_new) right.lineage
-  takes_on (Refused fault) right takes = absurd takes
+module _ (h : Tables) (proper : IsRoster h) (past : List Step) (old : World) (lineage : HasLineage h past old) (event : WorldEvent) (seen : Seen) (new : World)
+  where
+    takes_on : (t : Turn) → IsRight h past event t → Takes h (length past + 1) old t seen new → HasLineage h (with_step past event seen) new
+    takes_on (NodeSteps id e serial) right (outcome, next, steps, is_seen, is_new) =
+        let law = steps_are_lawful (setting h id) (node_at old.states id) e (length past + 1) outcome next steps in
+        let kept : HasLineage h past (after_node h old id e serial outcome next) = takes_keeps h proper past old lineage id e right.comes serial outcome next law
+        in
+        rw (is_seen, is_new) (counted h past event (Replied id outcome) (after_node h old id e serial outcome next) (issues_nothing event id outcome) record
+        { lineage = kept; tells = λ number t. absurd t })
+    takes_on (Ends what world) right (is_seen, is_new) = rw (is_seen, is_new) right.lineage
+    takes_on (Refused fault) right takes = absurd takes
 
-  -- each event keeps the invariant
-  pub happens_keeps : Happens h (length past + 1) old event seen new → HasLineage h (past ++ record { event = event; seen = seen } ∷ []) new
-  happens_keeps (key, takes) = subst (λ steps. HasLineage h steps new) (as_step past event seen) (takes_on (turn h old event) (turn_right h proper past old lineage event key) takes)
+    -- each event keeps the invariant
+    pub happens_keeps : Happens h (length past + 1) old event seen new → HasLineage h (past ++ record { event = event; seen = seen } ∷ []) new
+    happens_keeps (key, takes) = subst (λ steps. HasLineage h steps new) (as_step past event seen)
+        (takes_on (turn h old event) (turn_right h proper past old lineage event key) takes)

@@ -80,7 +80,8 @@ outcome_with seen answer sent ask = record {
 -- the outcome of what was seen, where the old world became the new
 abbrev pub outcome_of : World → World → Seen → Outcome
 outcome_of old new seen =
-    outcome_with seen (new_item (length old.answers) (length new.answers)) (numbers_after (length old.datagrams) (length new.datagrams - length old.datagrams))
+    outcome_with seen (new_item (length old.answers) (length new.answers))
+    (numbers_after (length old.datagrams) (length new.datagrams - length old.datagrams))
     (new_item (length old.asks) (length new.asks))
 
 -- an event is applied, or is refused: then it changes nothing and has no place
@@ -98,7 +99,8 @@ did_step roster w id e serial r = did w (Replied id r.outcome) (after_node roste
 
 -- what a turn leads to if nothing fails
 abbrev pub by_turn : Tables → ℕ → World → Turn → Applied
-by_turn roster place w (NodeSteps id e serial) = did_step roster w id e serial (step (setting roster id) (node_at w.states id) e place)
+by_turn roster place w (NodeSteps id e serial) = did_step roster w id e serial
+    (step (setting roster id) (node_at w.states id) e place)
 by_turn roster place w (Ends seen new) = did w seen new
 by_turn roster place w (Refused fault) = DidNot fault
 
@@ -109,5 +111,6 @@ apply roster place w event = by_turn roster place w (turn roster w event)
 -- what was applied is one way in which the event may happen, and only an event that the world
 -- refuses was refused
 abbrev pub IsDone : Tables → ℕ → World → WorldEvent → Applied → Type 0
-IsDone roster place w event (Did outcome new) = (seen : Seen) × Happens roster place w event seen new × (outcome ≡ outcome_of w new seen)
+IsDone roster place w event (Did outcome new) = (seen : Seen) × Happens roster place w event seen new
+    × (outcome ≡ outcome_of w new seen)
 IsDone roster place w event (DidNot fault) = turn roster w event ≡ Refused fault

@@ -46,7 +46,8 @@ IsAskAfter s e next p = Waits s p.block p.asker p.ask ⊎ ((p.block ≡ s.next) 
 -- its key
 abbrev pub IsFor : {X : Type 0} → NodeState X → Event X → Option ℕ → Option ℕ → List ℕ → Type 0
 IsFor s e None asker key = (ask : Ask) × Asks e asker ask × (ask.key ≡ key)
-IsFor s e (Some block) asker key = (p : Pending _) × Contains s.pending p × (p.block ≡ block) × (p.asker ≡ asker) × (p.ask.key ≡ key)
+IsFor s e (Some block) asker key = (p : Pending _) × Contains s.pending p × (p.block ≡ block) × (p.asker ≡ asker)
+    × (p.ask.key ≡ key)
 
 -- a copy has its age at this time and answers a request for its key; a bare status answers a
 -- request for some key
@@ -65,7 +66,8 @@ ServesRightly s e (Ok reply) = IsRightlyIn s e reply.serve
 ServesRightly s e (Err fault) = Unit {0}
 
 -- what holds of a step from s to next by an event, with an outcome
-pub record AnswersAsks {X : Type 0} (s : NodeState X) (e : Event X) (outcome : Result (Reply X) StepFault) (next : NodeState X) : Type 0 where
+pub record AnswersAsks {X : Type 0} (s : NodeState X) (e : Event X) (outcome : Result (Reply X) StepFault)
+    (next : NodeState X) : Type 0 where
   pub asks : AllByRecursion (IsAskAfter s e next.next) next.pending
   -- a node that is open was open before, and takes blocks in ascending order
   pub blocks : next.closed ≡ false → (s.closed ≡ false) × (s.next ≤ next.next)

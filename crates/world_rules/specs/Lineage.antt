@@ -45,7 +45,8 @@ IsStampedRead past p = IsStampedFetch past p.fetch
 
 -- a response between members is a status 502, 503 or 504, which no node uses, or has such a stamp
 abbrev pub IsStampedAnswer : List Step → AnswerText → ℕ → Type 0
-IsStampedAnswer past answer mark = (is_gateway_fault answer.status ≡ true) ⊎ IsStamped past (unwrap_or answer.stamp 0) mark
+IsStampedAnswer past answer mark = (is_gateway_fault answer.status ≡ true)
+    ⊎ IsStamped past (unwrap_or answer.stamp 0) mark
 
 -- the same for a response that was sent
 abbrev pub IsSentAnswer : List Step → PeerAnswer → Type 0
@@ -90,7 +91,8 @@ pub record PurgeHasLineage (past : List Step) (states : List MemberState) (p : P
 
 -- each member has raised its floor for the purge with this number
 abbrev pub AllHaveRaised : Tables → List Step → List MemberState → ℕ → Type 0
-AllHaveRaised roster past states number = (id : ℕ) → is_member roster id ≡ true → HasRaised past (node_at states id) number
+AllHaveRaised roster past states number = (id : ℕ) → is_member roster id ≡ true →
+    HasRaised past (node_at states id) number
 
 -- the invariant: what holds of the world after these steps
 pub record HasLineage (roster : Tables) (past : List Step) (w : World) : Type 0 where
@@ -101,5 +103,6 @@ pub record HasLineage (roster : Tables) (past : List Step) (w : World) : Type 0 
   pub obeyed : AllByRecursion (IsObeyed roster past w.states) w.datagrams
   pub answers : AllByRecursion (IsSentAnswer past) w.answers
   pub pending : AllByRecursion (PurgeHasLineage past w.states) w.master.pending
-  pub done : (number : ℕ) → 1 ≤ number → number ≤ w.master.last → pending_at w.master number ≡ None → AllHaveRaised roster past w.states number
+  pub done : (number : ℕ) → 1 ≤ number → number ≤ w.master.last → pending_at w.master number ≡ None →
+      AllHaveRaised roster past w.states number
   pub reported : (place number : ℕ) → IsReportedAt past place number → AllHaveRaised roster past w.states number

@@ -24,7 +24,8 @@ use Rattle.world_rules.specs.Run.{Step, Run, Happens, IsServedAt}
 
 -- At this place of a run, a member's node took a step with this event and outcome: also the steps
 -- and the world before it.
-pub record NodeStepAt (roster : Tables) (steps : List Step) (place id : ℕ) (e : Event ℕ) (outcome : Result (Reply ℕ) StepFault) : Type 0 where
+pub record NodeStepAt (roster : Tables) (steps : List Step) (place id : ℕ) (e : Event ℕ)
+    (outcome : Result (Reply ℕ) StepFault) : Type 0 where
   pub past : List Step
   pub before : World
   pub cause : WorldEvent
@@ -52,7 +53,8 @@ pub record BeginsReadAt (roster : Tables) (steps : List Step) (place id serial :
 
 -- what is held is an origin's response for the key, to a read that began at the mark and was
 -- pending when the response came
-pub record IsFromOrigin (roster : Tables) (steps : List Step) (key : List ℕ) (mark : ℕ) (held : AnswerText) : Type 0 where
+pub record IsFromOrigin (roster : Tables) (steps : List Step) (key : List ℕ) (mark : ℕ) (held : AnswerText) :
+    Type 0 where
   pub id : ℕ
   pub serial : ℕ
   pub begins : BeginsReadAt roster steps mark id serial key
@@ -70,7 +72,8 @@ pub record IsFromOrigin (roster : Tables) (steps : List Step) (key : List ℕ) (
   pub content : HasContent answer held
 
 -- what is held is a foreign cache's response for the key; its mark is 0
-pub record IsFromForeign (roster : Tables) (steps : List Step) (key : List ℕ) (mark : ℕ) (held : AnswerText) : Type 0 where
+pub record IsFromForeign (roster : Tables) (steps : List Step) (key : List ℕ) (mark : ℕ) (held : AnswerText) :
+    Type 0 where
   pub id : ℕ
   pub serial : ℕ
   pub peer : ℕ
@@ -84,7 +87,8 @@ pub record IsFromForeign (roster : Tables) (steps : List Step) (key : List ℕ) 
 
 -- what is held for a key under a mark comes from an origin or from a foreign cache
 abbrev pub HasSource : Tables → List Step → List ℕ → ℕ → AnswerText → Type 0
-HasSource roster steps key mark held = IsFromOrigin roster steps key mark held ⊎ IsFromForeign roster steps key mark held
+HasSource roster steps key mark held = IsFromOrigin roster steps key mark held
+    ⊎ IsFromForeign roster steps key mark held
 
 -- the copy's content comes from such a source, for its key under its mark
 abbrev pub IsSourcedCopy : Tables → List Step → WebCopy ℕ → Type 0
@@ -100,5 +104,6 @@ EachHasSource roster steps = (place : ℕ) (c : WebCopy ℕ) → IsServedAt step
 abbrev pub EachHasAge : Tables → List Step → World → Type 0
 EachHasAge roster steps before =
     (cause : WorldEvent) (id : ℕ) (reply : Reply ℕ) (serve : Serve ℕ) (c : WebCopy ℕ) (age : ℕ) (after : World) →
-    Happens roster (length steps + 1) before cause (Replied id (Ok reply)) after → reply.serve ≡ Some serve → serve.served ≡ Copy c age →
+    Happens roster (length steps + 1) before cause (Replied id (Ok reply)) after → reply.serve ≡ Some serve →
+    serve.served ≡ Copy c age →
     age ≡ served_age c before.clock

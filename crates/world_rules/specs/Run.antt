@@ -44,7 +44,8 @@ pub record Step : Type 0 where
 -- these steps lead from the old world to the new; the first of them has this place
 abbrev pub Run : Tables → ℕ → World → List Step → World → Type 0
 Run roster place old [] new = new ≡ old
-Run roster place old (step ∷ steps) new = (next : World) × Happens roster place old step.event step.seen next × Run roster (place + 1) next steps new
+Run roster place old (step ∷ steps) new = (next : World) × Happens roster place old step.event step.seen next
+    × Run roster (place + 1) next steps new
 
 -- This list of events leads through these steps. Any event may be refused; it then changes nothing
 -- and has no place.

@@ -22,7 +22,8 @@ use Rattle.world_rules.specs.Run.{Step, Run, Happens, IsIssuedAt, IsReportedAt, 
 abbrev pub NothingOldIsServed : List Step → Type 0
 NothingOldIsServed steps =
     (number : ℕ) (key : List ℕ) (issued reported served : ℕ) (c : WebCopy ℕ) →
-    IsIssuedAt steps issued number key → IsReportedAt steps reported number → reported < served → IsServedAt steps served c →
+    IsIssuedAt steps issued number key → IsReportedAt steps reported number → reported < served →
+    IsServedAt steps served c →
     c.key ≡ key → issued < c.tag
 
 -- each datagram that is sent goes back to the source of the event's datagram; if the event is no
@@ -37,8 +38,10 @@ SendsBack _ messages = messages ≡ []
 -- section 2).
 abbrev pub SiblingsAskNothing : Tables → List Step → Type 0
 SiblingsAskNothing roster steps =
-    (past rest : List Step) (event : WorldEvent) (id : ℕ) (outcome : Result (Reply ℕ) StepFault) (before after : World) (e : Event ℕ) (serial : ℕ) →
+    (past rest : List Step) (event : WorldEvent) (id : ℕ) (outcome : Result (Reply ℕ) StepFault) (before after : World)
+    (e : Event ℕ) (serial : ℕ) →
     steps ≡ past ++ record { event = event; seen = Replied id outcome } ∷ rest →
-    Run roster 1 (new_world roster) past before → Happens roster (length past + 1) before event (Replied id outcome) after →
+    Run roster 1 (new_world roster) past before → Happens roster (length past + 1) before event (Replied id outcome)
+    after →
     turn roster before event ≡ NodeSteps id e serial → is_from_sibling (setting roster id) e ≡ true →
     BeginsNothing (node_at before.states id) outcome (node_at after.states id) × SendsBack e (sent outcome)

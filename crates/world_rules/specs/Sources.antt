@@ -38,7 +38,8 @@ IsTaken id next x = x.node ≡ id → x.block < next
 
 -- a member's request that waits here is listed in the world, with its key
 abbrev pub IsKept : List Waiting → ℕ → Pending ℕ → Type 0
-IsKept waiting id p = (asker : ℕ) → p.asker ≡ Some asker → (a : Answered) × (asked_before waiting id p.block ≡ Some a) × (a.key ≡ p.ask.key)
+IsKept waiting id p = (asker : ℕ) → p.asker ≡ Some asker → (a : Answered) × (asked_before waiting id p.block ≡ Some a)
+    × (a.key ≡ p.ask.key)
 
 -- what holds of the members' requests that wait at a node
 pub record NodeHasAsks (waiting : List Waiting) (id : ℕ) (s : NodeState ℕ) : Type 0 where

@@ -76,22 +76,29 @@ with_sent w sent = record w { datagrams = w.datagrams ++ sent }
 
 -- the world with another node of the member; the members' requests that waited there are gone
 abbrev pub with_member_state : World → ℕ → NodeState ℕ → World
-with_member_state w id node = record w { states = with_node w.states id node; waiting = filter (λ x. not (x.node == id)) w.waiting }
+with_member_state w id node = record w {
+  states = with_node w.states id node;
+  waiting =
+      filter (λ x. not (x.node == id)) w.waiting;
+}
 
 -- The master
 
 -- the CLR as a datagram from the master to the member's HTCP address, if there are both
 abbrev pub clear_to : Tables → Option Htcp → Option Member → List Datagram
-clear_to roster (Some m) (Some member) = record { sender = roster.master; receiver = member.cache.htcp; message = message.Htcp m } ∷ []
+clear_to roster (Some m) (Some member) =
+    record { sender = roster.master; receiver = member.cache.htcp; message = message.Htcp m } ∷ []
 clear_to roster _ _ = []
 
 -- the CLRs of a new purge: one to each member, in order of ids
 abbrev pub clears_of : Tables → ℕ → List ℕ → List Datagram
-clears_of roster number key = flat_map (λ id. clear_to roster (Some (clear number key)) (member_of roster id)) (members_of roster)
+clears_of roster number key = flat_map (λ id. clear_to roster (Some (clear number key)) (member_of roster id))
+    (members_of roster)
 
 -- the CLR of each pending purge to each member that has not acknowledged it
 abbrev pub clears_due : Tables → PurgeList → List Datagram
-clears_due roster purges = flat_map (λ d. clear_to roster (message_of purges d.0) (member_of roster d.1)) (due (members_of roster) purges)
+clears_due roster purges = flat_map (λ d. clear_to roster (message_of purges d.0) (member_of roster d.1))
+    (due (members_of roster) purges)
 
 -- the master issues a purge under the next number and sends its CLRs, or refuses
 abbrev pub issue_by : Tables → World → List ℕ → Option MasterFault → Turn
@@ -108,11 +115,13 @@ reports roster w number = Ends (Reported number (status_of (members_of roster) w
 -- and the status is reported.
 abbrev pub acknowledged_by : Tables → World → ℕ → ℕ → Option ℕ → Turn
 acknowledged_by roster w number code None = Ends Nothing w
-acknowledged_by roster w number code (Some id) = reports roster (with_master w (acknowledged (members_of roster) w.master id number code).purges) number
+acknowledged_by roster w number code (Some id) =
+    reports roster (with_master w (acknowledged (members_of roster) w.master id number code).purges) number
 
 -- the sender of a response to a CLR is known by its HTCP address [Master 5]
 abbrev pub master_hears_htcp : Tables → World → Address → ℕ → Content → Turn
-master_hears_htcp roster w sender trans (content.ClrAnswer code) = acknowledged_by roster w trans code (member_at roster sender udp.Htcp)
+master_hears_htcp roster w sender trans (content.ClrAnswer code) =
+    acknowledged_by roster w trans code (member_at roster sender udp.Htcp)
 master_hears_htcp roster w sender trans _ = Ends Nothing w
 
 -- of what reaches the master, only a member's response to a CLR counts
@@ -137,14 +146,16 @@ delivered roster w (Some d) =
 -- a request reaches the member that it was sent to
 abbrev pub ask_delivered : Tables → World → Option PeerAsk → Turn
 ask_delivered roster w None = Refused NoSuchPacket
-ask_delivered roster w (Some a) = at_member roster a.receiver (NodeSteps a.receiver (event.PeerAsk a.sender a.ask w.clock) a.serial)
+ask_delivered roster w (Some a) = at_member roster a.receiver
+    (NodeSteps a.receiver (event.PeerAsk a.sender a.ask w.clock) a.serial)
 
 -- A response reaches the member that it was sent to, under the serial given, or else under that of
 -- its request.
 abbrev pub answer_delivered : Tables → World → Option ℕ → Option PeerAnswer → Turn
 answer_delivered roster w serial None = Refused NoSuchPacket
 answer_delivered roster w serial (Some a) =
-    at_member roster a.receiver (NodeSteps a.receiver (event.PeerAnswer (unwrap_or serial a.serial) a.sender a.key a.answer a.mark w.clock) 0)
+    at_member roster a.receiver
+    (NodeSteps a.receiver (event.PeerAnswer (unwrap_or serial a.serial) a.sender a.key a.answer a.mark w.clock) 0)
 
 -- a stranger's datagram reaches a member; a stranger has no address of a member or of the master
 abbrev pub strange_comes : Tables → World → Address → Address → Message → Turn
@@ -159,7 +170,8 @@ is_at serial p = fetch_serial p == serial
 
 -- an origin responds only to a read that is pending
 abbrev pub origin_by : World → ℕ → ℕ → AnswerText → List ℕ → Fetch ℕ → Turn
-origin_by w id serial answer key (AtOrigin stamp asked mark) = NodeSteps id (event.OriginAnswer serial key answer w.clock) 0
+origin_by w id serial answer key (AtOrigin stamp asked mark) =
+    NodeSteps id (event.OriginAnswer serial key answer w.clock) 0
 origin_by w id serial answer key _ = Refused NotPending
 
 -- an origin responds under this serial, to what is pending there
@@ -170,7 +182,8 @@ origin_to w id serial answer (Some p) = origin_by w id serial answer p.ask.key p
 -- a foreign cache responds only to a fetch from it that is pending; its copy has the mark 0
 abbrev pub foreign_by : World → ℕ → ℕ → AnswerText → List ℕ → Fetch ℕ → Turn
 foreign_by w id serial answer key (AtPeer peer asked) =
-    if is_foreign_id peer then NodeSteps id (event.ForeignAnswer serial peer key answer 0 w.clock) 0 else Refused NotPending
+    if is_foreign_id peer then NodeSteps id (event.ForeignAnswer serial peer key answer 0 w.clock) 0
+    else Refused NotPending
 foreign_by w id serial answer key _ = Refused NotPending
 
 -- a foreign cache responds under this serial, to what is pending there
@@ -191,13 +204,17 @@ turn roster w (world.Client id ask) = at_member roster id (NodeSteps id (event.C
 turn roster w (world.Datagram number) = delivered roster w (item w.datagrams number)
 turn roster w (world.Ask number) = ask_delivered roster w (item w.asks number)
 turn roster w (world.Answer number serial) = answer_delivered roster w serial (item w.answers number)
-turn roster w (world.Origin id serial answer) = at_member roster id (origin_to w id serial answer (fetching_at w id serial))
-turn roster w (world.Foreign id serial answer) = at_member roster id (foreign_to w id serial answer (fetching_at w id serial))
+turn roster w (world.Origin id serial answer) = at_member roster id
+    (origin_to w id serial answer (fetching_at w id serial))
+turn roster w (world.Foreign id serial answer) = at_member roster id
+    (foreign_to w id serial answer (fetching_at w id serial))
 turn roster w (world.Strange to sender m) = strange_comes roster w to sender m
 turn roster w (world.Fail id serial) = at_member roster id (NodeSteps id (event.FetchFailed serial w.clock) 0)
 turn roster w (world.Expire id serial) = at_member roster id (NodeSteps id (event.Expired serial w.clock) 0)
-turn roster w (world.Fault id) = at_member roster id (Ends Nothing (with_member_state w id (closed_node (node_at w.states id))))
-turn roster w (world.Restart id) = at_member roster id (Ends Nothing (with_member_state w id (opened (node_at w.states id).floors)))
+turn roster w (world.Fault id) =
+    at_member roster id (Ends Nothing (with_member_state w id (closed_node (node_at w.states id))))
+turn roster w (world.Restart id) =
+    at_member roster id (Ends Nothing (with_member_state w id (opened (node_at w.states id).floors)))
 turn roster w (world.Issue key) = issue_by roster w key (issue_fault w.master)
 turn roster w world.Resend = Ends Nothing (with_sent w (clears_due roster w.master))
 turn roster w (world.Status number) = reports roster w number

@@ -79,7 +79,16 @@ new_node = opened empty
 
 -- the world at the start: nothing is stored and nothing was sent
 abbrev pub new_world : Tables → World
-new_world roster = record { states = map (λ m. record { id = m.cache.id; node = new_node }) roster.members; master = no_purges; clock = 0; datagrams = []; asks = []; answers = []; waiting = [] }
+new_world roster = record {
+  states = map (λ m. record { id = m.cache.id; node = new_node }) roster.members;
+  master =
+      no_purges;
+  clock = 0;
+  datagrams = [];
+  asks = [];
+  answers = [];
+  waiting = [];
+}
 
 -- the item with this number, counted from 1
 abbrev pub item : {A : Type 0} → List A → ℕ → Option A
@@ -93,7 +102,8 @@ node_at (state ∷ states) id = if state.id == id then state.node else node_at s
 -- the states with this node at the member's id
 abbrev pub with_node : List MemberState → ℕ → NodeState ℕ → List MemberState
 with_node [] id node = record { id = id; node = node } ∷ []
-with_node (state ∷ states) id node = if state.id == id then record { id = id; node = node } ∷ states else state ∷ with_node states id node
+with_node (state ∷ states) id node = if state.id == id then record { id = id; node = node } ∷ states else state
+    ∷ with_node states id node
 
 -- What a node's reply sends
 
@@ -108,7 +118,8 @@ datagrams_from (Some m) sent = map (datagram_from m.cache) sent
 
 -- the request that it sends to a member, if any; foreign caches are not part of the world
 abbrev pub asks_in : ℕ → Option Begin → List PeerAsk
-asks_in id (Some (begin.Peer serial peer ask)) = if is_foreign_id peer then [] else record { sender = id; receiver = peer; serial = serial; ask = ask } ∷ []
+asks_in id (Some (begin.Peer serial peer ask)) = if is_foreign_id peer then []
+    else record { sender = id; receiver = peer; serial = serial; ask = ask } ∷ []
 asks_in id _ = []
 
 -- the response to a member that holds a copy: with its age and its stamp
@@ -145,7 +156,8 @@ is_waiting_as id block w = (w.node == id) && (w.block == block)
 
 -- the member's request that waited at this node as this block, if any
 abbrev pub asked_before : List Waiting → ℕ → ℕ → Option Answered
-asked_before waiting id block = option_map (λ w. record { serial = w.serial; key = w.key }) (find (is_waiting_as id block) waiting)
+asked_before waiting id block = option_map (λ w. record { serial = w.serial; key = w.key })
+    (find (is_waiting_as id block) waiting)
 
 -- the request that is answered: the one that waited as the block, or else the event
 abbrev pub asked_by : List Waiting → ℕ → Event ℕ → ℕ → Option ℕ → Option Answered
@@ -154,17 +166,28 @@ asked_by waiting id e serial (Some block) = asked_before waiting id block
 
 -- the response to the member that asked; a response to a client is not part of the world
 abbrev pub answer_to : ℕ → Option ℕ → Served ℕ → Option Answered → List PeerAnswer
-answer_to id (Some asker) served (Some a) = record { sender = id; receiver = asker; serial = a.serial; key = a.key; answer = answer_of served; mark = mark_of served } ∷ []
+answer_to id (Some asker) served (Some a) =
+    record {
+      sender = id;
+      receiver = asker;
+      serial = a.serial;
+      key = a.key;
+      answer = answer_of served;
+      mark =
+          mark_of served;
+    } ∷ []
 answer_to id _ served _ = []
 
 -- the response that it sends to a member, if any
 abbrev pub answers_in : List Waiting → ℕ → Event ℕ → ℕ → Option (Serve ℕ) → List PeerAnswer
 answers_in waiting id e serial None = []
-answers_in waiting id e serial (Some serve) = answer_to id serve.asker serve.served (asked_by waiting id e serial serve.waiter)
+answers_in waiting id e serial (Some serve) = answer_to id serve.asker serve.served
+    (asked_by waiting id e serial serve.waiter)
 
 -- the member's request that has begun to wait here: the event, if the node took a new block
 abbrev pub waits_now : ℕ → Event ℕ → ℕ → NodeState ℕ → NodeState ℕ → List Waiting
-waits_now id (event.PeerAsk asker ask now) serial old new = if old.next == new.next then [] else record { node = id; block = old.next; serial = serial; key = ask.key } ∷ []
+waits_now id (event.PeerAsk asker ask now) serial old new = if old.next == new.next then []
+    else record { node = id; block = old.next; serial = serial; key = ask.key } ∷ []
 waits_now id _ serial old new = []
 
 -- what a step replied; a refused step sends nothing

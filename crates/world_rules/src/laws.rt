@@ -24,9 +24,15 @@ ghost use Rattle.world_rules.specs.Apply.{apply, IsDone};
 /// was issued. `siblings`: a request to a sibling begins nothing, and makes it send to nobody but
 /// the requester. `lineage`: the invariant on which `served` rests holds at every place.
 pub fn purges_are_safe()
-    ensures served { (roster : Tables) (events : List WorldEvent) (steps : List Step) (w : World) → IsRoster roster → Plays roster 1 (new_world roster) events steps w → NothingOldIsServed steps }
-    ensures siblings { (roster : Tables) (events : List WorldEvent) (steps : List Step) (w : World) → Plays roster 1 (new_world roster) events steps w → SiblingsAskNothing roster steps }
-    ensures lineage { (roster : Tables) (events : List WorldEvent) (steps : List Step) (w : World) → IsRoster roster → Plays roster 1 (new_world roster) events steps w → HasLineage roster steps w }
+    ensures served { (roster : Tables) (events : List WorldEvent) (steps : List Step) (w : World) →
+        IsRoster roster → Plays roster 1 (new_world roster) events steps w →
+        NothingOldIsServed steps }
+    ensures siblings { (roster : Tables) (events : List WorldEvent) (steps : List Step)
+        (w : World) → Plays roster 1 (new_world roster) events steps w →
+        SiblingsAskNothing roster steps }
+    ensures lineage { (roster : Tables) (events : List WorldEvent) (steps : List Step) (w : World) →
+        IsRoster roster → Plays roster 1 (new_world roster) events steps w →
+        HasLineage roster steps w }
 {}
 
 /// Where the content of served copies comes from.
@@ -35,23 +41,28 @@ pub fn purges_are_safe()
 /// response for its key: an origin's, to the read that began at the copy's mark, or a foreign
 /// cache's. `ages`: it is served with its age (RFC 9111, section 4.2.3).
 pub fn copies_have_sources()
-    ensures sources { (roster : Tables) (events : List WorldEvent) (steps : List Step) (w : World) → Plays roster 1 (new_world roster) events steps w → EachHasSource roster steps }
-    ensures ages { (roster : Tables) (events : List WorldEvent) (steps : List Step) (w : World) → Plays roster 1 (new_world roster) events steps w → EachHasAge roster steps w }
+    ensures sources { (roster : Tables) (events : List WorldEvent) (steps : List Step) (w : World) →
+        Plays roster 1 (new_world roster) events steps w → EachHasSource roster steps }
+    ensures ages { (roster : Tables) (events : List WorldEvent) (steps : List Step) (w : World) →
+        Plays roster 1 (new_world roster) events steps w → EachHasAge roster steps w }
 {}
 
 /// Each step of a node answers what was requested: to the request of its event, or to one that
 /// waits, it serves a copy of that request's key with its age, or a bare status.
 pub fn nodes_answer_what_is_asked<T>()
-    ensures { (g : Setting) (s : NodeState T) (e : Event T) (mark : T) (outcome : Result (Reply T) StepFault) (next : NodeState T) →
+    ensures { (g : Setting) (s : NodeState T) (e : Event T) (mark : T)
+        (outcome : Result (Reply T) StepFault) (next : NodeState T) →
         Steps g s e mark outcome next → AnswersAsks s e outcome next }
 {}
 
 /// What the function `apply` makes of an event may happen in the world.
 pub fn applied_events_happen()
-    ensures { (roster : Tables) (place : ℕ) (w : World) (event : WorldEvent) → IsOfKey event → IsDone roster place w event (apply roster place w event) }
+    ensures { (roster : Tables) (place : ℕ) (w : World) (event : WorldEvent) → IsOfKey event →
+        IsDone roster place w event (apply roster place w event) }
 {}
 
 /// Every list of events has a run, if each purge in it is of a key.
 pub fn each_list_is_played()
-    ensures { (roster : Tables) (events : List WorldEvent) → AllByRecursion IsOfKey events → (steps : List Step) × (w : World) × Plays roster 1 (new_world roster) events steps w }
+    ensures { (roster : Tables) (events : List WorldEvent) → AllByRecursion IsOfKey events →
+        (steps : List Step) × (w : World) × Plays roster 1 (new_world roster) events steps w }
 {}

@@ -48,7 +48,8 @@ fn show_message(alloc: Global, message: &Icp, text: &mut Vec<u8>) -> Result<(), 
 
 /// Shows the object of a HIT_OBJ after a space.
 fn show_object(alloc: Global, message: &Icp, text: &mut Vec<u8>) -> Result<(), AllocError>
-    ensures { OnOk result (text.new.items ≡ text.old.items ++ object_shown message.now.op message.now.object) }
+    ensures { OnOk result (text.new.items ≡ text.old.items
+        ++ object_shown message.now.op message.now.object) }
 {
     match message.op {
         IcpOp::HitObj => {

@@ -5,4 +5,5 @@ use Rattle.cli_answer.proofs.answer.htcp_fault.Goals as goal
 
 pub returns : goal.returns
 returns c =
-    subst (IsHtcpFault c.args.octets.now) (sym c.err.ensures.value) (htcp_fault_of c.args.octets.now c.read_htcp.result c.read_htcp.ensures.ok c.read_htcp.ensures.err)
+    subst (IsHtcpFault c.args.octets.now) (sym c.err.ensures.value)
+    (htcp_fault_of c.args.octets.now c.read_htcp.result c.read_htcp.ensures.ok c.read_htcp.ensures.err)

@@ -5,4 +5,5 @@ use Rattle.cli_answer.proofs.answer.icp_fault.Goals as goal
 
 pub returns : goal.returns
 returns c =
-    subst (IsIcpFault c.args.octets.now) (sym c.err.ensures.value) (icp_fault_of c.args.octets.now c.read_icp.result c.read_icp.ensures.ok c.read_icp.ensures.err)
+    subst (IsIcpFault c.args.octets.now) (sym c.err.ensures.value)
+    (icp_fault_of c.args.octets.now c.read_icp.result c.read_icp.ensures.ok c.read_icp.ensures.err)

@@ -4,4 +4,5 @@ use Rattle.node_rules.specs.State.{opened}
 use Rattle.hierarchy_world.proofs.playing.new_nodes.Given as goal
 
 abbrev pub invariant-loop-member : goal.invariant-loop-member
-invariant-loop-member l = l.nodes.items ≡ map (λ m. record { roster = l.fn.roster; id = m.cache.id; state = opened empty; store = empty }) (take l.member-index l.fn.roster.members)
+invariant-loop-member l = l.nodes.items ≡ map (λ m. record { roster = l.fn.roster; id = m.cache.id; state = opened empty; store = empty })
+    (take l.member-index l.fn.roster.members)

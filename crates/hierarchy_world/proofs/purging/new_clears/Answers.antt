@@ -12,5 +12,6 @@ pub loop-id-preserved : goal.loop-id-preserved
 loop-id-preserved c =
     let more : c.match-branch-3.made.items ≡ c.loop-id.made.items ++ cons_option c.in_ok-datagram.field-0 [] =
     elim c.match-branch-3.branch [ in-Some+in_ok-push w ↦ search rules | in_default w ↦ search rules ] in
-    made_more (λ id. clear_to c.args.roster.now (Some (clear c.args.number c.args.key.now)) (member_of c.args.roster.now id)) possible_ids c.loop-id.id-index _ 0
+    made_more (λ id. clear_to c.args.roster.now (Some (clear c.args.number c.args.key.now)) (member_of c.args.roster.now id)) possible_ids c.loop-id.id-index _
+    0
     c.loop-id.made.items c.match-branch-3.made.items c.in_ok-datagram.field-0 (omega arith) (omega arith) c.loop-id.invariant c.in_ok-datagram.ensures more

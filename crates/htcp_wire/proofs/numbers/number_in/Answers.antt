@@ -36,12 +36,14 @@ returns-in_err-at_most_one c =
     let p = err_from_is_err_and c.from_residual-in_err-at_most_one.result c.from_residual-in_err-at_most_one.ensures.1 in
     let text = c.args.text.now in
     let last = ap option_to_list (c.value_in-2.ensures ∙ ap (λ name. value_in name (line_at text c.loop-end.start (length text))) c.line_name-name.ensures) in
-    let all = all_values (value_in (line_name c.args.kind)) text c.loop-end.start c.loop-end.end _ _ (omega arith) c.loop-end-test.false c.loop-end.invariant last in
+    let all = all_values (value_in (line_name c.args.kind)) text c.loop-end.start c.loop-end.end _ _ (omega arith) c.loop-end-test.false c.loop-end.invariant
+    last in
     rw (p.1, p.2, c.in_err-at_most_one.ensures.0) (sym (last_second_value _ _ all c.in_err-at_most_one.ensures.1))
 
 pub returns : goal.returns
 returns c =
     let text = c.args.text.now in
     let last = ap option_to_list (c.value_in-2.ensures ∙ ap (λ name. value_in name (line_at text c.loop-end.start (length text))) c.line_name-name.ensures) in
-    let all = all_values (value_in (line_name c.args.kind)) text c.loop-end.start c.loop-end.end _ _ (omega arith) c.loop-end-test.false c.loop-end.invariant last in
+    let all = all_values (value_in (line_name c.args.kind)) text c.loop-end.start c.loop-end.end _ _ (omega arith) c.loop-end-test.false c.loop-end.invariant
+    last in
     c.number_of_value.ensures ∙ ap number_of_values (c.in_ok-at_most_one.ensures ∙ all)

@@ -11,4 +11,9 @@ returns-in-None c =
 
 pub loop-field-preserved : goal.loop-field-preserved
 loop-field-preserved c =
-    omega (arith, sum_more c.args.fields.now c.loop-field.field-index c.loop-field-test.true c.field-item.result c.field-item.is, c.in-Some.ensures, c.loop-field.invariant)
+    omega (
+      arith,
+      sum_more c.args.fields.now c.loop-field.field-index c.loop-field-test.true c.field-item.result c.field-item.is,
+      c.in-Some.ensures,
+      c.loop-field.invariant,
+    )

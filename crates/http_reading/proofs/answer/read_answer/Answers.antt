@@ -18,7 +18,8 @@ heads-preserved g c =
     let new = c.read_response_head.new.self in
     let room = c.read_response_head.auto.headers ∙ ap length c.as_mut_slice.ensures.value ∙ c.heads.invariant.room in
     record {
-      passes = one_more new c.heads.start c.read_response_head.new.headers c.in-Ok.head room c.in-Ok.ensures.head c.in-Ok.ensures.inside (sym c.is_interim.ensures ∙ c.if-is_interim.true)
+      passes = one_more new c.heads.start c.read_response_head.new.headers c.in-Ok.head room c.in-Ok.ensures.head c.in-Ok.ensures.inside
+          (sym c.is_interim.ensures ∙ c.if-is_interim.true)
           (passes_taken before after c.heads.intake new c.heads.start c.in-Ok.ensures.taken c.heads.invariant.passes);
       taken = takes_then [] c.heads.intake new first before after c.heads.invariant.taken c.in-Ok.ensures.taken;
       room = room;
@@ -43,4 +44,5 @@ returns-in-Err g c =
     head_stops first after [] new c.heads.start c.in-Err.fault
     (takes_then [] c.heads.intake new first before after c.heads.invariant.taken c.in-Err.ensures.taken)
     (passes_taken before after c.heads.intake new c.heads.start c.in-Err.ensures.taken c.heads.invariant.passes)
-    c.in-Err.ensures.faults (λ e. c.in-Err.ensures.bad (ap Err e)) (λ e. c.in-Err.ensures.long (ap Err e)) c.in-Err.ensures.open (λ e. c.in-Err.ensures.ended (ap Err e)) (λ e. c.in-Err.ensures.spent (ap Err e))
+    c.in-Err.ensures.faults (λ e. c.in-Err.ensures.bad (ap Err e)) (λ e. c.in-Err.ensures.long (ap Err e)) c.in-Err.ensures.open
+    (λ e. c.in-Err.ensures.ended (ap Err e)) (λ e. c.in-Err.ensures.spent (ap Err e))

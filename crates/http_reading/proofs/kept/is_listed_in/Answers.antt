@@ -9,5 +9,6 @@ use Rattle.http_reading.proofs.kept.is_listed_in.Goals as goal
 pub returns : goal.returns
 returns c =
     any_from_yields_List (λ (part : List ℕ). str_eq_ignore_ascii_case (trim part) c.args.name.now) c.any.new.self _ _ c.any.ensures.ran
-    (YieldsList-from_slice_split _ is_comma c.args.value.now c.split.ensures.rest c.split.ensures.done c.split.ensures.closure (λ x b q k. search (rules, tests)))
+    (YieldsList-from_slice_split _ is_comma c.args.value.now c.split.ensures.rest c.split.ensures.done c.split.ensures.closure
+    (λ x b q k. search (rules, tests)))
     (λ x b q k. search (rules, tests))

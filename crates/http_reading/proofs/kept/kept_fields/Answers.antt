@@ -53,7 +53,8 @@ loop-header-preserved c =
             held = held_pushed c.loop-header.fields.items w.in_ok-field.field c.loop-header.invariant.held (may_stand options pair _ text is trimmed);
           })
       | else-is_kept w ↦
-          let rest = kept_from-dropped options c.args.window.now c.args.headers.now place nowhere c.loop-header-test.true (sym c.is_kept.ensures ∙ w.if-is_kept.false) in
+          let rest = kept_from-dropped options c.args.window.now c.args.headers.now place nowhere c.loop-header-test.true
+          (sym c.is_kept.ensures ∙ w.if-is_kept.false) in
           rw w.fields-is (record {
             same = ap (λ (ts : List FieldText). map field_text c.loop-header.fields.items ++ ts) (sym rest) ∙ c.loop-header.invariant.same;
             held = c.loop-header.invariant.held;

@@ -8,6 +8,7 @@ use Rattle.http_reading.proofs.kept.kept_fields.Given as goal
 
 abbrev pub invariant-loop-header : goal.invariant-loop-header
 invariant-loop-header l = record {
-  same : map field_text l.fields.items ++ kept_from (options_of (fields_of l.window l.headers)) l.window l.headers l.header-index ≡ kept (fields_of l.window l.headers);
+  same : map field_text l.fields.items ++ kept_from (options_of (fields_of l.window l.headers)) l.window l.headers l.header-index ≡ kept
+      (fields_of l.window l.headers);
   held : list_all is_kept_field (map field_text l.fields.items) ≡ true;
 }

@@ -9,8 +9,11 @@ returns-in_err-write-clause-written g c =
 
 pub returns-in_err-write-2-clause-written : goal.returns-in_err-write-2-clause-written
 returns-in_err-write-2-clause-written g c =
-    writes_then _ _ _ c.args.first.now (c.args.second.now ++ c.args.third.now) c.from_residual-in_err-write-2.result c.in_ok-write.ensures.written (stops _ _ _ c.args.second.now c.args.third.now c.from_residual-in_err-write-2.result c.from_residual-in_err-write-2.ensures.1 c.in_err-write-2.ensures.written)
+    writes_then _ _ _ c.args.first.now (c.args.second.now ++ c.args.third.now) c.from_residual-in_err-write-2.result c.in_ok-write.ensures.written
+    (stops _ _ _ c.args.second.now c.args.third.now c.from_residual-in_err-write-2.result c.from_residual-in_err-write-2.ensures.1
+    c.in_err-write-2.ensures.written)
 
 pub returns-clause-written : goal.returns-clause-written
 returns-clause-written g c =
-    writes_then _ _ _ c.args.first.now (c.args.second.now ++ c.args.third.now) c.write-3.result c.in_ok-write.ensures.written (writes_then _ _ _ c.args.second.now c.args.third.now c.write-3.result c.in_ok-write-2.ensures.written c.write-3.ensures.written)
+    writes_then _ _ _ c.args.first.now (c.args.second.now ++ c.args.third.now) c.write-3.result c.in_ok-write.ensures.written
+    (writes_then _ _ _ c.args.second.now c.args.third.now c.write-3.result c.in_ok-write-2.ensures.written c.write-3.ensures.written)

@@ -7,6 +7,16 @@ pub returns-clause-event : goal.returns-clause-event
 returns-clause-event g c =
     let octets = c.args.octets.now in
     elim c.match-by.branch [
-      | in-Icp+in-Ok w ↦ (c.match-by.message, subst (λ by. SpellsBy by octets c.match-by.message) (sym w.in-Icp.is) (subst (IsIcp octets) (sym w.message-is) w.in-Ok.ensures.ok), refl)
-      | in-Htcp+in-Ok-read_htcp w ↦ (c.match-by.message, subst (λ by. SpellsBy by octets c.match-by.message) (sym w.in-Htcp.is) (subst (IsHtcp octets) (sym w.message-is) w.in-Ok-read_htcp.ensures.ok), refl)
+      | in-Icp+in-Ok w ↦ (
+        c.match-by.message,
+        subst (λ by. SpellsBy by octets c.match-by.message) (sym w.in-Icp.is)
+            (subst (IsIcp octets) (sym w.message-is) w.in-Ok.ensures.ok),
+        refl,
+      )
+      | in-Htcp+in-Ok-read_htcp w ↦ (
+        c.match-by.message,
+        subst (λ by. SpellsBy by octets c.match-by.message) (sym w.in-Htcp.is)
+            (subst (IsHtcp octets) (sym w.message-is) w.in-Ok-read_htcp.ensures.ok),
+        refl,
+      )
     ]

@@ -8,5 +8,6 @@ returns-in-Ok g c =
     let reply = c.in-Ok.reply in (
       Ok reply,
       subst (λ e. g.N.Stepper.takes c.args.node.now e (Ok reply) c.step.new.self) c.event_by.ensures c.in-Ok.ensures.takes,
-      c.answer_reply.ensures c.args.asker (asks_by c.args.asker c.args.ask c.args.now reply (subst (λ e. AnswersAsk e reply) c.event_by.ensures c.in-Ok.ensures.asks)),
+      c.answer_reply.ensures c.args.asker (asks_by c.args.asker c.args.ask c.args.now reply
+          (subst (λ e. AnswersAsk e reply) c.event_by.ensures c.in-Ok.ensures.asks)),
     )

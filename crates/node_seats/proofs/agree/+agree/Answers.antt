@@ -6,7 +6,8 @@ use Rattle.node_seats.specs.Seats.{Agree, entries_of}
 use Rattle.node_seats.proofs.agree.+agree.Goals as goal
 
 -- where no entry is left, no call may be left
-none_left : (made : List Made) (entries : List NodeEntry) (number : ℕ) (b : Bool) → b ≡ (length made == 0) → length entries < 1 → IsTrue b ↔ Agree made (entries_of number entries)
+none_left : (made : List Made) (entries : List NodeEntry) (number : ℕ) (b : Bool) → b ≡ (length made == 0) → length entries < 1 →
+    IsTrue b ↔ Agree made (entries_of number entries)
 none_left [] [] number b is few = ((λ _. tt), λ _. grind (arith, nat_tests))
 none_left (m ∷ made) [] number b is few = ((λ yes. absurd (grind (arith, nat_tests))), λ no. absurd no)
 none_left made (e ∷ entries) number b is few = absurd (omega arith)

@@ -12,7 +12,8 @@ loop-i-preserved g c =
     let seat = c.index-seats-i.result in
     let within : i < length seats = omega arith in
     let more : parts_in (take (i + 1) seats) + c.args.count ≡ g.L.Calls.all + (i + 1) =
-    parts_more g.L.Calls.all c.args.count i seats seat c.requires.0 c.requires.1 within c.index-seats-i.is (c.is_seat_of.ensures.parts c.if-not-is_seat_of.false) c.loop-i.invariant.2 c.loop-i.invariant.3 in (
+    parts_more g.L.Calls.all c.args.count i seats seat c.requires.0 c.requires.1 within c.index-seats-i.is
+    (c.is_seat_of.ensures.parts c.if-not-is_seat_of.false) c.loop-i.invariant.2 c.loop-i.invariant.3 in (
       c.loop-i.invariant.0,
       seated_more c.args.count i seats seat within c.index-seats-i.is (c.is_seat_of.ensures.seat.0 c.if-not-is_seat_of.false) c.loop-i.invariant.1,
       λ none. absurd (omega (arith, none)),

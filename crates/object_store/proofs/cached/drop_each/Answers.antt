@@ -23,11 +23,19 @@ loop-key-preserved g c =
     let inv = c.loop-key.invariant in
     let copies = copies_in c.loop-key.cache in
     let key = c.key-item.result in
-    let gone : copies_in c.pop.new.self ≡ without key copies = ap copies_in c.pop.ensures.entries ∙ out_of key c.loop-key.cache.entries inv.cached.keyed inv.one_each in
+    let gone : copies_in c.pop.new.self ≡ without key copies = ap copies_in c.pop.ensures.entries
+    ∙ out_of key c.loop-key.cache.entries inv.cached.keyed inv.one_each in
     let found = found_in key c.loop-key.cache.entries inv.cached.keyed in record {
       rest = rw gone (without_next c.args.keys.now c.loop-key.key-index key copies (omega arith) c.key-item.is ∙ inv.rest);
       counted = elim c.match-pop.branch [
-        | in-Some w ↦ omega (arith, w.left-is, octets_out key copies w.in-Some.copy inv.one_each (sym found ∙ sym w.in-Some.ensures.value), ap octets gone, inv.counted, w.size-left.ensures.value)
+        | in-Some w ↦ omega (
+          arith,
+          w.left-is,
+          octets_out key copies w.in-Some.copy inv.one_each (sym found ∙ sym w.in-Some.ensures.value),
+          ap octets gone,
+          inv.counted,
+          w.size-left.ensures.value,
+        )
         | in_default w ↦ w.left-is ∙ inv.counted ∙ ap octets (sym (gone ∙ none_out key copies (sym found ∙ sym w.in_default.ensures.value)))
       ];
       one_each = subst OneEach (sym gone) (one_each_filtered _ copies inv.one_each);

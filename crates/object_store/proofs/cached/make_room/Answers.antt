@@ -13,7 +13,13 @@ pub overflow_sub-left : goal.overflow_sub-left
 overflow_sub-left g c =
     let split = last_out c.loop-cache.cache.entries _ c.in-Some.ensures.value in
     let rest = copies_in c.pop_lru.new.self in
-    omega (arith, octets_push rest c.in-Some.last, ap octets (split ∙ ap (λ cs. cs ++ c.in-Some.last ∷ []) (sym (ap copies_in c.pop_lru.ensures.entries))), c.loop-cache.invariant.counted, c.size.ensures.value)
+    omega (
+      arith,
+      octets_push rest c.in-Some.last,
+      ap octets (split ∙ ap (λ cs. cs ++ c.in-Some.last ∷ []) (sym (ap copies_in c.pop_lru.ensures.entries))),
+      c.loop-cache.invariant.counted,
+      c.size.ensures.value,
+    )
 
 pub loop-cache-preserved : goal.loop-cache-preserved
 loop-cache-preserved g c =
@@ -35,4 +41,5 @@ loop-cache-preserved g c =
 pub returns-clause-copies : goal.returns-clause-copies
 returns-clause-copies g c =
     let many = length-values_of c.loop-cache.cache.entries in
-    sym (all_fit c.args.count c.args.bytes (copies_in c.loop-cache.cache) (omega (arith, many, c.len.ensures.len)) (omega (arith, c.loop-cache.invariant.counted))) ∙ c.loop-cache.invariant.fits
+    sym (all_fit c.args.count c.args.bytes (copies_in c.loop-cache.cache) (omega (arith, many, c.len.ensures.len))
+    (omega (arith, c.loop-cache.invariant.counted))) ∙ c.loop-cache.invariant.fits

@@ -12,16 +12,21 @@ returns-then-last-number c =
 
 pub returns-then-are_in : goal.returns-then-are_in
 returns-then-are_in c =
-    let all : are_among c.args.members (with_id c.args.member c.in-Some.purge.now.marked) ≡ true = ap (are_among c.args.members) (sym c.insert.ensures) ∙ sym c.are_in.ensures ∙ c.if-are_in.true in
-    done_is c.args.members c.args.purges.now c.args.member c.args.number c.in-Some.purge.now c.in-Some.ensures c.has-known.result c.has-known.ensures.value c.has-known.ensures.again all
+    let all : are_among c.args.members (with_id c.args.member c.in-Some.purge.now.marked) ≡ true = ap (are_among c.args.members) (sym c.insert.ensures)
+    ∙ sym c.are_in.ensures ∙ c.if-are_in.true in
+    done_is c.args.members c.args.purges.now c.args.member c.args.number c.in-Some.purge.now c.in-Some.ensures c.has-known.result c.has-known.ensures.value
+    c.has-known.ensures.again all
 
 pub returns-then-known : goal.returns-then-known
 returns-then-known c =
-    let some : are_among c.args.members (with_id c.args.member c.in-Some.purge.now.marked) ≡ false = ap (are_among c.args.members) (sym c.insert.ensures) ∙ sym c.are_in.ensures ∙ c.if-are_in.false in
+    let some : are_among c.args.members (with_id c.args.member c.in-Some.purge.now.marked) ≡ false = ap (are_among c.args.members) (sym c.insert.ensures)
+    ∙ sym c.are_in.ensures ∙ c.if-are_in.false in
     nothing_is c.args.members c.args.purges.now c.args.member c.args.number c.in-Some.purge.now c.in-Some.ensures c.last.ensures.numbered
     (sym c.has-known.ensures.value ∙ c.if-known.true) (c.has-known.ensures.again c.if-known.true) some
 
 pub returns-else-known : goal.returns-else-known
 returns-else-known c =
-    let some : are_among c.args.members (with_id c.args.member c.in-Some.purge.now.marked) ≡ false = ap (are_among c.args.members) (sym c.insert.ensures) ∙ sym c.are_in.ensures ∙ c.if-are_in.false in
-    mark_is c.args.members c.args.purges.now c.args.member c.args.number c.in-Some.purge.now c.in-Some.ensures (sym c.has-known.ensures.value ∙ c.if-known.false) some
+    let some : are_among c.args.members (with_id c.args.member c.in-Some.purge.now.marked) ≡ false = ap (are_among c.args.members) (sym c.insert.ensures)
+    ∙ sym c.are_in.ensures ∙ c.if-are_in.false in
+    mark_is c.args.members c.args.purges.now c.args.member c.args.number c.in-Some.purge.now c.in-Some.ensures
+    (sym c.has-known.ensures.value ∙ c.if-known.false) some

@@ -6,4 +6,5 @@ use Rattle.purge_numbers.proofs.rows.floors_of.Given as goal
 
 -- what is left to add makes of these floors just what all rows make of none
 abbrev pub invariant-loop-row : goal.invariant-loop-row
-invariant-loop-row l = ((all : FloorMap) → Adds l.floors (drop l.row-index l.rows) all → Adds empty l.rows all) × ((all : FloorMap) → Adds empty l.rows all → Adds l.floors (drop l.row-index l.rows) all)
+invariant-loop-row l = ((all : FloorMap) → Adds l.floors (drop l.row-index l.rows) all → Adds empty l.rows all)
+    × ((all : FloorMap) → Adds empty l.rows all → Adds l.floors (drop l.row-index l.rows) all)

@@ -7,12 +7,15 @@ returns-then-nodes-lt3-clause-no c refused = shallow c.args.nodes.now c.args.at 
 
 pub returns-then-is_bound_at-clause-yes : goal.returns-then-is_bound_at-clause-yes
 returns-then-is_bound_at-clause-yes c held =
-    check_holds c.args.nodes.now c.args.at c.in-Some.low c.in-Some.high _ _ c.in-Some.ensures.some (omega (arith, c.if-nodes-lt3.false)) (c.is_bound_at.ensures.yes c.if-is_bound_at.true) (c.is_bound_at-then-is_bound_at.ensures.yes held)
+    check_holds c.args.nodes.now c.args.at c.in-Some.low c.in-Some.high _ _ c.in-Some.ensures.some (omega (arith, c.if-nodes-lt3.false))
+    (c.is_bound_at.ensures.yes c.if-is_bound_at.true) (c.is_bound_at-then-is_bound_at.ensures.yes held)
 
 pub returns-then-is_bound_at-clause-no : goal.returns-then-is_bound_at-clause-no
 returns-then-is_bound_at-clause-no c refused =
-    right_differs c.args.nodes.now c.args.at c.in-Some.low c.in-Some.high _ _ c.in-Some.ensures.some (omega (arith, c.if-nodes-lt3.false)) (c.is_bound_at-then-is_bound_at.ensures.no refused)
+    right_differs c.args.nodes.now c.args.at c.in-Some.low c.in-Some.high _ _ c.in-Some.ensures.some (omega (arith, c.if-nodes-lt3.false))
+    (c.is_bound_at-then-is_bound_at.ensures.no refused)
 
 pub returns-else-is_bound_at-clause-no : goal.returns-else-is_bound_at-clause-no
 returns-else-is_bound_at-clause-no c refused =
-    left_differs c.args.nodes.now c.args.at c.in-Some.low c.in-Some.high _ _ c.in-Some.ensures.some (omega (arith, c.if-nodes-lt3.false)) (c.is_bound_at.ensures.no c.if-is_bound_at.false)
+    left_differs c.args.nodes.now c.args.at c.in-Some.low c.in-Some.high _ _ c.in-Some.ensures.some (omega (arith, c.if-nodes-lt3.false))
+    (c.is_bound_at.ensures.no c.if-is_bound_at.false)

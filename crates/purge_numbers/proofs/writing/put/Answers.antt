@@ -6,12 +6,14 @@ use Rattle.purge_numbers.proofs.writing.put.Goals as goal
 
 pub returns-clause-ready : goal.returns-clause-ready
 returns-clause-ready g c =
-    (put_ready (state g.S.Store c.args.conn.now) (state g.S.Store c.execute.new.self) c.args.url.now c.args.number c.execute.result c.requires (λ clean. omega (arith, c.execute.ensures.survives.clean))
+    (put_ready (state g.S.Store c.args.conn.now) (state g.S.Store c.execute.new.self) c.args.url.now c.args.number c.execute.result c.requires
+    (λ clean. omega (arith, c.execute.ensures.survives.clean))
     (λ clean. rw c.to_sql.ensures at (c.execute.ensures.runs clean))).0
 
 pub returns-clause-put : goal.returns-clause-put
 returns-clause-put g c =
-    (put_ready (state g.S.Store c.args.conn.now) (state g.S.Store c.execute.new.self) c.args.url.now c.args.number c.execute.result c.requires (λ clean. omega (arith, c.execute.ensures.survives.clean))
+    (put_ready (state g.S.Store c.args.conn.now) (state g.S.Store c.execute.new.self) c.args.url.now c.args.number c.execute.result c.requires
+    (λ clean. omega (arith, c.execute.ensures.survives.clean))
     (λ clean. rw c.to_sql.ensures at (c.execute.ensures.runs clean))).1
 
 pub returns-clause-crash : goal.returns-clause-crash

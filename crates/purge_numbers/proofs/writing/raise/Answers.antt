@@ -11,7 +11,8 @@ use Rattle.purge_numbers.proofs.writing.raise.Goals as goal
 pub returns-then-number-floor-clause-raised : goal.returns-then-number-floor-clause-raised
 returns-then-number-floor-clause-raised g c clean =
     let same = (c.requires.held clean).same in
-    let low : c.args.number ≤ floor (committed_floors (state g.S.Store c.args.conn.now)) c.args.key.now = rw (← same) (omega (arith, c.if-number-floor.true, c.floor.ensures)) in
+    let low : c.args.number ≤ floor (committed_floors (state g.S.Store c.args.conn.now)) c.args.key.now =
+    rw (← same) (omega (arith, c.if-number-floor.true, c.floor.ensures)) in
     sym (raised_same _ c.args.key.now c.args.number c.requires.number low)
 
 pub returns-in-Err-clause-crash : goal.returns-in-Err-clause-crash
@@ -21,7 +22,11 @@ returns-in-Err-clause-crash g c clean left may =
     let higher : floor before c.args.key.now < c.args.number = rw (← same) (omega (arith, c.if-number-floor.false, c.floor.ensures)) in
     elim (c.put.ensures.crash clean left may) [
       | inl same ↦ inl same
-      | inr put ↦ inr (rw same at (c.has_room.ensures.yes c.if-not-has_room.false), rw c.text.ensures.value at put ∙ sym (raised_higher before c.args.key.now c.args.number higher))
+      | inr put ↦ inr (
+        rw same at (c.has_room.ensures.yes c.if-not-has_room.false),
+        rw c.text.ensures.value at put
+            ∙ sym (raised_higher before c.args.key.now c.args.number higher),
+      )
     ]
 
 pub returns-in-Err-clause-cause : goal.returns-in-Err-clause-cause

@@ -4,8 +4,10 @@ use Rattle.purge_numbers.proofs.OpenLemmas.{no_version, one_version}
 use Rattle.purge_records.proofs.opening.check_version.Goals as goal
 
 pub returns-in-Ok-clause-version : goal.returns-in-Ok-clause-version
-returns-in-Ok-clause-version g c clean = one_version _ c.in-Ok.rows.items _ (c.in-Ok.ensures.rows clean) (rw c.deref.ensures.value at (c.is_version_one.ensures.yes c.if-is_version_one.true))
+returns-in-Ok-clause-version g c clean = one_version _ c.in-Ok.rows.items _ (c.in-Ok.ensures.rows clean)
+    (rw c.deref.ensures.value at (c.is_version_one.ensures.yes c.if-is_version_one.true))
 
 pub returns-in-Ok-2-clause-bad : goal.returns-in-Ok-2-clause-bad
 returns-in-Ok-2-clause-bad g c refused clean =
-    no_version ((state g.S.Store c.args.conn.now).now.trees 0) c.in-Ok.rows.items (c.in-Ok.ensures.rows clean) (λ is. c.is_version_one.ensures.no c.if-is_version_one.false (c.deref.ensures.value ∙ is))
+    no_version ((state g.S.Store c.args.conn.now).now.trees 0) c.in-Ok.rows.items (c.in-Ok.ensures.rows clean)
+    (λ is. c.is_version_one.ensures.no c.if-is_version_one.false (c.deref.ensures.value ∙ is))

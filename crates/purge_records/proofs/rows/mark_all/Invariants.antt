@@ -5,4 +5,5 @@ use Rattle.purge_records.proofs.rows.mark_all.Given as goal
 
 -- what is left to mark makes of these purges just what all rows make of those at first
 abbrev pub invariant-loop-row : goal.invariant-loop-row
-invariant-loop-row l = ((all : PurgeList) → Marks l.low l.purges (drop l.row-index l.rows) all → Marks None l.fn.purges l.rows all) × ((all : PurgeList) → Marks None l.fn.purges l.rows all → Marks l.low l.purges (drop l.row-index l.rows) all)
+invariant-loop-row l = ((all : PurgeList) → Marks l.low l.purges (drop l.row-index l.rows) all → Marks None l.fn.purges l.rows all)
+    × ((all : PurgeList) → Marks None l.fn.purges l.rows all → Marks l.low l.purges (drop l.row-index l.rows) all)

@@ -13,15 +13,18 @@ pub returns-in-Ok-clause-added : goal.returns-in-Ok-clause-added
 returns-in-Ok-clause-added g c clean =
     let was : HasCleanDisk (state g.S.Store c.args.conn.now) = omega (arith, c.add_purge.ensures.survives.clean, clean) in
     let key : IsKey c.text.result.now = subst IsKey (sym c.text.ensures.value) c.text.ensures.valid in
-    let it = c.in-Ok.ensures.made clean (committed_purges (state g.S.Store c.args.conn.now)) (c.requires.above was) key (ready_holds (state g.S.Store c.args.conn.now) (c.requires.held was).ready) in
-    committed_is (state g.S.Store c.add_purge.new.conn) _ it ∙ ap (with_purge (committed_purges (state g.S.Store c.args.conn.now)) c.args.number) c.text.ensures.value
+    let it = c.in-Ok.ensures.made clean (committed_purges (state g.S.Store c.args.conn.now)) (c.requires.above was) key
+    (ready_holds (state g.S.Store c.args.conn.now) (c.requires.held was).ready) in
+    committed_is (state g.S.Store c.add_purge.new.conn) _ it ∙ ap (with_purge (committed_purges (state g.S.Store c.args.conn.now)) c.args.number)
+    c.text.ensures.value
 
 pub returns-in-Ok-clause-kept : goal.returns-in-Ok-clause-kept
 returns-in-Ok-clause-kept g c clean =
     let was : HasCleanDisk (state g.S.Store c.args.conn.now) = omega (arith, c.add_purge.ensures.survives.clean, clean) in
     let held = c.requires.held was in
     let key : IsKey c.text.result.now = subst IsKey (sym c.text.ensures.value) c.text.ensures.valid in
-    let it = c.in-Ok.ensures.made clean (committed_purges (state g.S.Store c.args.conn.now)) (c.requires.above was) key (ready_holds (state g.S.Store c.args.conn.now) held.ready) in record {
+    let it = c.in-Ok.ensures.made clean (committed_purges (state g.S.Store c.args.conn.now)) (c.requires.above was) key
+    (ready_holds (state g.S.Store c.args.conn.now) held.ready) in record {
       ready = committed_ready (state g.S.Store c.add_purge.new.conn) _ it;
       same = c.in_ok-add.ensures.ok ∙ ap (λ (p : PurgeList). with_purge p c.args.number c.args.key.now) held.same ∙ sym (returns-in-Ok-clause-added g c clean);
     }

@@ -9,6 +9,8 @@ use Rattle.purge_records.proofs.writing.add_purge.Goals as goal
 
 pub returns-clause-made : goal.returns-clause-made
 returns-clause-made g c = commits (state g.S.Store c.write_purge.new.tx.conn.now) (state g.S.Store c.commit.new.self.0) _ _ c.commit.result
-    (λ (s : State). (before : PurgeList) → before.last < c.args.number → IsKey c.args.url.now → Holds before (state g.S.Store c.args.conn.now).now → Commits (with_purge before c.args.number c.args.url.now) s)
+    (λ (s : State). (before : PurgeList) → before.last < c.args.number → IsKey c.args.url.now → Holds before (state g.S.Store c.args.conn.now).now →
+    Commits (with_purge before c.args.number c.args.url.now) s)
     c.commit.ensures.ok c.commit.ensures.survives (λ clean done before above key holds.
-    (_, (c.in_ok-write_purge.ensures.made clean before above key (rw c.transaction-tx.ensures.begun refl) (rw c.transaction-tx.ensures.begun holds)).1, done)) (search rules)
+    (_, (c.in_ok-write_purge.ensures.made clean before above key (rw c.transaction-tx.ensures.begun refl) (rw c.transaction-tx.ensures.begun holds)).1, done))
+    (search rules)

@@ -11,14 +11,16 @@ use Rattle.purge_records.proofs.writing.finish.Goals as goal
 pub returns-in-Ok-clause-finished : goal.returns-in-Ok-clause-finished
 returns-in-Ok-clause-finished g c clean =
     let was : HasCleanDisk (state g.S.Store c.args.conn.now) = omega (arith, c.erase_purge.ensures.survives.clean, clean) in
-    let it = c.in-Ok.ensures.made clean (committed_purges (state g.S.Store c.args.conn.now)) (ready_holds (state g.S.Store c.args.conn.now) (c.requires.held was).ready) in
+    let it = c.in-Ok.ensures.made clean (committed_purges (state g.S.Store c.args.conn.now))
+    (ready_holds (state g.S.Store c.args.conn.now) (c.requires.held was).ready) in
     committed_is (state g.S.Store c.erase_purge.new.conn) _ it
 
 pub returns-in-Ok-clause-kept : goal.returns-in-Ok-clause-kept
 returns-in-Ok-clause-kept g c clean =
     let was : HasCleanDisk (state g.S.Store c.args.conn.now) = omega (arith, c.erase_purge.ensures.survives.clean, clean) in
     let held = c.requires.held was in
-    let it = c.in-Ok.ensures.made clean (committed_purges (state g.S.Store c.args.conn.now)) (ready_holds (state g.S.Store c.args.conn.now) held.ready) in record {
+    let it = c.in-Ok.ensures.made clean (committed_purges (state g.S.Store c.args.conn.now)) (ready_holds (state g.S.Store c.args.conn.now) held.ready) in
+    record {
       ready = committed_ready (state g.S.Store c.erase_purge.new.conn) _ it;
       same = c.finish.ensures ∙ ap (λ (p : PurgeList). without_purge p c.args.number) held.same ∙ sym (returns-in-Ok-clause-finished g c clean);
     }

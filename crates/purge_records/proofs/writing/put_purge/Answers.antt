@@ -3,4 +3,5 @@ use Rattle.purge_records.proofs.WriteLemmas.{makes_put}
 use Rattle.purge_records.proofs.writing.put_purge.Goals as goal
 
 pub returns-clause-made : goal.returns-clause-made
-returns-clause-made g c = makes_put (state g.S.Store c.args.tx.now.conn.now) (state g.S.Store c.execute.new.self.conn.now) c.args.number c.args.url.now c.execute.result (rw c.to_sql.ensures at c.execute.ensures.runs)
+returns-clause-made g c = makes_put (state g.S.Store c.args.tx.now.conn.now) (state g.S.Store c.execute.new.self.conn.now) c.args.number c.args.url.now
+    c.execute.result (rw c.to_sql.ensures at c.execute.ensures.runs)

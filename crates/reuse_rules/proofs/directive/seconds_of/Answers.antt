@@ -12,5 +12,6 @@ loop-octet-preserved c =
     let digit : is_ascii_digit (get_or text place 0) ≡ true = search rules in
     record {
       digits = list_all_more is_ascii_digit text place 0 c.loop-octet-test.true ∙ and_from _ _ c.loop-octet.invariant.digits digit;
-      value = rw (c.min-seconds.ensures, c.from.ensures) (seconds_more text place c.loop-octet.seconds c.loop-octet-test.true digit c.loop-octet.invariant.value);
+      value = rw (c.min-seconds.ensures, c.from.ensures) (seconds_more text place c.loop-octet.seconds c.loop-octet-test.true digit
+          c.loop-octet.invariant.value);
     }

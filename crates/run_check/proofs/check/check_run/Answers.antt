@@ -14,10 +14,15 @@ loop-ordered-preserved c =
     let ordered = c.in-Some.ordered in
     let (sent, board, leads) = c.loop-ordered.invariant in
     let before = board_of c.loop-ordered.board sent in
-    let (later, still, judged) = subst (IsJudged roster before (note_of ordered.note) now) c.in_default-2.is (c.in_ok-cause.ensures sent board) in
-    (later, still, λ v has. leads v (subst (λ rest. HasVerdict roster before rest v) (sym c.in-Some.ensures) (goes_on roster before (ordered_of ordered) (order_in c.take.new.self) (board_of now later) v c.in_default-double.is judged has)))
+    let (later, still, judged) = subst (IsJudged roster before (note_of ordered.note) now) c.in_default-2.is (c.in_ok-cause.ensures sent board) in (
+      later,
+      still,
+      λ v has. leads v (subst (λ rest. HasVerdict roster before rest v) (sym c.in-Some.ensures)
+          (goes_on roster before (ordered_of ordered) (order_in c.take.new.self) (board_of now later) v c.in_default-double.is judged has)),
+    )
 
 pub returns : goal.returns
 returns c =
     let (sent, board, leads) = c.loop-ordered.invariant in
-    leads c.ending.result (subst (λ rest. HasVerdict c.args.roster.now (board_of c.loop-ordered.board sent) rest c.ending.result) (sym c.in_default.ensures) (c.ending.ensures sent))
+    leads c.ending.result (subst (λ rest. HasVerdict c.args.roster.now (board_of c.loop-ordered.board sent) rest c.ending.result) (sym c.in_default.ensures)
+    (c.ending.ensures sent))

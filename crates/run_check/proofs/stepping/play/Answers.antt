@@ -12,7 +12,8 @@ returns-then-same_outcome-clause-stepped c = λ of_member.
     let outcome = c.step-outcome.result in
     let entry = c.args.entry.now in
     let memory : outcome ≢ Err fault.NoMemory = λ wanted. false≢true (sym c.if-has_wanted_memory.false ∙ c.has_wanted_memory.ensures.1 wanted) in
-    let is = copy_stepped c.args.roster.now c.args.id c.args.node after entry.event c.in_ok-copy_of_event.field-0 outcome c.in_ok-copy_of_event.ensures of_member c.step-outcome.ensures.cause c.step-outcome.ensures.steps memory in
+    let is = copy_stepped c.args.roster.now c.args.id c.args.node after entry.event c.in_ok-copy_of_event.field-0 outcome c.in_ok-copy_of_event.ensures
+    of_member c.step-outcome.ensures.cause c.step-outcome.ensures.steps memory in
     steps_so c.args.roster.now c.args.id c.args.node after entry outcome is (c.same_outcome.ensures.0 c.if-same_outcome.true)
 
 pub returns-then-same_outcome-clause-sound : goal.returns-then-same_outcome-clause-sound
@@ -21,7 +22,8 @@ returns-then-same_outcome-clause-sound c = λ of_member.
     let outcome = c.step-outcome.result in
     let entry = c.args.entry.now in
     let memory : outcome ≢ Err fault.NoMemory = λ wanted. false≢true (sym c.if-has_wanted_memory.false ∙ c.has_wanted_memory.ensures.1 wanted) in
-    let is = copy_stepped c.args.roster.now c.args.id c.args.node after entry.event c.in_ok-copy_of_event.field-0 outcome c.in_ok-copy_of_event.ensures of_member c.step-outcome.ensures.cause c.step-outcome.ensures.steps memory in
+    let is = copy_stepped c.args.roster.now c.args.id c.args.node after entry.event c.in_ok-copy_of_event.field-0 outcome c.in_ok-copy_of_event.ensures
+    of_member c.step-outcome.ensures.cause c.step-outcome.ensures.steps memory in
     member_node_after c.args.roster.now c.args.id c.args.node after entry.event outcome of_member c.step-outcome.ensures.same is c.is_closed-closed.ensures.tied
 
 pub returns-else-same_outcome-clause-stepped : goal.returns-else-same_outcome-clause-stepped
@@ -30,5 +32,7 @@ returns-else-same_outcome-clause-stepped c = λ of_member.
     let outcome = c.step-outcome.result in
     let entry = c.args.entry.now in
     let memory : outcome ≢ Err fault.NoMemory = λ wanted. false≢true (sym c.if-has_wanted_memory.false ∙ c.has_wanted_memory.ensures.1 wanted) in
-    let is = copy_stepped c.args.roster.now c.args.id c.args.node after entry.event c.in_ok-copy_of_event.field-0 outcome c.in_ok-copy_of_event.ensures of_member c.step-outcome.ensures.cause c.step-outcome.ensures.steps memory in
-    steps_otherwise c.args.roster.now c.args.id c.args.node after entry outcome is (λ same. false≢true (sym c.if-same_outcome.false ∙ c.same_outcome.ensures.1 same))
+    let is = copy_stepped c.args.roster.now c.args.id c.args.node after entry.event c.in_ok-copy_of_event.field-0 outcome c.in_ok-copy_of_event.ensures
+    of_member c.step-outcome.ensures.cause c.step-outcome.ensures.steps memory in
+    steps_otherwise c.args.roster.now c.args.id c.args.node after entry outcome is
+    (λ same. false≢true (sym c.if-same_outcome.false ∙ c.same_outcome.ensures.1 same))

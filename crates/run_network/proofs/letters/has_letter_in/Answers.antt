@@ -9,18 +9,21 @@ use Rattle.run_network.proofs.letters.has_letter_in.Goals as goal
 
 pub returns-then-is_letter : goal.returns-then-is_letter
 returns-then-is_letter c = (
-  λ _. has_at (λ (i : Letter). i) c.args.letters.now c.loop-letter.letter-index c.letter-item.result (letter c.args.sender c.args.receiver c.args.message.now) (omega arith) c.letter-item.is
+  λ _. has_at (λ (i : Letter). i) c.args.letters.now c.loop-letter.letter-index c.letter-item.result (letter c.args.sender c.args.receiver c.args.message.now)
+      (omega arith) c.letter-item.is
       (c.is_letter.ensures.0 c.if-is_letter.true),
   λ _. refl,
 )
 
 pub loop-letter-preserved : goal.loop-letter-preserved
 loop-letter-preserved c =
-    none_more (λ (i : Letter). i) c.args.letters.now c.loop-letter.letter-index c.letter-item.result (letter c.args.sender c.args.receiver c.args.message.now) (omega arith) c.letter-item.is c.loop-letter.invariant
+    none_more (λ (i : Letter). i) c.args.letters.now c.loop-letter.letter-index c.letter-item.result (letter c.args.sender c.args.receiver c.args.message.now)
+    (omega arith) c.letter-item.is c.loop-letter.invariant
     (λ e. true_not_false (sym (c.is_letter.ensures.1 e) ∙ c.if-is_letter.false))
 
 pub returns : goal.returns
 returns c = (
   λ e. absurd (true_not_false (sym e)),
-  λ h. absurd (none_at_all (λ (i : Letter). i) c.args.letters.now c.loop-letter.letter-index (letter c.args.sender c.args.receiver c.args.message.now) (omega arith) c.loop-letter.invariant h),
+  λ h. absurd (none_at_all (λ (i : Letter). i) c.args.letters.now c.loop-letter.letter-index (letter c.args.sender c.args.receiver c.args.message.now)
+      (omega arith) c.loop-letter.invariant h),
 )

@@ -14,4 +14,5 @@ returns c =
     ∙ record_before r kept rest (track_of c.push_steps.new.track.items)
     (c.in_ok-push_steps.ensures ∙ ap (λ es. steps_of r.node r.closing.closed kept es ++ track_of c.push.new.self.items) c.as_slice-entries.ensures
     ∙ ap (λ t. steps_of r.node r.closing.closed kept r.entries ++ t)
-    (pushed_is c.args.track.now.items c.push.new.self.items _ c.in_ok-push.ensures.items ∙ ap (λ p. Closes r.node p r.closing ∷ rest) (c.last_place.ensures ∙ ap (last_place 0) c.as_slice-entries.ensures)))
+    (pushed_is c.args.track.now.items c.push.new.self.items _ c.in_ok-push.ensures.items ∙ ap (λ p. Closes r.node p r.closing ∷ rest)
+    (c.last_place.ensures ∙ ap (last_place 0) c.as_slice-entries.ensures)))

@@ -12,5 +12,6 @@ loop-at-preserved c =
     let here : drop (at - 1) es ≡ e ∷ drop at es = from_there es at e (omega arith) (omega arith) c.index-entries-at.is in (
       c.is_closed_answer-is_closed.ensures ∙ closed_more c.args.is_closing (drop (at - 1) es) (drop at es) e here,
       pushed_is c.loop-at.track.items c.push.new.self.items _ c.in_ok-push.ensures.items
-          ∙ steps_more c.args.node c.args.is_closing c.args.kept.now (drop (at - 1) es) (drop at es) e c.loop-at.is_closed (track_of c.loop-at.track.items) (track_of c.args.track.now.items) here c.loop-at.invariant.0 c.loop-at.invariant.1,
+          ∙ steps_more c.args.node c.args.is_closing c.args.kept.now (drop (at - 1) es) (drop at es) e c.loop-at.is_closed (track_of c.loop-at.track.items)
+          (track_of c.args.track.now.items) here c.loop-at.invariant.0 c.loop-at.invariant.1,
     )

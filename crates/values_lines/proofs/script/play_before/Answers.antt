@@ -16,7 +16,8 @@ returns-in-Err g c =
     let start = c.args.script.now in
     let input = g.R.Read.remaining c.args.reader.now in
     let first = g.W.Write.contents c.args.writer.now in
-    playing_stops answers last start start input [] input first first first [] NoMemory start (playing_start answers last start input [] [] first refl refl) (nothing_written answers last start first []) (other_fault answers last start [] input NoMemory (λ e. cc)) (not_spent input NoMemory (λ e. cc))
+    playing_stops answers last start start input [] input first first first [] NoMemory start (playing_start answers last start input [] [] first refl refl)
+    (nothing_written answers last start first []) (other_fault answers last start [] input NoMemory (λ e. cc)) (not_spent input NoMemory (λ e. cc))
 
 pub lines-init : goal.lines-init
 lines-init g c =
@@ -26,7 +27,8 @@ lines-init g c =
     let input = g.R.Read.remaining c.args.reader.now in
     let first = g.W.Write.contents c.args.writer.now in
     record {
-      playing = playing_start answers last start input (drop c.in-Ok.source.next c.in-Ok.source.held.items) c.new-text.result.items first (rw (c.in-Ok.ensures.0, c.in-Ok.ensures.1) refl) c.new-text.ensures.items;
+      playing = playing_start answers last start input (drop c.in-Ok.source.next c.in-Ok.source.held.items) c.new-text.result.items first
+          (rw (c.in-Ok.ensures.0, c.in-Ok.ensures.1) refl) c.new-text.ensures.items;
       counted = subst (λ turns. IsCounted 0 input turns input) (sym c.in-Ok.ensures.2) (counted_same 0 input);
     }
 
@@ -42,7 +44,8 @@ returns-in-Ok-false g c =
     let writer = g.W.Write.contents c.lines.writer in
     let text = c.lines.text.items in
     let none = rw c.in-Ok-false.field-0-test at c.in-Ok-false.ensures.ok in
-    playing_ends answers last start c.lines.script input held rest first writer (g.W.Write.contents c.write_text.new.writer) text c.write_text.result c.lines.invariant.playing (none_left last held rest none) (rw c.deref.ensures.value at c.write_text.ensures.written) c.write_text.ensures.fault
+    playing_ends answers last start c.lines.script input held rest first writer (g.W.Write.contents c.write_text.new.writer) text c.write_text.result
+    c.lines.invariant.playing (none_left last held rest none) (rw c.deref.ensures.value at c.write_text.ensures.written) c.write_text.ensures.fault
 
 pub returns-in-Err-next_line : goal.returns-in-Err-next_line
 returns-in-Err-next_line g c =
@@ -55,9 +58,11 @@ returns-in-Err-next_line g c =
     let rest = g.R.Read.remaining c.lines.reader in
     let writer = g.W.Write.contents c.lines.writer in
     let text = c.lines.text.items in
-    playing_stops answers last start c.lines.script input held rest first writer writer text c.in-Err-next_line.fault c.lines.script c.lines.invariant.playing (nothing_written answers last start writer text) c.in-Err-next_line.ensures.err
+    playing_stops answers last start c.lines.script input held rest first writer writer text c.in-Err-next_line.fault c.lines.script c.lines.invariant.playing
+    (nothing_written answers last start writer text) c.in-Err-next_line.ensures.err
     (spent_all c.next_line.new.self.turns input (g.R.Read.remaining c.next_line.new.reader) c.in-Err-next_line.fault
-    (counted_then 0 c.lines.source.turns c.next_line.new.self.turns input rest (g.R.Read.remaining c.next_line.new.reader) c.lines.invariant.counted c.in-Err-next_line.ensures.counted)
+    (counted_then 0 c.lines.source.turns c.next_line.new.self.turns input rest (g.R.Read.remaining c.next_line.new.reader) c.lines.invariant.counted
+    c.in-Err-next_line.ensures.counted)
     (λ e. c.in-Err-next_line.ensures.spent (ap Err e)))
 
 pub returns-in-Err-answer_line : goal.returns-in-Err-answer_line
@@ -71,7 +76,8 @@ returns-in-Err-answer_line g c =
     let rest = g.R.Read.remaining c.lines.reader in
     let writer = g.W.Write.contents c.lines.writer in
     let text = c.lines.text.items in
-    playing_stops answers last start c.lines.script input held rest first writer writer text NoMemory c.answer_line.new.script c.lines.invariant.playing (nothing_written answers last start writer text) (other_fault answers last start held rest NoMemory (λ e. cc)) (not_spent input NoMemory (λ e. cc))
+    playing_stops answers last start c.lines.script input held rest first writer writer text NoMemory c.answer_line.new.script c.lines.invariant.playing
+    (nothing_written answers last start writer text) (other_fault answers last start held rest NoMemory (λ e. cc)) (not_spent input NoMemory (λ e. cc))
 
 pub returns-in-Err-write_text : goal.returns-in-Err-write_text
 returns-in-Err-write_text g c =
@@ -90,8 +96,14 @@ returns-in-Err-write_text g c =
     let other = sym (c.is_last.ensures ∙ ap (is_last last) c.deref-in-lines.ensures.value) ∙ c.if-is_last.false in
     let told = c.in_default.ensures in
     let answered = rw c.deref-in-lines-2.ensures.value at told.1 in
-    let on = playing_line answers last start c.lines.script c.answer_line.new.script input held rest left after first writer text c.next_line.new.line.items told.0 c.answer_line.new.text.items c.lines.invariant.playing took other answered told.2 in
-    playing_stops answers last start c.answer_line.new.script input left after first writer (g.W.Write.contents c.write_text-then-is_due.new.writer) c.answer_line.new.text.items c.in-Err-write_text.fault c.answer_line.new.script on (proper_front writer (g.W.Write.contents c.write_text-then-is_due.new.writer) c.answer_line.new.text.items (rw c.deref-then-is_due.ensures.value at c.in-Err-write_text.ensures.written)) (other_fault answers last start left after c.in-Err-write_text.fault (λ e. let bad : Io ≡ LineTooLong = sym c.in-Err-write_text.ensures.fault ∙ e in cc)) (not_spent input c.in-Err-write_text.fault (λ e. let bad : Io ≡ TooManyTurns = sym c.in-Err-write_text.ensures.fault ∙ e in cc))
+    let on = playing_line answers last start c.lines.script c.answer_line.new.script input held rest left after first writer text c.next_line.new.line.items
+    told.0 c.answer_line.new.text.items c.lines.invariant.playing took other answered told.2 in
+    playing_stops answers last start c.answer_line.new.script input left after first writer (g.W.Write.contents c.write_text-then-is_due.new.writer)
+    c.answer_line.new.text.items c.in-Err-write_text.fault c.answer_line.new.script on
+    (proper_front writer (g.W.Write.contents c.write_text-then-is_due.new.writer) c.answer_line.new.text.items
+    (rw c.deref-then-is_due.ensures.value at c.in-Err-write_text.ensures.written))
+    (other_fault answers last start left after c.in-Err-write_text.fault (λ e. let bad : Io ≡ LineTooLong = sym c.in-Err-write_text.ensures.fault ∙ e in
+    cc)) (not_spent input c.in-Err-write_text.fault (λ e. let bad : Io ≡ TooManyTurns = sym c.in-Err-write_text.ensures.fault ∙ e in cc))
 
 pub lines-preserved : goal.lines-preserved
 lines-preserved g c =
@@ -110,7 +122,8 @@ lines-preserved g c =
     let other = sym (c.is_last.ensures ∙ ap (is_last last) c.deref-in-lines.ensures.value) ∙ c.if-is_last.false in
     let told = c.in_default.ensures in
     let answered = rw c.deref-in-lines-2.ensures.value at told.1 in
-    let on = playing_line answers last start c.lines.script c.answer_line.new.script input held rest left after first writer text c.next_line.new.line.items told.0 c.answer_line.new.text.items c.lines.invariant.playing took other answered told.2 in
+    let on = playing_line answers last start c.lines.script c.answer_line.new.script input held rest left after first writer text c.next_line.new.line.items
+    told.0 c.answer_line.new.text.items c.lines.invariant.playing took other answered told.2 in
     record {
       playing = on;
       counted = counted_then 0 c.lines.source.turns c.next_line.new.self.turns input rest after c.lines.invariant.counted c.in-Ok-true.ensures.counted;
@@ -133,9 +146,12 @@ lines-preserved-in-Ok-write_text g c =
     let other = sym (c.is_last.ensures ∙ ap (is_last last) c.deref-in-lines.ensures.value) ∙ c.if-is_last.false in
     let told = c.in_default.ensures in
     let answered = rw c.deref-in-lines-2.ensures.value at told.1 in
-    let on = playing_line answers last start c.lines.script c.answer_line.new.script input held rest left after first writer text c.next_line.new.line.items told.0 c.answer_line.new.text.items c.lines.invariant.playing took other answered told.2 in
+    let on = playing_line answers last start c.lines.script c.answer_line.new.script input held rest left after first writer text c.next_line.new.line.items
+    told.0 c.answer_line.new.text.items c.lines.invariant.playing took other answered told.2 in
     record {
-      playing = playing_written answers last start c.answer_line.new.script input left after first writer (g.W.Write.contents c.write_text-then-is_due.new.writer) c.answer_line.new.text.items c.clear.new.self.items on (rw c.deref-then-is_due.ensures.value at c.in-Ok-write_text.ensures.written) c.clear.ensures.items;
+      playing = playing_written answers last start c.answer_line.new.script input left after first writer
+          (g.W.Write.contents c.write_text-then-is_due.new.writer) c.answer_line.new.text.items c.clear.new.self.items on
+          (rw c.deref-then-is_due.ensures.value at c.in-Ok-write_text.ensures.written) c.clear.ensures.items;
       counted = counted_then 0 c.lines.source.turns c.next_line.new.self.turns input rest after c.lines.invariant.counted c.in-Ok-true.ensures.counted;
     }
 
@@ -155,4 +171,6 @@ returns-then-is_last g c =
     let took = rw c.in-Ok-true.field-0-test at c.in-Ok-true.ensures.ok in
     let same = sym (c.is_last.ensures ∙ ap (is_last last) c.deref-in-lines.ensures.value) ∙ c.if-is_last.true in
     let none = none_before_last last held rest left after c.next_line.new.line.items took same in
-    playing_ends answers last start c.lines.script input held rest first writer (g.W.Write.contents c.write_text-then-is_last.new.writer) text c.write_text-then-is_last.result c.lines.invariant.playing none (rw c.deref-then-is_last.ensures.value at c.write_text-then-is_last.ensures.written) c.write_text-then-is_last.ensures.fault
+    playing_ends answers last start c.lines.script input held rest first writer (g.W.Write.contents c.write_text-then-is_last.new.writer) text
+    c.write_text-then-is_last.result c.lines.invariant.playing none (rw c.deref-then-is_last.ensures.value at c.write_text-then-is_last.ensures.written)
+    c.write_text-then-is_last.ensures.fault

@@ -10,10 +10,12 @@ with_word old new word e = ap (map (λ w. w.now)) e ∙ map-append (λ w. w.now)
 
 pub words-preserved : goal.words-preserved
 words-preserved c =
-    words_next _ _ c.words.rest.now _ _ c.words.invariant (ap (λ r. (c.split_word.result.0.now, option_map (λ x. x.now) r)) (sym c.in-Some.is) ∙ c.split_word.ensures)
+    words_next _ _ c.words.rest.now _ _ c.words.invariant (ap (λ r. (c.split_word.result.0.now, option_map (λ x. x.now) r)) (sym c.in-Some.is)
+    ∙ c.split_word.ensures)
     ∙ ap (λ w. w ++ all_words_of c.in-Some.others.now) (sym (with_word _ _ _ c.in_ok-push.ensures.items))
 
 pub returns-in-None : goal.returns-in-None
 returns-in-None c =
     with_word _ _ _ c.in_ok-push.ensures.items
-    ∙ words_last _ _ c.words.rest.now _ c.words.invariant (ap (λ r. (c.split_word.result.0.now, option_map (λ x. x.now) r)) (sym c.in-None.is) ∙ c.split_word.ensures)
+    ∙ words_last _ _ c.words.rest.now _ c.words.invariant (ap (λ r. (c.split_word.result.0.now, option_map (λ x. x.now) r)) (sym c.in-None.is)
+    ∙ c.split_word.ensures)

@@ -13,7 +13,8 @@ returns-then-len c =
     let own = c.self.inside.rows in
     let its = c.other.inside.rows in (
       λ is. sym c.self.view_is ∙ ap (from_entries {R = slice_cmp nat_cmp}) (equal_rows own.entries its.entries (sym c.eq.ensures ∙ is)) ∙ c.other.view_is,
-      λ same. c.eq.ensures ∙ rows_same own.entries its.entries (same_rows own its c.len.ensures.ordered c.len-2.ensures.ordered (c.self.view_is ∙ same ∙ sym c.other.view_is)),
+      λ same. c.eq.ensures ∙ rows_same own.entries its.entries
+          (same_rows own its c.len.ensures.ordered c.len-2.ensures.ordered (c.self.view_is ∙ same ∙ sym c.other.view_is)),
     )
 
 pub returns-else-len : goal.returns-else-len

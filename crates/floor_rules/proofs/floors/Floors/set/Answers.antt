@@ -13,7 +13,8 @@ invariant_of-self-2 c =
     let old = map_of c.self.inside.rows in
     let key = c.in_ok-text.ensures.items ∙ c.text.ensures.value in
     let is : from_entries {R = slice_cmp nat_cmp} (map url_entry c.insert.new.self.entries) ≡ insert old c.args.key.now c.args.number =
-    was_set c.self.inside.rows c.insert.new.self.entries c.in_ok-text.text c.args.number c.in_ok-insert.ensures.entries ∙ ap (λ u. insert old u c.args.number) key in
+    was_set c.self.inside.rows c.insert.new.self.entries c.in_ok-text.text c.args.number c.in_ok-insert.ensures.entries
+    ∙ ap (λ u. insert old u c.args.number) key in
     let low : floor old c.args.key.now ≤ c.args.number = rw c.self.view_is c.requires.order in
     let set = ap seen is ∙ seen_set old c.args.key.now c.args.number low in
     omega (arith, set, c.self.invariant, c.max-self-inside.ensures)

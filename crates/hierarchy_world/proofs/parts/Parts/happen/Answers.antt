@@ -7,4 +7,5 @@ use Rattle.hierarchy_world.proofs.parts.Parts.happen.Goals as goal
 pub returns : goal.returns
 returns c =
     turn_made c.args.self.now c.turn.new.self c.args.event c.in_ok-seen.seen c.in_ok-outcome.outcome c.in_ok-seen.ensures.taken c.in_ok-seen.ensures.key
-    (c.in_ok-outcome.ensures ∙ outcome_told (world_of c.args.self.now) (world_of c.turn.new.self) _ _ (seen_of c.in_ok-seen.seen) c.counts-before.ensures c.counts.ensures)
+    (c.in_ok-outcome.ensures ∙ outcome_told (world_of c.args.self.now) (world_of c.turn.new.self) _ _ (seen_of c.in_ok-seen.seen) c.counts-before.ensures
+    c.counts.ensures)

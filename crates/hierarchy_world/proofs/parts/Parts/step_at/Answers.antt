@@ -26,7 +26,8 @@ returns-clause-stepped c =
     } in
     let at : slice_get old.nodes.items c.args.place ≡ Some c.index_mut.result.now =
     slice_get_read old.nodes.items _ c.args.place c.index_mut.result.now refl c.requires.below c.index_mut.ensures.value in
-    let stays : IsMemberChanged old new (set old.nodes.items c.args.place c.step_of.new.node) old.waiting.items = record { roster = refl; nodes = refl; master = refl; clock = refl; place = refl; datagrams = refl; asks = refl; answers = refl; waiting = refl } in
+    let stays : IsMemberChanged old new (set old.nodes.items c.args.place c.step_of.new.node) old.waiting.items =
+    record { roster = refl; nodes = refl; master = refl; clock = refl; place = refl; datagrams = refl; asks = refl; answers = refl; waiting = refl } in
     IfOk-weaker c.step_of.result
     (λ (s : Stepped). IsStep c.index_mut.result.now old.place c.args.event s c.step_of.new.node)
     (λ (s : Stepped). HasStepped old c.args.id c.args.event s new)

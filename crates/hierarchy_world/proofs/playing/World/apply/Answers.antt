@@ -9,7 +9,8 @@ returns-clause-applied c =
     let old = c.self.inside.parts in
     let new = c.happen-answer.new.self in
     let spoilt = c.is_spoiling-self-inside.result in
-    subst (λ (v : WorldView). IsApplied v c.args.event c.happen-answer.result (view_of new spoilt)) (ap (λ (b : Bool). view_of old b) (sym c.if-self-2.false) ∙ c.self.view_is)
+    subst (λ (v : WorldView). IsApplied v c.args.event c.happen-answer.result (view_of new spoilt))
+    (ap (λ (b : Bool). view_of old b) (sym c.if-self-2.false) ∙ c.self.view_is)
     (made_applied old new c.args.event c.happen-answer.result spoilt c.is_spoiling-self-inside.ensures c.happen-answer.ensures)
 
 pub returns-clause-lack : goal.returns-clause-lack

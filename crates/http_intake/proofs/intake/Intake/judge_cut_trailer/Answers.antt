@@ -12,4 +12,8 @@ returns-in-Ok-Complete-clause-section c =
 pub returns-in-Ok-Partial-clause-cut : goal.returns-in-Ok-Partial-clause-cut
 returns-in-Ok-Partial-clause-cut c =
     let partial = rw c.in-Ok-Partial.field-0-is at c.in-Ok-Partial.ensures in
-    inr (refl, subst IsOpenTrailer (whole_window c.args.start c.args.self.now c.window.result.now c.window.ensures.value partial.unfinished.2) partial.unfinished)
+    inr (
+      refl,
+      subst IsOpenTrailer (whole_window c.args.start c.args.self.now c.window.result.now c.window.ensures.value partial.unfinished.2)
+          partial.unfinished,
+    )

@@ -15,7 +15,8 @@ returns-in-Ok-read_trailer-clause-body g c =
     let taken = c.in-Ok-read_trailer.ensures.taken in
     record {
       trailer = c.in-Ok.found.1;
-      chunks = holds_grown c.read_chunks.new.self c.read_trailer.new.self taken.0 c.args.start c.in-Ok.found.1 c.in-Ok.found.0.items taken.1 c.in-Ok.ensures.chunks;
+      chunks = holds_grown c.read_chunks.new.self c.read_trailer.new.self taken.0 c.args.start c.in-Ok.found.1 c.in-Ok.found.0.items taken.1
+          c.in-Ok.ensures.chunks;
       section = c.in-Ok-read_trailer.ensures.section;
     }
 

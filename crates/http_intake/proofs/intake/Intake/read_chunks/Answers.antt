@@ -9,17 +9,20 @@ use Rattle.http_intake.proofs.intake.Intake.read_chunks.Goals as goal
 pub chunks-preserved-in-Ok-Chunk : goal.chunks-preserved-in-Ok-Chunk
 chunks-preserved-in-Ok-Chunk g c =
     let step = rw c.in-Ok-Chunk.field-0-is at c.in-Ok-Chunk.ensures in
-    let adds = subst (λ octets. AddsChunk octets c.chunks.at c.in-Ok-Chunk.next c.chunks.body.items c.take_chunk.new.body.items) c.octets.ensures.value step.step in
+    let adds = subst (λ octets. AddsChunk octets c.chunks.at c.in-Ok-Chunk.next c.chunks.body.items c.take_chunk.new.body.items) c.octets.ensures.value
+    step.step in
     record {
       taken = c.chunks.invariant.taken;
       within = omega (arith, adds.within);
       short = step.short;
-      so_far = chunks_more c.chunks.self c.args.start c.chunks.at c.in-Ok-Chunk.next c.chunks.body.items c.take_chunk.new.body.items c.chunks.invariant.so_far adds;
+      so_far = chunks_more c.chunks.self c.args.start c.chunks.at c.in-Ok-Chunk.next c.chunks.body.items c.take_chunk.new.body.items c.chunks.invariant.so_far
+          adds;
     }
 
 pub returns-in-Err-read_more-clause-taken : goal.returns-in-Err-read_more-clause-taken
 returns-in-Err-read_more-clause-taken g c =
-    takes_then (g.R.Read.remaining c.args.reader.now) (g.R.Read.remaining c.chunks.reader) (g.R.Read.remaining c.read_more.new.reader) c.args.self.now c.chunks.self c.read_more.new.self
+    takes_then (g.R.Read.remaining c.args.reader.now) (g.R.Read.remaining c.chunks.reader) (g.R.Read.remaining c.read_more.new.reader) c.args.self.now
+    c.chunks.self c.read_more.new.self
     c.chunks.invariant.taken c.in-Err-read_more.ensures.taken
 
 pub returns-in-Err-read_more-clause-stopped : goal.returns-in-Err-read_more-clause-stopped
@@ -32,8 +35,10 @@ returns-in-Err-read_more-clause-stopped g c =
       body = c.chunks.body.items;
       chunks = subst (λ octets. ChunksUpTo octets c.args.start c.chunks.at c.chunks.body.items) (sym read.kept) c.chunks.invariant.so_far;
       short = omega (arith, c.chunks.body.ok.0);
-      why = read_stops (g.R.Read.remaining c.read_more.new.reader) c.read_more.new.self (drop c.chunks.at c.read_more.new.self) (length c.chunks.body.items) c.in-Err-read_more.fault
-          read.faults (subst (λ octets. IsOpenChunk (drop c.chunks.at octets) (length c.chunks.body.items)) (sym read.kept) opened) (λ e. read.ended (ap Err e)) (λ e. read.spent (ap Err e));
+      why = read_stops (g.R.Read.remaining c.read_more.new.reader) c.read_more.new.self (drop c.chunks.at c.read_more.new.self) (length c.chunks.body.items)
+          c.in-Err-read_more.fault
+          read.faults (subst (λ octets. IsOpenChunk (drop c.chunks.at octets) (length c.chunks.body.items)) (sym read.kept) opened) (λ e. read.ended (ap Err e))
+          (λ e. read.spent (ap Err e));
     }
 
 pub returns-in-Err-clause-stopped : goal.returns-in-Err-clause-stopped

@@ -7,7 +7,8 @@ slice_bounds-result-end c = sym (length-take-le 16384 c.split_at.result.1.now (o
 
 pub returns-then-rest-le-LONGEST_HEAD-clause-value : goal.returns-then-rest-le-LONGEST_HEAD-clause-value
 returns-then-rest-le-LONGEST_HEAD-clause-value c =
-    sym (take_all 16384 c.split_at.result.1.now c.if-rest-le-LONGEST_HEAD.true) ∙ ap (take 16384) (c.split_at.ensures.back ∙ ap (drop c.args.start) c.octets.ensures.value)
+    sym (take_all 16384 c.split_at.result.1.now c.if-rest-le-LONGEST_HEAD.true) ∙ ap (take 16384)
+    (c.split_at.ensures.back ∙ ap (drop c.args.start) c.octets.ensures.value)
 
 pub returns-else-rest-le-LONGEST_HEAD-clause-short : goal.returns-else-rest-le-LONGEST_HEAD-clause-short
 returns-else-rest-le-LONGEST_HEAD-clause-short c = omega (arith, length-take 16384 c.split_at.result.1.now)

@@ -10,14 +10,16 @@ pub returns-then-not-has_origin-clause-leads : goal.returns-then-not-has_origin-
 returns-then-not-has_origin-clause-leads g c = λ key_of.
     let v = c.args.self.now in
     let below = subst (λ (v : NodeText _ _). All (λ q. q.block < v.state.next) v.state.pending) c.self.view_is c.self.invariant.0.taken in
-    read_without_origin (setting_of v key_of) v.state c.args.asker c.args.ask c.args.now c.args.mark below _ (ap (λ (v : NodeText _ _). v.roster) c.self.view_is) c.if-not-has_origin.ensures _ _
+    read_without_origin (setting_of v key_of) v.state c.args.asker c.args.ask c.args.now c.args.mark below _
+    (ap (λ (v : NodeText _ _). v.roster) c.self.view_is) c.if-not-has_origin.ensures _ _
     (ap (λ (v : NodeText _ _). takes_block v.state) c.self.view_is) c.serves.ensures
 
 pub returns-clause-leads : goal.returns-clause-leads
 returns-clause-leads g c = λ key_of.
     let v = c.args.self.now in
     let below = subst (λ (v : NodeText _ _). All (λ q. q.block < v.state.next) v.state.pending) c.self.view_is c.self.invariant.0.taken in
-    reads_from_origin (setting_of v key_of) v.state c.args.asker c.args.ask c.args.now c.args.mark below _ (ap (λ (v : NodeText _ _). v.roster) c.self.view_is) c.if-not-has_origin.ensures _ _ _ _ _
+    reads_from_origin (setting_of v key_of) v.state c.args.asker c.args.ask c.args.now c.args.mark below _ (ap (λ (v : NodeText _ _). v.roster) c.self.view_is)
+    c.if-not-has_origin.ensures _ _ _ _ _
     c.in_ok-wait.ensures.ok
     (c.seen.ensures ∙ ap (λ (v : NodeText _ _). seen v.state.floors) c.self.view_is)
     c.begins.ensures

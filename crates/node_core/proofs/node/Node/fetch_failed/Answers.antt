@@ -18,22 +18,27 @@ unfolding fetch_failed
 returns-in-AtPeer-clause-leads g c = λ key_of.
     let ask = c.ask.result.now in
     let there : slice_get c.args.self.now.state.pending c.in-Some.place ≡ Some ask = rw (← c.self.view_is) c.ask.ensures.value in
-    let found : find (λ p. fetch_serial p == c.args.serial) c.args.self.now.state.pending ≡ Some ask = rw (← c.self.view_is) (sym c.in-Some.ensures.found ∙ c.ask.ensures.value) in
+    let found : find (λ p. fetch_serial p == c.args.serial) c.args.self.now.state.pending ≡ Some ask =
+    rw (← c.self.view_is) (sym c.in-Some.ensures.found ∙ c.ask.ensures.value) in
     let leads = rw there at (c.try_on.ensures.leads key_of) in
-    leads_by _ _ _ _ _ (peer_fails (setting_of c.args.self.now key_of) c.args.self.now.state c.args.now c.args.mark _ ask c.in-AtPeer.peer c.in-AtPeer.asked found c.in-AtPeer.is) leads
+    leads_by _ _ _ _ _ (peer_fails (setting_of c.args.self.now key_of) c.args.self.now.state c.args.now c.args.mark _ ask c.in-AtPeer.peer c.in-AtPeer.asked
+    found c.in-AtPeer.is) leads
 
 pub returns-in-AtOrigin-clause-leads : goal.returns-in-AtOrigin-clause-leads
 unfolding fetch_failed
 returns-in-AtOrigin-clause-leads g c = λ key_of.
     let ask = c.ask.result.now in
     let there : slice_get c.args.self.now.state.pending c.in-Some.place ≡ Some ask = rw (← c.self.view_is) c.ask.ensures.value in
-    let found : find (λ p. fetch_serial p == c.args.serial) c.args.self.now.state.pending ≡ Some ask = rw (← c.self.view_is) (sym c.in-Some.ensures.found ∙ c.ask.ensures.value) in
+    let found : find (λ p. fetch_serial p == c.args.serial) c.args.self.now.state.pending ≡ Some ask =
+    rw (← c.self.view_is) (sym c.in-Some.ensures.found ∙ c.ask.ensures.value) in
     let gives = rw there at c.give_up.ensures.gives_up in
-    origin_fails (setting_of c.args.self.now key_of) c.args.self.now.state c.args.now c.args.mark _ ask c.in-AtOrigin.stamp c.in-AtOrigin.asked c.in-AtOrigin.mark found c.in-AtOrigin.is ∙ gives
+    origin_fails (setting_of c.args.self.now key_of) c.args.self.now.state c.args.now c.args.mark _ ask c.in-AtOrigin.stamp c.in-AtOrigin.asked
+    c.in-AtOrigin.mark found c.in-AtOrigin.is ∙ gives
 
 pub returns-in-Nowhere-clause-leads : goal.returns-in-Nowhere-clause-leads
 unfolding fetch_failed
 returns-in-Nowhere-clause-leads g c = λ key_of.
     let ask = c.ask.result.now in
-    let found : find (λ p. fetch_serial p == c.args.serial) c.args.self.now.state.pending ≡ Some ask = rw (← c.self.view_is) (sym c.in-Some.ensures.found ∙ c.ask.ensures.value) in
+    let found : find (λ p. fetch_serial p == c.args.serial) c.args.self.now.state.pending ≡ Some ask =
+    rw (← c.self.view_is) (sym c.in-Some.ensures.found ∙ c.ask.ensures.value) in
     nothing_fails (setting_of c.args.self.now key_of) c.args.self.now.state c.args.now c.args.mark _ ask found c.in-Nowhere.is

@@ -11,7 +11,9 @@ use Rattle.node_core.proofs.node.Node.open_step.Goals as goal
 pub returns-in-Datagram-clause-steps : goal.returns-in-Datagram-clause-steps
 unfolding open_step
 returns-in-Datagram-clause-steps g c key_of gives =
-    rw c.in-Datagram.is (steps_may_close (setting_of c.args.self.now key_of) c.args.self.now.state (event.Datagram c.in-Datagram.from c.in-Datagram.message c.in-Datagram.now) c.args.mark c.datagram.result c.datagram.new.self.state c.requires (c.datagram.ensures.leads key_of gives))
+    rw c.in-Datagram.is (steps_may_close (setting_of c.args.self.now key_of) c.args.self.now.state
+    (event.Datagram c.in-Datagram.from c.in-Datagram.message c.in-Datagram.now) c.args.mark c.datagram.result c.datagram.new.self.state c.requires
+    (c.datagram.ensures.leads key_of gives))
 
 pub returns-in-Client-clause-cause : goal.returns-in-Client-clause-cause
 returns-in-Client-clause-cause g c = without_fault _ _ _ _ _ _ (c.ask.ensures.leads key_of)

@@ -18,7 +18,8 @@ returns-in-AtOrigin-clause-leads g c = λ key_of.
     let there : slice_get c.args.self.now.state.pending c.in-Some.place ≡ Some ask = rw (← c.self.view_is) c.ask.ensures.value in
     let found : find (is_fetch c.args.serial c.args.key.now) c.args.self.now.state.pending ≡ Some ask = sym c.in-Some.ensures.found ∙ there in
     let leads = rw there at (c.origin_gave.ensures.leads key_of) in
-    leads_by _ _ _ _ _ (reads_origin (setting_of c.args.self.now key_of) c.args.self.now.state c.args.answer c.args.now c.args.mark _ ask c.in-AtOrigin.stamp c.in-AtOrigin.asked c.in-AtOrigin.read_mark found c.in-AtOrigin.is) leads
+    leads_by _ _ _ _ _ (reads_origin (setting_of c.args.self.now key_of) c.args.self.now.state c.args.answer c.args.now c.args.mark _ ask c.in-AtOrigin.stamp
+    c.in-AtOrigin.asked c.in-AtOrigin.read_mark found c.in-AtOrigin.is) leads
 
 pub returns-in_default-fetch-clause-leads : goal.returns-in_default-fetch-clause-leads
 unfolding origin_answer

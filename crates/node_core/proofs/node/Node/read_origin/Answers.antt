@@ -12,7 +12,8 @@ pub returns-then-progress-ge-MOST_READS-clause-leads :
     goal.returns-then-progress-ge-MOST_READS-clause-leads
 returns-then-progress-ge-MOST_READS-clause-leads g c = λ key_of.
     IfSome_then (slice_get c.args.self.now.state.pending c.args.place) c.give_up.ensures.gives_up (λ p gives.
-    reads_no_more (setting_of c.args.self.now key_of) c.args.self.now.state (with_progress p c.args.progress) (Some p.block) c.args.now c.args.mark (omega arith) ∙ gives)
+    reads_no_more (setting_of c.args.self.now key_of) c.args.self.now.state (with_progress p c.args.progress) (Some p.block) c.args.now c.args.mark
+    (omega arith) ∙ gives)
 
 pub returns-then-not-has_origin-clause-leads : goal.returns-then-not-has_origin-clause-leads
 returns-then-not-has_origin-clause-leads g c = λ key_of.
@@ -20,7 +21,8 @@ returns-then-not-has_origin-clause-leads g c = λ key_of.
     let there : slice_get c.args.self.now.state.pending c.args.place ≡ Some ask = rw (← c.self.view_is) c.ask.ensures.value in
     let gives = rw there at c.give_up-then-not-has_origin.ensures.gives_up in
     let none : has_origin c.args.self.now.roster ask.ask.key ≡ false = rw (← c.self.view_is) (sym c.if-not-has_origin.ensures) in
-    rw there (has_none_to_read (setting_of c.args.self.now key_of) c.args.self.now.state (with_progress ask c.args.progress) (Some ask.block) c.args.now c.args.mark (omega arith) none ∙ gives)
+    rw there (has_none_to_read (setting_of c.args.self.now key_of) c.args.self.now.state (with_progress ask c.args.progress) (Some ask.block) c.args.now
+    c.args.mark (omega arith) none ∙ gives)
 
 pub returns-clause-leads : goal.returns-clause-leads
 returns-clause-leads g c = λ key_of.
@@ -28,4 +30,6 @@ returns-clause-leads g c = λ key_of.
     let there : slice_get c.args.self.now.state.pending c.args.place ≡ Some ask = rw (← c.self.view_is) c.ask.ensures.value in
     let leads = rw there at c.begin_read.ensures.leads in
     let one : has_origin c.args.self.now.roster ask.ask.key ≡ true = rw (← c.self.view_is) (sym c.if-not-has_origin.ensures) in
-    rw there (leads_by _ _ _ _ _ (reads_again (setting_of c.args.self.now key_of) c.args.self.now.state (with_progress ask c.args.progress) (Some ask.block) c.args.now c.args.mark (omega arith) one) leads)
+    rw there
+    (leads_by _ _ _ _ _ (reads_again (setting_of c.args.self.now key_of) c.args.self.now.state (with_progress ask c.args.progress) (Some ask.block)
+    c.args.now c.args.mark (omega arith) one) leads)

@@ -17,15 +17,18 @@ unfolding round_expired
 returns-in-Some-same_round-clause-leads g c = λ key_of.
     let ask = c.ask.result.now in
     let there : slice_get c.args.self.now.state.pending c.in-Some.place ≡ Some ask = rw (← c.self.view_is) c.ask.ensures.value in
-    let found : find (λ p. round_serial p == c.args.serial) c.args.self.now.state.pending ≡ Some ask = rw (← c.self.view_is) (sym c.in-Some.ensures.found ∙ c.ask.ensures.value) in
+    let found : find (λ p. round_serial p == c.args.serial) c.args.self.now.state.pending ≡ Some ask =
+    rw (← c.self.view_is) (sym c.in-Some.ensures.found ∙ c.ask.ensures.value) in
     let round : ask.round ≡ Some c.in-Some-same_round.round = sym c.same_round.ensures ∙ c.in-Some-same_round.is in
     let leads = rw (there, c.expire.ensures) at (c.round_moves.ensures.leads key_of) in
-    leads_by _ _ _ _ _ (round_ends (setting_of c.args.self.now key_of) c.args.self.now.state c.args.now c.args.mark _ ask c.in-Some-same_round.round found round) leads
+    leads_by _ _ _ _ _ (round_ends (setting_of c.args.self.now key_of) c.args.self.now.state c.args.now c.args.mark _ ask c.in-Some-same_round.round found
+    round) leads
 
 pub returns-in-None-clause-leads : goal.returns-in-None-clause-leads
 unfolding round_expired
 returns-in-None-clause-leads g c = λ key_of.
     let ask = c.ask.result.now in
-    let found : find (λ p. round_serial p == c.args.serial) c.args.self.now.state.pending ≡ Some ask = rw (← c.self.view_is) (sym c.in-Some.ensures.found ∙ c.ask.ensures.value) in
+    let found : find (λ p. round_serial p == c.args.serial) c.args.self.now.state.pending ≡ Some ask =
+    rw (← c.self.view_is) (sym c.in-Some.ensures.found ∙ c.ask.ensures.value) in
     let round : ask.round ≡ None = sym c.same_round.ensures ∙ c.in-None.is in
     nothing_ends (setting_of c.args.self.now key_of) c.args.self.now.state c.args.now c.args.mark _ ask found round

@@ -22,7 +22,8 @@ returns-in-Some-peer_at-clause-leads g c = λ key_of.
     round_told (setting_of v key_of) v.state c.args.by c.args.from (said_by c.args.heard) c.args.now c.args.mark p c.in-Some.round c.in-Some.is _
     (ap (λ (v : NodeText _ _). v.roster) c.self.view_is) _ c.peer_at.ensures c.args.place _
     (ap (λ (v : NodeText _ _). v.state.pending) c.self.view_is) c.ask.ensures.value c.in-Some-peer_at.peer c.in-Some-peer_at.is
-    c.if-not-has_answered.ensures _ _ _ _ c.copy-round.ensures.value c.by.ensures c.answer.ensures c.copy.ensures.value c.round_moves.result c.round_moves.new.self.state
+    c.if-not-has_answered.ensures _ _ _ _ c.copy-round.ensures.value c.by.ensures c.answer.ensures c.copy.ensures.value c.round_moves.result
+    c.round_moves.new.self.state
     (c.round_moves.ensures.leads key_of)
 
 pub returns-in_default-peer_at-clause-leads : goal.returns-in_default-peer_at-clause-leads
@@ -34,7 +35,8 @@ returns-in_default-peer_at-clause-leads g c = λ key_of.
     (elim c.in_default-peer_at.branch [
       | in_default-peer_at-via-in-Some-peer_at+else-not-has_answered w ↦
           told_again (setting_of v key_of) v.state c.args.by c.args.from (said_by c.args.heard) c.args.now c.args.mark p c.in-Some.round c.in-Some.is _
-          (ap (λ (v : NodeText _ _). v.roster) c.self.view_is) _ c.peer_at.ensures w.in-Some-peer_at.peer w.in-Some-peer_at.is w.if-not-has_answered.ensures _ c.quiet-in_default-peer_at.ensures
+          (ap (λ (v : NodeText _ _). v.roster) c.self.view_is) _ c.peer_at.ensures w.in-Some-peer_at.peer w.in-Some-peer_at.is w.if-not-has_answered.ensures _
+          c.quiet-in_default-peer_at.ensures
       | in_default-peer_at-via-in_default-peer_at w ↦
           no_peer (setting_of v key_of) v.state c.args.by c.args.from (said_by c.args.heard) c.args.now c.args.mark p c.in-Some.round c.in-Some.is _
           (ap (λ (v : NodeText _ _). v.roster) c.self.view_is) _ c.peer_at.ensures w.in_default-peer_at.is _ c.quiet-in_default-peer_at.ensures

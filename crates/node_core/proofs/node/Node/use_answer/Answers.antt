@@ -18,11 +18,23 @@ returns-clause-leads g c = λ key_of.
     let ask = c.ask.result.now in
     let s = c.args.self.now.state in
     let inside = c.self-2.inside in
-    let after : NodeState g.row.T.Denot = record { floors = inside.floors; copies = inside.copies.copies; pending = inside.pending; next = inside.next; closed = inside.closed } in
+    let after : NodeState g.row.T.Denot = record {
+      floors = inside.floors;
+      copies = inside.copies.copies;
+      pending = inside.pending;
+      next = inside.next;
+      closed =
+          inside.closed;
+    } in
     let there : slice_get s.pending c.args.place ≡ Some ask = rw (← c.self.view_is) c.ask.ensures.value in
     let key : c.in_ok-key.key ≡ ask.ask.key = c.in_ok-key.ensures in
-    let life : c.lifetime-life.result ≡ lifetime c.args.answer c.args.self.now.roster.limits.default_lifetime = rw (← c.self.view_is, ← c.limits.ensures) c.lifetime-life.ensures in
-    let served : c.in_ok-copy.copy ≡ new_copy c.in_ok-key.key c.args.stamp c.args.asked c.lifetime-life.result c.args.answer c.args.tag = rw c.unwrap_or.ensures at c.in_ok-copy.ensures.ok in
-    let state : after ≡ with_copies s (stored c.args.self.now.roster.limits (new_copy c.in_ok-key.key c.args.stamp c.args.asked c.lifetime-life.result c.args.answer c.args.tag) c.lifetime-life.result s.copies) = ap (λ v. v.state) c.self-2.view_is ∙ rw c.unwrap_or.ensures at c.in_ok-copy.ensures.state in
-    rw there (uses (setting_of c.args.self.now key_of) s after ask c.end-ask.result c.args.place c.in_ok-key.key c.args.stamp c.args.asked c.lifetime-life.result c.args.answer c.args.tag c.args.now there c.end-ask.ensures.value key life state
+    let life : c.lifetime-life.result ≡ lifetime c.args.answer c.args.self.now.roster.limits.default_lifetime =
+    rw (← c.self.view_is, ← c.limits.ensures) c.lifetime-life.ensures in
+    let served : c.in_ok-copy.copy ≡ new_copy c.in_ok-key.key c.args.stamp c.args.asked c.lifetime-life.result c.args.answer c.args.tag =
+    rw c.unwrap_or.ensures at c.in_ok-copy.ensures.ok in
+    let state : after ≡ with_copies s
+    (stored c.args.self.now.roster.limits (new_copy c.in_ok-key.key c.args.stamp c.args.asked c.lifetime-life.result c.args.answer c.args.tag)
+    c.lifetime-life.result s.copies) = ap (λ v. v.state) c.self-2.view_is ∙ rw c.unwrap_or.ensures at c.in_ok-copy.ensures.state in
+    rw there (uses (setting_of c.args.self.now key_of) s after ask c.end-ask.result c.args.place c.in_ok-key.key c.args.stamp c.args.asked
+    c.lifetime-life.result c.args.answer c.args.tag c.args.now there c.end-ask.ensures.value key life state
     ∙ rw (c.end-ask.ensures.rest, c.serves.ensures, c.served_age-age.ensures, served))

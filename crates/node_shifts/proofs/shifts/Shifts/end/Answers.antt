@@ -13,4 +13,5 @@ returns-in-Ok-clause-ended g c =
     let none : c.args.self.now.closed ≡ None = search rules in
     let same : c.replace-row.result.items ≡ c.args.self.now.row = search rules in
     let closes : Closes c.args.self.now.row c.in-Ok.shift = subst (λ row. Closes row c.in-Ok.shift) same c.in-Ok.ensures in
-    ended_open c.args.self.now _ c.in-Ok.shift none closes refl (ap (λ v. v.octets) c.self.view_is) (ap (λ v. v.seats) c.self.view_is) (ap (λ v. v.history) c.self.view_is) (ap (λ v. v.records) c.self.view_is)
+    ended_open c.args.self.now _ c.in-Ok.shift none closes refl (ap (λ v. v.octets) c.self.view_is) (ap (λ v. v.seats) c.self.view_is)
+    (ap (λ v. v.history) c.self.view_is) (ap (λ v. v.records) c.self.view_is)

@@ -14,7 +14,8 @@ invariant_of-self g c =
     let read : slice_get asks c.args.place ≡ Some ask = slice_get_read asks (length asks) c.args.place ask refl within c.index_mut-ask.ensures.value in
     let go : CanGoOn (with_progress ask c.args.progress) = rw (← c.self.view_is, read) at c.requires.can_go_on in
     rw (c.replace.ensures.after, c.replace-2.ensures.after, c.replace-3.ensures.after, c.replace-4.ensures.after, c.replace-5.ensures.after)
-    (order_changed asks c.self.invariant.ascend c.args.place ask (with_progress ask c.args.progress) within c.index_mut-ask.ensures.value refl c.self.invariant go)
+    (order_changed asks c.self.invariant.ascend c.args.place ask (with_progress ask c.args.progress) within c.index_mut-ask.ensures.value refl c.self.invariant
+    go)
 
 pub returns-clause-changed : goal.returns-clause-changed
 returns-clause-changed g c =
@@ -22,7 +23,15 @@ returns-clause-changed g c =
     let ask = c.index_mut-ask.result.now in
     let within : c.args.place < length asks = omega (arith, ap length c.self.view_is, c.requires.place) in
     let read : slice_get asks c.args.place ≡ Some ask = slice_get_read asks (length asks) c.args.place ask refl within c.index_mut-ask.ensures.value in
-    rw (← c.self.view_is, read, c.replace.ensures.after, c.replace-2.ensures.after, c.replace-3.ensures.after, c.replace-4.ensures.after, c.replace-5.ensures.after)
+    rw (
+      ← c.self.view_is,
+      read,
+      c.replace.ensures.after,
+      c.replace-2.ensures.after,
+      c.replace-3.ensures.after,
+      c.replace-4.ensures.after,
+      c.replace-5.ensures.after,
+    )
     (set_changed asks c.self.invariant.ascend c.args.place ask (with_progress ask c.args.progress) within c.index_mut-ask.ensures.value refl)
 
 pub returns-clause-there : goal.returns-clause-there
@@ -31,5 +40,13 @@ returns-clause-there g c =
     let ask = c.index_mut-ask.result.now in
     let within : c.args.place < length asks = omega (arith, ap length c.self.view_is, c.requires.place) in
     let read : slice_get asks c.args.place ≡ Some ask = slice_get_read asks (length asks) c.args.place ask refl within c.index_mut-ask.ensures.value in
-    rw (← c.self.view_is, read, c.replace.ensures.after, c.replace-2.ensures.after, c.replace-3.ensures.after, c.replace-4.ensures.after, c.replace-5.ensures.after)
+    rw (
+      ← c.self.view_is,
+      read,
+      c.replace.ensures.after,
+      c.replace-2.ensures.after,
+      c.replace-3.ensures.after,
+      c.replace-4.ensures.after,
+      c.replace-5.ensures.after,
+    )
     (set_there asks c.self.invariant.ascend c.args.place ask (with_progress ask c.args.progress) within c.index_mut-ask.ensures.value refl)

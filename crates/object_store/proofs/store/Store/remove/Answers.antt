@@ -10,24 +10,28 @@ use Rattle.object_store.proofs.store.Store.remove.Goals as goal
 pub overflow_sub-self : goal.overflow_sub-self
 overflow_sub-self g c =
     let held = c.self.inside in
-    let found : copy_of c.args.key.now (copies_in held.cache) ≡ Some c.in-Some.copy = sym (found_in c.args.key.now held.cache.entries c.self.invariant.1.keyed) ∙ sym c.in-Some.ensures.value in
+    let found : copy_of c.args.key.now (copies_in held.cache) ≡ Some c.in-Some.copy = sym (found_in c.args.key.now held.cache.entries c.self.invariant.1.keyed)
+    ∙ sym c.in-Some.ensures.value in
     let out = octets_out c.args.key.now (copies_in held.cache) c.in-Some.copy c.self.invariant.0.is_store.one_each found in
     omega (arith, out, c.self.invariant.0.counted, c.size.ensures.value)
 
 pub invariant_of-self : goal.invariant_of-self
 invariant_of-self g c =
     let held = c.self.inside in
-    let found : copy_of c.args.key.now (copies_in held.cache) ≡ Some c.in-Some.copy = sym (found_in c.args.key.now held.cache.entries c.self.invariant.1.keyed) ∙ sym c.in-Some.ensures.value in
+    let found : copy_of c.args.key.now (copies_in held.cache) ≡ Some c.in-Some.copy = sym (found_in c.args.key.now held.cache.entries c.self.invariant.1.keyed)
+    ∙ sym c.in-Some.ensures.value in
     let gone : copies_in c.pop.new.self ≡ without c.args.key.now (copies_in held.cache) =
     ap copies_in c.pop.ensures.entries ∙ out_of c.args.key.now held.cache.entries c.self.invariant.1.keyed c.self.invariant.0.is_store.one_each in (
-      rw gone (counted_out held.limit_count held.limit_bytes c.args.key.now (copies_in held.cache) held.octets c.in-Some.copy c.size.result found c.size.ensures.value c.self.invariant.0),
+      rw gone (counted_out held.limit_count held.limit_bytes c.args.key.now (copies_in held.cache) held.octets c.in-Some.copy c.size.result found
+          c.size.ensures.value c.self.invariant.0),
       rw c.pop.ensures.entries (cached_out _ held.cache c.self.invariant.1),
     )
 
 pub invariant_of-self-in-None : goal.invariant_of-self-in-None
 invariant_of-self-in-None g c =
     let held = c.self.inside in
-    let none : copy_of c.args.key.now (copies_in held.cache) ≡ None = sym (found_in c.args.key.now held.cache.entries c.self.invariant.1.keyed) ∙ sym c.in-None.ensures.value in
+    let none : copy_of c.args.key.now (copies_in held.cache) ≡ None = sym (found_in c.args.key.now held.cache.entries c.self.invariant.1.keyed)
+    ∙ sym c.in-None.ensures.value in
     let gone : copies_in c.pop.new.self ≡ copies_in held.cache =
     ap copies_in c.pop.ensures.entries ∙ out_of c.args.key.now held.cache.entries c.self.invariant.1.keyed c.self.invariant.0.is_store.one_each
     ∙ none_out c.args.key.now (copies_in held.cache) none in (

@@ -18,7 +18,9 @@ returns-in-Some c =
     let purges = c.self.inside.pending.items in
     let at : IsPlaceOf purges c.args.number c.in-Some.place = rw (ap (λ (p : PurgeList). p.pending) c.self.view_is) c.in-Some.ensures.place in
     rw (← c.self.view_is)
-    (ap (λ ps. record { last = c.self.inside.last; pending = ps }) (c.remove.ensures.items ∙ removed purges c.args.number c.in-Some.place c.self.invariant.ascend at))
+    (ap (λ ps. record { last = c.self.inside.last; pending = ps })
+    (c.remove.ensures.items ∙ removed purges c.args.number c.in-Some.place c.self.invariant.ascend at))
 
 pub returns-in_default : goal.returns-in_default
-returns-in_default c = ap (λ ps. record { last = c.args.self.now.last; pending = ps }) (sym (none_removed c.args.self.now.pending c.args.number c.in_default.ensures.place))
+returns-in_default c = ap (λ ps. record { last = c.args.self.now.last; pending = ps })
+    (sym (none_removed c.args.self.now.pending c.args.number c.in_default.ensures.place))

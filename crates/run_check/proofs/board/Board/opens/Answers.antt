@@ -12,9 +12,13 @@ returns c = λ sent board.
     let id = c.args.node in
     let taken = c.take-before.new.self in
     let after = c.in_ok-after.after in
-    let now : Board = record { keys = c.forget.new.self.keys; posts = c.put.new.self; ledger = c.forget.new.self.ledger; network = c.forget.new.self.network } in
+    let now : Board = record { keys = c.forget.new.self.keys; posts = c.put.new.self; ledger = c.forget.new.self.ledger; network = c.forget.new.self.network }
+    in
     let sound = c.take-before.ensures.sound roster board.nodes in
-    let left : AreMemberNodes roster c.forget.new.self.posts = subst (AreMemberNodes roster) (sym c.forget.ensures.posts) (c.take-before.ensures.nodes roster board.nodes) in
-    let posts : posts_of now.posts ≡ with_standing (posts_of taken) id (standing_of after) = c.in_ok-put.ensures.posts ∙ ap (λ p. with_standing (posts_of p) id (standing_of after)) c.forget.ensures.posts in
+    let left : AreMemberNodes roster c.forget.new.self.posts = subst (AreMemberNodes roster) (sym c.forget.ensures.posts)
+    (c.take-before.ensures.nodes roster board.nodes) in
+    let posts : posts_of now.posts ≡ with_standing (posts_of taken) id (standing_of after) = c.in_ok-put.ensures.posts
+    ∙ ap (λ p. with_standing (posts_of p) id (standing_of after)) c.forget.ensures.posts in
     has_opened roster c.args.self.now taken id c.take-before.result sent board c.take-before.ensures.standing c.take-before.ensures.others now after posts
-    (c.in_ok-put.ensures.nodes roster left (c.in_ok-after.ensures.sound sound)) c.forget.ensures.ledger c.args.state.now (c.forget.ensures.network roster sent board.network) (c.in_ok-after.ensures.standing sound)
+    (c.in_ok-put.ensures.nodes roster left (c.in_ok-after.ensures.sound sound)) c.forget.ensures.ledger c.args.state.now
+    (c.forget.ensures.network roster sent board.network) (c.in_ok-after.ensures.standing sound)

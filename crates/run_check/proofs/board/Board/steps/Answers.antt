@@ -21,12 +21,16 @@ returns-in_ok-put-in-Ok c = λ sent board.
     let now : Board = record { keys = c.send.new.self.keys; posts = c.put.new.self; ledger = c.send.new.self.ledger; network = c.send.new.self.network } in
     let heard = (c.is_heard.ensures sent board.network).0 c.if-not-is_heard.false in
     let sound = c.take-standing.ensures.sound roster board.nodes in
-    let steps = subst (λ r. StepsSo (setting roster id) (standing_of before) entry c.args.is_closed c.args.kept.now (stepped_of r)) c.in-Ok.is (c.in_ok-standing.ensures.stepped sound) in
+    let steps = subst (λ r. StepsSo (setting roster id) (standing_of before) entry c.args.is_closed c.args.kept.now (stepped_of r)) c.in-Ok.is
+    (c.in_ok-standing.ensures.stepped sound) in
     let still : IsSound roster id after = subst (AreSound roster id) c.in-Ok.is (c.in_ok-standing.ensures.sound sound) in
-    let left : AreMemberNodes roster c.send.new.self.posts = subst (AreMemberNodes roster) (sym c.in_ok-send-in-Ok.ensures.posts) (c.take-standing.ensures.nodes roster board.nodes) in
-    let posts : posts_of now.posts ≡ with_standing (posts_of taken) id (standing_of after) = c.in_ok-put-in-Ok.ensures.posts ∙ ap (λ p. with_standing (posts_of p) id (standing_of after)) c.in_ok-send-in-Ok.ensures.posts in
+    let left : AreMemberNodes roster c.send.new.self.posts = subst (AreMemberNodes roster) (sym c.in_ok-send-in-Ok.ensures.posts)
+    (c.take-standing.ensures.nodes roster board.nodes) in
+    let posts : posts_of now.posts ≡ with_standing (posts_of taken) id (standing_of after) = c.in_ok-put-in-Ok.ensures.posts
+    ∙ ap (λ p. with_standing (posts_of p) id (standing_of after)) c.in_ok-send-in-Ok.ensures.posts in
     has_stepped roster c.args.self.now taken id before sent board c.take-standing.ensures.standing c.take-standing.ensures.others now after posts
-    (c.in_ok-put-in-Ok.ensures.nodes roster left still) c.in_ok-send-in-Ok.ensures.ledger entry c.args.is_closed c.args.kept.now heard (c.in_ok-send-in-Ok.ensures.sent sent board.network) steps
+    (c.in_ok-put-in-Ok.ensures.nodes roster left still) c.in_ok-send-in-Ok.ensures.ledger entry c.args.is_closed c.args.kept.now heard
+    (c.in_ok-send-in-Ok.ensures.sent sent board.network) steps
 
 pub returns-in-Err : goal.returns-in-Err
 returns-in-Err c = λ sent board.
@@ -35,5 +39,7 @@ returns-in-Err c = λ sent board.
     let entry = c.args.entry.now in
     let before = c.take-standing.result in
     let heard = (c.is_heard.ensures sent board.network).0 c.if-not-is_heard.false in
-    let steps = subst (λ r. StepsSo (setting roster id) (standing_of before) entry c.args.is_closed c.args.kept.now (stepped_of r)) c.in-Err.is (c.in_ok-standing.ensures.stepped (c.take-standing.ensures.sound roster board.nodes)) in
-    may_not_step roster c.args.self.now c.take-standing.new.self id before sent board c.take-standing.ensures.standing c.take-standing.ensures.others entry c.args.is_closed c.args.kept.now c.in-Err.cause heard steps
+    let steps = subst (λ r. StepsSo (setting roster id) (standing_of before) entry c.args.is_closed c.args.kept.now (stepped_of r)) c.in-Err.is
+    (c.in_ok-standing.ensures.stepped (c.take-standing.ensures.sound roster board.nodes)) in
+    may_not_step roster c.args.self.now c.take-standing.new.self id before sent board c.take-standing.ensures.standing c.take-standing.ensures.others entry
+    c.args.is_closed c.args.kept.now c.in-Err.cause heard steps

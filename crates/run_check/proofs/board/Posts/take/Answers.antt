@@ -10,7 +10,8 @@ use Rattle.run_check.proofs.board.Posts.take.Goals as goal
 pub returns-in-Some-clause-standing : goal.returns-in-Some-clause-standing
 returns-in-Some-clause-standing c =
     let posts = c.args.self.now.posts.items in
-    let place : place_of c.args.id (map post_of posts) ≡ Some c.in-Some.place = ap (λ l. place_of c.args.id (map post_of l)) (sym c.as_slice.ensures.value) ∙ sym c.place_of.ensures.place ∙ c.in-Some.is in
+    let place : place_of c.args.id (map post_of posts) ≡ Some c.in-Some.place = ap (λ l. place_of c.args.id (map post_of l)) (sym c.as_slice.ensures.value)
+    ∙ sym c.place_of.ensures.place ∙ c.in-Some.is in
     let below : c.in-Some.place < length posts = subst (λ (l : List Post). c.in-Some.place < length l) c.as_slice.ensures.value c.in-Some.ensures.below in
     let there = held_at posts c.args.id c.in-Some.place c.index_mut.result.now place below c.index_mut.ensures.value in
     ap standing_of c.replace.ensures.value ∙ sym there.standing
@@ -18,19 +19,23 @@ returns-in-Some-clause-standing c =
 pub returns-in-Some-clause-others : goal.returns-in-Some-clause-others
 returns-in-Some-clause-others c = λ standing.
     let posts = c.args.self.now.posts.items in
-    let place : place_of c.args.id (map post_of posts) ≡ Some c.in-Some.place = ap (λ l. place_of c.args.id (map post_of l)) (sym c.as_slice.ensures.value) ∙ sym c.place_of.ensures.place ∙ c.in-Some.is in
+    let place : place_of c.args.id (map post_of posts) ≡ Some c.in-Some.place = ap (λ l. place_of c.args.id (map post_of l)) (sym c.as_slice.ensures.value)
+    ∙ sym c.place_of.ensures.place ∙ c.in-Some.is in
     let below : c.in-Some.place < length posts = subst (λ (l : List Post). c.in-Some.place < length l) c.as_slice.ensures.value c.in-Some.ensures.below in
     put_twice posts c.args.id c.in-Some.place c.index_mut.result.now place below c.index_mut.ensures.value c.replace.new.dest standing
 
 pub returns-in-Some-clause-sound : goal.returns-in-Some-clause-sound
 returns-in-Some-clause-sound c = λ roster nodes.
     let posts = c.args.self.now.posts.items in
-    let place : place_of c.args.id (map post_of posts) ≡ Some c.in-Some.place = ap (λ l. place_of c.args.id (map post_of l)) (sym c.as_slice.ensures.value) ∙ sym c.place_of.ensures.place ∙ c.in-Some.is in
+    let place : place_of c.args.id (map post_of posts) ≡ Some c.in-Some.place = ap (λ l. place_of c.args.id (map post_of l)) (sym c.as_slice.ensures.value)
+    ∙ sym c.place_of.ensures.place ∙ c.in-Some.is in
     let below : c.in-Some.place < length posts = subst (λ (l : List Post). c.in-Some.place < length l) c.as_slice.ensures.value c.in-Some.ensures.below in
-    subst (IsSound roster c.args.id) (sym c.replace.ensures.value) (sound_there posts c.args.id c.in-Some.place c.index_mut.result.now place below c.index_mut.ensures.value roster nodes)
+    subst (IsSound roster c.args.id) (sym c.replace.ensures.value)
+    (sound_there posts c.args.id c.in-Some.place c.index_mut.result.now place below c.index_mut.ensures.value roster nodes)
 
 pub returns-in-None-clause-standing : goal.returns-in-None-clause-standing
 returns-in-None-clause-standing c =
     let posts = c.args.self.now.posts.items in
-    let none : place_of c.args.id (map post_of posts) ≡ None = ap (λ l. place_of c.args.id (map post_of l)) (sym c.as_slice.ensures.value) ∙ sym c.place_of.ensures.place ∙ c.in-None.is in
+    let none : place_of c.args.id (map post_of posts) ≡ None = ap (λ l. place_of c.args.id (map post_of l)) (sym c.as_slice.ensures.value)
+    ∙ sym c.place_of.ensures.place ∙ c.in-None.is in
     sym (nowhere (map post_of posts) c.args.id none)

@@ -9,5 +9,6 @@ pub returns-clause-letters : goal.returns-clause-letters
 returns-clause-letters c =
     let keys = c.args.self.now.keys in
     let y : Letter = c.args.letter in
-    put_on c.put.result (λ (i : Letter). i) (λ (k : Letter). letter_print keys k.sender k.receiver k.message) (bag_of c.args.self.now.bags) (bag_of c.put.new.self) y y c.letter_print-print.result refl
+    put_on c.put.result (λ (i : Letter). i) (λ (k : Letter). letter_print keys k.sender k.receiver k.message) (bag_of c.args.self.now.bags)
+    (bag_of c.put.new.self) y y c.letter_print-print.result refl
     (c.letter_print-print.ensures ∙ ap (λ m. letter_print keys y.sender y.receiver m) c.message-text.ensures.value) c.put.ensures
