@@ -1,9 +1,9 @@
--- One event: the turn that was taken, with its outcome, is the event at its place. Adding one to
+-- One event: the consequence that was taken, with its outcome, is the event at its place. Adding one to
 -- the place changes no part that the invariant speaks of.
 use Rattle.std.proofs.Common.{◌≡◌, ◌≢◌, ℕ, ◌+◌, Some, Ok, Err, sym, ◌∙◌, ap}
 use Rattle.world_rules.specs.declared.event.WorldEvent.{WorldEvent}
 use Rattle.world_rules.specs.declared.outcome.Outcome.{Outcome}
-use Rattle.world_rules.specs.Turn.{turn}
+use Rattle.world_rules.specs.Consequence.{consequence}
 use Rattle.world_rules.specs.Run.{IsOfKey}
 use Rattle.node_rules.specs.declared.reply.StepFault.TheVariants as step_fault
 use Rattle.world_rules.specs.declared.outcome.ActorFault.TheVariants as actor
@@ -53,11 +53,11 @@ no_store_told here.Nothing had is = cc
 tells_no_lack : (seen : SeenHere) (outcome : Outcome) → LackedNothing seen → outcome.fault ≡ fault_of (seen_of seen) → TellsNoLack outcome
 tells_no_lack seen outcome had told = (λ is. no_memory_told seen had (sym told ∙ is), λ is. no_store_told seen had (sym told ∙ is))
 
--- a turn that was taken, and the next place
-pub turn_made : (old mid : Parts) (event : WorldEvent) (seen : SeenHere) (outcome : Outcome) → HasTaken old (turn old.roster (world_of old) event) seen mid →
+-- a consequence that was taken, and the next place
+pub consequence_made : (old mid : Parts) (event : WorldEvent) (seen : SeenHere) (outcome : Outcome) → HasTaken old (consequence old.roster (world_of old) event) seen mid →
     IsOfKey event →
     outcome ≡ outcome_of (world_of old) (world_of mid) (seen_of seen) → IsMade old event (Ok outcome) (at_place mid (mid.place + 1))
-turn_made old mid event seen outcome taken key told = (
+consequence_made old mid event seen outcome taken key told = (
   sound_there mid (mid.place + 1) taken.sound,
   tells_no_lack seen outcome taken.lacked_nothing (ap (λ (o : Outcome). o.fault) told),
   (taken.roster, ap (λ (n : ℕ). n + 1) taken.place, seen_of seen, (key, taken.takes), told),

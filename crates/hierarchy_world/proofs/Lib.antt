@@ -1,4 +1,4 @@
--- To read: Runs (why whole runs are safe) and Happening (one event) first. Then the turns by kind:
+-- To read: Runs (why whole runs are safe) and Happening (one event) first. Then the events by kind:
 -- Taking (a node's step and what it sends; over Places, Steps, Changing, Serving), Reaching (what
 -- arrives), Restarting (faults and restarts), Numbers (CLRs to all members), Starting (a new world).
 -- MemberNodes, Answerable, Writing and Outcomes are lemmas; Refusing and Applying are about faults.

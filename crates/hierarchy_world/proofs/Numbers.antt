@@ -12,7 +12,7 @@ use Rattle.roster.specs.Lookups.{member_of, is_member}
 use Rattle.htcp_wire.specs.declared.message.Htcp.{Htcp}
 use Rattle.purge_rules.specs.Members.{possible_ids, members_of}
 use Rattle.purge_rules.specs.Clear.{clear}
-use Rattle.world_rules.specs.Turn.{clear_to, clears_of}
+use Rattle.world_rules.specs.Consequence.{clear_to, clears_of}
 use Rattle.world_rules.specs.Apply.{numbers_after}
 
 -- one more number

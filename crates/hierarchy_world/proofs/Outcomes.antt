@@ -1,7 +1,7 @@
 -- The outcome of an event, by the counts of what was sent.
 use Rattle.std.proofs.Common.{◌≡◌, ◌-◌, length, ◌∙◌, ap}
 use Rattle.world_rules.specs.World.{World}
-use Rattle.world_rules.specs.Turn.{Seen}
+use Rattle.world_rules.specs.Consequence.{Seen}
 use Rattle.world_rules.specs.Apply.{numbers_after, new_item, outcome_with, outcome_of}
 use Rattle.hierarchy_world.specs.declared.telling.Counts.{Counts}
 use Rattle.hierarchy_world.specs.Outcomes.{AreCounts, outcome_by}

@@ -1,5 +1,5 @@
--- What arrives at a member or at the master takes the turn that the model defines. Each lemma takes
--- the results of the code's look-ups (item, member, pending fetch) and computes the model's turn
+-- What arrives at a member or at the master has the consequence that the model defines. Each lemma takes
+-- the results of the code's look-ups (item, member, pending fetch) and computes the model's consequence
 -- with them.
 use Rattle.std.proofs.Common.{◌≡◌, ℕ, ◌<◌, Bool, true, false, cond, nat_eq, List, length, find, get_or, slice_get, Option, Some, None, Result, Ok, Err, refl, sym, ◌∙◌, ap, subst, unwrap_or}
 use Rattle.std.proofs.lemmas.Option.{slice_get_read}
@@ -24,7 +24,7 @@ use Rattle.world_rules.specs.declared.outcome.WorldFault.{WorldFault}
 use Rattle.world_rules.specs.declared.outcome.WorldFault.TheVariants as fault
 use Rattle.node_rules.specs.Messages.{protocol_of as udp_of, clear_answer, clear_answer_in}
 use Rattle.world_rules.specs.World.{World, Datagram, PeerAsk, PeerAnswer}
-use Rattle.world_rules.specs.Turn.{Nothing, Turn, NodeSteps, Ends, Refused, at_member, master_hears_htcp, master_hears, delivered_to, delivered, ask_delivered, answer_delivered, strange_comes, origin_by, origin_to, foreign_by, foreign_to, fetching_at}
+use Rattle.world_rules.specs.Consequence.{Nothing, Consequence, NodeSteps, Ends, Refused, at_member, master_hears_htcp, master_hears, delivered_to, delivered, ask_delivered, answer_delivered, strange_comes, origin_by, origin_to, foreign_by, foreign_to, fetching_at}
 use Rattle.hierarchy_world.specs.declared.parts.Parts.{Parts}
 use Rattle.hierarchy_world.specs.declared.telling.Seen.{Seen as SeenHere}
 use Rattle.hierarchy_world.specs.declared.telling.Seen.TheVariants as here
@@ -32,22 +32,22 @@ use Rattle.hierarchy_world.specs.Parts.{MemberNode, IsSound, IsPlace, IsTaken, w
 use Rattle.hierarchy_world.specs.Posted.{heard_by}
 use Rattle.hierarchy_world.proofs.Changing.{was_state}
 
--- a turn at an id that is a member's
-pub member_taken : (old new : Parts) (id : ℕ) (t : Turn) (result : Result SeenHere WorldFault) → is_member old.roster id ≡ true → IsTaken old t result new →
+-- a consequence at an id that is a member's
+pub member_taken : (old new : Parts) (id : ℕ) (t : Consequence) (result : Result SeenHere WorldFault) → is_member old.roster id ≡ true → IsTaken old t result new →
     IsTaken old (at_member old.roster id t) result new
 member_taken old new id t result member taken = subst (λ (b : Bool). IsTaken old (cond b t (Refused fault.NoSuchPacket)) result new) (sym member) taken
 
--- a turn at an id that is no member's
-pub stranger_refused : (old : Parts) (id : ℕ) (t : Turn) → is_member old.roster id ≡ false →
+-- a consequence at an id that is no member's
+pub stranger_refused : (old : Parts) (id : ℕ) (t : Consequence) → is_member old.roster id ≡ false →
     IsTaken old (at_member old.roster id t) (Err fault.NoSuchPacket) old
 stranger_refused old id t none = (ap (λ (b : Bool). cond b t (Refused fault.NoSuchPacket)) none, refl)
 
--- a turn that is taken, under another name
-pub taken_as : (old new : Parts) (t u : Turn) (result : Result SeenHere WorldFault) → u ≡ t → IsTaken old t result new → IsTaken old u result new
-taken_as old new t u result is taken = subst (λ (x : Turn). IsTaken old x result new) (sym is) taken
+-- a consequence that is taken, under another name
+pub taken_as : (old new : Parts) (t u : Consequence) (result : Result SeenHere WorldFault) → u ≡ t → IsTaken old t result new → IsTaken old u result new
+taken_as old new t u result is taken = subst (λ (x : Consequence). IsTaken old x result new) (sym is) taken
 
--- a turn at a member, under another name
-pub member_taken_as : (old new : Parts) (id : ℕ) (t u : Turn) (result : Result SeenHere WorldFault) → is_member old.roster id ≡ true → u ≡ t →
+-- a consequence at a member, under another name
+pub member_taken_as : (old new : Parts) (id : ℕ) (t u : Consequence) (result : Result SeenHere WorldFault) → is_member old.roster id ≡ true → u ≡ t →
     IsTaken old t result new → IsTaken old (at_member old.roster id u) result new
 member_taken_as old new id t u result member is taken = member_taken old new id u result member (taken_as old new t u result is taken)
 
@@ -174,7 +174,7 @@ foreign_to_none w id serial answer o is = ap (λ (x : Option (Pending ℕ)). for
 
 -- A fault, or a restart
 
--- a turn after which nothing is seen, and the world after it
+-- a consequence after which nothing is seen, and the world after it
 pub ends_so : (old new : Parts) (w : World) → IsSound new → new.roster ≡ old.roster → new.place ≡ old.place → world_of new ≡ w →
     IsTaken old (Ends Nothing w) (Ok here.Nothing) new
 ends_so old new w sound roster place is = record { sound = sound; roster = roster; place = place; lacked_nothing = tt; takes = (refl, is) }
@@ -212,7 +212,7 @@ module _ (old new : Parts) (n : MemberNode) (id place serial : ℕ) (answer : An
       ∙ ap (λ (k : List ℕ). NodeSteps id (event.ForeignAnswer serial peer k answer 0 old.clock) 0) (sym same))
       taken
 
-  to_nobody : (u : Turn) → u ≡ Refused fault.NotPending → at_member old.roster id u ≡ Refused fault.NotPending
+  to_nobody : (u : Consequence) → u ≡ Refused fault.NotPending → at_member old.roster id u ≡ Refused fault.NotPending
   to_nobody u is = ap (λ (b : Bool). cond b u (Refused fault.NoSuchPacket)) found.0 ∙ is
 
   -- nothing is pending there

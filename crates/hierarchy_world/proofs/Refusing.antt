@@ -23,7 +23,7 @@ use Rattle.world_rules.specs.declared.outcome.WorldFault.{WorldFault}
 use Rattle.world_rules.specs.declared.outcome.WorldFault.TheVariants as fault
 use Rattle.node_rules.specs.Messages.{protocol_of as udp_of}
 use Rattle.world_rules.specs.World.{World, Datagram, PeerAsk, PeerAnswer, item}
-use Rattle.world_rules.specs.Turn.{Turn, NodeSteps, Ends, Refused, at_member, acknowledged_by, master_hears_htcp, master_hears, delivered_to, delivered, ask_delivered, answer_delivered, origin_by, origin_to, foreign_by, foreign_to, fetching_at, issue_by, turn}
+use Rattle.world_rules.specs.Consequence.{Consequence, NodeSteps, Ends, Refused, at_member, acknowledged_by, master_hears_htcp, master_hears, delivered_to, delivered, ask_delivered, answer_delivered, origin_by, origin_to, foreign_by, foreign_to, fetching_at, issue_by, consequence}
 
 -- the two faults of refused events
 abbrev IsOfEvents : WorldFault → Type 0
@@ -32,17 +32,17 @@ IsOfEvents fault.NotPending = Unit {0}
 IsOfEvents fault.NoMemory = ⊥
 IsOfEvents fault.PlacesSpent = ⊥
 
--- a turn that is refused is refused with one of these
-abbrev IsRight : Turn → Type 0
+-- an event that is refused is refused with one of these
+abbrev IsRight : Consequence → Type 0
 IsRight (NodeSteps id e serial) = Unit {0}
 IsRight (Ends seen world) = Unit {0}
 IsRight (Refused f) = IsOfEvents f
 
-either_right : (b : Bool) (t u : Turn) → IsRight t → IsRight u → IsRight (cond b t u)
+either_right : (b : Bool) (t u : Consequence) → IsRight t → IsRight u → IsRight (cond b t u)
 either_right true t u first second = first
 either_right false t u first second = second
 
-member_right : (t : Tables) (id : ℕ) (u : Turn) → IsRight u → IsRight (at_member t id u)
+member_right : (t : Tables) (id : ℕ) (u : Consequence) → IsRight u → IsRight (at_member t id u)
 member_right t id u right = either_right (is_member t id) u (Refused fault.NoSuchPacket) right tt
 
 acknowledged_right : (t : Tables) (w : World) (number code : ℕ) (o : Option ℕ) → IsRight (acknowledged_by t w number code o)
@@ -106,25 +106,25 @@ issue_right : (t : Tables) (w : World) (key : List ℕ) (o : Option MasterFault)
 issue_right t w key None = tt
 issue_right t w key (Some f) = tt
 
-turn_right : (t : Tables) (w : World) (e : WorldEvent) → IsRight (turn t w e)
-turn_right t w (world.Clock now) = tt
-turn_right t w (world.Client id ask) = member_right t id _ tt
-turn_right t w (world.Datagram number) = datagram_right t w (item w.datagrams number)
-turn_right t w (world.Ask number) = ask_right t w (item w.asks number)
-turn_right t w (world.Answer number serial) = answer_right t w serial (item w.answers number)
-turn_right t w (world.Origin id serial answer) = member_right t id _ (origin_right w id serial answer (fetching_at w id serial))
-turn_right t w (world.Foreign id serial answer) = member_right t id _ (foreign_right w id serial answer (fetching_at w id serial))
-turn_right t w (world.Strange to sender m) = either_right (is_own t sender) (Refused fault.NoSuchPacket) (delivered_to w sender m (member_at t to (udp_of m)))
+consequence_right : (t : Tables) (w : World) (e : WorldEvent) → IsRight (consequence t w e)
+consequence_right t w (world.Clock now) = tt
+consequence_right t w (world.Client id ask) = member_right t id _ tt
+consequence_right t w (world.Datagram number) = datagram_right t w (item w.datagrams number)
+consequence_right t w (world.Ask number) = ask_right t w (item w.asks number)
+consequence_right t w (world.Answer number serial) = answer_right t w serial (item w.answers number)
+consequence_right t w (world.Origin id serial answer) = member_right t id _ (origin_right w id serial answer (fetching_at w id serial))
+consequence_right t w (world.Foreign id serial answer) = member_right t id _ (foreign_right w id serial answer (fetching_at w id serial))
+consequence_right t w (world.Strange to sender m) = either_right (is_own t sender) (Refused fault.NoSuchPacket) (delivered_to w sender m (member_at t to (udp_of m)))
     tt (found_right w sender m (member_at t to (udp_of m)))
-turn_right t w (world.Fail id serial) = member_right t id _ tt
-turn_right t w (world.Expire id serial) = member_right t id _ tt
-turn_right t w (world.Fault id) = member_right t id _ tt
-turn_right t w (world.Restart id) = member_right t id _ tt
-turn_right t w (world.Issue key) = issue_right t w key (issue_fault w.master)
-turn_right t w world.Resend = tt
-turn_right t w (world.Status number) = tt
-turn_right t w world.RestartMaster = tt
+consequence_right t w (world.Fail id serial) = member_right t id _ tt
+consequence_right t w (world.Expire id serial) = member_right t id _ tt
+consequence_right t w (world.Fault id) = member_right t id _ tt
+consequence_right t w (world.Restart id) = member_right t id _ tt
+consequence_right t w (world.Issue key) = issue_right t w key (issue_fault w.master)
+consequence_right t w world.Resend = tt
+consequence_right t w (world.Status number) = tt
+consequence_right t w world.RestartMaster = tt
 
 -- no event is refused with PlacesSpent
-pub not_for_places : (t : Tables) (w : World) (e : WorldEvent) → turn t w e ≡ Refused fault.PlacesSpent → ⊥
-not_for_places t w e is = subst IsRight is (turn_right t w e)
+pub not_for_places : (t : Tables) (w : World) (e : WorldEvent) → consequence t w e ≡ Refused fault.PlacesSpent → ⊥
+not_for_places t w e is = subst IsRight is (consequence_right t w e)

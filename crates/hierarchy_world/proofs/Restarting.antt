@@ -5,7 +5,7 @@ use Rattle.node_rules.specs.declared.state.NodeState.{NodeState}
 use Rattle.node_core.specs.View.{IsSameNode}
 use Rattle.node_rules.specs.State.{closed_node}
 use Rattle.world_rules.specs.World.{node_at}
-use Rattle.world_rules.specs.Turn.{with_member_state}
+use Rattle.world_rules.specs.Consequence.{with_member_state}
 use Rattle.hierarchy_world.specs.declared.parts.Parts.{Parts}
 use Rattle.hierarchy_world.specs.Parts.{MemberNode, member_states, world_of, IsStored, IsSound, IsPlace, IsMemberChanged}
 use Rattle.hierarchy_world.proofs.Changing.{same_world, was_state, still_sound, states_are}

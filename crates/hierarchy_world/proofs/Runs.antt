@@ -11,7 +11,7 @@ use Rattle.world_rules.specs.declared.outcome.Outcome.{Outcome}
 use Rattle.world_rules.specs.declared.outcome.WorldFault.{WorldFault}
 use Rattle.world_rules.specs.declared.outcome.WorldFault.TheVariants as fault
 use Rattle.world_rules.specs.World.{World, new_world}
-use Rattle.world_rules.specs.Turn.{Seen, Refused, turn}
+use Rattle.world_rules.specs.Consequence.{Seen, Refused, consequence}
 use Rattle.world_rules.specs.Run.{Step, Happens, Plays}
 use Rattle.world_rules.specs.Apply.{outcome_of}
 use Rattle.world_rules.proofs.Runs.{plays_run}
@@ -139,6 +139,6 @@ view_stops t all events old new outcomes event after fault.NoMemory at is applie
 view_stops t all events old new outcomes event after fault.PlacesSpent (at_roster, at_place, at_spoilt, at_lacks, run) is (spent, same) =
     omega (arith, ap (λ (l : List WorldEvent). length l) is, length-append events (event ∷ after))
 view_stops t all events old new outcomes event after fault.NoSuchPacket (at_roster, at_place, at_spoilt, at_lacks, run) is (refused, same) =
-    (events, event, after, old.world, outcomes, is, run, subst (λ (r : Tables). turn r old.world event ≡ Refused fault.NoSuchPacket) at_roster refused)
+    (events, event, after, old.world, outcomes, is, run, subst (λ (r : Tables). consequence r old.world event ≡ Refused fault.NoSuchPacket) at_roster refused)
 view_stops t all events old new outcomes event after fault.NotPending (at_roster, at_place, at_spoilt, at_lacks, run) is (refused, same) =
-    (events, event, after, old.world, outcomes, is, run, subst (λ (r : Tables). turn r old.world event ≡ Refused fault.NotPending) at_roster refused)
+    (events, event, after, old.world, outcomes, is, run, subst (λ (r : Tables). consequence r old.world event ≡ Refused fault.NotPending) at_roster refused)

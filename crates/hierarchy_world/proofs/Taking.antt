@@ -1,4 +1,4 @@
--- A node's step with all that it sends is the model's turn: first the node is replaced by the one
+-- A node's step with all that it sends is the model's consequence: first the node is replaced by the one
 -- after its step, then the items are added that its reply sends, and what waits.
 use Rattle.std.proofs.Common.{◌≡◌, ℕ, List, [], ◌++◌, map, set, slice_get, Option, Some, None, refl, sym, ◌∙◌, ap, subst}
 use Rattle.std.specs.List.{AllByRecursion}
@@ -9,7 +9,7 @@ use Rattle.node_rules.specs.declared.reply.Serve.{Serve}
 use Rattle.node_rules.specs.Relation.{Steps}
 use Rattle.node_rules.specs.State.{setting}
 use Rattle.world_rules.specs.World.{Datagram, PeerAsk, PeerAnswer, Waiting, Answered, node_at, datagrams_from, asks_in, answers_in, waits_now, asked_by, asked_now, answer_to, reply_in, after_node}
-use Rattle.world_rules.specs.Turn.{NodeSteps}
+use Rattle.world_rules.specs.Consequence.{NodeSteps}
 use Rattle.world_rules.proofs.Items.{append_nil}
 use Rattle.hierarchy_world.specs.declared.parts.Parts.{Parts}
 use Rattle.hierarchy_world.specs.declared.members.Stepped.{Stepped}

@@ -2,7 +2,7 @@
 use Rattle.std.specs.Prelude.{◌≡◌, ◌-◌, length}
 use Rattle.world_rules.specs.declared.outcome.Outcome.{Outcome}
 use Rattle.world_rules.specs.World.{World}
-use Rattle.world_rules.specs.Turn.{Seen}
+use Rattle.world_rules.specs.Consequence.{Seen}
 use Rattle.world_rules.specs.Apply.{numbers_after, new_item, outcome_with}
 use Rattle.hierarchy_world.specs.declared.telling.Counts.{Counts}
 

@@ -1,4 +1,4 @@
--- The parts of a world: the world that they are, their invariant (IsSound), and what a turn does to
+-- The parts of a world: the world that they are, their invariant (IsSound), and what an event does to
 -- them (IsTaken).
 use Rattle.std.specs.Prelude.{◌≡◌, ◌≢◌, ℕ, suc, Bool, ◌==◌, false, List, [], ◌∷◌, ◌++◌, map, option_map, Option, Some, None, Result, Ok, Err, if◌then◌else◌}
 use Rattle.std.specs.List.{AllByRecursion}
@@ -18,7 +18,7 @@ use Rattle.world_rules.specs.declared.outcome.WorldFault.{WorldFault}
 use Rattle.world_rules.specs.declared.outcome.WorldFault.TheVariants as fault
 use Rattle.node_rules.specs.State.{setting}
 use Rattle.world_rules.specs.World.{MemberState, Datagram, PeerAsk, PeerAnswer, Waiting, World, node_at, with_node}
-use Rattle.world_rules.specs.Turn.{Seen, Replied, Issued, NotIssued, Reported, Nothing, Turn, Refused, turn}
+use Rattle.world_rules.specs.Consequence.{Seen, Replied, Issued, NotIssued, Reported, Nothing, Consequence, Refused, consequence}
 use Rattle.world_rules.specs.Run.{Takes, IsOfKey}
 use Rattle.hierarchy_world.specs.declared.parts.Parts.{Parts}
 use Rattle.hierarchy_world.specs.declared.members.Stepped.{Stepped}
@@ -125,16 +125,16 @@ abbrev pub LackedNothing : SeenHere → Type 0
 LackedNothing (here.Replied node outcome) = (outcome ≢ Err step_fault.NoMemory) × (outcome ≢ Err step_fault.StoreFault)
 LackedNothing _ = Unit {0}
 
--- the turn was taken, with what was seen
-pub record HasTaken (old : Parts) (t : Turn) (seen : SeenHere) (new : Parts) : Type 0 where
+-- the consequence was taken, with what was seen
+pub record HasTaken (old : Parts) (t : Consequence) (seen : SeenHere) (new : Parts) : Type 0 where
   pub sound : IsSound new
   pub roster : new.roster ≡ old.roster
   pub place : new.place ≡ old.place
   pub lacked_nothing : LackedNothing seen
   pub takes : Takes old.roster old.place (world_of old) t (seen_of seen) (world_of new)
 
--- A turn is taken, or it is refused and changes nothing. After NoMemory nothing is said.
-abbrev pub IsTaken : Parts → Turn → Result SeenHere WorldFault → Parts → Type 0
+-- A consequence is taken, or the event is refused and changes nothing. After NoMemory nothing is said.
+abbrev pub IsTaken : Parts → Consequence → Result SeenHere WorldFault → Parts → Type 0
 IsTaken old t (Ok seen) new = HasTaken old t seen new
 IsTaken old t (Err fault.NoMemory) new = Unit {0}
 IsTaken old t (Err f) new = (t ≡ Refused f) × (new ≡ old)
@@ -175,4 +175,4 @@ abbrev pub IsMade : Parts → WorldEvent → Result Outcome WorldFault → Parts
 IsMade old event (Ok outcome) new = IsSound new × TellsNoLack outcome
     × HasHappened (view_of old false) event outcome (view_of new false)
 IsMade old event (Err fault.NoMemory) new = Unit {0}
-IsMade old event (Err f) new = (turn old.roster (world_of old) event ≡ Refused f) × (new ≡ old)
+IsMade old event (Err f) new = (consequence old.roster (world_of old) event ≡ Refused f) × (new ≡ old)

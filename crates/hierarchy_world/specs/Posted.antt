@@ -11,7 +11,7 @@ use Rattle.node_rules.specs.Arrivals.{is_gateway_fault}
 use Rattle.node_rules.specs.declared.reply.Reply.{Reply}
 use Rattle.node_rules.specs.declared.reply.StepFault.{StepFault}
 use Rattle.world_rules.specs.World.{World, Waiting, PeerAnswer, Answered, asked_before, answer_to, reply_in}
-use Rattle.world_rules.specs.Turn.{Turn, Ends, Nothing, acknowledged_by}
+use Rattle.world_rules.specs.Consequence.{Consequence, Ends, Nothing, acknowledged_by}
 
 -- a served copy has an age of at most 2147483648 seconds, and a bare status is 502, 503 or 504
 abbrev pub IsWritten : Served ℕ → Type 0
@@ -24,7 +24,7 @@ IsWrittenIn None = Unit {0}
 IsWrittenIn (Some serve) = IsWritten serve.served
 
 -- what the master does with a response to a CLR (TRANS-ID and code), or with anything else
-abbrev pub heard_by : Tables → World → Address → Option (ℕ × ℕ) → Turn
+abbrev pub heard_by : Tables → World → Address → Option (ℕ × ℕ) → Consequence
 heard_by roster w sender None = Ends Nothing w
 heard_by roster w sender (Some x) = acknowledged_by roster w x.0 x.1 (member_at roster sender udp.Htcp)
 

@@ -7,7 +7,7 @@ use Rattle.world_rules.specs.declared.outcome.Outcome.{Outcome}
 use Rattle.world_rules.specs.declared.outcome.WorldFault.{WorldFault}
 use Rattle.world_rules.specs.declared.outcome.WorldFault.TheVariants as fault
 use Rattle.world_rules.specs.World.{World, new_world}
-use Rattle.world_rules.specs.Turn.{Refused, turn}
+use Rattle.world_rules.specs.Consequence.{Refused, consequence}
 use Rattle.world_rules.specs.Run.{Step, Happens, Plays}
 use Rattle.world_rules.specs.Safety.{NothingOldIsServed, SiblingsAskNothing}
 use Rattle.world_rules.specs.Apply.{outcome_of}
@@ -50,7 +50,7 @@ abbrev pub IsRefusedAfter : Tables → List WorldEvent → WorldFault → Type 0
 IsRefusedAfter roster events f =
     (before : List WorldEvent) × (event : WorldEvent) × (after : List WorldEvent) × (w : World)
     × (outcomes : List Outcome)
-    × (events ≡ before ++ event ∷ after) × IsRunSoFar roster before w outcomes × (turn roster w event ≡ Refused f)
+    × (events ≡ before ++ event ∷ after) × IsRunSoFar roster before w outcomes × (consequence roster w event ≡ Refused f)
 
 -- why the events were not all applied; of NoMemory nothing is said
 abbrev pub HasStopped : Tables → List WorldEvent → WorldFault → Type 0

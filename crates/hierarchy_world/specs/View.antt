@@ -8,7 +8,7 @@ use Rattle.world_rules.specs.declared.outcome.ActorFault.TheVariants as actor
 use Rattle.world_rules.specs.declared.outcome.WorldFault.{WorldFault}
 use Rattle.world_rules.specs.declared.outcome.WorldFault.TheVariants as fault
 use Rattle.world_rules.specs.World.{World}
-use Rattle.world_rules.specs.Turn.{Seen, Refused, turn}
+use Rattle.world_rules.specs.Consequence.{Seen, Refused, consequence}
 use Rattle.world_rules.specs.Run.{Happens}
 use Rattle.world_rules.specs.Apply.{outcome_of}
 
@@ -37,9 +37,9 @@ HasHappened old event outcome new =
 -- nothing is said.
 abbrev pub IsApplied : WorldView → WorldEvent → Result Outcome WorldFault → WorldView → Type 0
 IsApplied old event (Ok outcome) new = HasHappened old event outcome new
-IsApplied old event (Err fault.NoSuchPacket) new = (turn old.roster old.world event ≡ Refused fault.NoSuchPacket)
+IsApplied old event (Err fault.NoSuchPacket) new = (consequence old.roster old.world event ≡ Refused fault.NoSuchPacket)
     × (new ≡ old)
-IsApplied old event (Err fault.NotPending) new = (turn old.roster old.world event ≡ Refused fault.NotPending)
+IsApplied old event (Err fault.NotPending) new = (consequence old.roster old.world event ≡ Refused fault.NotPending)
     × (new ≡ old)
 IsApplied old event (Err fault.PlacesSpent) new = (old.place ≡ 2 ^ 64 - 1) × (new ≡ old)
 IsApplied old event (Err fault.NoMemory) new = Unit {0}

@@ -5,7 +5,7 @@ ghost use Rattle.node_rules.specs.declared.event.Event.TheVariants as events;
 ghost use Rattle.node_rules.specs.State.{opened, closed_node};
 ghost use Rattle.roster.specs.Lookups.{is_member};
 ghost use Rattle.world_rules.specs.World.{item as item_of, node_at};
-ghost use Rattle.world_rules.specs.Turn as turns;
+ghost use Rattle.world_rules.specs.Consequence as consequences;
 ghost use Rattle.hierarchy_world.specs.Parts.{IsSound, IsTaken, world_of};
 
 use crate::network::Arrived;
@@ -21,8 +21,8 @@ impl Parts {
     /// A client sends a request to a member.
     pub(crate) fn client(&mut self, id: u8, ask: Ask) -> Result<Seen, WorldFault>
         requires { IsSound self.old }
-        ensures { IsTaken self.old (turns.at_member self.old.roster id
-            (turns.NodeSteps id (events.Client ask self.old.clock) 0)) result self.new }
+        ensures { IsTaken self.old (consequences.at_member self.old.roster id
+            (consequences.NodeSteps id (events.Client ask self.old.clock) 0)) result self.new }
     {
         let Some(place) = self.place_of(id) else {
             return Err(WorldFault::NoSuchPacket);
@@ -35,7 +35,7 @@ impl Parts {
     fn hear(&mut self, id: u8, from: Address, message: Received) -> Result<Seen, WorldFault>
         requires sound { IsSound self.old }
         requires member { is_member self.old.roster id ≡ true }
-        ensures { IsTaken self.old (turns.delivered_to (world_of self.old) from message (Some id))
+        ensures { IsTaken self.old (consequences.delivered_to (world_of self.old) from message (Some id))
             result self.new }
     {
         let Some(place) = self.place_of(id) else {
@@ -49,7 +49,7 @@ impl Parts {
     #[tactic(auto, using(crate::proofs::MemberNodes::reached_member, crate::proofs::Answerable::sendable_answerable))]
     pub(crate) fn datagram(&mut self, number: u64) -> Result<Seen, WorldFault>
         requires { IsSound self.old }
-        ensures { IsTaken self.old (turns.delivered self.old.roster (world_of self.old)
+        ensures { IsTaken self.old (consequences.delivered self.old.roster (world_of self.old)
             (item_of self.old.datagrams.items number)) result self.new }
     {
         let Some(datagram) = item(self.datagrams.as_slice(), number) else {
@@ -77,7 +77,7 @@ impl Parts {
         message: Received,
     ) -> Result<Seen, WorldFault>
         requires { IsSound self.old }
-        ensures { IsTaken self.old (turns.strange_comes self.old.roster
+        ensures { IsTaken self.old (consequences.strange_comes self.old.roster
             (world_of self.old) to from message) result self.new }
     {
         if self.roster.is_own(from) {
@@ -92,7 +92,7 @@ impl Parts {
     /// A request that a member sent to a member arrives.
     pub(crate) fn peer_ask(&mut self, number: u64) -> Result<Seen, WorldFault>
         requires { IsSound self.old }
-        ensures { IsTaken self.old (turns.ask_delivered self.old.roster (world_of self.old)
+        ensures { IsTaken self.old (consequences.ask_delivered self.old.roster (world_of self.old)
             (item_of self.old.asks.items number)) result self.new }
     {
         let Some(sent) = item(self.asks.as_slice(), number) else {
@@ -122,7 +122,7 @@ impl Parts {
         serial: Option<u32>,
     ) -> Result<Seen, WorldFault>
         requires { IsSound self.old }
-        ensures { IsTaken self.old (turns.answer_delivered self.old.roster
+        ensures { IsTaken self.old (consequences.answer_delivered self.old.roster
             (world_of self.old) serial (item_of self.old.answers.items number))
             result self.new }
     {
@@ -147,9 +147,9 @@ impl Parts {
     /// The origin responds to a read. `NotPending`: no read is pending under the serial.
     pub(crate) fn origin(&mut self, id: u8, serial: u32, answer: Answer) -> Result<Seen, WorldFault>
         requires { IsSound self.old }
-        ensures { IsTaken self.old (turns.at_member self.old.roster id
-            (turns.origin_to (world_of self.old) id serial answer
-            (turns.fetching_at (world_of self.old) id serial))) result self.new }
+        ensures { IsTaken self.old (consequences.at_member self.old.roster id
+            (consequences.origin_to (world_of self.old) id serial answer
+            (consequences.fetching_at (world_of self.old) id serial))) result self.new }
     {
         let Some(place) = self.place_of(id) else {
             return Err(WorldFault::NoSuchPacket);
@@ -180,9 +180,9 @@ impl Parts {
         answer: Answer,
     ) -> Result<Seen, WorldFault>
         requires { IsSound self.old }
-        ensures { IsTaken self.old (turns.at_member self.old.roster id
-            (turns.foreign_to (world_of self.old) id serial answer
-            (turns.fetching_at (world_of self.old) id serial))) result self.new }
+        ensures { IsTaken self.old (consequences.at_member self.old.roster id
+            (consequences.foreign_to (world_of self.old) id serial answer
+            (consequences.fetching_at (world_of self.old) id serial))) result self.new }
     {
         let Some(place) = self.place_of(id) else {
             return Err(WorldFault::NoSuchPacket);
@@ -209,8 +209,8 @@ impl Parts {
     /// A member's fetch fails.
     pub(crate) fn fail(&mut self, id: u8, serial: u32) -> Result<Seen, WorldFault>
         requires { IsSound self.old }
-        ensures { IsTaken self.old (turns.at_member self.old.roster id
-            (turns.NodeSteps id (events.FetchFailed serial self.old.clock) 0)) result self.new }
+        ensures { IsTaken self.old (consequences.at_member self.old.roster id
+            (consequences.NodeSteps id (events.FetchFailed serial self.old.clock) 0)) result self.new }
     {
         let Some(place) = self.place_of(id) else {
             return Err(WorldFault::NoSuchPacket);
@@ -222,8 +222,8 @@ impl Parts {
     /// The waiting time of a member's round is over.
     pub(crate) fn expire(&mut self, id: u8, serial: u32) -> Result<Seen, WorldFault>
         requires { IsSound self.old }
-        ensures { IsTaken self.old (turns.at_member self.old.roster id
-            (turns.NodeSteps id (events.Expired serial self.old.clock) 0)) result self.new }
+        ensures { IsTaken self.old (consequences.at_member self.old.roster id
+            (consequences.NodeSteps id (events.Expired serial self.old.clock) 0)) result self.new }
     {
         let Some(place) = self.place_of(id) else {
             return Err(WorldFault::NoSuchPacket);
@@ -235,8 +235,8 @@ impl Parts {
     /// A member's floor store fails, and the member closes.
     pub(crate) fn fault(&mut self, id: u8) -> Result<Seen, WorldFault>
         requires { IsSound self.old }
-        ensures { IsTaken self.old (turns.at_member self.old.roster id
-            (turns.Ends turns.Nothing (turns.with_member_state (world_of self.old) id
+        ensures { IsTaken self.old (consequences.at_member self.old.roster id
+            (consequences.Ends consequences.Nothing (consequences.with_member_state (world_of self.old) id
             (closed_node (node_at (world_of self.old).states id))))) result self.new }
     {
         let Some(place) = self.place_of(id) else {
@@ -249,8 +249,8 @@ impl Parts {
     /// A member restarts, with its floors and nothing else.
     pub(crate) fn restart(&mut self, id: u8) -> Result<Seen, WorldFault>
         requires { IsSound self.old }
-        ensures { IsTaken self.old (turns.at_member self.old.roster id
-            (turns.Ends turns.Nothing (turns.with_member_state (world_of self.old) id
+        ensures { IsTaken self.old (consequences.at_member self.old.roster id
+            (consequences.Ends consequences.Nothing (consequences.with_member_state (world_of self.old) id
             (opened (node_at (world_of self.old).states id).floors)))) result self.new }
     {
         let Some(place) = self.place_of(id) else {

@@ -21,8 +21,8 @@
 //! (`World`). Then the parts of a world:
 //!
 //! - `src/parts.rt`: `Parts`, the nodes, the master, the clock and the network; `specs/Parts` says
-//!   what holds of them and what a turn does.
-//! - `src/turning.rt`: one event, and which function below takes it.
+//!   what holds of them and what an event does.
+//! - `src/following.rt`: one event, and which function below takes it.
 //! - `src/arriving.rt`: what arrives at a member or at the master; faults and restarts.
 //! - `src/members.rt`: a member's node steps, closes or restarts.
 //! - `src/posting.rt` and `specs/Posted`: what a step sends.
@@ -34,6 +34,7 @@
 #![tactic(auto)]
 
 mod arriving;
+mod following;
 mod members;
 mod network;
 mod parts;
@@ -41,7 +42,6 @@ mod playing;
 mod posting;
 mod purging;
 mod telling;
-mod turning;
 
 pub use network::{Datagram, PeerAnswer, PeerAsk, Waiting};
 pub use playing::World;

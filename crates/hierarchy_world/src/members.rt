@@ -4,7 +4,7 @@ ghost use Rattle.roster.specs.Lookups.{is_member};
 ghost use Rattle.node_rules.specs.State.{opened, closed_node};
 ghost use Rattle.world_rules.specs.declared.outcome.WorldFault.TheVariants.{NoMemory};
 ghost use Rattle.world_rules.specs.World.{World, node_at};
-ghost use Rattle.world_rules.specs.Turn.{with_member_state};
+ghost use Rattle.world_rules.specs.Consequence.{with_member_state};
 ghost use Rattle.hierarchy_world.specs.Parts.{IsSound, IsStored, IsStep, HasStepped, IsPlace, place_of as place_of_id, world_of, IsMemberChanged};
 
 use crate::parts::Parts;

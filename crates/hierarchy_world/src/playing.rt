@@ -140,7 +140,7 @@ impl World {
         })
     }
 
-    /// Applies an event at the next place: one turn of one actor, or a change of the clock.
+    /// Applies an event at the next place: one act of one actor, or a change of the clock.
     ///
     /// Faults, of which only `NoMemory` changes anything:
     ///

@@ -5,7 +5,7 @@ ghost use Rattle.http_messages.specs.Field.{field_text};
 ghost use Rattle.roster.specs.Lookups.{member_of as member_by_id};
 ghost use Rattle.node_rules.specs.Arrivals.{is_gateway_fault};
 ghost use Rattle.world_rules.specs.World as world;
-ghost use Rattle.world_rules.specs.Turn.{NodeSteps};
+ghost use Rattle.world_rules.specs.Consequence.{NodeSteps};
 ghost use Rattle.hierarchy_world.specs.Parts.{IsSound, IsPlace, IsTaken, Adds};
 ghost use Rattle.hierarchy_world.specs.Posted.{IsWritten, IsWrittenIn, IsWrittenBy, answered as answered_by, answers_by, waits_by, serial_of};
 

@@ -1,4 +1,4 @@
-//! The master's turns: its calls, and the CLRs that they send.
+//! What the master does: its calls, and the CLRs that they send.
 ghost use Rattle.std.specs.Prelude.{◌≡◌, [], Option, Some, None, option_map, Result, Ok, IfOk, OnOk};
 ghost use Rattle.std.specs.List.{cons_option, flat_map};
 ghost use Rattle.url_key.specs.Key.{IsKey};
@@ -8,7 +8,7 @@ ghost use Rattle.roster.specs.Lookups.{member_of as member_by_id, member_at};
 ghost use Rattle.values_plain.specs.declared.address.Udp.TheVariants as udp;
 ghost use Rattle.purge_rules.specs.Clear.{clear as clear_of, message_of};
 ghost use Rattle.purge_rules.specs.Calls.{issue_fault};
-ghost use Rattle.world_rules.specs.Turn as turns;
+ghost use Rattle.world_rules.specs.Consequence as consequences;
 ghost use Rattle.hierarchy_world.specs.Parts.{IsSound, IsTaken, Adds, world_of};
 ghost use Rattle.hierarchy_world.specs.Posted.{heard_by};
 
@@ -61,7 +61,7 @@ fn new_clear(
     key: &Key,
 ) -> Result<Option<Datagram>, AllocError>
     ensures { IfOk result (λ made.
-        turns.clear_to roster.now (Some (clear_of number key.now)) (member_by_id roster.now id)
+        consequences.clear_to roster.now (Some (clear_of number key.now)) (member_by_id roster.now id)
         ≡ cons_option made []) }
 {
     match htcp_of(roster, id) {
@@ -81,7 +81,7 @@ fn new_clears(
     number: u32,
     key: &Key,
 ) -> Result<Vec<Datagram>, AllocError>
-    ensures { IfOk result (λ made. made.items ≡ turns.clears_of roster.now number key.now) }
+    ensures { IfOk result (λ made. made.items ≡ consequences.clears_of roster.now number key.now) }
 {
     let ids = [1u8, 2, 3, 4, 5, 6, 7, 8, 9, 10, 11, 12, 13, 14, 15, 16];
     let mut made = Vec::with_capacity(alloc, ids.len())?;
@@ -101,7 +101,7 @@ fn due_clear(
     id: u8,
 ) -> Result<Option<Datagram>, AllocError>
     ensures { IfOk result (λ made.
-        turns.clear_to roster.now (message_of master.now.state.purges number)
+        consequences.clear_to roster.now (message_of master.now.state.purges number)
         (member_by_id roster.now id) ≡ cons_option made []) }
 {
     match (master.message(number)?, htcp_of(roster, id)) {
@@ -118,7 +118,7 @@ fn due_clears(
     due: &[(u32, u8)],
 ) -> Result<Vec<Datagram>, AllocError>
     ensures { IfOk result (λ made.
-        made.items ≡ flat_map (λ d. turns.clear_to roster.now
+        made.items ≡ flat_map (λ d. consequences.clear_to roster.now
         (message_of master.now.state.purges d.0) (member_by_id roster.now d.1)) due.now) }
 {
     let mut made = Vec::with_capacity(alloc, due.len())?;
@@ -134,7 +134,7 @@ impl Parts {
     /// Sends the CLR of a new purge to each member, in order of ids.
     fn send_clears(&mut self, number: u32, key: &Key) -> Result<(), AllocError>
         ensures { OnOk result (Adds self.old self.new
-            (turns.clears_of self.old.roster number key.now) [] [] []) }
+            (consequences.clears_of self.old.roster number key.now) [] [] []) }
     {
         let mut made = new_clears(self.alloc, &self.roster, number, key)?;
         self.datagrams.append(&mut made)
@@ -144,7 +144,7 @@ impl Parts {
     pub(crate) fn issue(&mut self, key: &Key) -> Result<Seen, WorldFault>
         requires { IsSound self.old }
         ensures taken { IsTaken self.old
-            (turns.issue_by self.old.roster (world_of self.old) key.now
+            (consequences.issue_by self.old.roster (world_of self.old) key.now
             (issue_fault self.old.master.state.purges)) result self.new }
         ensures key { IsKey key.now }
     {
@@ -166,9 +166,9 @@ impl Parts {
     /// The master sends each pending purge again to each member that has not acknowledged it.
     pub(crate) fn resend(&mut self) -> Result<Seen, WorldFault>
         requires { IsSound self.old }
-        ensures { IsTaken self.old (turns.Ends turns.Nothing
-            (turns.with_sent (world_of self.old)
-            (turns.clears_due self.old.roster self.old.master.state.purges)))
+        ensures { IsTaken self.old (consequences.Ends consequences.Nothing
+            (consequences.with_sent (world_of self.old)
+            (consequences.clears_due self.old.roster self.old.master.state.purges)))
             result self.new }
     {
         let Ok(due) = self.master.due() else {
@@ -182,7 +182,7 @@ impl Parts {
     /// The master reports the status of a purge.
     pub(crate) fn status(&self, number: u32) -> Seen
         requires { IsSound self.now }
-        ensures { IsTaken self.now (turns.reports self.now.roster (world_of self.now) number)
+        ensures { IsTaken self.now (consequences.reports self.now.roster (world_of self.now) number)
             (Ok result) self.now }
     {
         Seen::Reported(number, self.master.status(number))
@@ -192,7 +192,7 @@ impl Parts {
     /// and reports the purge's status.
     fn acknowledge(&mut self, id: u8, number: u32, code: u8) -> Result<Seen, WorldFault>
         requires { IsSound self.old }
-        ensures { IsTaken self.old (turns.acknowledged_by self.old.roster
+        ensures { IsTaken self.old (consequences.acknowledged_by self.old.roster
             (world_of self.old) number code (Some id)) result self.new }
     {
         match self.master.acknowledge(id, number, code) {
@@ -224,7 +224,7 @@ impl Parts {
     /// The master restarts, with the purges that its store kept.
     pub(crate) fn restart_master(&mut self) -> Result<Seen, WorldFault>
         requires { IsSound self.old }
-        ensures { IsTaken self.old (turns.Ends turns.Nothing (world_of self.old)) result self.new }
+        ensures { IsTaken self.old (consequences.Ends consequences.Nothing (world_of self.old)) result self.new }
     {
         let alloc = self.alloc;
         let Ok(none) = Master::open(alloc, &self.roster, MemoryPurges::new(alloc)) else {

@@ -1,6 +1,6 @@
 //! What an event visibly did, and its outcome.
 ghost use Rattle.std.specs.Prelude.{◌≡◌, ◌-◌, IfOk};
-ghost use Rattle.world_rules.specs.Turn as turns;
+ghost use Rattle.world_rules.specs.Consequence as consequences;
 ghost use Rattle.world_rules.specs.Apply as applies;
 ghost use Rattle.hierarchy_world.specs.Parts.{seen_of};
 ghost use Rattle.hierarchy_world.specs.Outcomes.{outcome_by};
@@ -78,7 +78,7 @@ fn read_in(begin: &Option<Begin>) -> Option<u32>
 
 /// An outcome that tells only what was sent.
 fn plain(alloc: Global, before: Counts, after: Counts) -> Result<Outcome, AllocError>
-    ensures { IfOk result (λ outcome. outcome ≡ outcome_by before after turns.Nothing) }
+    ensures { IfOk result (λ outcome. outcome ≡ outcome_by before after consequences.Nothing) }
 {
     Ok(Outcome {
         serve: None,

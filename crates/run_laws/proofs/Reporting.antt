@@ -32,7 +32,7 @@ use Rattle.world_rules.specs.declared.event.WorldEvent.{WorldEvent}
 use Rattle.world_rules.specs.declared.event.WorldEvent.TheVariants as world
 use Rattle.node_rules.specs.Messages.{protocol_of as udp_of}
 use Rattle.world_rules.specs.World.{World, Datagram, item}
-use Rattle.world_rules.specs.Turn.{Seen, Reported, Nothing, Turn, Ends, with_master, reports, acknowledged_by, master_hears_htcp, master_hears, delivered_to, delivered}
+use Rattle.world_rules.specs.Consequence.{Seen, Reported, Nothing, Consequence, Ends, with_master, reports, acknowledged_by, master_hears_htcp, master_hears, delivered_to, delivered}
 use Rattle.world_rules.specs.Run.{Step, Run, Takes, Happens, IsItem, purges, IsIssuedAt, IsReportedAt}
 use Rattle.world_rules.specs.Lineage.{PurgeHasLineage, HasLineage}
 use Rattle.world_rules.proofs.Runs.{run_lineage}
@@ -53,9 +53,9 @@ reported_status (Reported number s) = s
 reported_status _ = status.Unknown
 
 module _ (t : Tables) (place : ℕ) (w : World) (number : ℕ) (s : Status) (new : World) where
-  -- a turn that is seen so reports the status in the world that it leaves
-  abbrev TellsRight : Turn → Type 0
-  TellsRight turn = Takes t place w turn (Reported number s) new → s ≡ status_of (members_of t) new.master number
+  -- a consequence that is seen so reports the status in the world that it leaves
+  abbrev TellsRight : Consequence → Type 0
+  TellsRight consequence = Takes t place w consequence (Reported number s) new → s ≡ status_of (members_of t) new.master number
 
   reported_right : (which : ℕ) (left : World) → TellsRight (reports t left which)
   reported_right which left (is_seen, is_new) =

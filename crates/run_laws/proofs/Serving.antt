@@ -21,7 +21,7 @@ use Rattle.node_rules.proofs.Cases.{true_not_false}
 use Rattle.node_rules.proofs.Stepping.{the_function_closes_no_node}
 use Rattle.node_rules.proofs.Lawful.{steps_are_lawful}
 use Rattle.world_rules.specs.declared.event.WorldEvent.TheVariants as world
-use Rattle.world_rules.specs.Turn.{Replied, Nothing}
+use Rattle.world_rules.specs.Consequence.{Replied, Nothing}
 use Rattle.world_rules.specs.Run.{Step, IsItem, IsServedAt}
 use Rattle.world_rules.specs.Asked.{moment}
 use Rattle.run_rules.specs.Notes.{Note, Opens, Steps, Closes, Calls}

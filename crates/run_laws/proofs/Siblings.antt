@@ -15,7 +15,7 @@ use Rattle.node_rules.specs.Effect.{sent}
 use Rattle.node_rules.proofs.Lawful.{steps_are_lawful}
 use Rattle.world_rules.specs.declared.event.WorldEvent.TheVariants as world
 use Rattle.world_rules.specs.World.{World, node_at}
-use Rattle.world_rules.specs.Turn.{Seen, Replied, Nothing, Turn, NodeSteps, turn, with_clock}
+use Rattle.world_rules.specs.Consequence.{Seen, Replied, Nothing, Consequence, NodeSteps, consequence, with_clock}
 use Rattle.world_rules.specs.Run.{Step, Run, Takes}
 use Rattle.world_rules.specs.Asked.{moment}
 use Rattle.world_rules.specs.Safety.{SendsBack}
@@ -76,13 +76,13 @@ taken_begins_nothing t from to id e outcome here asks taken =
     let (first, (key, (seen, is_first)), (second, (its_key, takes), end)) : Run t from.place from.world
     (event_step (world.Clock (moment e)) Nothing ∷ event_step taken.happens (Replied id outcome) ∷ []) to.world =
     subst (λ (s : List Step). Run t from.place from.world s to.world) taken.steps taken.goes.run in
-    let at_clock : Takes t (from.place + 1) (with_clock from.world (moment e)) (turn t (with_clock from.world (moment e)) taken.happens) (Replied id outcome)
+    let at_clock : Takes t (from.place + 1) (with_clock from.world (moment e)) (consequence t (with_clock from.world (moment e)) taken.happens) (Replied id outcome)
     second =
-    subst (λ (w : World). Takes t (from.place + 1) w (turn t w taken.happens) (Replied id outcome) second) is_first takes in
+    subst (λ (w : World). Takes t (from.place + 1) w (consequence t w taken.happens) (Replied id outcome) second) is_first takes in
     let met_asks : is_from_sibling (setting t id) taken.met ≡ true = sibling_same (setting t id) taken.met ∙ ap (is_from_sibling (setting t id)) taken.event
     ∙ asks in
     let it : Takes t (from.place + 1) (with_clock from.world (moment e)) (NodeSteps id taken.met taken.serial) (Replied id outcome) second =
-    subst (λ (x : Turn). Takes t (from.place + 1) (with_clock from.world (moment e)) x (Replied id outcome) second) taken.turns at_clock in (
+    subst (λ (x : Consequence). Takes t (from.place + 1) (with_clock from.world (moment e)) x (Replied id outcome) second) taken.consequences at_clock in (
       takes_nothing t (from.place + 1) id (with_clock from.world (moment e)) second taken.met taken.serial outcome met_asks it,
       subst (λ (x : Event (Unit {0})). SendsBack x (sent outcome)) taken.event
           (back_same taken.met (sent outcome) (takes_back t (from.place + 1) id (with_clock from.world (moment e)) second taken.met taken.serial outcome

@@ -12,7 +12,7 @@ use Rattle.values_tables.specs.declared.plain.Tables.{Tables}
 use Rattle.roster.specs.Lookups.{member_of, is_member}
 use Rattle.purge_rules.specs.Members.{possible_ids, members_of}
 use Rattle.purge_rules.specs.Clear.{clear}
-use Rattle.world_rules.specs.Turn.{clear_to, clears_of}
+use Rattle.world_rules.specs.Consequence.{clear_to, clears_of}
 use Rattle.world_rules.specs.World.{Datagram, datagram_from}
 use Rattle.run_network.specs.declared.letters.Letters.{Letters}
 use Rattle.run_network.specs.Held.{HoldsLetters}

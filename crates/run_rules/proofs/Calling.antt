@@ -30,7 +30,7 @@ use Rattle.std.specs.Prelude.{Contains}
 use Rattle.world_rules.specs.World.{World, Datagram, MemberState, node_at}
 use Rattle.world_rules.proofs.Items.{append_nil}
 use Rattle.node_rules.specs.Messages.{protocol_of as udp_of, clear_answer, clear_answer_in}
-use Rattle.world_rules.specs.Turn.{Seen, Issued, Reported, Nothing, Turn, Ends, turn, with_master, with_sent, clears_of, clears_due, issue_by, master_hears, master_hears_htcp, acknowledged_by, delivered, delivered_to}
+use Rattle.world_rules.specs.Consequence.{Seen, Issued, Reported, Nothing, Consequence, Ends, consequence, with_master, with_sent, clears_of, clears_due, issue_by, master_hears, master_hears_htcp, acknowledged_by, delivered, delivered_to}
 use Rattle.world_rules.specs.Run.{Step, Takes}
 use Rattle.world_rules.specs.Run.{IsOfKey as IsEventOfKey}
 use Rattle.run_rules.specs.Notes.{Calls}
@@ -250,12 +250,12 @@ module _ (t : Tables) (b : Board) (p : Progress) (m : Matches t b p) (place : �
     abbrev q : Progress
     q = record { world = after; place = p.place + 1; master = next }
 
-    by_event : MasterCalls (members_of t) p.master c a next → CallsIn t p c a (one ∷ []) → IsEventOfKey happens → turn t w happens ≡ Ends seen after →
+    by_event : MasterCalls (members_of t) p.master c a next → CallsIn t p c a (one ∷ []) → IsEventOfKey happens → consequence t w happens ≡ Ends seen after →
         after.master ≡ next.purges → after.states ≡ w.states →
         NetworkMatches (with_clears t b.network c a) after → Follows t p (Calls (entry c a) is_closed) (after_call t b (entry c a) next)
-    by_event calls stands keyed turns purges states network =
+    by_event calls stands keyed consequences purges states network =
         let goes : Goes t p (one ∷ []) next q = record {
-          run = (after, (keyed, subst (λ (x : Turn). Takes t p.place w x seen after) (sym turns) (refl, refl)), refl);
+          run = (after, (keyed, subst (λ (x : Consequence). Takes t p.place w x seen after) (sym consequences) (refl, refl)), refl);
           place = refl;
           master = refl;
           purges = purges;

@@ -29,7 +29,7 @@ use Rattle.node_book.specs.declared.book.NodeEntry.{NodeEntry}
 use Rattle.world_rules.specs.declared.event.WorldEvent.TheVariants as world
 use Rattle.world_rules.specs.World.{World, reply_in, after_node, is_waiting_as}
 use Rattle.world_rules.specs.declared.outcome.WorldFault.TheVariants.{NoSuchPacket}
-use Rattle.world_rules.specs.Turn.{Replied, Nothing, Turn, Ends, Refused as TurnRefused, turn, with_clock, with_member_state}
+use Rattle.world_rules.specs.Consequence.{Replied, Nothing, Consequence, Ends, Refused as WorldRefused, consequence, with_clock, with_member_state}
 use Rattle.world_rules.specs.Run.{Step, Run, Takes}
 use Rattle.world_rules.specs.Asked.{moment}
 use Rattle.run_rules.specs.Sent.{Network, with_reply, without_waiting, IsSent}
@@ -171,19 +171,19 @@ module _ (t : Tables) (b : Board) (p : Progress) (m : Matches t b p) (id : ℕ) 
     unmarked_step : step g (unmarked node) e tt ≡ retag_stepped (λ _. tt) r
     unmarked_step = subst (λ x. step g (unmarked node) x tt ≡ retag_stepped (λ _. tt) r) how.event (step-retag (λ _. tt) g node how.met (p.place + 1))
 
-    turns_so : Takes t (p.place + 1) now (turn t now how.happens) (Replied id r.outcome) q.world
-    turns_so = subst (λ x. Takes t (p.place + 1) now x (Replied id r.outcome) q.world) (sym how.turns)
+    consequences_so : Takes t (p.place + 1) now (consequence t now how.happens) (Replied id r.outcome) q.world
+    consequences_so = subst (λ x. Takes t (p.place + 1) now x (Replied id r.outcome) q.world) (sym how.consequences)
         (r.outcome, r.state, step_steps g node how.met (p.place + 1), refl, refl)
 
     runs : Run t p.place p.world these q.world
-    runs = (now, (tt, (refl, refl)), (q.world, (how.keyed, turns_so), refl))
+    runs = (now, (tt, (refl, refl)), (q.world, (how.keyed, consequences_so), refl))
 
     is_taken : IsTaken t p id e r.outcome these q
     is_taken = record {
       happens = how.happens;
       met = how.met;
       serial = how.serial;
-      turns = how.turns;
+      consequences = how.consequences;
       event = how.event;
       steps = refl;
       goes = record { run = runs; place = refl; master = refl; purges = m.purges ∙ sym (ap (λ x. x.purges) m.master) };
@@ -344,8 +344,8 @@ module _ (t : Tables) (b : Board) (p : Progress) (m : Matches t b p) (id : ℕ) 
           (faulted x).world,
           (
             tt,
-            subst (λ (turns : Turn). Takes t x.place x.world turns Nothing (faulted x).world)
-                (sym (ap (λ c. cond c (Ends Nothing (faulted x).world) (TurnRefused NoSuchPacket)) member)) (refl, refl),
+            subst (λ (consequences : Consequence). Takes t x.place x.world consequences Nothing (faulted x).world)
+                (sym (ap (λ c. cond c (Ends Nothing (faulted x).world) (WorldRefused NoSuchPacket)) member)) (refl, refl),
           ),
           refl,
         );

@@ -25,7 +25,7 @@ use Rattle.world_rules.specs.declared.event.WorldEvent.TheVariants as world
 use Rattle.world_rules.specs.declared.outcome.WorldFault.TheVariants.{NoSuchPacket, NotPending}
 use Rattle.node_rules.specs.Messages.{protocol_of as udp_of}
 use Rattle.world_rules.specs.World.{World, Datagram, item, node_at}
-use Rattle.world_rules.specs.Turn.{Turn, NodeSteps, Refused, turn, at_member, with_clock, delivered, delivered_to, master_hears, ask_delivered, answer_delivered, origin_to, origin_by, foreign_to, foreign_by, fetching_at}
+use Rattle.world_rules.specs.Consequence.{Consequence, NodeSteps, Refused, consequence, at_member, with_clock, delivered, delivered_to, master_hears, ask_delivered, answer_delivered, origin_to, origin_by, foreign_to, foreign_by, fetching_at}
 use Rattle.world_rules.specs.Run.{IsOfKey}
 use Rattle.world_rules.specs.Asked.{moment}
 use Rattle.world_rules.proofs.MemberStates.{ids_same, and_parts}
@@ -42,18 +42,18 @@ pub record Meets (t : Tables) (w : World) (id : ℕ) (e : Event (Unit {0})) : Ty
   pub met : Event ℕ
   pub serial : ℕ
   pub keyed : IsOfKey happens
-  pub turns : turn t (with_clock w (moment e)) happens ≡ NodeSteps id met serial
+  pub consequences : consequence t (with_clock w (moment e)) happens ≡ NodeSteps id met serial
   pub event : unmarked_event met ≡ e
 
 module _ (t : Tables) (proper : IsRoster t) (w : World) (id : ℕ) (member : is_member t id ≡ true) where
   -- a datagram for a member reaches it
-  comes : (turn : Turn) → at_member t id turn ≡ turn
-  comes turn = ap (λ b. cond b turn (Refused NoSuchPacket)) member
+  comes : (consequence : Consequence) → at_member t id consequence ≡ consequence
+  comes consequence = ap (λ b. cond b consequence (Refused NoSuchPacket)) member
 
-  datagram_turn : (now number : ℕ) (d : Datagram) → item w.datagrams number ≡ Some d → is_master t d.receiver ≡ false →
+  datagram_consequence : (now number : ℕ) (d : Datagram) → item w.datagrams number ≡ Some d → is_master t d.receiver ≡ false →
       member_at t d.receiver (udp_of d.message) ≡ Some id →
-      turn t (with_clock w now) (world.Datagram number) ≡ NodeSteps id (event.Datagram d.sender d.message now) 0
-  datagram_turn now number d is other to =
+      consequence t (with_clock w now) (world.Datagram number) ≡ NodeSteps id (event.Datagram d.sender d.message now) 0
+  datagram_consequence now number d is other to =
       ap (delivered t (with_clock w now)) is
       ∙ ap (λ b. cond b (master_hears t (with_clock w now) d.sender d.message)
       (delivered_to (with_clock w now) d.sender d.message (member_at t d.receiver (udp_of d.message)))) other
@@ -68,7 +68,7 @@ module _ (t : Tables) (proper : IsRoster t) (w : World) (id : ℕ) (member : is_
         met = event.Datagram d.sender d.message now;
         serial = 0;
         keyed = tt;
-        turns = datagram_turn now number d is other to;
+        consequences = datagram_consequence now number d is other to;
         event = ap (λ (a : Address). event.Datagram a d.message now) sender ∙ ap (λ (x : Message). event.Datagram from x now) says;
       }
 
@@ -80,7 +80,7 @@ module _ (t : Tables) (proper : IsRoster t) (w : World) (id : ℕ) (member : is_
         met = event.Datagram from m now;
         serial = 0;
         keyed = tt;
-        turns = ap (λ b. cond b (Refused NoSuchPacket) (delivered_to (with_clock w now) from m (member_at t to (udp_of m)))) stranger
+        consequences = ap (λ b. cond b (Refused NoSuchPacket) (delivered_to (with_clock w now) from m (member_at t to (udp_of m)))) stranger
             ∙ ap (delivered_to (with_clock w now) from m) found;
         event = refl;
       }
@@ -95,7 +95,7 @@ module _ (t : Tables) (proper : IsRoster t) (w : World) (id : ℕ) (member : is_
         met = event.PeerAsk a.sender a.ask now;
         serial = a.serial;
         keyed = tt;
-        turns = ap (ask_delivered t (with_clock w now)) is ∙ ap (λ i. at_member t i (NodeSteps i (event.PeerAsk a.sender a.ask now) a.serial)) same.receiver
+        consequences = ap (ask_delivered t (with_clock w now)) is ∙ ap (λ i. at_member t i (NodeSteps i (event.PeerAsk a.sender a.ask now) a.serial)) same.receiver
             ∙ comes _;
         event = ap (λ i. event.PeerAsk i a.ask now) same.sender ∙ ap (λ (x : Ask). event.PeerAsk asker x now) same.ask;
       }
@@ -111,7 +111,7 @@ module _ (t : Tables) (proper : IsRoster t) (w : World) (id : ℕ) (member : is_
         met = event.PeerAnswer serial a.sender a.key a.answer a.mark now;
         serial = 0;
         keyed = tt;
-        turns = ap (answer_delivered t (with_clock w now) (Some serial)) is
+        consequences = ap (answer_delivered t (with_clock w now) (Some serial)) is
             ∙ ap (λ i. at_member t i (NodeSteps i (event.PeerAnswer serial a.sender a.key a.answer a.mark now) 0)) same.receiver ∙ comes _;
         event =
             ap (λ i. event.PeerAnswer serial i a.key a.answer tag now) same.sender
@@ -119,20 +119,20 @@ module _ (t : Tables) (proper : IsRoster t) (w : World) (id : ℕ) (member : is_
             ∙ ap (λ (x : AnswerText). event.PeerAnswer serial peer key x tag now) same.answer;
       }
 
-  origin_turn : (serial now : ℕ) (answer : AnswerText) (key : List ℕ) (fetch : Fetch ℕ) → is_read (retag_fetch (λ _. tt) fetch) ≡ true →
+  origin_consequence : (serial now : ℕ) (answer : AnswerText) (key : List ℕ) (fetch : Fetch ℕ) → is_read (retag_fetch (λ _. tt) fetch) ≡ true →
       origin_by (with_clock w now) id serial answer key fetch ≡ NodeSteps id (event.OriginAnswer serial key answer now) 0
-  origin_turn serial now answer key (AtOrigin stamp asked mark) h = refl
-  origin_turn serial now answer key (AtPeer peer asked) h = absurd (true_not_false (sym h))
-  origin_turn serial now answer key Nowhere h = absurd (true_not_false (sym h))
+  origin_consequence serial now answer key (AtOrigin stamp asked mark) h = refl
+  origin_consequence serial now answer key (AtPeer peer asked) h = absurd (true_not_false (sym h))
+  origin_consequence serial now answer key Nowhere h = absurd (true_not_false (sym h))
 
-  foreign_turn : (serial peer now : ℕ) (answer : AnswerText) (key : List ℕ) (fetch : Fetch ℕ) → is_foreign_fetch peer (retag_fetch (λ _. tt) fetch) ≡ true →
+  foreign_consequence : (serial peer now : ℕ) (answer : AnswerText) (key : List ℕ) (fetch : Fetch ℕ) → is_foreign_fetch peer (retag_fetch (λ _. tt) fetch) ≡ true →
       foreign_by (with_clock w now) id serial answer key fetch ≡ NodeSteps id (event.ForeignAnswer serial peer key answer 0 now) 0
-  foreign_turn serial peer now answer key (AtPeer at asked) h =
+  foreign_consequence serial peer now answer key (AtPeer at asked) h =
       let (foreign, same) = and_parts (is_foreign_id peer) (nat_eq at peer) h in
       ap (λ i. cond (is_foreign_id i) (NodeSteps id (event.ForeignAnswer serial i key answer 0 now) 0) (Refused NotPending)) (ids_same at peer same)
       ∙ ap (λ b. cond b (NodeSteps id (event.ForeignAnswer serial peer key answer 0 now) 0) (Refused NotPending)) foreign
-  foreign_turn serial peer now answer key (AtOrigin stamp asked mark) h = absurd (true_not_false (sym h))
-  foreign_turn serial peer now answer key Nowhere h = absurd (true_not_false (sym h))
+  foreign_consequence serial peer now answer key (AtOrigin stamp asked mark) h = absurd (true_not_false (sym h))
+  foreign_consequence serial peer now answer key Nowhere h = absurd (true_not_false (sym h))
 
   -- the request that fetches under the serial
   abbrev IsFetching : Option (Pending ℕ) → List ℕ → (Fetch (Unit {0}) → Bool) → Type 0
@@ -154,7 +154,7 @@ module _ (t : Tables) (proper : IsRoster t) (w : World) (id : ℕ) (member : is_
   pub meets : (n : Network) → NetworkMatches n w → (s : NodeState (Unit {0})) → unmarked (node_at w.states id) ≡ s → (e : Event (Unit {0})) → IsSent t n id e →
       Reaches s e → Meets t w id e
   meets n matches s same (event.Client ask now) sent reaches =
-      record { happens = world.Client id ask; met = event.Client ask now; serial = 0; keyed = tt; turns = comes _; event = refl }
+      record { happens = world.Client id ask; met = event.Client ask now; serial = 0; keyed = tt; consequences = comes _; event = refl }
   meets n matches s same (event.Datagram from m now) sent reaches = elim (either (is_own t from)) [
     | inl own ↦ own_meets n matches from m now (sent own)
     | inr stranger ↦ stranger_meets from m now stranger
@@ -168,7 +168,7 @@ module _ (t : Tables) (proper : IsRoster t) (w : World) (id : ℕ) (member : is_
         met = event.OriginAnswer serial p.ask.key answer now;
         serial = 0;
         keyed = tt;
-        turns = comes _ ∙ ap (origin_to (with_clock w now) id serial answer) is ∙ origin_turn serial now answer p.ask.key p.fetch reads;
+        consequences = comes _ ∙ ap (origin_to (with_clock w now) id serial answer) is ∙ origin_consequence serial now answer p.ask.key p.fetch reads;
         event = ap (λ (k : List ℕ). event.OriginAnswer serial k answer now) its;
       }
   meets n matches s same (event.ForeignAnswer serial peer key answer tag now) sent reaches =
@@ -178,10 +178,10 @@ module _ (t : Tables) (proper : IsRoster t) (w : World) (id : ℕ) (member : is_
         met = event.ForeignAnswer serial peer p.ask.key answer 0 now;
         serial = 0;
         keyed = tt;
-        turns = comes _ ∙ ap (foreign_to (with_clock w now) id serial answer) is ∙ foreign_turn serial peer now answer p.ask.key p.fetch fetches;
+        consequences = comes _ ∙ ap (foreign_to (with_clock w now) id serial answer) is ∙ foreign_consequence serial peer now answer p.ask.key p.fetch fetches;
         event = ap (λ (k : List ℕ). event.ForeignAnswer serial peer k answer tag now) its;
       }
   meets n matches s same (event.FetchFailed serial now) sent reaches =
-      record { happens = world.Fail id serial; met = event.FetchFailed serial now; serial = 0; keyed = tt; turns = comes _; event = refl }
+      record { happens = world.Fail id serial; met = event.FetchFailed serial now; serial = 0; keyed = tt; consequences = comes _; event = refl }
   meets n matches s same (event.Expired serial now) sent reaches =
-      record { happens = world.Expire id serial; met = event.Expired serial now; serial = 0; keyed = tt; turns = comes _; event = refl }
+      record { happens = world.Expire id serial; met = event.Expired serial now; serial = 0; keyed = tt; consequences = comes _; event = refl }

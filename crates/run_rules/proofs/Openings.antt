@@ -9,7 +9,7 @@ use Rattle.node_rules.specs.State.{opened}
 use Rattle.world_rules.specs.declared.event.WorldEvent.TheVariants as world
 use Rattle.world_rules.specs.declared.outcome.WorldFault.TheVariants.{NoSuchPacket}
 use Rattle.world_rules.specs.World.{World}
-use Rattle.world_rules.specs.Turn.{Nothing, Turn, Ends, Refused, with_member_state}
+use Rattle.world_rules.specs.Consequence.{Nothing, Consequence, Ends, Refused, with_member_state}
 use Rattle.world_rules.specs.Run.{Step, Takes}
 use Rattle.run_rules.specs.declared.verdict.Cause.TheVariants.{OtherState}
 use Rattle.run_rules.specs.Notes.{Opens, Closes}
@@ -68,7 +68,7 @@ module _ (t : Tables) (b : Board) (p : Progress) (m : Matches t b p) (id : ℕ) 
       again.world,
       (
         tt,
-        subst (λ (turns : Turn). Takes t p.place p.world turns Nothing again.world)
+        subst (λ (consequences : Consequence). Takes t p.place p.world consequences Nothing again.world)
             (sym (ap (λ c. cond c (Ends Nothing again.world) (Refused NoSuchPacket)) member)) (refl, refl),
       ),
       refl,

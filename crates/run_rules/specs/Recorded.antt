@@ -27,7 +27,7 @@ use Rattle.purge_master.specs.declared.book.MasterEntry.{MasterEntry}
 use Rattle.world_rules.specs.declared.event.WorldEvent.{WorldEvent}
 use Rattle.world_rules.specs.declared.event.WorldEvent.TheVariants as world
 use Rattle.world_rules.specs.World.{World, Datagram, new_world, item, node_at}
-use Rattle.world_rules.specs.Turn.{Seen, Replied, Issued, Reported, Nothing, NodeSteps as TurnSteps, turn, with_clock}
+use Rattle.world_rules.specs.Consequence.{Seen, Replied, Issued, Reported, Nothing, NodeSteps as WorldSteps, consequence, with_clock}
 use Rattle.world_rules.specs.Run.{Step, Run}
 use Rattle.world_rules.specs.Asked.{moment}
 use Rattle.run_rules.specs.Notes.{Note, Opens, Steps, Closes, Calls, notes_of_all, calls_of, is_of, place_in}
@@ -90,7 +90,7 @@ pub record IsTaken (roster : Tables) (p : Progress) (id : ℕ) (e : Event (Unit 
   pub happens : WorldEvent
   pub met : Event ℕ
   pub serial : ℕ
-  pub turns : turn roster (with_clock p.world (moment e)) happens ≡ TurnSteps id met serial
+  pub consequences : consequence roster (with_clock p.world (moment e)) happens ≡ WorldSteps id met serial
   pub event : unmarked_event met ≡ e
   pub steps : these ≡ event_step (world.Clock (moment e)) Nothing ∷ event_step happens (Replied id outcome) ∷ []
   pub goes : Goes roster p these p.master q

@@ -26,7 +26,7 @@ use Rattle.purge_rules.specs.declared.calls.MasterAnswer.TheVariants as answer
 use Rattle.purge_rules.specs.declared.fault.MasterFault.{MasterFault}
 use Rattle.node_rules.specs.Messages.{protocol_of, clear_answer}
 use Rattle.world_rules.specs.World.{Datagram, datagrams_from, answer_of}
-use Rattle.world_rules.specs.Turn.{clears_of}
+use Rattle.world_rules.specs.Consequence.{clears_of}
 
 -- a request that a member sent to a member
 pub record SentAsk : Type 0 where

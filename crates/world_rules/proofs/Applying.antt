@@ -8,20 +8,20 @@ use Rattle.values_tables.specs.declared.plain.Tables.{Tables}
 use Rattle.node_rules.specs.State.{setting}
 use Rattle.world_rules.specs.World.{World, node_at, after_node}
 use Rattle.world_rules.specs.declared.event.WorldEvent.{WorldEvent}
-use Rattle.world_rules.specs.Turn.{Seen, Replied, Turn, NodeSteps, Ends, Refused, turn}
+use Rattle.world_rules.specs.Consequence.{Seen, Replied, Consequence, NodeSteps, Ends, Refused, consequence}
 use Rattle.world_rules.specs.Run.{Step, Takes, IsOfKey, Plays}
-use Rattle.world_rules.specs.Apply.{Applied, Did, DidNot, by_turn, apply, IsDone}
+use Rattle.world_rules.specs.Apply.{Applied, Did, DidNot, by_consequence, apply, IsDone}
 
 module _ (h : Tables) (place : ℕ) (w : World) (event : WorldEvent) (key : IsOfKey event) where
-  turn_done : (t : Turn) → turn h w event ≡ t → IsDone h place w event (by_turn h place w t)
-  turn_done (NodeSteps id e serial) is =
+  consequence_done : (t : Consequence) → consequence h w event ≡ t → IsDone h place w event (by_consequence h place w t)
+  consequence_done (NodeSteps id e serial) is =
       let r = step (setting h id) (node_at w.states id) e place in
       let seen : Seen = Replied id r.outcome in
       let new : World = after_node h w id e serial r.outcome r.state in (
         seen,
         (
           key,
-          subst (λ (t : Turn). Takes h place w t seen new) (sym is) (
+          subst (λ (t : Consequence). Takes h place w t seen new) (sym is) (
             r.outcome,
             r.state,
             step_steps (setting h id) (node_at w.states id) e place,
@@ -31,11 +31,11 @@ module _ (h : Tables) (place : ℕ) (w : World) (event : WorldEvent) (key : IsOf
         ),
         refl,
       )
-  turn_done (Ends seen new) is = (seen, (key, subst (λ (t : Turn). Takes h place w t seen new) (sym is) (refl, refl)), refl)
-  turn_done (Refused fault) is = is
+  consequence_done (Ends seen new) is = (seen, (key, subst (λ (t : Consequence). Takes h place w t seen new) (sym is) (refl, refl)), refl)
+  consequence_done (Refused fault) is = is
 
   pub apply_done : IsDone h place w event (apply h place w event)
-  apply_done = turn_done (turn h w event) refl
+  apply_done = consequence_done (consequence h w event) refl
 
 -- Every list of events is played
 

@@ -16,14 +16,14 @@ use Rattle.values_tables.specs.declared.plain.Tables.{Tables}
 use Rattle.world_rules.specs.declared.event.WorldEvent.{WorldEvent}
 use Rattle.world_rules.specs.declared.event.WorldEvent.TheVariants.{Issue}
 use Rattle.world_rules.specs.World.{World, node_at}
-use Rattle.world_rules.specs.Turn.{Seen, Issued, with_master, with_sent, clears_of}
+use Rattle.world_rules.specs.Consequence.{Seen, Issued, with_master, with_sent, clears_of}
 use Rattle.world_rules.specs.Run.{Step, IsItem, purges, purged_by, TellsDone, IsReportedAt}
 use Rattle.world_rules.specs.Lineage.{PurgeHasLineage, AllHaveRaised, HasLineage}
 use Rattle.world_rules.proofs.Items.{item_pushed, item_cases}
 use Rattle.world_rules.proofs.Issues.{purges-append}
 use Rattle.world_rules.proofs.MemberStates.{pending-none_of_append, pending-pushed}
 use Rattle.world_rules.proofs.Later.{grows_itself, Extends, extends_by, node_later, answers_later, masters_later, obeyed_later, purges_later, all_later}
-use Rattle.world_rules.proofs.MasterTurns.{clear_right, new_right, new_obeyed}
+use Rattle.world_rules.proofs.MasterConsequences.{clear_right, new_right, new_obeyed}
 
 -- these steps, and then one more
 pub with_step : List Step → WorldEvent → Seen → List Step

@@ -1,5 +1,5 @@
 -- Two proofs, of safety and of sources, each bottom up. Read safety from its end: Safe derives it
--- from the invariant HasLineage; Runs has the invariant at every place; Turns keeps it over each
+-- from the invariant HasLineage; Runs has the invariant at every place; Consequences keeps it over each
 -- event, by NodeTurns (a node's step), MasterTurns (the master's call) and Counting (a purge more).
 -- Items, Issues, MemberStates, Later, Members, Numbers and Keys are lemmas on lists, look-ups and
 -- CLRs. Back is the law of siblings, Applying that events have runs. Sources: Asked (one step, by all
@@ -11,10 +11,10 @@ pub mod Later
 pub mod Members
 pub mod Numbers
 pub mod Keys
-pub mod NodeTurns
-pub mod MasterTurns
+pub mod NodeConsequences
+pub mod MasterConsequences
 pub mod Counting
-pub mod Turns
+pub mod Consequences
 pub mod Runs
 pub mod Back
 pub mod Safe
@@ -22,5 +22,5 @@ pub mod Applying
 pub mod Asked
 pub mod Waiting
 pub mod Sourced
-pub mod SourceTurns
+pub mod SourceConsequences
 pub mod SourceRuns

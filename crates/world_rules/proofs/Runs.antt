@@ -1,5 +1,5 @@
--- The invariant holds at every place of a run from a new world: it holds at the start, and Turns
--- has that each event keeps it.
+-- The invariant holds at every place of a run from a new world: it holds at the start, and
+-- Consequences has that each event keeps it.
 use Rattle.std.proofs.Common.{◌≡◌, ℕ, zero, suc, ◌+◌, ◌-◌, List, [], ◌∷◌, ◌++◌, length, take, map, Some, refl, sym, subst, nat_eq, inl, inr, arith, length-append, append_assoc}
 use Rattle.std.specs.Prelude.{slice_get}
 use Rattle.std.proofs.lemmas.Option.{same_Some}
@@ -13,7 +13,7 @@ use Rattle.world_rules.specs.declared.event.WorldEvent.{WorldEvent}
 use Rattle.world_rules.specs.Run.{Step, Run, Plays, Happens, IsItem}
 use Rattle.world_rules.specs.Lineage.{NodeHasLineage, HasLineage}
 use Rattle.world_rules.proofs.Items.{append_nil}
-use Rattle.world_rules.proofs.Turns.{happens_keeps}
+use Rattle.world_rules.proofs.Consequences.{happens_keeps}
 
 -- the nodes of a new world are new
 node_is_new : NodeHasLineage [] new_node

@@ -20,15 +20,15 @@ use Rattle.roster.specs.Lookups.{is_member}
 use Rattle.world_rules.specs.declared.event.WorldEvent.{WorldEvent}
 use Rattle.world_rules.specs.declared.event.WorldEvent.TheVariants.{Issue}
 use Rattle.world_rules.specs.World.{World, new_world, node_at}
-use Rattle.world_rules.specs.Turn.{Seen, Replied, Issued, Turn, NodeSteps, Ends, Refused, issue_by, turn}
+use Rattle.world_rules.specs.Consequence.{Seen, Replied, Issued, Consequence, NodeSteps, Ends, Refused, issue_by, consequence}
 use Rattle.world_rules.specs.Run.{Step, Run, Takes, Happens, IsItem, purges, issued, IsIssuedAt, ServesCopy}
 use Rattle.world_rules.specs.Lineage.{IsStamped, HasLineage}
 use Rattle.world_rules.specs.Safety.{NothingOldIsServed, SendsBack, SiblingsAskNothing}
 use Rattle.world_rules.proofs.Items.{item_pushed, item_later, item_taken, same_item, parted}
 use Rattle.world_rules.proofs.Issues.{purges-append, issued_later, issued_up, key_later}
 use Rattle.world_rules.proofs.MemberStates.{node_at-same}
-use Rattle.world_rules.proofs.NodeTurns.{copy_stamped}
-use Rattle.world_rules.proofs.Turns.{IsRight, turn_right}
+use Rattle.world_rules.proofs.NodeConsequences.{copy_stamped}
+use Rattle.world_rules.proofs.Consequences.{IsRight, consequence_right}
 use Rattle.world_rules.proofs.Runs.{lineage_before}
 use Rattle.world_rules.proofs.Back.{sibling_sends_back}
 
@@ -42,8 +42,8 @@ record IsServedRightly (h : Tables) (past : List Step) (w : World) (c : WebCopy 
 
 module _ (h : Tables) (proper : IsRoster h) (past : List Step) (old : World) (lineage : HasLineage h past old) (event : WorldEvent) (seen : Seen) (new : World)
     (c : WebCopy ℕ) (serves : ServesCopy seen c) where
-  turn_served : (t : Turn) → IsRight h past event t → Takes h (length past + 1) old t seen new → IsServedRightly h past old c
-  turn_served (NodeSteps id e serial) right (outcome, next, steps, is_seen, is_new) =
+  consequence_served : (t : Consequence) → IsRight h past event t → Takes h (length past + 1) old t seen new → IsServedRightly h past old c
+  consequence_served (NodeSteps id e serial) right (outcome, next, steps, is_seen, is_new) =
       let law = steps_are_lawful (setting h id) (node_at old.states id) e (length past + 1) outcome next steps in
       let served : copy_served outcome ≡ Some c = subst (λ (s : Seen). ServesCopy s c) is_seen serves in
       record {
@@ -52,11 +52,11 @@ module _ (h : Tables) (proper : IsRoster h) (past : List Step) (old : World) (li
         current = omega (arith, law.floors c.key, law.current c served);
         stamped = copy_stamped h past id (node_at old.states id) (lineage.nodes id) e right.comes c (law.serves c served);
       }
-  turn_served (Ends what world) right (is_seen, is_new) = absurd (right.serves_none c (subst (λ (s : Seen). ServesCopy s c) is_seen serves))
-  turn_served (Refused fault) right takes = absurd takes
+  consequence_served (Ends what world) right (is_seen, is_new) = absurd (right.serves_none c (subst (λ (s : Seen). ServesCopy s c) is_seen serves))
+  consequence_served (Refused fault) right takes = absurd takes
 
   served_rightly : Happens h (length past + 1) old event seen new → IsServedRightly h past old c
-  served_rightly (key, takes) = turn_served (turn h old event) (turn_right h proper past old lineage event key) takes
+  served_rightly (key, takes) = consequence_served (consequence h old event) (consequence_right h proper past old lineage event key) takes
 
 -- the number under which an event issues a purge is the next
 given_number : Seen → ℕ
@@ -122,8 +122,8 @@ seen_outcome (Replied id outcome) other = outcome
 seen_outcome _ other = other
 
 pub siblings_ask_nothing : (h : Tables) (steps : List Step) → SiblingsAskNothing h steps
-siblings_ask_nothing h steps past rest event id outcome before after e serial is_step runs (key, takes) is_turn asks =
-    let (result, next, node_steps, is_seen, is_new) = subst (λ (t : Turn). Takes h (length past + 1) before t (Replied id outcome) after) is_turn takes in
+siblings_ask_nothing h steps past rest event id outcome before after e serial is_step runs (key, takes) is_consequence asks =
+    let (result, next, node_steps, is_seen, is_new) = subst (λ (t : Consequence). Takes h (length past + 1) before t (Replied id outcome) after) is_consequence takes in
     let law = steps_are_lawful (setting h id) (node_at before.states id) e (length past + 1) result next node_steps in
     let same : outcome ≡ result = ap (λ (s : Seen). seen_outcome s outcome) is_seen in
     let at_id : node_at after.states id ≡ next = ap (λ (w : World). node_at w.states id) is_new ∙ node_at-same before.states id next in

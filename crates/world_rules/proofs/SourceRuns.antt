@@ -17,7 +17,7 @@ use Rattle.node_rules.proofs.Lawful.{steps_are_lawful}
 use Rattle.values_tables.specs.declared.plain.Tables.{Tables}
 use Rattle.world_rules.specs.declared.event.WorldEvent.{WorldEvent}
 use Rattle.world_rules.specs.World.{World, new_node, new_world, node_at}
-use Rattle.world_rules.specs.Turn.{Seen, Replied, Turn, NodeSteps, Ends, Refused, turn}
+use Rattle.world_rules.specs.Consequence.{Seen, Replied, Consequence, NodeSteps, Ends, Refused, consequence}
 use Rattle.world_rules.specs.Run.{Step, Run, Takes, Happens, ServesCopy}
 use Rattle.world_rules.specs.Asked.{moment, IsServedRightly, IsRightlyIn, ServesRightly}
 use Rattle.world_rules.specs.Provenance.{IsSourcedCopy, EachHasSource, EachHasAge}
@@ -27,7 +27,7 @@ use Rattle.world_rules.proofs.Runs.{next_place}
 use Rattle.world_rules.proofs.Safe.{seen_outcome}
 use Rattle.world_rules.proofs.Asked.{steps_answer_asks}
 use Rattle.world_rules.proofs.Sourced.{source_later, sources_later, copy_source, stepped_sources}
-use Rattle.world_rules.proofs.SourceTurns.{Knows, turn_known}
+use Rattle.world_rules.proofs.SourceConsequences.{Knows, consequence_known}
 
 -- a run goes on with what happens at the next place
 run_on : (h : Tables) (past : List Step) (place : ℕ) (old mid new : World) (step : Step) → Run h place old past mid →
@@ -47,7 +47,7 @@ pub record IsAfter (h : Tables) (past : List Step) (w : World) : Type 0 where
   pub sources : HasSources h past w
 
 module _ (h : Tables) (past : List Step) (old : World) (after : IsAfter h past old) (cause : WorldEvent) (seen : Seen) (new : World) where
-  takes_sources : (t : Turn) → turn h old cause ≡ t → Knows h past old t → Takes h (length past + 1) old t seen new →
+  takes_sources : (t : Consequence) → consequence h old cause ≡ t → Knows h past old t → Takes h (length past + 1) old t seen new →
       HasSources h (past ++ record { event = cause; seen = seen } ∷ []) new
   takes_sources (NodeSteps id e serial) meets known (outcome, next, steps, is_seen, is_new) =
       rw (is_seen, is_new) (stepped_sources h past old after.runs after.sources cause id serial e meets known.knows outcome next steps)
@@ -59,11 +59,11 @@ module _ (h : Tables) (past : List Step) (old : World) (after : IsAfter h past o
   after_one happens = record {
     runs = run_on h past 1 (new_world h) old new record { event = cause; seen = seen } after.runs
         (subst (λ n. Happens h n old cause seen new) (omega arith) happens);
-    sources = takes_sources (turn h old cause) refl (turn_known h past old after.sources cause) happens.1;
+    sources = takes_sources (consequence h old cause) refl (consequence_known h past old after.sources cause) happens.1;
   }
 
   -- a copy that is served has a source
-  takes_copy : (c : WebCopy ℕ) → ServesCopy seen c → (t : Turn) → turn h old cause ≡ t → Knows h past old t → Takes h (length past + 1) old t seen new →
+  takes_copy : (c : WebCopy ℕ) → ServesCopy seen c → (t : Consequence) → consequence h old cause ≡ t → Knows h past old t → Takes h (length past + 1) old t seen new →
       IsSourcedCopy h (past ++ record { event = cause; seen = seen } ∷ []) c
   takes_copy c serves (NodeSteps id e serial) meets known (outcome, next, steps, is_seen, is_new) =
       let law = steps_are_lawful (setting h id) (node_at old.states id) e (length past + 1) outcome next steps in
@@ -74,7 +74,7 @@ module _ (h : Tables) (past : List Step) (old : World) (after : IsAfter h past o
 
   pub copy_sourced : (c : WebCopy ℕ) → ServesCopy seen c → Happens h (length past + 1) old cause seen new →
       IsSourcedCopy h (past ++ record { event = cause; seen = seen } ∷ []) c
-  copy_sourced c serves happens = takes_copy c serves (turn h old cause) refl (turn_known h past old after.sources cause) happens.1
+  copy_sourced c serves happens = takes_copy c serves (consequence h old cause) refl (consequence_known h past old after.sources cause) happens.1
 
 -- A new world
 
@@ -131,7 +131,7 @@ module _ (h : Tables) where
 
     age_by : (cause : WorldEvent) (id : ℕ) (reply : Reply ℕ) (serve : Serve ℕ) (c : WebCopy ℕ) (age : ℕ) (next : World) → reply.serve ≡ Some serve →
         serve.served ≡ Copy c age →
-        (t : Turn) → Knows h steps w t → Takes h (length steps + 1) w t (Replied id (Ok reply)) next → age ≡ served_age c w.clock
+        (t : Consequence) → Knows h steps w t → Takes h (length steps + 1) w t (Replied id (Ok reply)) next → age ≡ served_age c w.clock
     age_by cause id reply serve c age next is_serve is_copy (NodeSteps member e serial) known (outcome, state, node_steps, is_seen, is_new) =
         let asked = steps_answer_asks (setting h member) (node_at w.states member) (length steps + 1) e outcome state node_steps in
         let same : outcome ≡ Ok reply = ap (λ (s : Seen). seen_outcome s outcome) (sym is_seen) in
@@ -143,5 +143,5 @@ module _ (h : Tables) where
     age_by cause id reply serve c age next is_serve is_copy (Refused fault) known takes = absurd takes
 
     pub each_has_age : EachHasAge h steps w
-    each_has_age cause id reply serve c age next happens is_serve is_copy = age_by cause id reply serve c age next is_serve is_copy (turn h w cause)
-        (turn_known h steps w run_after.sources cause) happens.1
+    each_has_age cause id reply serve c age next happens is_serve is_copy = age_by cause id reply serve c age next is_serve is_copy (consequence h w cause)
+        (consequence_known h steps w run_after.sources cause) happens.1

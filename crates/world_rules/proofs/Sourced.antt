@@ -32,7 +32,7 @@ use Rattle.node_rules.proofs.Lawful.{steps_are_lawful}
 use Rattle.values_tables.specs.declared.plain.Tables.{Tables}
 use Rattle.world_rules.specs.declared.event.WorldEvent.{WorldEvent}
 use Rattle.world_rules.specs.World.{MemberState, PeerAnswer, World, new_world, node_at, with_node, Answered, answer_of, mark_of, answer_to, asked_before, asked_by, answers_in, reply_in, after_node}
-use Rattle.world_rules.specs.Turn.{Replied, NodeSteps, turn}
+use Rattle.world_rules.specs.Consequence.{Replied, NodeSteps, consequence}
 use Rattle.world_rules.specs.Run.{Step, Run}
 use Rattle.world_rules.specs.Asked.{IsFor, IsServedRightly, IsRightlyIn, AnswersAsks}
 use Rattle.world_rules.specs.Provenance.{NodeStepAt, HasContent, BeginsReadAt, HasSource, IsSourcedCopy}
@@ -148,7 +148,7 @@ module _ (h : Tables) (past : List Step) (old : World) (runs : Run h 1 (new_worl
   abbrev pub Now : List Step
   Now = past ++ record { event = cause; seen = Replied id outcome } ∷ []
 
-  this_step : (e : Event ℕ) → turn h old cause ≡ NodeSteps id e serial → NodeStepAt h Now (length past + 1) id e outcome
+  this_step : (e : Event ℕ) → consequence h old cause ≡ NodeSteps id e serial → NodeStepAt h Now (length past + 1) id e outcome
   this_step e meets = record {
     past = past;
     before = old;
@@ -177,7 +177,7 @@ module _ (h : Tables) (past : List Step) (old : World) (runs : Run h 1 (new_worl
       subst (λ k. HasSource h Now k c.tag c.answer) (sym (is.key_same ∙ is.waits.key_same))
       (subst (λ n. HasSource h Now key n c.answer) (sym is.tag_same) (subst (HasSource h Now key tag) (sym is.answer_same) has))
 
-  answer_source : (e : Event ℕ) → turn h old cause ≡ NodeSteps id e serial → KnowsSource h past e → (c : WebCopy ℕ) → IsAnswerOf (node_at old.states id) e c →
+  answer_source : (e : Event ℕ) → consequence h old cause ≡ NodeSteps id e serial → KnowsSource h past e → (c : WebCopy ℕ) → IsAnswerOf (node_at old.states id) e c →
       IsSourcedCopy h Now c
   unfolding this_step
   answer_source (event.OriginAnswer read_serial key answer now) meets knows c (p, has, is) =
@@ -221,7 +221,7 @@ module _ (h : Tables) (past : List Step) (old : World) (runs : Run h 1 (new_worl
       })
   answer_source _ meets knows c is = absurd is.2
 
-  pub copy_source : (e : Event ℕ) → turn h old cause ≡ NodeSteps id e serial → KnowsSource h past e → (c : WebCopy ℕ) → HasOrGets (node_at old.states id) e c →
+  pub copy_source : (e : Event ℕ) → consequence h old cause ≡ NodeSteps id e serial → KnowsSource h past e → (c : WebCopy ℕ) → HasOrGets (node_at old.states id) e c →
       IsSourcedCopy h Now c
   copy_source e meets knows c has = elim has.1 [
     | inl held ↦ source_later h past (record { event = cause; seen = Replied id outcome } ∷ []) c.key c.tag c.answer
@@ -231,7 +231,7 @@ module _ (h : Tables) (past : List Step) (old : World) (runs : Run h 1 (new_worl
 
   -- Reads
 
-  read_source : (e : Event ℕ) → turn h old cause ≡ NodeSteps id e serial → (p : Pending ℕ) (fetch : Fetch ℕ) → p.fetch ≡ fetch →
+  read_source : (e : Event ℕ) → consequence h old cause ≡ NodeSteps id e serial → (p : Pending ℕ) (fetch : Fetch ℕ) → p.fetch ≡ fetch →
       IsReadFrom (node_at old.states id) (length past + 1) outcome p fetch → FetchHasBegun h Now id (fetch_serial p) p.ask.key fetch
   read_source e meets p (AtOrigin stamp asked mark) same is = elim is [
     | inl was ↦ read_at was.was (fetch_serial p) p.ask.key stamp asked mark was.waits was.serial (ap (λ (a : Ask). a.key) was.ask) (was.fetch ∙ same)
@@ -241,7 +241,7 @@ module _ (h : Tables) (past : List Step) (old : World) (runs : Run h 1 (new_worl
   read_source e meets p (AtPeer peer asked) same is = tt
   read_source e meets p Nowhere same is = tt
 
-  node_sources : (e : Event ℕ) → turn h old cause ≡ NodeSteps id e serial → KnowsSource h past e → (next : NodeState ℕ) →
+  node_sources : (e : Event ℕ) → consequence h old cause ≡ NodeSteps id e serial → KnowsSource h past e → (next : NodeState ℕ) →
       Lawful (setting h id) (node_at old.states id) e (length past + 1) outcome next → NodeHasSources h Now id next
   node_sources e meets knows next law = record {
     copies = λ is_open. all_mapped (HasOrGets (node_at old.states id) e) (IsSourcedCopy h Now) (copy_source e meets knows) next.copies (law.held is_open);
@@ -325,7 +325,7 @@ module _ (h : Tables) (past : List Step) (old : World) (runs : Run h 1 (new_worl
 -- The world after the step
 
 module _ (h : Tables) (past : List Step) (old : World) (runs : Run h 1 (new_world h) past old) (sources : HasSources h past old) (cause : WorldEvent)
-    (id serial : ℕ) (e : Event ℕ) (meets : turn h old cause ≡ NodeSteps id e serial) (knows : KnowsSource h past e) where
+    (id serial : ℕ) (e : Event ℕ) (meets : consequence h old cause ≡ NodeSteps id e serial) (knows : KnowsSource h past e) where
   step_sources : (outcome : Result (Reply ℕ) StepFault) (next : NodeState ℕ) → Lawful (setting h id) (node_at old.states id) e (length past + 1) outcome next →
       AnswersAsks (node_at old.states id) e outcome next →
       IsBareInServe (reply_in outcome).serve → ((c : WebCopy ℕ) → copy_in_serve (reply_in outcome).serve ≡ Some c →

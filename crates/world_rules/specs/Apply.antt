@@ -15,7 +15,7 @@ use Rattle.world_rules.specs.declared.outcome.ActorFault.{ActorFault}
 use Rattle.world_rules.specs.declared.outcome.ActorFault.TheVariants as actor
 use Rattle.world_rules.specs.declared.outcome.WorldFault.{WorldFault}
 use Rattle.world_rules.specs.World.{World, node_at, reply_in, after_node}
-use Rattle.world_rules.specs.Turn.{Seen, Replied, Issued, NotIssued, Reported, Turn, NodeSteps, Ends, Refused, turn}
+use Rattle.world_rules.specs.Consequence.{Seen, Replied, Issued, NotIssued, Reported, Consequence, NodeSteps, Ends, Refused, consequence}
 use Rattle.world_rules.specs.Run.{Happens}
 
 -- this many numbers after the first
@@ -97,20 +97,20 @@ did old seen new = Did (outcome_of old new seen) new
 abbrev pub did_step : Tables → World → ℕ → Event ℕ → ℕ → Stepped ℕ → Applied
 did_step roster w id e serial r = did w (Replied id r.outcome) (after_node roster w id e serial r.outcome r.state)
 
--- what a turn leads to if nothing fails
-abbrev pub by_turn : Tables → ℕ → World → Turn → Applied
-by_turn roster place w (NodeSteps id e serial) = did_step roster w id e serial
+-- what an event leads to if nothing fails
+abbrev pub by_consequence : Tables → ℕ → World → Consequence → Applied
+by_consequence roster place w (NodeSteps id e serial) = did_step roster w id e serial
     (step (setting roster id) (node_at w.states id) e place)
-by_turn roster place w (Ends seen new) = did w seen new
-by_turn roster place w (Refused fault) = DidNot fault
+by_consequence roster place w (Ends seen new) = did w seen new
+by_consequence roster place w (Refused fault) = DidNot fault
 
 -- one event, applied at this place
 abbrev pub apply : Tables → ℕ → World → WorldEvent → Applied
-apply roster place w event = by_turn roster place w (turn roster w event)
+apply roster place w event = by_consequence roster place w (consequence roster w event)
 
 -- what was applied is one way in which the event may happen, and only an event that the world
 -- refuses was refused
 abbrev pub IsDone : Tables → ℕ → World → WorldEvent → Applied → Type 0
 IsDone roster place w event (Did outcome new) = (seen : Seen) × Happens roster place w event seen new
     × (outcome ≡ outcome_of w new seen)
-IsDone roster place w event (DidNot fault) = turn roster w event ≡ Refused fault
+IsDone roster place w event (DidNot fault) = consequence roster w event ≡ Refused fault

@@ -1,7 +1,7 @@
 -- In order of dependence: each file uses only those above it. To read, begin with Safety and Run.
 pub mod Names
 pub mod World
-pub mod Turn
+pub mod Consequence
 pub mod Run
 pub mod Safety
 pub mod Lineage

@@ -19,7 +19,7 @@ use Rattle.node_rules.specs.Questions.{begun}
 use Rattle.values_tables.specs.declared.plain.Tables.{Tables}
 use Rattle.world_rules.specs.declared.event.WorldEvent.{WorldEvent}
 use Rattle.world_rules.specs.World.{World, new_world, node_at}
-use Rattle.world_rules.specs.Turn.{Replied, NodeSteps, turn}
+use Rattle.world_rules.specs.Consequence.{Replied, NodeSteps, consequence}
 use Rattle.world_rules.specs.Run.{Step, Run, Happens, IsServedAt}
 
 -- At this place of a run, a member's node took a step with this event and outcome: also the steps
@@ -34,7 +34,7 @@ pub record NodeStepAt (roster : Tables) (steps : List Step) (place id : ℕ) (e 
   pub place_is : place ≡ length past + 1
   pub parts : steps ≡ (past ++ record { event = cause; seen = Replied id outcome } ∷ []) ++ rest
   pub runs : Run roster 1 (new_world roster) past before
-  pub meets : turn roster before cause ≡ NodeSteps id e serial
+  pub meets : consequence roster before cause ≡ NodeSteps id e serial
 
 -- what is held has the status, fields and body of the response
 pub record HasContent (answer held : AnswerText) : Type 0 where

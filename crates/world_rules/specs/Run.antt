@@ -15,11 +15,11 @@ use Rattle.world_rules.specs.declared.event.WorldEvent.TheVariants.{Issue}
 use Rattle.world_rules.specs.declared.outcome.WorldFault.{WorldFault}
 use Rattle.node_rules.specs.State.{setting}
 use Rattle.world_rules.specs.World.{World, node_at, after_node}
-use Rattle.world_rules.specs.Turn.{Seen, Replied, Issued, Reported, Turn, NodeSteps, Ends, Refused, turn}
+use Rattle.world_rules.specs.Consequence.{Seen, Replied, Issued, Reported, Consequence, NodeSteps, Ends, Refused, consequence}
 
--- This turn, at this place of the run, may be seen so and leave this world. Only a node's step
+-- This consequence, at this place of the run, may be seen so and leave this world. Only a node's step
 -- leaves a choice: memory or its floor store may fail. The place is the step's mark.
-abbrev pub Takes : Tables → ℕ → World → Turn → Seen → World → Type 0
+abbrev pub Takes : Tables → ℕ → World → Consequence → Seen → World → Type 0
 Takes roster place old (NodeSteps id e serial) seen new =
     (outcome : Result (Reply ℕ) StepFault) × (next : NodeState ℕ)
     × Steps (setting roster id) (node_at old.states id) e place outcome next
@@ -34,7 +34,7 @@ IsOfKey _ = Unit {0}
 
 -- the event may happen in the old world at this place, be seen so, and leave the new world
 abbrev pub Happens : Tables → ℕ → World → WorldEvent → Seen → World → Type 0
-Happens roster place old event seen new = IsOfKey event × Takes roster place old (turn roster old event) seen new
+Happens roster place old event seen new = IsOfKey event × Takes roster place old (consequence roster old event) seen new
 
 -- one event with what it visibly did
 pub record Step : Type 0 where
@@ -52,7 +52,7 @@ Run roster place old (step ∷ steps) new = (next : World) × Happens roster pla
 abbrev pub Plays : Tables → ℕ → World → List WorldEvent → List Step → World → Type 0
 Plays roster place old [] steps new = (steps ≡ []) × (new ≡ old)
 Plays roster place old (event ∷ events) steps new =
-    ((fault : WorldFault) × (turn roster old event ≡ Refused fault) × Plays roster place old events steps new)
+    ((fault : WorldFault) × (consequence roster old event ≡ Refused fault) × Plays roster place old events steps new)
     ⊎ ((seen : Seen) × (next : World) × (rest : List Step) × Happens roster place old event seen next
     × (steps ≡ record { event = event; seen = seen } ∷ rest) × Plays roster (place + 1) next events rest new)
 

@@ -13,7 +13,7 @@ use Rattle.values_tables.specs.declared.plain.Tables.{Tables}
 use Rattle.world_rules.specs.declared.event.WorldEvent.{WorldEvent}
 use Rattle.node_rules.specs.State.{setting}
 use Rattle.world_rules.specs.World.{World, new_world, node_at}
-use Rattle.world_rules.specs.Turn.{Replied, NodeSteps, turn}
+use Rattle.world_rules.specs.Consequence.{Replied, NodeSteps, consequence}
 use Rattle.world_rules.specs.Run.{Step, Run, Happens, IsIssuedAt, IsReportedAt, IsServedAt}
 
 -- Once the purge of a key is reported done, each copy of that key that a member begins to serve has
@@ -43,5 +43,5 @@ SiblingsAskNothing roster steps =
     steps ≡ past ++ record { event = event; seen = Replied id outcome } ∷ rest →
     Run roster 1 (new_world roster) past before → Happens roster (length past + 1) before event (Replied id outcome)
     after →
-    turn roster before event ≡ NodeSteps id e serial → is_from_sibling (setting roster id) e ≡ true →
+    consequence roster before event ≡ NodeSteps id e serial → is_from_sibling (setting roster id) e ≡ true →
     BeginsNothing (node_at before.states id) outcome (node_at after.states id) × SendsBack e (sent outcome)

@@ -3,7 +3,7 @@ use node_rules::Received;
 use roster::Address;
 use url_key::Key;
 
-/// One event of the world: one turn of one actor, or a change of the clock. A lost item is one
+/// One event of the world: one act of one actor, or a change of the clock. A lost item is one
 /// whose delivery never comes.
 #[derive(Drop)]
 pub enum WorldEvent {

@@ -10,11 +10,11 @@
 //!
 //! The model: a world has a node for each member, the master's purges, and a clock. It also has
 //! lists of all datagrams that members and the master ever sent, and of all requests and responses
-//! that members ever sent to members. An event is one turn of one actor: a client sends a request,
+//! that members ever sent to members. An event is one act of one actor: a client sends a request,
 //! an item of a list arrives, an origin or a foreign cache responds, the clock is set, something
 //! fails, or somebody restarts. An item stays in its list, so it may arrive late, again, in any
-//! order, or never. A turn of a node is one step of `node_rules`; memory or its floor store may
-//! fail in it. A turn of the master is one call as `purge_rules` defines it. An event's number in
+//! order, or never. What a node does is one step of `node_rules`; memory or its floor store may
+//! fail in it. What the master does is one call as `purge_rules` defines it. An event's number in
 //! the run is its place, and is the mark of the origin read that the event begins. An event that
 //! names nothing that exists is refused: it changes nothing and has no place. A list of events is
 //! then an interleaving of the actors' steps, and the laws hold for every list.
@@ -22,7 +22,7 @@
 //! Four premises are built into the definitions. Nothing else is assumed of the network:
 //!
 //! - What is stored outlives a restart. `Restart` opens a node with the floors that it had
-//!   (`specs/Turn`) and nothing else. The master's purges are the same after `RestartMaster`.
+//!   (`specs/Consequence`) and nothing else. The master's purges are the same after `RestartMaster`.
 //! - What comes from the address of a member or of the master was sent by it. `Datagram`, `Ask` and
 //!   `Answer` deliver only items of the lists. `Strange` delivers any message, and is refused if
 //!   its sender has such an address.
@@ -45,8 +45,8 @@
 //! definition.
 //!
 //! Read first `specs/Safety` (the promise), then `specs/Run` (what a run is, and when a purge is
-//! issued, reported done, or a copy served), `specs/World` (the state) and `specs/Turn` (what each
-//! event does). Then `specs/Lineage` (the invariant for stamps and floors), `specs/Asked`,
+//! issued, reported done, or a copy served), `specs/World` (the state) and `specs/Consequence` (what
+//! each event does). Then `specs/Lineage` (the invariant for stamps and floors), `specs/Asked`,
 //! `specs/Provenance` (sources and ages), `specs/Sources` (the invariant for them), `specs/Apply`
 //! (one event as a function, and its outcome) and `specs/Names` (the names of faults). The proof of
 //! safety ends in `proofs/Safe`; `proofs/Lib` gives the order of reading. `docs/SAFETY.md` explains

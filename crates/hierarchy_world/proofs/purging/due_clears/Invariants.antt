@@ -1,7 +1,7 @@
 use Rattle.std.proofs.Common.{◌≡◌, take, flat_map}
 use Rattle.roster.specs.Lookups.{member_of}
 use Rattle.purge_rules.specs.Clear.{message_of}
-use Rattle.world_rules.specs.Turn.{clear_to}
+use Rattle.world_rules.specs.Consequence.{clear_to}
 use Rattle.hierarchy_world.proofs.purging.due_clears.Given as goal
 
 abbrev pub invariant-loop-pair : goal.invariant-loop-pair

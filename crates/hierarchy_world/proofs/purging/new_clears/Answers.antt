@@ -3,7 +3,7 @@ use Rattle.std.specs.List.{cons_option}
 use Rattle.roster.specs.Lookups.{member_of}
 use Rattle.purge_rules.specs.Members.{possible_ids}
 use Rattle.purge_rules.specs.Clear.{clear}
-use Rattle.world_rules.specs.Turn.{clear_to}
+use Rattle.world_rules.specs.Consequence.{clear_to}
 use Rattle.hierarchy_world.proofs.Numbers.{made_more}
 use Rattle.hierarchy_world.proofs.purging.new_clears.Goals as goal
 use Rattle.hierarchy_world.proofs.purging.new_clears.Goals.{in-Some+in_ok-push, in_default}

@@ -1,6 +1,6 @@
 use Rattle.std.proofs.Common.{List, Some, sym, ◌∙◌, ap}
 use Rattle.world_rules.specs.World.{Datagram, item}
-use Rattle.world_rules.specs.Turn.{delivered, delivered_to}
+use Rattle.world_rules.specs.Consequence.{delivered, delivered_to}
 use Rattle.hierarchy_world.specs.Parts.{world_of}
 use Rattle.hierarchy_world.proofs.Reaching.{taken_as, mail_comes}
 use Rattle.hierarchy_world.proofs.parts.Parts.datagram.Goals as goal

@@ -1,4 +1,4 @@
--- Each way through the code gives the model's turn: nothing pending, something else pending, or a
+-- Each way through the code gives the model's consequence: nothing pending, something else pending, or a
 -- fetch from a foreign cache (Reaching).
 use Rattle.std.proofs.Common.{refl, sym, ◌∙◌}
 use Rattle.hierarchy_world.proofs.Reaching.{foreign_taken, none_for_foreign, no_fetch_there, not_foreign}

@@ -1,11 +1,11 @@
 use Rattle.std.proofs.Common.{◌∙◌}
 use Rattle.hierarchy_world.specs.Parts.{world_of, seen_of}
 use Rattle.hierarchy_world.proofs.Outcomes.{outcome_told}
-use Rattle.hierarchy_world.proofs.Happening.{turn_made}
+use Rattle.hierarchy_world.proofs.Happening.{consequence_made}
 use Rattle.hierarchy_world.proofs.parts.Parts.happen.Goals as goal
 
 pub returns : goal.returns
 returns c =
-    turn_made c.args.self.now c.turn.new.self c.args.event c.in_ok-seen.seen c.in_ok-outcome.outcome c.in_ok-seen.ensures.taken c.in_ok-seen.ensures.key
-    (c.in_ok-outcome.ensures ∙ outcome_told (world_of c.args.self.now) (world_of c.turn.new.self) _ _ (seen_of c.in_ok-seen.seen) c.counts-before.ensures
+    consequence_made c.args.self.now c.consequence.new.self c.args.event c.in_ok-seen.seen c.in_ok-outcome.outcome c.in_ok-seen.ensures.taken c.in_ok-seen.ensures.key
+    (c.in_ok-outcome.ensures ∙ outcome_told (world_of c.args.self.now) (world_of c.consequence.new.self) _ _ (seen_of c.in_ok-seen.seen) c.counts-before.ensures
     c.counts.ensures)

@@ -1,4 +1,4 @@
--- Each way through the code gives the model's turn: nothing pending, something else pending, or an
+-- Each way through the code gives the model's consequence: nothing pending, something else pending, or an
 -- origin read (Reaching).
 use Rattle.std.proofs.Common.{refl}
 use Rattle.hierarchy_world.proofs.Reaching.{origin_taken, none_for_origin, no_read_there}

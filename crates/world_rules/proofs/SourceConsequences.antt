@@ -29,7 +29,7 @@ use Rattle.world_rules.specs.declared.event.WorldEvent.TheVariants as world
 use Rattle.world_rules.specs.declared.outcome.WorldFault.TheVariants.{NoSuchPacket, NotPending}
 use Rattle.node_rules.specs.Messages.{protocol_of as udp_of}
 use Rattle.world_rules.specs.World.{Datagram, PeerAsk, PeerAnswer, Waiting, World, item, node_at}
-use Rattle.world_rules.specs.Turn.{Seen, Nothing, Turn, NodeSteps, Ends, Refused, at_member, with_clock, with_master, with_sent, with_member_state, issue_by, acknowledged_by, master_hears_htcp, master_hears, delivered_to, delivered, ask_delivered, answer_delivered, origin_by, origin_to, foreign_by, foreign_to, fetching_at, turn}
+use Rattle.world_rules.specs.Consequence.{Seen, Nothing, Consequence, NodeSteps, Ends, Refused, at_member, with_clock, with_master, with_sent, with_member_state, issue_by, acknowledged_by, master_hears_htcp, master_hears, delivered_to, delivered, ask_delivered, answer_delivered, origin_by, origin_to, foreign_by, foreign_to, fetching_at, consequence}
 use Rattle.world_rules.specs.Run.{Step, ServesCopy}
 use Rattle.world_rules.specs.Asked.{moment}
 use Rattle.world_rules.specs.Sources.{AnswerHasSource, NodeHasSources, NodeHasAsks, HasSources}
@@ -37,7 +37,7 @@ use Rattle.world_rules.proofs.MemberStates.{all_item, each_node}
 use Rattle.world_rules.proofs.Sourced.{KnowsSource, each_but}
 use Rattle.world_rules.proofs.Waiting.{others_restart, own_restart}
 
--- what an event's turn leads to: a node's step on an event of this time whose source is known, or a
+-- the consequence of an event: a node's step on an event of this time whose source is known, or a
 -- world in which the invariant holds
 pub record IsKnown (h : Tables) (past : List Step) (w : World) (e : Event ℕ) : Type 0 where
   pub at : moment e ≡ w.clock
@@ -47,13 +47,13 @@ pub record EndsKnown (h : Tables) (past : List Step) (seen : Seen) (w : World) :
   pub sources : HasSources h past w
   pub serves_none : (c : WebCopy ℕ) → ServesCopy seen c → ⊥
 
-abbrev pub Knows : Tables → List Step → World → Turn → Type 0
+abbrev pub Knows : Tables → List Step → World → Consequence → Type 0
 Knows h past w (NodeSteps id e serial) = IsKnown h past w e
 Knows h past w (Ends seen new) = EndsKnown h past seen new
 Knows h past w (Refused fault) = Unit {0}
 
 module _ (h : Tables) (past : List Step) (w : World) (sources : HasSources h past w) where
-  at_member_known : (id : ℕ) (t : Turn) → Knows h past w t → Knows h past w (at_member h id t)
+  at_member_known : (id : ℕ) (t : Consequence) → Knows h past w t → Knows h past w (at_member h id t)
   at_member_known id t known = branches (Knows h past w) (is_member h id) t (Refused NoSuchPacket) (λ _. known) (λ _. tt)
 
   plainly_known : (e : Event ℕ) → moment e ≡ w.clock → KnowsSource h past e → IsKnown h past w e
@@ -141,23 +141,23 @@ module _ (h : Tables) (past : List Step) (w : World) (sources : HasSources h pas
             (sources.asks other is_open));
       }) (λ c s. absurd s)
 
-  pub turn_known : (cause : WorldEvent) → Knows h past w (turn h w cause)
-  turn_known (world.Clock now) = same_known Nothing (with_clock w now) (clock_known now) (λ c s. absurd s)
-  turn_known (world.Client id ask) = at_member_known id _ (plainly_known (event.Client ask w.clock) refl tt)
-  turn_known (world.Datagram number) = delivered_known (item w.datagrams number)
-  turn_known (world.Ask number) = ask_known (item w.asks number)
-  turn_known (world.Answer number serial) = answer_known number serial (item w.answers number) refl
-  turn_known (world.Origin id serial answer) = at_member_known id _ (origin_known id serial answer (fetching_at w id serial))
-  turn_known (world.Foreign id serial answer) = at_member_known id _ (foreign_known id serial answer (fetching_at w id serial))
-  turn_known (world.Strange to sender m) =
+  pub consequence_known : (cause : WorldEvent) → Knows h past w (consequence h w cause)
+  consequence_known (world.Clock now) = same_known Nothing (with_clock w now) (clock_known now) (λ c s. absurd s)
+  consequence_known (world.Client id ask) = at_member_known id _ (plainly_known (event.Client ask w.clock) refl tt)
+  consequence_known (world.Datagram number) = delivered_known (item w.datagrams number)
+  consequence_known (world.Ask number) = ask_known (item w.asks number)
+  consequence_known (world.Answer number serial) = answer_known number serial (item w.answers number) refl
+  consequence_known (world.Origin id serial answer) = at_member_known id _ (origin_known id serial answer (fetching_at w id serial))
+  consequence_known (world.Foreign id serial answer) = at_member_known id _ (foreign_known id serial answer (fetching_at w id serial))
+  consequence_known (world.Strange to sender m) =
       branches (Knows h past w) (is_own h sender) (Refused NoSuchPacket) (delivered_to w sender m (member_at h to (udp_of m))) (λ _. tt)
       (λ _. to_known sender m (member_at h to (udp_of m)))
-  turn_known (world.Fail id serial) = at_member_known id _ (plainly_known (event.FetchFailed serial w.clock) refl tt)
-  turn_known (world.Expire id serial) = at_member_known id _ (plainly_known (event.Expired serial w.clock) refl tt)
-  turn_known (world.Fault id) = at_member_known id _ (state_known id (closed_node (node_at w.states id)) record
+  consequence_known (world.Fail id serial) = at_member_known id _ (plainly_known (event.FetchFailed serial w.clock) refl tt)
+  consequence_known (world.Expire id serial) = at_member_known id _ (plainly_known (event.Expired serial w.clock) refl tt)
+  consequence_known (world.Fault id) = at_member_known id _ (state_known id (closed_node (node_at w.states id)) record
       { copies = λ is_open. absurd (true_not_false is_open); reads = tt } refl)
-  turn_known (world.Restart id) = at_member_known id _ (state_known id (opened (node_at w.states id).floors) record { copies = λ is_open. tt; reads = tt } refl)
-  turn_known (world.Issue key) = issue_known key (issue_fault w.master)
-  turn_known world.Resend = same_known Nothing _ (sent_known w.master _) (λ c s. absurd s)
-  turn_known (world.Status number) = same_known _ w sources (λ c s. absurd s)
-  turn_known world.RestartMaster = same_known Nothing w sources (λ c s. absurd s)
+  consequence_known (world.Restart id) = at_member_known id _ (state_known id (opened (node_at w.states id).floors) record { copies = λ is_open. tt; reads = tt } refl)
+  consequence_known (world.Issue key) = issue_known key (issue_fault w.master)
+  consequence_known world.Resend = same_known Nothing _ (sent_known w.master _) (λ c s. absurd s)
+  consequence_known (world.Status number) = same_known _ w sources (λ c s. absurd s)
+  consequence_known world.RestartMaster = same_known Nothing w sources (λ c s. absurd s)

@@ -1,5 +1,5 @@
--- What each event does: which actor takes a turn, and the world after it. The last definition,
--- turn, covers all events, one line each.
+-- What each event leads to: which actor acts, and the world after it. The last definition,
+-- consequence, covers all events, one line each.
 use Rattle.std.specs.Prelude.{ℕ, ◌+◌, Bool, ◌==◌, not, List, [], ◌∷◌, ◌++◌, filter, find, Option, Some, None, Result, unwrap_or, if◌then◌else◌}
 use Rattle.std.specs.List.{flat_map}
 use Rattle.htcp_wire.specs.declared.message.Content.{Content}
@@ -48,17 +48,17 @@ pub data Seen : Type 0 where
   Nothing : Seen
 
 -- what an event leads to
-pub data Turn : Type 0 where
+pub data Consequence : Type 0 where
   -- a step of a member's node; the serial is that of the member's request that the event is, else 0
-  NodeSteps : (id : ℕ) (e : Event ℕ) (serial : ℕ) → Turn
+  NodeSteps : (id : ℕ) (e : Event ℕ) (serial : ℕ) → Consequence
   -- no node steps; this is what is seen, and the world afterwards
-  Ends : (seen : Seen) (world : World) → Turn
+  Ends : (seen : Seen) (world : World) → Consequence
   -- the event names something that does not exist, or nothing that is pending
-  Refused : (fault : WorldFault) → Turn
+  Refused : (fault : WorldFault) → Consequence
 
--- this turn if the id is a member's, else the event is refused
-abbrev pub at_member : Tables → ℕ → Turn → Turn
-at_member roster id turn = if is_member roster id then turn else Refused NoSuchPacket
+-- this consequence if the id is a member's, else the event is refused
+abbrev pub at_member : Tables → ℕ → Consequence → Consequence
+at_member roster id consequence = if is_member roster id then consequence else Refused NoSuchPacket
 
 -- Parts of a world that change alone
 
@@ -101,64 +101,64 @@ clears_due roster purges = flat_map (λ d. clear_to roster (message_of purges d.
     (due (members_of roster) purges)
 
 -- the master issues a purge under the next number and sends its CLRs, or refuses
-abbrev pub issue_by : Tables → World → List ℕ → Option MasterFault → Turn
+abbrev pub issue_by : Tables → World → List ℕ → Option MasterFault → Consequence
 issue_by roster w key (Some fault) = Ends (NotIssued fault) w
 issue_by roster w key None =
     let number = w.master.last + 1 in
     Ends (Issued number) (with_sent (with_master w (with_purge w.master number key)) (clears_of roster number key))
 
 -- the master reports the status of the purge with this number
-abbrev pub reports : Tables → World → ℕ → Turn
+abbrev pub reports : Tables → World → ℕ → Consequence
 reports roster w number = Ends (Reported number (status_of (members_of roster) w.master number)) w
 
 -- A member's response to a CLR counts for the purge whose number is its TRANS-ID. It is counted,
 -- and the status is reported.
-abbrev pub acknowledged_by : Tables → World → ℕ → ℕ → Option ℕ → Turn
+abbrev pub acknowledged_by : Tables → World → ℕ → ℕ → Option ℕ → Consequence
 acknowledged_by roster w number code None = Ends Nothing w
 acknowledged_by roster w number code (Some id) =
     reports roster (with_master w (acknowledged (members_of roster) w.master id number code).purges) number
 
 -- the sender of a response to a CLR is known by its HTCP address [Master 5]
-abbrev pub master_hears_htcp : Tables → World → Address → ℕ → Content → Turn
+abbrev pub master_hears_htcp : Tables → World → Address → ℕ → Content → Consequence
 master_hears_htcp roster w sender trans (content.ClrAnswer code) =
     acknowledged_by roster w trans code (member_at roster sender udp.Htcp)
 master_hears_htcp roster w sender trans _ = Ends Nothing w
 
 -- of what reaches the master, only a member's response to a CLR counts
-abbrev pub master_hears : Tables → World → Address → Message → Turn
+abbrev pub master_hears : Tables → World → Address → Message → Consequence
 master_hears roster w sender (message.Icp m) = Ends Nothing w
 master_hears roster w sender (message.Htcp m) = master_hears_htcp roster w sender m.trans m.content
 
 -- Deliveries
 
 -- a datagram reaches the member that was found
-abbrev pub delivered_to : World → Address → Message → Option ℕ → Turn
+abbrev pub delivered_to : World → Address → Message → Option ℕ → Consequence
 delivered_to w sender m None = Refused NoSuchPacket
 delivered_to w sender m (Some id) = NodeSteps id (event.Datagram sender m w.clock) 0
 
 -- a datagram reaches the master, or the member that answers its protocol at this address
-abbrev pub delivered : Tables → World → Option Datagram → Turn
+abbrev pub delivered : Tables → World → Option Datagram → Consequence
 delivered roster w None = Refused NoSuchPacket
 delivered roster w (Some d) =
     if is_master roster d.receiver then master_hears roster w d.sender d.message
     else delivered_to w d.sender d.message (member_at roster d.receiver (protocol_of d.message))
 
 -- a request reaches the member that it was sent to
-abbrev pub ask_delivered : Tables → World → Option PeerAsk → Turn
+abbrev pub ask_delivered : Tables → World → Option PeerAsk → Consequence
 ask_delivered roster w None = Refused NoSuchPacket
 ask_delivered roster w (Some a) = at_member roster a.receiver
     (NodeSteps a.receiver (event.PeerAsk a.sender a.ask w.clock) a.serial)
 
 -- A response reaches the member that it was sent to, under the serial given, or else under that of
 -- its request.
-abbrev pub answer_delivered : Tables → World → Option ℕ → Option PeerAnswer → Turn
+abbrev pub answer_delivered : Tables → World → Option ℕ → Option PeerAnswer → Consequence
 answer_delivered roster w serial None = Refused NoSuchPacket
 answer_delivered roster w serial (Some a) =
     at_member roster a.receiver
     (NodeSteps a.receiver (event.PeerAnswer (unwrap_or serial a.serial) a.sender a.key a.answer a.mark w.clock) 0)
 
 -- a stranger's datagram reaches a member; a stranger has no address of a member or of the master
-abbrev pub strange_comes : Tables → World → Address → Address → Message → Turn
+abbrev pub strange_comes : Tables → World → Address → Address → Message → Consequence
 strange_comes roster w to sender m =
     if is_own roster sender then Refused NoSuchPacket else delivered_to w sender m (member_at roster to (protocol_of m))
 
@@ -169,25 +169,25 @@ abbrev pub is_at : ℕ → Pending ℕ → Bool
 is_at serial p = fetch_serial p == serial
 
 -- an origin responds only to a read that is pending
-abbrev pub origin_by : World → ℕ → ℕ → AnswerText → List ℕ → Fetch ℕ → Turn
+abbrev pub origin_by : World → ℕ → ℕ → AnswerText → List ℕ → Fetch ℕ → Consequence
 origin_by w id serial answer key (AtOrigin stamp asked mark) =
     NodeSteps id (event.OriginAnswer serial key answer w.clock) 0
 origin_by w id serial answer key _ = Refused NotPending
 
 -- an origin responds under this serial, to what is pending there
-abbrev pub origin_to : World → ℕ → ℕ → AnswerText → Option (Pending ℕ) → Turn
+abbrev pub origin_to : World → ℕ → ℕ → AnswerText → Option (Pending ℕ) → Consequence
 origin_to w id serial answer None = Refused NotPending
 origin_to w id serial answer (Some p) = origin_by w id serial answer p.ask.key p.fetch
 
 -- a foreign cache responds only to a fetch from it that is pending; its copy has the mark 0
-abbrev pub foreign_by : World → ℕ → ℕ → AnswerText → List ℕ → Fetch ℕ → Turn
+abbrev pub foreign_by : World → ℕ → ℕ → AnswerText → List ℕ → Fetch ℕ → Consequence
 foreign_by w id serial answer key (AtPeer peer asked) =
     if is_foreign_id peer then NodeSteps id (event.ForeignAnswer serial peer key answer 0 w.clock) 0
     else Refused NotPending
 foreign_by w id serial answer key _ = Refused NotPending
 
 -- a foreign cache responds under this serial, to what is pending there
-abbrev pub foreign_to : World → ℕ → ℕ → AnswerText → Option (Pending ℕ) → Turn
+abbrev pub foreign_to : World → ℕ → ℕ → AnswerText → Option (Pending ℕ) → Consequence
 foreign_to w id serial answer None = Refused NotPending
 foreign_to w id serial answer (Some p) = foreign_by w id serial answer p.ask.key p.fetch
 
@@ -198,24 +198,24 @@ fetching_at w id serial = find (is_at serial) (node_at w.states id).pending
 -- All events
 
 -- what each event leads to
-abbrev pub turn : Tables → World → WorldEvent → Turn
-turn roster w (world.Clock now) = Ends Nothing (with_clock w now)
-turn roster w (world.Client id ask) = at_member roster id (NodeSteps id (event.Client ask w.clock) 0)
-turn roster w (world.Datagram number) = delivered roster w (item w.datagrams number)
-turn roster w (world.Ask number) = ask_delivered roster w (item w.asks number)
-turn roster w (world.Answer number serial) = answer_delivered roster w serial (item w.answers number)
-turn roster w (world.Origin id serial answer) = at_member roster id
+abbrev pub consequence : Tables → World → WorldEvent → Consequence
+consequence roster w (world.Clock now) = Ends Nothing (with_clock w now)
+consequence roster w (world.Client id ask) = at_member roster id (NodeSteps id (event.Client ask w.clock) 0)
+consequence roster w (world.Datagram number) = delivered roster w (item w.datagrams number)
+consequence roster w (world.Ask number) = ask_delivered roster w (item w.asks number)
+consequence roster w (world.Answer number serial) = answer_delivered roster w serial (item w.answers number)
+consequence roster w (world.Origin id serial answer) = at_member roster id
     (origin_to w id serial answer (fetching_at w id serial))
-turn roster w (world.Foreign id serial answer) = at_member roster id
+consequence roster w (world.Foreign id serial answer) = at_member roster id
     (foreign_to w id serial answer (fetching_at w id serial))
-turn roster w (world.Strange to sender m) = strange_comes roster w to sender m
-turn roster w (world.Fail id serial) = at_member roster id (NodeSteps id (event.FetchFailed serial w.clock) 0)
-turn roster w (world.Expire id serial) = at_member roster id (NodeSteps id (event.Expired serial w.clock) 0)
-turn roster w (world.Fault id) =
+consequence roster w (world.Strange to sender m) = strange_comes roster w to sender m
+consequence roster w (world.Fail id serial) = at_member roster id (NodeSteps id (event.FetchFailed serial w.clock) 0)
+consequence roster w (world.Expire id serial) = at_member roster id (NodeSteps id (event.Expired serial w.clock) 0)
+consequence roster w (world.Fault id) =
     at_member roster id (Ends Nothing (with_member_state w id (closed_node (node_at w.states id))))
-turn roster w (world.Restart id) =
+consequence roster w (world.Restart id) =
     at_member roster id (Ends Nothing (with_member_state w id (opened (node_at w.states id).floors)))
-turn roster w (world.Issue key) = issue_by roster w key (issue_fault w.master)
-turn roster w world.Resend = Ends Nothing (with_sent w (clears_due roster w.master))
-turn roster w (world.Status number) = reports roster w number
-turn roster w world.RestartMaster = Ends Nothing w
+consequence roster w (world.Issue key) = issue_by roster w key (issue_fault w.master)
+consequence roster w world.Resend = Ends Nothing (with_sent w (clears_due roster w.master))
+consequence roster w (world.Status number) = reports roster w number
+consequence roster w world.RestartMaster = Ends Nothing w

@@ -1,6 +1,6 @@
 //! One event of a world.
 ghost use Rattle.std.specs.Prelude.{◌≡◌, ◌<◌, ◌-◌, ◌^◌};
-ghost use Rattle.world_rules.specs.Turn.{turn as turn_of};
+ghost use Rattle.world_rules.specs.Consequence.{consequence as consequence_of};
 ghost use Rattle.hierarchy_world.specs.Parts.{IsSound, IsTaken, world_of, IsKeyed, IsMade};
 ghost use Rattle.hierarchy_world.specs.Outcomes.{AreCounts};
 
@@ -20,11 +20,11 @@ impl Parts {
         }
     }
 
-    /// Takes the turn of an event.
-    fn turn(&mut self, event: WorldEvent) -> Result<Seen, WorldFault>
+    /// Takes the consequence of an event.
+    fn follow(&mut self, event: WorldEvent) -> Result<Seen, WorldFault>
         requires { IsSound self.old }
         ensures taken { IsTaken self.old
-            (turn_of self.old.roster (world_of self.old) event) result self.new }
+            (consequence_of self.old.roster (world_of self.old) event) result self.new }
         ensures key { IsKeyed event result }
     {
         match event {
@@ -65,7 +65,7 @@ impl Parts {
         ensures { IsMade self.old event result self.new }
     {
         let before = self.counts();
-        let seen = self.turn(event)?;
+        let seen = self.follow(event)?;
         let outcome = tell(self.alloc, before, self.counts(), seen)?;
         self.place += 1;
         Ok(outcome)

@@ -39,15 +39,15 @@ use Rattle.world_rules.specs.World.{Datagram, PeerAsk, PeerAnswer, World, item, 
 use Rattle.world_rules.specs.declared.event.WorldEvent.{WorldEvent}
 use Rattle.world_rules.specs.declared.event.WorldEvent.TheVariants as world
 use Rattle.world_rules.specs.declared.outcome.WorldFault.TheVariants.{NoSuchPacket}
-use Rattle.world_rules.specs.Turn.{Seen, Replied, NotIssued, Reported, Nothing, Turn, NodeSteps, Ends, Refused, at_member, with_clock, with_master, with_member_state, issue_by, reports, acknowledged_by, master_hears_htcp, master_hears, delivered_to, delivered, ask_delivered, answer_delivered, origin_by, origin_to, foreign_by, foreign_to, fetching_at, turn}
+use Rattle.world_rules.specs.Consequence.{Seen, Replied, NotIssued, Reported, Nothing, Consequence, NodeSteps, Ends, Refused, at_member, with_clock, with_master, with_member_state, issue_by, reports, acknowledged_by, master_hears_htcp, master_hears, delivered_to, delivered, ask_delivered, answer_delivered, origin_by, origin_to, foreign_by, foreign_to, fetching_at, consequence}
 use Rattle.world_rules.specs.Run.{Step, Takes, IsOfKey, Happens, purged_by, TellsDone, ServesCopy}
 use Rattle.world_rules.specs.Lineage.{HasRaised, IsClear, IsMastersRightly, IsObeyed, IsSentAnswer, NodeHasLineage, AllHaveRaised, HasLineage}
 use Rattle.world_rules.proofs.MemberStates.{same_id, all_item}
-use Rattle.world_rules.proofs.NodeTurns.{ComesRightly, takes_keeps, silent_keeps}
-use Rattle.world_rules.proofs.MasterTurns.{clock_keeps, resend_keeps, acknowledge_keeps, reported_raised}
+use Rattle.world_rules.proofs.NodeConsequences.{ComesRightly, takes_keeps, silent_keeps}
+use Rattle.world_rules.proofs.MasterConsequences.{clock_keeps, resend_keeps, acknowledge_keeps, reported_raised}
 use Rattle.world_rules.proofs.Counting.{with_step, as_step, counted, left_number, issue_keeps}
 
--- what an event's turn leads to: a node's step on what was sent rightly, or a world in which the
+-- the consequence of an event: a node's step on what was sent rightly, or a world in which the
 -- invariant holds
 pub record IsRightStep (h : Tables) (past : List Step) (id : ℕ) (e : Event ℕ) : Type 0 where
   pub comes : ComesRightly h past e
@@ -57,7 +57,7 @@ pub record IsRightEnd (h : Tables) (past : List Step) (event : WorldEvent) (seen
   pub lineage : HasLineage h (with_step past event seen) w
   pub serves_none : (c : WebCopy ℕ) → ServesCopy seen c → ⊥
 
-abbrev pub IsRight : Tables → List Step → WorldEvent → Turn → Type 0
+abbrev pub IsRight : Tables → List Step → WorldEvent → Consequence → Type 0
 IsRight h past event (NodeSteps id e serial) = IsRightStep h past id e
 IsRight h past event (Ends seen w) = IsRightEnd h past event seen w
 IsRight h past event (Refused fault) = Unit {0}
@@ -90,8 +90,8 @@ or_false true b h = h
 or_false false b h = refl
 
 module _ (h : Tables) (proper : IsRoster h) (past : List Step) (w : World) (lineage : HasLineage h past w) where
-  -- a turn at a member is right if it is right when the id is a member's
-  at_member_right : (event : WorldEvent) (id : ℕ) (t : Turn) → (is_member h id ≡ true → IsRight h past event t) → IsRight h past event (at_member h id t)
+  -- a consequence at a member is right if it is right when the id is a member's
+  at_member_right : (event : WorldEvent) (id : ℕ) (t : Consequence) → (is_member h id ≡ true → IsRight h past event t) → IsRight h past event (at_member h id t)
   at_member_right event id t right = branches (IsRight h past event) (is_member h id) t (Refused NoSuchPacket) right (λ _. tt)
 
   -- an event without a node's step that issues nothing
@@ -203,33 +203,33 @@ module _ (h : Tables) (proper : IsRoster h) (past : List Step) (w : World) (line
   opened_right : (id : ℕ) → NodeHasLineage past (opened (node_at w.states id).floors)
   opened_right id = record { seen_issued = (lineage.nodes id).seen_issued; copies = λ is_open. tt; reads = tt }
 
-  -- each event's turn is right
-  pub turn_right : (event : WorldEvent) → IsOfKey event → IsRight h past event (turn h w event)
-  turn_right (world.Clock now) key = quiet_right (world.Clock now) (with_clock w now) refl (clock_keeps h past w lineage now)
-  turn_right (world.Client id ask) key = at_member_right (world.Client id ask) id (NodeSteps id (event.Client ask w.clock) 0)
+  -- each event's consequence is right
+  pub consequence_right : (event : WorldEvent) → IsOfKey event → IsRight h past event (consequence h w event)
+  consequence_right (world.Clock now) key = quiet_right (world.Clock now) (with_clock w now) refl (clock_keeps h past w lineage now)
+  consequence_right (world.Client id ask) key = at_member_right (world.Client id ask) id (NodeSteps id (event.Client ask w.clock) 0)
       (λ member. record { comes = tt; member = member })
-  turn_right (world.Datagram number) key = delivered_right number (item w.datagrams number) refl
-  turn_right (world.Ask number) key = ask_right number (item w.asks number)
-  turn_right (world.Answer number serial) key = answer_right number serial (item w.answers number) refl
-  turn_right (world.Origin id serial answer) key = at_member_right (world.Origin id serial answer) id _
+  consequence_right (world.Datagram number) key = delivered_right number (item w.datagrams number) refl
+  consequence_right (world.Ask number) key = ask_right number (item w.asks number)
+  consequence_right (world.Answer number serial) key = answer_right number serial (item w.answers number) refl
+  consequence_right (world.Origin id serial answer) key = at_member_right (world.Origin id serial answer) id _
       (origin_right id serial answer (fetching_at w id serial))
-  turn_right (world.Foreign id serial answer) key = at_member_right (world.Foreign id serial answer) id _
+  consequence_right (world.Foreign id serial answer) key = at_member_right (world.Foreign id serial answer) id _
       (foreign_right id serial answer (fetching_at w id serial))
-  turn_right (world.Fail id serial) key = at_member_right (world.Fail id serial) id (NodeSteps id (event.FetchFailed serial w.clock) 0)
+  consequence_right (world.Fail id serial) key = at_member_right (world.Fail id serial) id (NodeSteps id (event.FetchFailed serial w.clock) 0)
       (λ member. record { comes = tt; member = member })
-  turn_right (world.Expire id serial) key = at_member_right (world.Expire id serial) id (NodeSteps id (event.Expired serial w.clock) 0)
+  consequence_right (world.Expire id serial) key = at_member_right (world.Expire id serial) id (NodeSteps id (event.Expired serial w.clock) 0)
       (λ member. record { comes = tt; member = member })
-  turn_right (world.Fault id) key = at_member_right (world.Fault id) id _
+  consequence_right (world.Fault id) key = at_member_right (world.Fault id) id _
       (λ member. quiet_right (world.Fault id) (with_member_state w id (closed_node (node_at w.states id))) refl
       (silent_keeps h past w lineage id _ (λ key. omega arith) (closed_right id)))
-  turn_right (world.Restart id) key = at_member_right (world.Restart id) id _
+  consequence_right (world.Restart id) key = at_member_right (world.Restart id) id _
       (λ member. quiet_right (world.Restart id) (with_member_state w id (opened (node_at w.states id).floors)) refl
       (silent_keeps h past w lineage id _ (λ key. omega arith) (opened_right id)))
-  turn_right (world.Issue key) is_key = issue_right key is_key (issue_fault w.master) refl
-  turn_right world.Resend key = quiet_right world.Resend _ refl (resend_keeps h past w lineage)
-  turn_right (world.Status number) key = reported_right (world.Status number) number w (λ s. refl) lineage
-  turn_right world.RestartMaster key = quiet_right world.RestartMaster w refl lineage
-  turn_right (world.Strange to sender m) key =
+  consequence_right (world.Issue key) is_key = issue_right key is_key (issue_fault w.master) refl
+  consequence_right world.Resend key = quiet_right world.Resend _ refl (resend_keeps h past w lineage)
+  consequence_right (world.Status number) key = reported_right (world.Status number) number w (λ s. refl) lineage
+  consequence_right world.RestartMaster key = quiet_right world.RestartMaster w refl lineage
+  consequence_right (world.Strange to sender m) key =
       branches (IsRight h past (world.Strange to sender m)) (is_own h sender) (Refused NoSuchPacket) _ (λ _. tt)
       (λ strange. to_right (world.Strange to sender m) sender m (udp_of m) to
       (λ master. absurd (true_not_false (sym master ∙ or_false (is_master h sender) _ strange))) (member_at h to (udp_of m)) refl)
@@ -241,7 +241,7 @@ issues_nothing _ id outcome = refl
 
 module _ (h : Tables) (proper : IsRoster h) (past : List Step) (old : World) (lineage : HasLineage h past old) (event : WorldEvent) (seen : Seen) (new : World)
   where
-    takes_on : (t : Turn) → IsRight h past event t → Takes h (length past + 1) old t seen new → HasLineage h (with_step past event seen) new
+    takes_on : (t : Consequence) → IsRight h past event t → Takes h (length past + 1) old t seen new → HasLineage h (with_step past event seen) new
     takes_on (NodeSteps id e serial) right (outcome, next, steps, is_seen, is_new) =
         let law = steps_are_lawful (setting h id) (node_at old.states id) e (length past + 1) outcome next steps in
         let kept : HasLineage h past (after_node h old id e serial outcome next) = takes_keeps h proper past old lineage id e right.comes serial outcome next law
@@ -254,4 +254,4 @@ module _ (h : Tables) (proper : IsRoster h) (past : List Step) (old : World) (li
     -- each event keeps the invariant
     pub happens_keeps : Happens h (length past + 1) old event seen new → HasLineage h (past ++ record { event = event; seen = seen } ∷ []) new
     happens_keeps (key, takes) = subst (λ steps. HasLineage h steps new) (as_step past event seen)
-        (takes_on (turn h old event) (turn_right h proper past old lineage event key) takes)
+        (takes_on (consequence h old event) (consequence_right h proper past old lineage event key) takes)

@@ -1,4 +1,4 @@
--- A turn of the master keeps the invariant. The CLRs that it sends are of issued purges. A mark is
+-- What the master does keeps the invariant. The CLRs that it sends are of issued purges. A mark is
 -- set only at a member's acknowledgement, and that member has raised its floor. A purge ends only
 -- when all members are marked.
 use Rattle.std.proofs.Common.{◌≡◌, ℕ, ◌-◌, ◌≤◌, ◌<◌, true, not, ◌||◌, ◌&&◌, List, [], ◌∷◌, map, filter, length, Option, Some, None, refl, sym, ◌∙◌, subst, nat_eq, nat_lt, cond, inl, inr, arith}
@@ -23,7 +23,7 @@ use Rattle.htcp_wire.specs.Clearing.{is_acknowledging}
 use Rattle.purge_rules.specs.Clear.{clear, message_of}
 use Rattle.values_tables.specs.declared.plain.Tables.{Tables}
 use Rattle.world_rules.specs.World.{MemberState, World, node_at}
-use Rattle.world_rules.specs.Turn.{Reported, with_clock, with_master, with_sent, clear_to, clears_of, clears_due}
+use Rattle.world_rules.specs.Consequence.{Reported, with_clock, with_master, with_sent, clear_to, clears_of, clears_due}
 use Rattle.world_rules.specs.Run.{Step, purges, TellsDone}
 use Rattle.world_rules.specs.Lineage.{HasRaised, IsClear, IsMastersRightly, IsObeyed, PurgeHasLineage, AllHaveRaised, HasLineage}
 use Rattle.world_rules.proofs.MemberStates.{ids_same, and_parts, pending-none_of_marked, pending-none_of_without, pending-found, mark_cases, among_has}

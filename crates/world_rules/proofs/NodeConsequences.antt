@@ -1,4 +1,4 @@
--- A node's turn keeps the invariant. It uses only the law steps_are_lawful of node_rules: copies
+-- A node's step keeps the invariant. It uses only the law steps_are_lawful of node_rules: copies
 -- and reads come from what the node had or got, floors never fall, and an acknowledgement is sent
 -- only with the floor raised.
 use Rattle.std.proofs.Common.{◌≡◌, ℕ, ◌+◌, ◌-◌, ◌≤◌, ◌<◌, Bool, true, false, cond, ◌&&◌, nat_eq, nat_le, List, [], ◌∷◌, ◌++◌, map, length, Option, Some, None, Result, Ok, Err, refl, sym, ◌∙◌, ap, subst, unwrap_or, inl, inr, arith}
@@ -42,7 +42,7 @@ use Rattle.roster.specs.Judged.{IsRoster}
 use Rattle.node_rules.specs.Messages.{protocol_of as udp_of}
 use Rattle.node_rules.specs.State.{setting}
 use Rattle.world_rules.specs.World.{MemberState, Datagram, PeerAsk, PeerAnswer, Waiting, World, node_at, with_node, datagrams_from, Answered, answer_of, mark_of, answer_to, asked_by, answers_in, reply_in, after_node}
-use Rattle.world_rules.specs.Turn.{with_member_state}
+use Rattle.world_rules.specs.Consequence.{with_member_state}
 use Rattle.world_rules.specs.Run.{Step, IsItem, purges, issued}
 use Rattle.world_rules.specs.Lineage.{IsStamped, IsStampedCopy, IsStampedFetch, IsStampedRead, IsStampedAnswer, IsSentAnswer, HasRaised, IsClear, IsMastersRightly, IsObeyed, NodeHasLineage, HasLineage}
 use Rattle.world_rules.proofs.Issues.{issued_here}
@@ -273,7 +273,7 @@ answers_sent past waiting id e serial None bare stamped = tt
 answers_sent past waiting id e serial (Some serve) bare stamped = answer_sent past id serve.asker serve.served (asked_by waiting id e serial serve.waiter)
     (served_stamped past serve.served bare stamped)
 
--- A node's turn
+-- A node's step
 
 module _ (h : Tables) (proper : IsRoster h) (past : List Step) (w : World) (lineage : HasLineage h past w) (id : ℕ) (e : Event ℕ)
     (comes : ComesRightly h past e) (serial : ℕ) where
