@@ -22,6 +22,22 @@ tst = 1
 abbrev pub clr : ℕ
 clr = 4
 
+-- the overall code of a refusal: the opcode is not implemented
+abbrev pub not_implemented : ℕ
+not_implemented = 2
+
+-- the overall code of a refusal: the opcode is not allowed
+abbrev pub not_allowed : ℕ
+not_allowed = 5
+
+-- the code of a response to CLR: it was held and is gone
+abbrev pub was_dropped : ℕ
+was_dropped = 0
+
+-- the code of a response to CLR: it was not held
+abbrev pub was_not_held : ℕ
+was_not_held = 2
+
 -- DATA without LENGTH, RESERVED and TRANS-ID. RR says that it is a response. F1 is RD (a response
 -- is desired) in a request, and MO (RESPONSE is about the message as a whole) in a response.
 pub record Data : Type 0 where

@@ -1,7 +1,7 @@
 -- In reading order: each file uses only those above it.
-pub mod Clearing
 pub mod Names
 pub mod Grammar
+pub mod Clearing
 pub mod Reading
 pub mod Faults
 pub mod Written

@@ -31,9 +31,17 @@ is_siblings_ask g (Some asker) = names_sibling g.roster asker g.id
 abbrev pub is_cached_only : Setting → Option ℕ → Ask → Bool
 is_cached_only g asker ask = ask.only_if_cached || is_siblings_ask g asker
 
--- 1,024 requests are pending, or no block of serials is left. [Ask 3]
+-- The most requests that are pending at a node.
+abbrev pub most_pending : ℕ
+most_pending = 1024
+
+-- The last block of serials: 32 times it, and 31 more, is the greatest number of 32 bits.
+abbrev pub last_block : ℕ
+last_block = 134217727
+
+-- `most_pending` requests are pending, or no block of serials is left. [Ask 3]
 abbrev pub is_busy : {X : Type 0} → NodeState X → Bool
-is_busy s = nat_le 1024 (length s.pending) || nat_lt 134217727 s.next
+is_busy s = nat_le most_pending (length s.pending) || nat_lt last_block s.next
 
 -- The next block is taken.
 abbrev pub takes_block : {X : Type 0} → NodeState X → NodeState X

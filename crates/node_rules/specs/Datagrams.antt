@@ -9,6 +9,7 @@ use Rattle.htcp_wire.specs.declared.message.Content.{Content}
 use Rattle.htcp_wire.specs.declared.message.Content.TheVariants as content
 use Rattle.htcp_wire.specs.declared.fault.HtcpFault.{HtcpFault}
 use Rattle.htcp_wire.specs.declared.numbers.HeaderKind.TheVariants.{PurgeNumber, PurgeStamp}
+use Rattle.htcp_wire.specs.Grammar.{tst, clr, not_allowed, not_implemented, was_dropped, was_not_held}
 use Rattle.htcp_wire.specs.Numbers.{number_in_text}
 use Rattle.object_store.specs.declared.copy.WebCopy.{WebCopy}
 use Rattle.object_store.specs.Listed.{copy_of, without, without_below}
@@ -83,7 +84,7 @@ unfoldable pub htcp_tst : {X : Type 0} → Setting → NodeState X → Address �
 htcp_tst g s from trans desired spec now =
     if_desired s desired from
     (if is_known g.roster g.id udp.Htcp from then htcp trans (tst_answer (copy_meant g s spec now))
-    else overall trans 1 5)
+    else overall trans tst not_allowed)
 
 -- Answers of peers to a round
 
@@ -154,12 +155,12 @@ htcp_told g s from trans said now mark =
 
 -- The code of a CLR response. 0: a copy was held and is gone. 2: none was held.
 abbrev pub clr_code : Bool → ℕ
-clr_code true = 0
-clr_code false = 2
+clr_code true = was_dropped
+clr_code false = was_not_held
 
 -- A CLR that is not allowed gets the overall code 5.
 abbrev pub clr_refused : {X : Type 0} → NodeState X → Address → ℕ → Bool → Stepped X
-clr_refused s from trans desired = if_desired s desired from (overall trans 4 5)
+clr_refused s from trans desired = if_desired s desired from (overall trans clr not_allowed)
 
 -- A CLR is answered by whether a copy was dropped.
 abbrev pub clr_done : {X : Type 0} → NodeState X → Address → ℕ → Bool → Bool → Stepped X
@@ -233,7 +234,7 @@ icp_comes g s from m now mark _ = icp_told g s from m now mark
 -- A response of another kind arrives. If its opcode is TST, the peer serves nothing. [Reply 5]
 unfoldable pub tst_refused : {X : Type 0} → Setting → NodeState X → Address → ℕ → ℕ → ℕ → X → Stepped X
 tst_refused g s from trans opcode now mark =
-    if opcode == 1 then htcp_told g s from trans (λ p. said.NoFetch) now mark else replies s quiet
+    if opcode == tst then htcp_told g s from trans (λ p. said.NoFetch) now mark else replies s quiet
 
 -- An HTCP message arrives. [Query 4, Reply 5]
 unfoldable pub htcp_comes : {X : Type 0} → Setting → NodeState X → Address → ℕ → ℕ → X → Content → Stepped X
@@ -245,7 +246,7 @@ htcp_comes g s from trans now mark (content.TstHit detail) = htcp_told g s from 
 htcp_comes g s from trans now mark (content.TstMiss cache) = htcp_told g s from trans (λ p. said.Miss) now mark
 htcp_comes g s from trans now mark (content.ClrAsk desired reason spec) = htcp_clr g s from trans desired spec
 htcp_comes g s from trans now mark (content.ClrAnswer code) = replies s quiet
-htcp_comes g s from trans now mark (content.Other opcode desired) = if_desired s desired from (overall trans opcode 2)
+htcp_comes g s from trans now mark (content.Other opcode desired) = if_desired s desired from (overall trans opcode not_implemented)
 htcp_comes g s from trans now mark (content.Overall opcode code) = tst_refused g s from trans opcode now mark
 htcp_comes g s from trans now mark (content.OtherAnswer opcode code) = tst_refused g s from trans opcode now mark
 
