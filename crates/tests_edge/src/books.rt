@@ -1,12 +1,11 @@
 //! Books of a node: entries, faults, and what they are closed to.
 use crate::held::{Held, node_of};
-use floor_rules::MemoryFloors;
-use http_messages::Ask;
+use crate::made::ask_of;
+use floor_rules::{FloorStore, MemoryFloors};
 use node_book::{BookFault, MOST_ENTRIES, NodeBook, NodeEntry, Record};
 use node_core::Node;
 use node_rules::{Begin, Event, StepFault};
-use std::test::Fail;
-use url_key::Key;
+use std::alloc::Global;
 
 /// One member, and the origin of `http://o/`.
 const ONE: &str = "default_lifetime = 60
@@ -36,33 +35,35 @@ struct Kept {
     book: NodeBook<MemoryFloors>,
 }
 
-fn book_over(rt: &HostRuntime, held: Held) -> Result<Kept, Fail> {
-    match NodeBook::open(rt.alloc(), held.node) {
-        Ok(book) => Ok(Kept { book }),
-        Err(_) => Err("the book".into()),
+fn book_over(alloc: Global, held: Held) -> Option<Kept> {
+    match NodeBook::open(alloc, held.node) {
+        Ok(book) => Some(Kept { book }),
+        Err(_) => None,
     }
 }
 
-fn book_of(rt: &HostRuntime) -> Result<Kept, Fail> {
-    book_over(rt, node_of(rt, ONE)?)
+fn book_of(alloc: Global) -> Option<Kept> {
+    let held = node_of(alloc, ONE)?;
+    book_over(alloc, held)
 }
 
-fn client(rt: &HostRuntime, only_if_cached: bool) -> Result<Event<()>, Fail> {
-    let ask = Ask {
-        key: Key::read(rt.alloc(), b"http://o/a")?,
-        only_if_cached,
-        no_cache: false,
-        member: None,
-    };
-    Ok(Event::Client { ask, now: 0 })
+fn client(alloc: Global, only_if_cached: bool) -> Option<Event<()>> {
+    let ask = ask_of(alloc, only_if_cached, false, None)?;
+    Some(Event::Client { ask, now: 0 })
 }
 
 /// Whether a step of a client's ask begins read 33.
-fn begins_read(book: &mut NodeBook<MemoryFloors>, event: Event<()>) -> bool {
+fn begins_read<S: FloorStore>(book: &mut NodeBook<S>, event: Event<()>) -> bool {
     match book.apply(3, 10, event) {
         Ok(reply) => matches!(reply.begin, Some(Begin::Read { serial: 33, .. })),
         Err(_) => false,
     }
+}
+
+/// Whether a failure of a fetch that there was not is refused.
+fn refuses_failure<S: FloorStore>(book: &mut NodeBook<S>) -> bool {
+    let refused = book.apply(4, 11, Event::FetchFailed { serial: 34, now: 1 });
+    matches!(refused, Err(BookFault::Step(StepFault::UnknownSerial)))
 }
 
 /// Whether the entries are a read that began, and a failure of a fetch that there was not.
@@ -79,12 +80,17 @@ fn are_entered(entries: &[NodeEntry]) -> bool {
     }
 }
 
+/// Whether a book has these entries, over a node that has begun one read.
+fn has_entries<S: FloorStore>(book: &NodeBook<S>) -> bool {
+    are_entered(book.entries()) && book.node().next() == 2
+}
+
 /// A read that begins and a step that is refused are entered with their outcomes.
-fn enter(rt: &HostRuntime, book: &mut NodeBook<MemoryFloors>) -> Result<bool, Fail> {
-    let is_begun = begins_read(book, client(rt, false)?);
-    let refused = book.apply(4, 11, Event::FetchFailed { serial: 34, now: 1 });
-    let is_refused = matches!(refused, Err(BookFault::Step(StepFault::UnknownSerial)));
-    Ok(is_begun && is_refused && are_entered(book.entries()) && book.node().next() == 2)
+fn enters<S: FloorStore>(alloc: Global, book: &mut NodeBook<S>) -> bool {
+    match client(alloc, false) {
+        Some(event) => begins_read(book, event) && refuses_failure(book) && has_entries(book),
+        None => false,
+    }
 }
 
 /// What a book is closed to.
@@ -102,14 +108,6 @@ fn close_of(kept: Kept) -> Option<Closed> {
     }
 }
 
-/// A book is closed to its node and the record of its steps.
-fn is_recorded(kept: Kept) -> bool {
-    match close_of(kept) {
-        Some(closed) => !closed.node.is_closed() && is_record(&closed.record),
-        None => false,
-    }
-}
-
 /// The record of these two steps of node 1.
 fn is_record(record: &Record) -> bool {
     record.node == 1
@@ -118,47 +116,64 @@ fn is_record(record: &Record) -> bool {
         && are_entered(record.entries.as_slice())
 }
 
-#[test]
-fn steps_are_entered(rt: HostRuntime) -> Result<(), Fail> {
-    let mut kept = book_of(&rt)?;
-    let are_entered = enter(&rt, &mut kept.book)?;
-    assert!(rt; are_entered);
-    assert!(rt; is_recorded(kept));
-    Ok(())
+/// An open node, and that record.
+fn is_kept(closed: &Closed) -> bool {
+    !closed.node.is_closed() && is_record(&closed.record)
 }
 
-/// Steps until the book is full, and whether all were taken.
-fn fill(rt: &HostRuntime, book: &mut NodeBook<MemoryFloors>) -> Result<bool, Fail> {
-    let mut taken = true;
-    for place in 0..MOST_ENTRIES as u64 {
-        taken = taken && book.apply(1, place, client(rt, true)?).is_ok();
+/// A book is closed to its node and the record of its steps.
+fn is_recorded(kept: Kept) -> bool {
+    match close_of(kept) {
+        Some(closed) => is_kept(&closed),
+        None => false,
     }
-    Ok(taken)
+}
+
+/// Whether a new book enters these steps, and is closed to their record.
+fn enters_and_records(alloc: Global) -> Option<(bool, bool)> {
+    let mut kept = book_of(alloc)?;
+    let is_entered = enters(alloc, &mut kept.book);
+    Some((is_entered, is_recorded(kept)))
+}
+
+#[test]
+fn steps_are_entered(rt: HostRuntime) {
+    assert!(rt; enters_and_records(rt.alloc()) == Some((true, true)));
+}
+
+/// Why an ask for a stored answer is not applied at a place.
+fn refusal<S: FloorStore>(alloc: Global, book: &mut NodeBook<S>, place: u64) -> Option<BookFault> {
+    match client(alloc, true) {
+        Some(event) => book.apply(1, place, event).err(),
+        None => Some(BookFault::NoMemory),
+    }
+}
+
+/// Whether the book takes steps up to its greatest length.
+fn fills<S: FloorStore>(alloc: Global, book: &mut NodeBook<S>) -> bool {
+    for place in 0..MOST_ENTRIES as u64 {
+        if refusal(alloc, book, place).is_some() {
+            return false;
+        }
+    }
+    true
 }
 
 /// A full book takes no step more.
-fn is_full(rt: &HostRuntime, book: &mut NodeBook<MemoryFloors>) -> Result<bool, Fail> {
-    let refused = book.apply(1, 0, client(rt, true)?);
-    let is_refused = matches!(refused, Err(BookFault::ShiftFull));
-    Ok(is_refused && book.entries().len() == MOST_ENTRIES)
+fn is_full<S: FloorStore>(alloc: Global, book: &mut NodeBook<S>) -> bool {
+    refusal(alloc, book, 0) == Some(BookFault::ShiftFull) && book.entries().len() == MOST_ENTRIES
 }
 
-/// Whether the book takes steps up to its greatest length, and then none.
-fn fills_up(rt: &HostRuntime, book: &mut NodeBook<MemoryFloors>) -> Result<bool, Fail> {
-    if fill(rt, book)? {
-        is_full(rt, book)
-    } else {
-        Ok(false)
-    }
+fn fills_up<S: FloorStore>(alloc: Global, book: &mut NodeBook<S>) -> bool {
+    fills(alloc, book) && is_full(alloc, book)
 }
 
-fn a_new_book_fills_up(rt: &HostRuntime) -> Result<bool, Fail> {
-    let mut kept = book_of(rt)?;
-    fills_up(rt, &mut kept.book)
+fn a_new_book_fills_up(alloc: Global) -> Option<bool> {
+    let mut kept = book_of(alloc)?;
+    Some(fills_up(alloc, &mut kept.book))
 }
 
 #[test]
-fn a_full_book(rt: HostRuntime) -> Result<(), Fail> {
-    assert!(rt; a_new_book_fills_up(&rt)?);
-    Ok(())
+fn a_full_book(rt: HostRuntime) {
+    assert!(rt; a_new_book_fills_up(rt.alloc()) == Some(true));
 }

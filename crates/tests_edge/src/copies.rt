@@ -1,132 +1,159 @@
 //! Copies of events and replies, each compared by what it says.
-use http_messages::{Answer, Ask, Body, Fields};
-use icp_wire::{Icp, IcpOp};
+use crate::made::{URL, answer_of, ask_of, key_of, query};
+use http_messages::{Answer, Fields};
 use node_copies::{copy_of_event, copy_of_reply};
 use node_rules::{
     Begin, Event, Message, Outgoing, Received, Reply, Sent, Serve, Served, can_be_answered, fits,
 };
 use object_store::WebCopy;
 use roster::{Address, Listed};
-use std::test::Fail;
-use url_key::Key;
-use values_plain::Octets;
+use std::alloc::Global;
 
-fn key_of(rt: &HostRuntime) -> Result<Key, Fail> {
-    Ok(Key::read(rt.alloc(), b"http://o/a")?)
-}
-
-fn ask_of(rt: &HostRuntime) -> Result<Ask, Fail> {
-    Ok(Ask {
-        key: key_of(rt)?,
-        only_if_cached: true,
-        no_cache: false,
-        member: Some(2),
-    })
-}
-
-fn answer_of(rt: &HostRuntime) -> Result<Answer, Fail> {
-    let fields = Fields::new(rt.alloc(), Vec::new(rt.alloc()))?;
-    let body = Body::from_slice(rt.alloc(), b"one")?;
-    Ok(Answer::new(200, fields, None, Some(3), body).ok_or("writable")?)
-}
-
-/// A QUERY for the URL under the number 7.
-fn query(rt: &HostRuntime) -> Result<Message, Fail> {
-    Ok(Message::Icp(Icp {
-        op: IcpOp::Query,
-        number: 7,
-        url: Octets::from_slice(rt.alloc(), b"http://o/a")?,
-        object: Octets::new(rt.alloc()),
-    }))
+/// An answer without fields.
+fn answer(alloc: Global) -> Option<Answer> {
+    let fields = Fields::new(alloc, Vec::new(alloc)).ok()?;
+    answer_of(alloc, fields, Some(3), "one")
 }
 
 fn says_query(message: &Message) -> bool {
     match message {
-        Message::Icp(icp) => icp.number == 7 && icp.url.as_slice() == b"http://o/a".as_slice(),
+        Message::Icp(icp) => icp.number == 7 && icp.url.as_slice() == URL.as_bytes(),
         Message::Htcp(_) => false,
     }
 }
 
-#[test]
-fn events_are_copied(rt: HostRuntime) -> Result<(), Fail> {
-    let message = query(&rt)?;
-    assert!(rt; can_be_answered(&message));
-    let event: Event<u64> = Event::Datagram {
-        from: Address { ip: 1, port: 2 },
-        message: Received::new(message),
-        now: 3,
-    };
-    match copy_of_event(rt.alloc(), &event)? {
-        Event::Datagram { from, message, now } => {
-            assert!(rt; from.port == 2 && now == 3 && says_query(message.message()));
-        }
-        _ => return Err("a datagram".into()),
+/// A QUERY that comes from an address, where it can be answered.
+fn datagram(alloc: Global) -> Option<Event<u64>> {
+    let message = query(alloc, 7)?;
+    if can_be_answered(&message) {
+        Some(Event::Datagram {
+            from: Address { ip: 1, port: 2 },
+            message: Received::new(message),
+            now: 3,
+        })
+    } else {
+        None
     }
-    let event: Event<u64> = Event::PeerAnswer {
+}
+
+fn peer_answer(alloc: Global) -> Option<Event<u64>> {
+    let key = key_of(alloc, URL)?;
+    let answer = answer(alloc)?;
+    Some(Event::PeerAnswer {
         serial: 33,
         peer: 2,
-        key: key_of(&rt)?,
-        answer: answer_of(&rt)?,
+        key,
+        answer,
         tag: 9,
         now: 4,
-    };
-    match copy_of_event(rt.alloc(), &event)? {
+    })
+}
+
+/// Whether an answer has the stamp 3 and the body `one`.
+fn says_one(answer: &Answer) -> bool {
+    answer.stamp() == Some(3) && answer.body() == b"one".as_slice()
+}
+
+/// Whether an event says what that datagram does, and whether it says what that answer does.
+fn said(event: &Event<u64>) -> (bool, bool) {
+    match event {
+        Event::Datagram { from, message, now } => (
+            from.port == 2 && *now == 3 && says_query(message.message()),
+            false,
+        ),
         Event::PeerAnswer {
             serial,
             answer,
             tag,
             ..
-        } => {
-            assert!(rt; serial == 33 && tag == 9 && answer.stamp() == Some(3));
-            assert!(rt; answer.body() == b"one".as_slice());
-        }
-        _ => return Err("an answer".into()),
+        } => (false, *serial == 33 && *tag == 9 && says_one(answer)),
+        _ => (false, false),
     }
-    Ok(())
 }
 
-/// A copy that is served to waiter 1, a QUERY that is sent, and a fetch that is begun.
-fn reply_of(rt: &HostRuntime) -> Result<Reply<u64>, Fail> {
-    let send = sent(rt)?;
-    let ask = ask_of(rt)?;
-    let key = key_of(rt)?;
-    let answer = answer_of(rt)?;
-    let copy = WebCopy {
+/// The same of the copy of an event.
+fn said_by_copy(alloc: Global, event: &Event<u64>) -> Option<(bool, bool)> {
+    let again = copy_of_event(alloc, event).ok()?;
+    Some(said(&again))
+}
+
+fn said_by_copy_of_datagram(alloc: Global) -> Option<(bool, bool)> {
+    let event = datagram(alloc)?;
+    said_by_copy(alloc, &event)
+}
+
+fn said_by_copy_of_answer(alloc: Global) -> Option<(bool, bool)> {
+    let event = peer_answer(alloc)?;
+    said_by_copy(alloc, &event)
+}
+
+#[test]
+fn events_are_copied(rt: HostRuntime) {
+    let alloc = rt.alloc();
+    assert!(rt; said_by_copy_of_datagram(alloc) == Some((true, false)));
+    assert!(rt; said_by_copy_of_answer(alloc) == Some((false, true)));
+}
+
+fn copy_held(alloc: Global) -> Option<WebCopy<u64>> {
+    let key = key_of(alloc, URL)?;
+    let answer = answer(alloc)?;
+    Some(WebCopy {
         key,
         stamp: 3,
         asked: 100,
         lifetime: 60,
         answer,
         tag: 9,
-    };
-    let serve = Serve {
+    })
+}
+
+/// A copy that is served to waiter 1.
+fn serve(alloc: Global) -> Option<Serve<u64>> {
+    let copy = copy_held(alloc)?;
+    Some(Serve {
         waiter: Some(1),
         asker: None,
         served: Served::Copy { copy, age: 5 },
-    };
-    let begin = Begin::Peer {
-        serial: 33,
-        peer: 2,
-        ask,
-    };
-    Ok(Reply {
-        serve: Some(serve),
-        send,
-        begin: Some(begin),
     })
 }
 
 /// A QUERY to one peer.
-fn sent(rt: &HostRuntime) -> Result<Listed<Outgoing>, Fail> {
-    let message = query(rt)?;
-    if !fits(&message) {
-        return Err("a message that fits".into());
+fn sent(alloc: Global) -> Option<Outgoing> {
+    let message = query(alloc, 7)?;
+    if fits(&message) {
+        Some(Outgoing {
+            to: Address { ip: 1, port: 2 },
+            message: Sent::new(message),
+        })
+    } else {
+        None
     }
-    let sent = Outgoing {
-        to: Address { ip: 1, port: 2 },
-        message: Sent::new(message),
-    };
-    Ok(Listed::new(vec![in rt.alloc(); sent]?))
+}
+
+fn all_sent(alloc: Global) -> Option<Listed<Outgoing>> {
+    let sent = sent(alloc)?;
+    let list = vec![in alloc; sent].ok()?;
+    Some(Listed::new(list))
+}
+
+/// A fetch that is begun.
+fn begin(alloc: Global) -> Option<Begin> {
+    let ask = ask_of(alloc, true, false, Some(2))?;
+    Some(Begin::Peer {
+        serial: 33,
+        peer: 2,
+        ask,
+    })
+}
+
+/// A copy that is served, a QUERY that is sent, and a fetch that is begun. What there is no memory for is missing, which a comparison finds.
+fn reply_of(alloc: Global) -> Option<Reply<u64>> {
+    let send = all_sent(alloc)?;
+    Some(Reply {
+        serve: serve(alloc),
+        send,
+        begin: begin(alloc),
+    })
 }
 
 fn serves_copy(serve: &Option<Serve<u64>>) -> bool {
@@ -160,19 +187,27 @@ fn sends_query(send: &[Outgoing]) -> bool {
     }
 }
 
-/// Whether the copy of that reply serves the copy, sends the QUERY and begins the fetch.
-fn copied(rt: &HostRuntime) -> Result<(bool, bool, bool), Fail> {
-    let reply = reply_of(rt)?;
-    let again = copy_of_reply(rt.alloc(), &reply)?;
-    Ok((
-        serves_copy(&again.serve),
-        sends_query(again.send.as_slice()),
-        begins_fetch(&again.begin),
-    ))
+/// Whether a reply serves the copy, sends the QUERY and begins the fetch.
+fn says_reply(reply: &Reply<u64>) -> (bool, bool, bool) {
+    (
+        serves_copy(&reply.serve),
+        sends_query(reply.send.as_slice()),
+        begins_fetch(&reply.begin),
+    )
+}
+
+/// What the copy of a reply says.
+fn copy_says(alloc: Global, reply: &Reply<u64>) -> Option<(bool, bool, bool)> {
+    let again = copy_of_reply(alloc, reply).ok()?;
+    Some(says_reply(&again))
+}
+
+fn copied(alloc: Global) -> Option<(bool, bool, bool)> {
+    let reply = reply_of(alloc)?;
+    copy_says(alloc, &reply)
 }
 
 #[test]
-fn replies_are_copied(rt: HostRuntime) -> Result<(), Fail> {
-    assert_eq!(rt; copied(&rt)?, (true, true, true));
-    Ok(())
+fn replies_are_copied(rt: HostRuntime) {
+    assert!(rt; copied(rt.alloc()) == Some((true, true, true)));
 }

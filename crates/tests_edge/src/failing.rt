@@ -1,12 +1,12 @@
 //! What one who asks over HTTP is told where the step is refused, and what is left of a served copy where the writer fails.
-use crate::held::{TWO, Tested, node_of};
+use crate::held::{TWO, node_of};
 use crate::http::{
-    ANY, HELD, HELD_FOR_A_MEMBER, OF_MEMBER_2, UNAVAILABLE, ask_by, fetch, is_refused,
+    ANY, End, HELD, HELD_FOR_A_MEMBER, OF_MEMBER_2, UNAVAILABLE, ends_so, fetches, is_answered,
 };
 use node_bytes::Stepper;
 use node_rules::{Event, Reply, StepFault};
+use std::alloc::Global;
 use std::io::{self, Error, ErrorKind, Write};
-use std::test::Fail;
 
 /// What refuses each step with the same fault, and counts them.
 #[derive(Drop)]
@@ -24,29 +24,34 @@ impl Stepper for Refusing {
     }
 }
 
-/// An ask whose step is refused takes that step alone, is answered with these words, and the 503 is all that is written.
-fn is_told(rt: &HostRuntime, ask: &[u8], fault: StepFault, words: &str) -> Result<bool, Fail> {
+/// An ask whose step is refused takes that step alone, is told this name of its fault, and the 503 is all that is written.
+fn is_told(alloc: Global, ask: &[u8], fault: StepFault, name: &'static str) -> bool {
     let mut node = Refusing { fault, steps: 0 };
-    let is_told = is_refused(rt, &mut node, ask, words, UNAVAILABLE)?;
-    Ok(is_told && node.steps == 1)
+    let is_told = is_answered(alloc, &mut node, ask, 9, End::Step(name), UNAVAILABLE);
+    is_told && node.steps == 1
 }
 
-/// A client and a member are both told so.
-fn are_told(rt: &HostRuntime, fault: StepFault, words: &str) -> Result<bool, Fail> {
-    Ok(is_told(rt, ANY, fault, words)? && is_told(rt, OF_MEMBER_2, fault, words)?)
+/// What refuses a step, and its name.
+const REFUSALS: [(StepFault, &str); 4] = [
+    (StepFault::Busy, "Busy"),
+    (StepFault::Closed, "Closed"),
+    (StepFault::StoreFault, "StoreFault"),
+    (StepFault::NoMemory, "NoMemory"),
+];
+
+/// The first fault of which a client or a member is told otherwise.
+fn told_otherwise(alloc: Global) -> Option<StepFault> {
+    for (fault, name) in &REFUSALS {
+        if !is_told(alloc, ANY, *fault, *name) || !is_told(alloc, OF_MEMBER_2, *fault, *name) {
+            return Some(*fault);
+        }
+    }
+    None
 }
 
 #[test]
-fn refused_steps_are_told(rt: HostRuntime) -> Result<(), Fail> {
-    for (fault, words) in [
-        (StepFault::Busy, "step Busy"),
-        (StepFault::Closed, "step Closed"),
-        (StepFault::StoreFault, "step StoreFault"),
-        (StepFault::NoMemory, "step NoMemory"),
-    ] {
-        assert!(rt; are_told(&rt, fault, words)?, "{words}");
-    }
-    Ok(())
+fn refused_steps_are_told(rt: HostRuntime) {
+    assert_eq!(rt; told_otherwise(rt.alloc()), None);
 }
 
 /// A writer that takes one octet a call, fails once when its room is used up, and takes any octet afterwards.
@@ -77,58 +82,47 @@ impl Write for Failing {
 }
 
 /// A writer that fails after so many octets of a served text holds those and nothing else, and its failure is told.
-fn is_cut(
-    rt: &HostRuntime,
-    node: &mut Tested,
-    ask: &[u8],
-    text: &[u8],
-    room: usize,
-) -> Result<bool, Fail> {
+fn is_cut<N: Stepper>(alloc: Global, node: &mut N, ask: &[u8], text: &[u8], room: usize) -> bool {
     let mut reader = ask;
     let mut writer = Failing {
-        taken: Vec::new(rt.alloc()),
+        taken: Vec::new(alloc),
         room,
     };
-    let said = ask_by(rt, node, &mut reader, &mut writer, 130)?;
-    Ok(said.as_str() == "fetch Io" && text.get(..room) == Some(writer.taken.as_slice()))
+    let is_told = ends_so(alloc, node, &mut reader, &mut writer, 130, End::Fetch("Io"));
+    is_told && text.get(..room) == Some(writer.taken.as_slice())
 }
 
 /// The first number of octets after which it is otherwise.
-fn cut_badly(
-    rt: &HostRuntime,
-    node: &mut Tested,
-    ask: &[u8],
-    text: &[u8],
-) -> Result<Option<usize>, Fail> {
+fn cut_badly<N: Stepper>(alloc: Global, node: &mut N, ask: &[u8], text: &[u8]) -> Option<usize> {
     for room in 0..text.len() {
-        if !is_cut(rt, node, ask, text, room)? {
-            return Ok(Some(room));
+        if !is_cut(alloc, node, ask, text, room) {
+            return Some(room);
         }
     }
-    Ok(None)
+    None
 }
 
 /// The same of a copy that this node fetches first, as it is served to a client and to a member.
-fn copies_cut_badly(
-    rt: &HostRuntime,
-    node: &mut Tested,
-) -> Result<(Option<usize>, Option<usize>), Fail> {
-    fetch(rt, node)?;
-    Ok((
-        cut_badly(rt, node, ANY, HELD)?,
-        cut_badly(rt, node, OF_MEMBER_2, HELD_FOR_A_MEMBER)?,
+fn copies_cut_badly<N: Stepper>(
+    alloc: Global,
+    node: &mut N,
+) -> Option<(Option<usize>, Option<usize>)> {
+    if !fetches(alloc, node) {
+        return None;
+    }
+    Some((
+        cut_badly(alloc, node, ANY, HELD),
+        cut_badly(alloc, node, OF_MEMBER_2, HELD_FOR_A_MEMBER),
     ))
 }
 
 /// The same of a new node.
-fn fetched_and_cut_badly(rt: &HostRuntime) -> Result<(Option<usize>, Option<usize>), Fail> {
-    let mut held = node_of(rt, TWO)?;
-    copies_cut_badly(rt, &mut held.node)
+fn fetched_and_cut_badly(alloc: Global) -> Option<(Option<usize>, Option<usize>)> {
+    let mut held = node_of(alloc, TWO)?;
+    copies_cut_badly(alloc, &mut held.node)
 }
 
 #[test]
-fn served_copies_are_cut_where_the_writer_fails(rt: HostRuntime) -> Result<(), Fail> {
-    let wrong = fetched_and_cut_badly(&rt)?;
-    assert_eq!(rt; wrong, (None, None));
-    Ok(())
+fn served_copies_are_cut_where_the_writer_fails(rt: HostRuntime) {
+    assert_eq!(rt; fetched_and_cut_badly(rt.alloc()), Some((None, None)));
 }

@@ -2,7 +2,7 @@
 use floor_rules::MemoryFloors;
 use node_core::Node;
 use roster::Roster;
-use std::test::Fail;
+use std::alloc::Global;
 
 /// Two siblings, which ask each other by ICP, and the origin of `http://o/`.
 pub(crate) const TWO: &str = "default_lifetime = 60
@@ -41,29 +41,25 @@ address = \"127.0.0.1\"
 connect = 8080
 ";
 
-pub(crate) type Tested = Node<(), MemoryFloors>;
-
 /// A node that is let go as a whole.
 #[derive(Drop)]
 pub(crate) struct Held {
-    pub(crate) node: Tested,
+    pub(crate) node: Node<(), MemoryFloors>,
 }
 
-pub(crate) fn roster_of(rt: &HostRuntime, text: &str) -> Result<Roster, Fail> {
-    match Roster::read(rt.alloc(), text) {
-        Ok(roster) => Ok(roster),
-        Err(error) => Err(error.fault.name().into()),
-    }
+pub(crate) fn roster_of(alloc: Global, text: &str) -> Option<Roster> {
+    Roster::read(alloc, text).ok()
 }
 
-fn opened(rt: &HostRuntime, roster: Roster) -> Result<Held, Fail> {
-    match Node::open(rt.alloc(), roster, 1, MemoryFloors::new(rt.alloc())) {
-        Ok(node) => Ok(Held { node }),
-        Err(fault) => Err(fault.name().into()),
+fn opened(alloc: Global, roster: Roster) -> Option<Held> {
+    match Node::open(alloc, roster, 1, MemoryFloors::new(alloc)) {
+        Ok(node) => Some(Held { node }),
+        Err(_) => None,
     }
 }
 
 /// The node of member 1 of a roster, which holds nothing.
-pub(crate) fn node_of(rt: &HostRuntime, text: &str) -> Result<Held, Fail> {
-    opened(rt, roster_of(rt, text)?)
+pub(crate) fn node_of(alloc: Global, text: &str) -> Option<Held> {
+    let roster = roster_of(alloc, text)?;
+    opened(alloc, roster)
 }

@@ -1,14 +1,14 @@
 //! Asks at node 1 of a roster of two siblings: what its caller is told, and what a reader, a writer or a node that fails leaves.
-use crate::held::{TWO, Tested, node_of, roster_of};
+use crate::held::{TWO, node_of, roster_of};
+use crate::made::{URL, answer_of, fields_of, key_of};
 use crate::octets::refuses;
-use http_header::{HeaderName, HeaderValue};
-use http_messages::{Answer, Body, FetchFault, Field, Fields};
+use http_messages::FetchFault;
 use node_bytes::{Stepper, Turn};
 use node_http::{Asked, ServeFault, finish, serve_ask};
-use node_rules::{Begin, Event, StepFault};
+use node_rules::{Begin, Event, Serve, StepFault};
+use roster::Roster;
+use std::alloc::Global;
 use std::io::{self, Error, ErrorKind, Read, Write};
-use std::test::Fail;
-use url_key::Key;
 
 /// An ask for a stored answer alone.
 const CACHED: &[u8] =
@@ -55,96 +55,97 @@ impl Read for Broken {
     }
 }
 
-/// The origin's answer: one body with a lifetime of 60 seconds.
-fn origin_answer(rt: &HostRuntime) -> Result<Answer, Fail> {
-    let name = HeaderName::from_bytes(rt.alloc(), b"cache-control")?;
-    let value = HeaderValue::from_bytes(rt.alloc(), b"max-age=60")?;
-    let fields = Fields::new(rt.alloc(), vec![in rt.alloc(); Field { name, value }]?)?;
-    let body = Body::from_slice(rt.alloc(), b"one")?;
-    Ok(Answer::new(200, fields, None, None, body).ok_or("writable")?)
+/// What becomes of an ask.
+#[derive(Clone, Copy)]
+pub(crate) enum End {
+    /// It waits in block 1, for a round.
+    Waits,
+    /// It is not read, or no answer is written, for the fault of this name.
+    Fetch(&'static str),
+    /// Its step is refused, for the fault of this name.
+    Step(&'static str),
 }
 
-/// Asks node 1 at a moment. What is written, and what became of the ask, in short.
-fn ask<N: Stepper>(
-    rt: &HostRuntime,
-    node: &mut N,
-    text: &[u8],
-    now: u64,
-) -> Result<(Vec<u8>, String), Fail> {
-    let mut reader = text;
-    let mut written = Vec::new(rt.alloc());
-    let said = ask_by(rt, node, &mut reader, &mut written, now)?;
-    Ok((written, said))
+/// A turn that serves nobody, sends one datagram and begins the round of block 1.
+fn begins_round(turn: &Turn) -> bool {
+    turn.serve.is_none()
+        && turn.send.as_slice().len() == 1
+        && matches!(&turn.begin, Some(Begin::Round { serial: 32 }))
 }
 
-/// What a call is answered.
-fn said(rt: &HostRuntime, outcome: &Result<Asked, ServeFault>) -> Result<String, Fail> {
-    let alloc = rt.alloc();
-    Ok(match outcome {
-        Ok(Asked::Answered) => format!(in alloc; "answered")?,
-        Ok(Asked::Waits(block, turn)) => waiting(rt, *block, turn)?,
-        Err(ServeFault::Fetch(fault)) => format!(in alloc; "fetch {}", fault.name())?,
-        Err(ServeFault::Step(fault)) => format!(in alloc; "step {}", fault.name())?,
-    })
+/// Whether what a call is answered tells that end.
+fn tells(outcome: &Result<Asked, ServeFault>, end: End) -> bool {
+    match (outcome, end) {
+        (Ok(Asked::Waits(block, turn)), End::Waits) => *block == 1 && begins_round(turn),
+        (Err(ServeFault::Fetch(fault)), End::Fetch(name)) => fault.name() == name,
+        (Err(ServeFault::Step(fault)), End::Step(name)) => fault.name() == name,
+        _ => false,
+    }
 }
 
-/// What became of an ask, in short.
-pub(crate) fn ask_by<N: Stepper, R: Read, W: Write>(
-    rt: &HostRuntime,
+/// Whether an ask of node 1 of this roster ends so.
+fn ends_over<N: Stepper, R: Read, W: Write>(
+    alloc: Global,
+    roster: &Roster,
     node: &mut N,
     reader: &mut R,
     writer: &mut W,
     now: u64,
-) -> Result<String, Fail> {
-    let roster = roster_of(rt, TWO)?;
+    end: End,
+) -> bool {
     if !roster.is_member(1) {
-        return Err("no such node".into());
+        return false;
     }
-    let outcome = serve_ask(rt.alloc(), &roster, 1, node, reader, writer, now);
-    said(rt, &outcome)
+    let outcome = serve_ask(alloc, roster, 1, node, reader, writer, now);
+    tells(&outcome, end)
 }
 
-/// What waits, in short.
-fn waiting(rt: &HostRuntime, block: u32, turn: &Turn) -> Result<String, Fail> {
-    let sent = turn.send.as_slice().len();
-    Ok(match &turn.begin {
-        Some(Begin::Round { serial }) if turn.serve.is_none() => {
-            format!(in rt.alloc(); "block {block} sends {sent} round {serial}")?
-        }
-        _ => format!(in rt.alloc(); "block {block}")?,
-    })
-}
-
-/// Takes a step through the bound, and writes what it serves.
-fn step_and_finish<N: Stepper>(
-    rt: &HostRuntime,
+/// Whether an ask of node 1 of two siblings, at a moment, ends so.
+pub(crate) fn ends_so<N: Stepper, R: Read, W: Write>(
+    alloc: Global,
     node: &mut N,
-    event: Event<()>,
-) -> Result<Vec<u8>, Fail> {
-    let mut text = Vec::new(rt.alloc());
-    let reply = node.step(event)?;
-    if let Some(serve) = &reply.serve {
-        finish(&mut text, serve, b"n1")?;
+    reader: &mut R,
+    writer: &mut W,
+    now: u64,
+    end: End,
+) -> bool {
+    match roster_of(alloc, TWO) {
+        Some(roster) => ends_over(alloc, &roster, node, reader, writer, now, end),
+        None => false,
     }
-    Ok(text)
 }
 
-/// What is asked is refused, with these words and this text.
-pub(crate) fn is_refused<N: Stepper>(
-    rt: &HostRuntime,
+/// Whether an ask ends so, and this text is written.
+pub(crate) fn is_answered<N: Stepper>(
+    alloc: Global,
     node: &mut N,
+    ask: &[u8],
+    now: u64,
+    end: End,
     text: &[u8],
-    words: &str,
-    expected: &[u8],
-) -> Result<bool, Fail> {
-    let (written, said) = ask(rt, node, text, 9)?;
-    Ok(said.as_str() == words && written.as_slice() == expected)
+) -> bool {
+    let mut reader = ask;
+    let mut written = Vec::new(alloc);
+    let ends = ends_so(alloc, node, &mut reader, &mut written, now, end);
+    ends && written.as_slice() == text
 }
 
-/// What is asked waits, with these words, and nothing is written.
-fn is_waiting(rt: &HostRuntime, node: &mut Tested, now: u64, words: &str) -> Result<bool, Fail> {
-    let (written, said) = ask(rt, node, ANY, now)?;
-    Ok(said.as_str() == words && written.is_empty())
+/// How many octets are written where this is served.
+fn octets_of(alloc: Global, serve: &Serve<()>) -> Option<usize> {
+    let mut text = Vec::new(alloc);
+    match finish(&mut text, serve, b"n1") {
+        Ok(()) => Some(text.len()),
+        Err(_) => None,
+    }
+}
+
+/// Takes a step through the bound, and writes what it serves: how many octets.
+fn step_and_finish<N: Stepper>(alloc: Global, node: &mut N, event: Event<()>) -> Option<usize> {
+    let reply = node.step(event).ok()?;
+    match &reply.serve {
+        Some(serve) => octets_of(alloc, serve),
+        None => Some(0),
+    }
 }
 
 /// The round of the first block ends.
@@ -153,118 +154,115 @@ const ROUND_ENDS: Event<()> = Event::Expired {
     now: 100,
 };
 
-/// The origin answers the first read.
-fn origin_answers(rt: &HostRuntime) -> Result<Event<()>, Fail> {
-    Ok(Event::OriginAnswer {
+/// The origin answers the first read: one body with a lifetime of 60 seconds.
+fn origin_answers(alloc: Global) -> Option<Event<()>> {
+    let fields = fields_of(alloc, "cache-control", "max-age=60")?;
+    let answer = answer_of(alloc, fields, None, "one")?;
+    let key = key_of(alloc, URL)?;
+    Some(Event::OriginAnswer {
         serial: 33,
-        key: Key::read(rt.alloc(), b"http://o/a")?,
-        answer: origin_answer(rt)?,
+        key,
+        answer,
         now: 101,
     })
 }
 
-/// An ask for any answer waits at 100, its round ends, and the origin's answer comes: what is written then.
-pub(crate) fn fetch(rt: &HostRuntime, node: &mut Tested) -> Result<Vec<u8>, Fail> {
-    if !is_waiting(rt, node, 100, "block 1 sends 1 round 32")? {
-        return Err("it does not wait".into());
-    }
-    if !step_and_finish(rt, node, ROUND_ENDS)?.is_empty() {
-        return Err("it is answered too early".into());
-    }
-    step_and_finish(rt, node, origin_answers(rt)?)
+/// An ask for any answer waits at 100, its round ends, and nothing is written.
+fn waits_for_the_origin<N: Stepper>(alloc: Global, node: &mut N) -> bool {
+    is_answered(alloc, node, ANY, 100, End::Waits, b"")
+        && step_and_finish(alloc, node, ROUND_ENDS) == Some(0)
 }
 
-/// A head that does not end.
-fn long_head(rt: &HostRuntime) -> Result<Vec<u8>, Fail> {
-    let mut text = Vec::new(rt.alloc());
-    for _ in 0..16_385 {
-        text.push(b'a')?;
+/// Such an ask waits, and the origin's answer comes, which is written.
+pub(crate) fn fetches<N: Stepper>(alloc: Global, node: &mut N) -> bool {
+    if !waits_for_the_origin(alloc, node) {
+        return false;
     }
-    Ok(text)
+    match origin_answers(alloc) {
+        Some(event) => step_and_finish(alloc, node, event).is_some(),
+        None => false,
+    }
 }
 
-/// A node that was closed tells so, of a datagram and of an ask.
-fn tells_that_it_is_closed(rt: &HostRuntime) -> Result<bool, Fail> {
-    let mut held = node_of(rt, TWO)?;
-    if !refuses(rt, &mut held.node) {
-        return Ok(false);
-    }
-    is_refused(rt, &mut held.node, CACHED, "step Closed", UNAVAILABLE)
+/// A node tells that it is closed, of a datagram and of an ask.
+fn tells_of_its_close<N: Stepper>(alloc: Global, node: &mut N) -> bool {
+    refuses(alloc, node) && is_answered(alloc, node, CACHED, 9, End::Step("Closed"), UNAVAILABLE)
+}
+
+/// A new node that is closed does so.
+fn tells_that_it_is_closed(alloc: Global) -> Option<bool> {
+    let mut held = node_of(alloc, TWO)?;
+    held.node.close();
+    Some(tells_of_its_close(alloc, &mut held.node))
 }
 
 #[test]
-fn a_closed_node_is_told(rt: HostRuntime) -> Result<(), Fail> {
-    let is_told = tells_that_it_is_closed(&rt)?;
-    assert!(rt; is_told);
-    Ok(())
+fn a_closed_node_is_told(rt: HostRuntime) {
+    assert!(rt; tells_that_it_is_closed(rt.alloc()) == Some(true));
 }
 
-/// A writer with room for nine octets holds those of a text; and what became of the ask is this.
-fn fills_a_writer(
-    rt: &HostRuntime,
-    node: &mut Tested,
-    text: &[u8],
-    words: &str,
-) -> Result<bool, Fail> {
+/// A writer with room for nine octets holds those of a text; and the ask ends by the fault of this name.
+fn fills_a_writer<N: Stepper>(alloc: Global, node: &mut N, ask: &[u8], name: &'static str) -> bool {
     let mut room = [0; 9];
-    let mut reader = text;
+    let mut reader = ask;
     let mut writer = room.as_mut_slice();
-    let said = ask_by(rt, node, &mut reader, &mut writer, 9)?;
-    Ok(said.as_str() == words && room.as_slice() == b"HTTP/1.1 ".as_slice())
+    let ends = ends_so(alloc, node, &mut reader, &mut writer, 9, End::Fetch(name));
+    ends && room.as_slice() == b"HTTP/1.1 ".as_slice()
 }
 
-/// Asks that fill such a writer, and what a call with them is answered: the writer that fails is told, unless the ask is bad, which is told first.
+/// Asks that fill such a writer, and the fault that a call with them tells: that of the writer, unless the ask is bad, which is told first.
 const FILLING: [(&[u8], &str); 6] = [
-    (CACHED, "fetch Io"),
-    (NO_HOST, "fetch BadHead"),
-    (NO_KEY, "fetch BadTarget"),
-    (WITH_A_BODY, "fetch BadBody"),
-    (POST, "fetch MethodNotServed"),
-    (AUTHORIZED, "fetch Credentials"),
+    (CACHED, "Io"),
+    (NO_HOST, "BadHead"),
+    (NO_KEY, "BadTarget"),
+    (WITH_A_BODY, "BadBody"),
+    (POST, "MethodNotServed"),
+    (AUTHORIZED, "Credentials"),
 ];
 
-/// All of them do so, and a head that is too long does.
-fn tells_of_its_writer(rt: &HostRuntime, node: &mut Tested) -> Result<bool, Fail> {
-    for (text, words) in &FILLING {
-        if !fills_a_writer(rt, node, text, words)? {
-            return Ok(false);
+/// All of them do so.
+fn tells_of_its_writer<N: Stepper>(alloc: Global, node: &mut N) -> bool {
+    for (ask, name) in &FILLING {
+        if !fills_a_writer(alloc, node, ask, *name) {
+            return false;
         }
     }
-    let long = long_head(rt)?;
-    fills_a_writer(rt, node, long.as_slice(), "fetch HeadTooLong")
+    true
 }
 
-/// A reader that ends early or fails is told, and nothing is written.
-fn tells_of_its_reader(rt: &HostRuntime, node: &mut Tested) -> Result<bool, Fail> {
-    if !is_refused(rt, node, CUT, "fetch EndOfInput", b"")? {
-        return Ok(false);
+/// A head that is too long does so too.
+fn tells_of_a_long_head<N: Stepper>(alloc: Global, node: &mut N) -> bool {
+    match vec![in alloc; b'a'; 16_385] {
+        Ok(head) => fills_a_writer(alloc, node, head.as_slice(), "HeadTooLong"),
+        Err(_) => false,
     }
-    let mut written = Vec::new(rt.alloc());
-    let said = ask_by(rt, node, &mut Broken, &mut written, 9)?;
-    Ok(said.as_str() == "fetch Io" && written.is_empty())
 }
 
-/// A new node tells both.
-fn tells_of_its_streams(rt: &HostRuntime) -> Result<(bool, bool), Fail> {
-    let mut held = node_of(rt, TWO)?;
-    tells_of_both(rt, &mut held.node)
+/// A reader that fails is told, and nothing is written.
+fn tells_of_its_reader<N: Stepper>(alloc: Global, node: &mut N) -> bool {
+    let mut written = Vec::new(alloc);
+    let ends = ends_so(alloc, node, &mut Broken, &mut written, 9, End::Fetch("Io"));
+    ends && written.is_empty()
 }
 
-fn tells_of_both(rt: &HostRuntime, node: &mut Tested) -> Result<(bool, bool), Fail> {
-    Ok((
-        tells_of_its_writer(rt, node)?,
-        tells_of_its_reader(rt, node)?,
-    ))
+/// Whether a node tells of its writer, and whether of its reader, also of one that ends early.
+fn tells_of_both<N: Stepper>(alloc: Global, node: &mut N) -> (bool, bool) {
+    (
+        tells_of_its_writer(alloc, node) && tells_of_a_long_head(alloc, node),
+        is_answered(alloc, node, CUT, 9, End::Fetch("EndOfInput"), b"")
+            && tells_of_its_reader(alloc, node),
+    )
+}
+
+/// The same of a new node.
+fn tells_of_its_streams(alloc: Global) -> Option<(bool, bool)> {
+    let mut held = node_of(alloc, TWO)?;
+    Some(tells_of_both(alloc, &mut held.node))
 }
 
 #[test]
-fn failing_streams_are_told(rt: HostRuntime) -> Result<(), Fail> {
-    let told = tells_of_its_streams(&rt)?;
-    assert_eq!(rt; told, (true, true));
-    assert_eq!(&rt; ServeFault::Fetch(FetchFault::NoMemory).name(), "NoMemory");
-    assert_eq!(&rt;
-        ServeFault::Step(StepFault::StoreFault).name(),
-        "StoreFault"
-    );
-    Ok(())
+fn failing_streams_are_told(rt: HostRuntime) {
+    assert!(rt; tells_of_its_streams(rt.alloc()) == Some((true, true)));
+    assert!(rt; ServeFault::Fetch(FetchFault::NoMemory).name() == "NoMemory");
+    assert!(rt; ServeFault::Step(StepFault::StoreFault).name() == "StoreFault");
 }

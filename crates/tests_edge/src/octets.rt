@@ -1,10 +1,10 @@
 //! Datagrams that a closed node refuses, and such that acknowledge purges to the master (RFC 2756).
-use crate::held::{TWO, Tested, roster_of};
-use node_bytes::{master_call_of, on_datagram};
+use crate::held::{TWO, roster_of};
+use node_bytes::{Stepper, master_call_of, on_datagram};
 use node_rules::StepFault;
 use purge_rules::MasterCall;
-use roster::{Address, Udp};
-use std::test::Fail;
+use roster::{Address, Roster, Udp};
+use std::alloc::Global;
 
 /// A QUERY for `http://o/a` under the number 7.
 const QUERY: &[u8] =
@@ -30,15 +30,27 @@ fn at(port: u16) -> Address {
     }
 }
 
-/// Whether a closed node refuses a datagram.
-pub(crate) fn refuses(rt: &HostRuntime, node: &mut Tested) -> bool {
-    node.close();
-    let refused = on_datagram(rt.alloc(), node, Udp::Icp, at(3102), HIT_32, 9);
+/// Whether a datagram is refused because the node is closed.
+pub(crate) fn refuses<N: Stepper>(alloc: Global, node: &mut N) -> bool {
+    let refused = on_datagram(alloc, node, Udp::Icp, at(3102), HIT_32, 9);
     matches!(refused, Err(StepFault::Closed))
 }
 
+/// The port that octets come from, and the member that acknowledges transaction 7 with code 2 by them.
+const CALLS: [(u16, &[u8], Option<u8>); 9] = [
+    (4102, CLEARED, Some(2)),
+    (4101, CLEARED, Some(1)),
+    (3102, CLEARED, None),
+    (4800, CLEARED, None),
+    (9, CLEARED, None),
+    (4102, DISALLOWED, None),
+    (4102, NOP, None),
+    (4102, QUERY, None),
+    (4102, b"", None),
+];
+
 /// The member that acknowledges transaction 7 with code 2.
-fn acknowledging(call: Option<MasterCall>) -> Option<u8> {
+fn acknowledging(call: &Option<MasterCall>) -> Option<u8> {
     match call {
         Some(
             MasterCall::Acknowledge {
@@ -46,28 +58,42 @@ fn acknowledging(call: Option<MasterCall>) -> Option<u8> {
                 trans: 7,
                 code: 2,
             },
-        ) => Some(member),
+        ) => Some(*member),
         _ => None,
     }
 }
 
-#[test]
-fn acknowledgements_come(rt: HostRuntime) -> Result<(), Fail> {
-    let roster = roster_of(&rt, TWO)?;
-    for (from, octets, expected) in [
-        (4102, CLEARED, Some(2)),
-        (4101, CLEARED, Some(1)),
-        (3102, CLEARED, None),
-        (4800, CLEARED, None),
-        (9, CLEARED, None),
-        (4102, DISALLOWED, None),
-        (4102, NOP, None),
-        (4102, QUERY, None),
-        (4102, b"".as_slice(), None),
-    ] {
-        let call = master_call_of(rt.alloc(), &roster, at(from), octets)?;
-        let member = acknowledging(call);
-        assert!(rt; member == expected, "from {from}");
+/// Whether octets from this port make the call of this member, or none.
+fn is_call_of(
+    alloc: Global,
+    roster: &Roster,
+    from: u16,
+    octets: &[u8],
+    expected: Option<u8>,
+) -> bool {
+    match master_call_of(alloc, roster, at(from), octets) {
+        Ok(call) => acknowledging(&call) == expected,
+        Err(_) => false,
     }
-    Ok(())
+}
+
+/// The first of those ports whose octets make another call.
+fn wrong_port(alloc: Global, roster: &Roster) -> Option<u16> {
+    for (from, octets, expected) in &CALLS {
+        if !is_call_of(alloc, roster, *from, octets, *expected) {
+            return Some(*from);
+        }
+    }
+    None
+}
+
+/// The same of a roster of two siblings, where there is one.
+fn wrong_port_of_two(alloc: Global) -> Option<Option<u16>> {
+    let roster = roster_of(alloc, TWO)?;
+    Some(wrong_port(alloc, &roster))
+}
+
+#[test]
+fn acknowledgements_come(rt: HostRuntime) {
+    assert_eq!(rt; wrong_port_of_two(rt.alloc()), Some(None));
 }
