@@ -14,6 +14,7 @@ use values_lines::{RunFault, Script, is_word, play};
 use values_plain::Udp;
 
 /// What answers the lines of `cache wire`. A contract sees it as its protocol.
+#[derive(Drop)]
 struct WireLines {
     by: Udp,
 }
