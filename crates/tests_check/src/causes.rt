@@ -2,10 +2,10 @@
 use crate::events::{A, Called};
 use crate::judged::{ASK, NO_COPY, Run, WRONG};
 use crate::made::{Said, Shift, Told};
-use crate::rosters::{ONE, TWO};
 use crate::sent::HIT;
 use purge_rules::MasterFault;
 use run_rules::Cause;
+use tests_kit::{ONE, TWO};
 
 pub(crate) const CAUSES: &[Run] = &[
     (

@@ -1,9 +1,7 @@
 //! A thousand changes of what is kept of a run, and the verdicts on them.
 use crate::calls::{call_verdict_wanted, changed_calls};
 use crate::changes::{CALL_CHANGES, CHANGES, Change, STATE_CHANGES, changed};
-use crate::events::{key_of, roster_of};
 use crate::made::{floors_of, state_of};
-use crate::rosters::TWO;
 use crate::runs::{Kept, OTHER, PURGED, kept_run};
 use crate::wanted::{Wanted, verdict_wanted};
 use node_book::{NodeEntry, Record};
@@ -15,6 +13,7 @@ use std::alloc::{AllocError, Global};
 use std::hash::RandomState;
 use std::mem::swap;
 use std::test::Fail;
+use tests_kit::{TWO, key_of, roster_of};
 use url_key::Key;
 
 /// How many changes were tried, how many of them leave a run, and the first whose verdict was not what was wanted.

@@ -1,13 +1,12 @@
 //! What nodes meet, and what the master is called for.
-use http_messages::{Answer, Ask, Body, Fields};
-use icp_wire::{Icp, IcpOp};
+use http_messages::{Answer, Body, Fields};
+use icp_wire::IcpOp;
 use node_rules::{Event, Message, Received, can_be_answered};
 use purge_rules::{MasterCall, clear};
-use roster::{Address, Roster};
+use roster::Address;
 use std::alloc::Global;
 use std::test::Fail;
-use url_key::Key;
-use values_plain::Octets;
+use tests_kit::{ask_of, icp_of, key_of};
 
 /// 127.0.0.1.
 const HOST: u32 = 2130706433;
@@ -58,30 +57,6 @@ pub(crate) enum Called {
     Status(u32),
 }
 
-/// A roster of this text.
-pub(crate) fn roster_of(alloc: Global, text: &str) -> Result<Roster, Fail> {
-    match Roster::read(alloc, text) {
-        Ok(roster) => Ok(roster),
-        Err(error) => Err(error.fault.name().into()),
-    }
-}
-
-pub(crate) fn key_of(alloc: Global, url: Url) -> Result<Key, Fail> {
-    match Key::read(alloc, url) {
-        Ok(key) => Ok(key),
-        Err(fault) => Err(fault.name().into()),
-    }
-}
-
-fn ask_of(alloc: Global, url: Url, only_if_cached: bool, member: Option<u8>) -> Result<Ask, Fail> {
-    Ok(Ask {
-        key: key_of(alloc, url)?,
-        only_if_cached,
-        no_cache: false,
-        member,
-    })
-}
-
 /// An answer of the status 200, which a member has given where it bears a purge number.
 fn answer_of(alloc: Global, stamp: Option<u32>) -> Result<Answer, Fail> {
     let Ok(fields) = Fields::new(alloc, Vec::new(alloc)) else {
@@ -108,15 +83,6 @@ fn datagram(port: u16, message: Message) -> Result<Event<()>, Fail> {
         message: Received::new(message),
         now: 0,
     })
-}
-
-fn icp_of(alloc: Global, op: IcpOp, number: u32, url: Url) -> Result<Message, Fail> {
-    Ok(Message::Icp(Icp {
-        op,
-        number,
-        url: Octets::from_slice(alloc, url)?,
-        object: Octets::new(alloc),
-    }))
 }
 
 fn clear_of(alloc: Global, number: u32, url: Url) -> Result<Message, Fail> {
@@ -171,7 +137,9 @@ pub(crate) fn event_of(alloc: Global, met: Met) -> Result<Event<()>, Fail> {
         Met::PeerAnswer(peer, serial, stamp, url) => peer_answer(alloc, peer, serial, stamp, url),
         Met::Origin(serial, url) => origin_answer(alloc, serial, url),
         Met::Failed(serial) => Ok(Event::FetchFailed { serial, now: 0 }),
-        Met::Icp(port, op, number, url) => datagram(port, icp_of(alloc, op, number, url)?),
+        Met::Icp(port, op, number, url) => {
+            datagram(port, Message::Icp(icp_of(alloc, op, number, url)?))
+        }
         Met::Clear(number, url) => datagram(MASTER.port, clear_of(alloc, number, url)?),
     }
 }

@@ -1,6 +1,6 @@
 //! The verdicts on runs that are made by hand.
 use crate::causes::CAUSES;
-use crate::events::{A, Met, roster_of};
+use crate::events::{A, Met};
 use crate::made::{Call, Said, Shift, calls_of, records_of};
 use crate::places::PLACES;
 use crate::restarts::RESTARTS;
@@ -11,6 +11,7 @@ use run_check::check_run;
 use run_rules::{Cause, Verdict};
 use std::hash::RandomState;
 use std::test::Fail;
+use tests_kit::roster_of;
 
 /// A client asks for a copy.
 pub(crate) const ASK: Met = Met::Cached(A);

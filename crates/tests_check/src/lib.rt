@@ -22,8 +22,6 @@ mod places;
 #[cfg(test)]
 mod restarts;
 #[cfg(test)]
-mod rosters;
-#[cfg(test)]
 mod runs;
 #[cfg(test)]
 mod sent;

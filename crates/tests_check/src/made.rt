@@ -1,5 +1,5 @@
 //! What is kept of a run, made by hand.
-use crate::events::{A, Called, MASTER, Met, Url, call_of, event_of, key_of};
+use crate::events::{A, Called, MASTER, Met, Url, call_of, event_of};
 use floor_rules::Floors;
 use htcp_wire::{Content, Htcp};
 use node_book::{NodeEntry, Record};
@@ -9,6 +9,7 @@ use purge_rules::{MasterAnswer, MasterFault, Status};
 use roster::Listed;
 use std::alloc::Global;
 use std::test::Fail;
+use tests_kit::key_of;
 
 /// What a step led to.
 #[derive(Clone, Copy)]

@@ -2,8 +2,8 @@
 use crate::events::Called;
 use crate::judged::{ASK, NO_COPY, Run, WRONG};
 use crate::made::{Shift, Told};
-use crate::rosters::TWO;
 use run_rules::Cause;
+use tests_kit::TWO;
 
 pub(crate) const PLACES: &[Run] = &[
     // One record of one node.

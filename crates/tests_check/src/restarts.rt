@@ -2,10 +2,10 @@
 use crate::events::{A, Called, Met};
 use crate::judged::{ASK, NO_COPY, Run};
 use crate::made::{Call, Said, Shift, Step, Told};
-use crate::rosters::{ONE, TWO};
 use node_rules::StepFault;
 use purge_rules::MasterFault;
 use run_rules::Cause;
+use tests_kit::{ONE, TWO};
 
 /// Purge 1 is issued at place 1.
 const ISSUED: Call = (1, Called::Issue(A), Told::Issued(1));

@@ -1,6 +1,5 @@
 //! What is kept of a run of two siblings and the master, made in memory by their own steps.
-use crate::events::{Called, Met, Url, call_of, event_of, roster_of};
-use crate::rosters::TWO;
+use crate::events::{Called, Met, Url, call_of, event_of};
 use floor_rules::MemoryFloors;
 use icp_wire::IcpOp;
 use node_book::{BookFault, NodeBook, Record};
@@ -9,6 +8,7 @@ use purge_master::{Master, MasterBook, MasterEntry};
 use purge_rules::MemoryPurges;
 use std::alloc::Global;
 use std::test::Fail;
+use tests_kit::{TWO, roster_of};
 
 /// The pages that both members are asked for.
 const PAGES: [Url; 12] = [

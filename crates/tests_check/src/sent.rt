@@ -2,10 +2,10 @@
 use crate::events::{A, Called, Met};
 use crate::judged::{ASK, NO_COPY, Run};
 use crate::made::{Call, Said, Shift, Told};
-use crate::rosters::{ONE, TWO};
 use icp_wire::IcpOp;
 use node_rules::StepFault;
 use run_rules::Cause;
+use tests_kit::{ONE, TWO};
 
 /// Node 2 says by ICP that it holds a copy, which nobody asked for.
 pub(crate) const HIT: Met = Met::Icp(3102, IcpOp::Hit, 32, A);

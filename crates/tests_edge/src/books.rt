@@ -6,28 +6,7 @@ use node_book::{BookFault, MOST_ENTRIES, NodeBook, NodeEntry, Record};
 use node_core::Node;
 use node_rules::{Begin, Event, StepFault};
 use std::alloc::Global;
-
-/// One member, and the origin of `http://o/`.
-const ONE: &str = "default_lifetime = 60
-copies = 1000
-bytes = 1048576
-query_wait = 2000
-[master]
-address = \"127.0.0.1\"
-htcp = 4800
-[[node]]
-id = 1
-name = \"n1\"
-address = \"127.0.0.1\"
-http = 8101
-icp = 3101
-htcp = 4101
-[[origin]]
-host = \"o\"
-port = 80
-address = \"127.0.0.1\"
-connect = 8080
-";
+use tests_kit::ONE;
 
 /// A book that is let go as a whole.
 #[derive(Drop)]

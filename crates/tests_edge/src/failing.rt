@@ -1,5 +1,5 @@
 //! What one who asks over HTTP is told where the step is refused, and what is left of a served copy where the writer fails.
-use crate::held::{TWO, node_of};
+use crate::held::node_of;
 use crate::http::{
     ANY, End, HELD, HELD_FOR_A_MEMBER, OF_MEMBER_2, UNAVAILABLE, ends_so, fetches, is_answered,
 };
@@ -7,6 +7,7 @@ use node_bytes::Stepper;
 use node_rules::{Event, Reply, StepFault};
 use std::alloc::Global;
 use std::io::{self, Error, ErrorKind, Write};
+use tests_kit::TWO;
 
 /// What refuses each step with the same fault, and counts them.
 #[derive(Drop)]

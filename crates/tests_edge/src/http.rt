@@ -1,5 +1,5 @@
 //! Asks at node 1 of a roster of two siblings: what its caller is told, and what a reader, a writer or a node that fails leaves.
-use crate::held::{TWO, node_of, roster_of};
+use crate::held::{node_of, roster_of};
 use crate::made::{URL, answer_of, fields_of, key_of};
 use crate::octets::refuses;
 use http_messages::FetchFault;
@@ -9,6 +9,7 @@ use node_rules::{Begin, Event, Serve, StepFault};
 use roster::Roster;
 use std::alloc::Global;
 use std::io::{self, Error, ErrorKind, Read, Write};
+use tests_kit::TWO;
 
 /// An ask for a stored answer alone.
 const CACHED: &[u8] =

@@ -1,11 +1,11 @@
 //! Keys, asks, answers and messages for the tests of this crate.
 use http_header::{HeaderName, HeaderValue};
 use http_messages::{Answer, Ask, Body, Field, Fields};
-use icp_wire::{Icp, IcpOp};
+use icp_wire::IcpOp;
 use node_rules::Message;
 use std::alloc::Global;
+use tests_kit::icp_of;
 use url_key::Key;
-use values_plain::Octets;
 
 /// The URL of asks, answers and messages.
 pub(crate) const URL: &str = "http://o/a";
@@ -57,11 +57,6 @@ pub(crate) fn answer_of(
 
 /// A QUERY for the URL under this number.
 pub(crate) fn query(alloc: Global, number: u32) -> Option<Message> {
-    let url = Octets::from_slice(alloc, URL.as_bytes()).ok()?;
-    Some(Message::Icp(Icp {
-        op: IcpOp::Query,
-        number,
-        url,
-        object: Octets::new(alloc),
-    }))
+    let query = icp_of(alloc, IcpOp::Query, number, URL.as_bytes()).ok()?;
+    Some(Message::Icp(query))
 }

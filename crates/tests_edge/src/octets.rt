@@ -1,10 +1,11 @@
 //! Datagrams that a closed node refuses, and such that acknowledge purges to the master (RFC 2756).
-use crate::held::{TWO, roster_of};
+use crate::held::roster_of;
 use node_bytes::{Stepper, master_call_of, on_datagram};
 use node_rules::StepFault;
 use purge_rules::MasterCall;
-use roster::{Address, Roster, Udp};
+use roster::{Roster, Udp};
 use std::alloc::Global;
+use tests_kit::{TWO, address_at};
 
 /// A QUERY for `http://o/a` under the number 7.
 const QUERY: &[u8] =
@@ -22,17 +23,9 @@ const CLEARED: &[u8] = b"\x00\x0e\x00\x00\x00\x08\x42\x01\x00\x00\x00\x07\x00\x0
 /// A response to a CLR that speaks of the overall message: the opcode is disallowed.
 const DISALLOWED: &[u8] = b"\x00\x0e\x00\x00\x00\x08\x45\x03\x00\x00\x00\x07\x00\x02";
 
-/// A port of 127.0.0.1.
-fn at(port: u16) -> Address {
-    Address {
-        ip: 0x7f00_0001,
-        port,
-    }
-}
-
 /// Whether a datagram is refused because the node is closed.
 pub(crate) fn refuses<N: Stepper>(alloc: Global, node: &mut N) -> bool {
-    let refused = on_datagram(alloc, node, Udp::Icp, at(3102), HIT_32, 9);
+    let refused = on_datagram(alloc, node, Udp::Icp, address_at(3102), HIT_32, 9);
     matches!(refused, Err(StepFault::Closed))
 }
 
@@ -71,7 +64,7 @@ fn is_call_of(
     octets: &[u8],
     expected: Option<u8>,
 ) -> bool {
-    match master_call_of(alloc, roster, at(from), octets) {
+    match master_call_of(alloc, roster, address_at(from), octets) {
         Ok(call) => acknowledging(&call) == expected,
         Err(_) => false,
     }

@@ -1,4 +1,3 @@
-use crate::made::first_wrong;
 use http_messages::{Answer, Body, FetchFault, Fields};
 use http_reading::{
     BadCoding, BadLength, Framing, Host, age, ask_has_body, content_length, count_named,
@@ -9,6 +8,7 @@ use httparse::Status;
 use httparse::spans::{EMPTY_HEADER_SPAN, HeaderSpan, Span, parse_headers};
 use std::alloc::Global;
 use std::process::Abort;
+use tests_kit::first_wrong;
 
 /// The places of the fields of a section, which ends with an empty line.
 fn places(rt: &(impl Abort + AllocGlobal), section: &[u8]) -> Vec<HeaderSpan> {

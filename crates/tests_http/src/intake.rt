@@ -1,4 +1,4 @@
-use crate::made::{LENGTHS, Pieces, first_wrong};
+use crate::made::{LENGTHS, Pieces};
 use http_intake::Intake;
 use http_messages::FetchFault::{
     self, BadBody, BadHead, BodyTooLong, EndOfInput, HeadTooLong, Io, TooManyTurns,
@@ -6,6 +6,7 @@ use http_messages::FetchFault::{
 use httparse::spans::EMPTY_HEADER_SPAN;
 use std::alloc::Global;
 use std::process::Abort;
+use tests_kit::first_wrong;
 
 /// What is read of a message whose octets begin with it.
 enum Part {

@@ -153,13 +153,3 @@ pub fn is_answer(read: &Result<Answer, FetchFault>, parts: &Parts<'_>) -> bool {
         && answer.body() == *body
         && are_lines(answer.fields(), lines)
 }
-
-/// The name of the first thing that does not hold.
-pub fn first_wrong(things: &[(&'static str, bool)]) -> Option<&'static str> {
-    for (name, holds) in things {
-        if !holds {
-            return Some(name);
-        }
-    }
-    None
-}

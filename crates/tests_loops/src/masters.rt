@@ -7,21 +7,17 @@ use purge_rules::{MasterAnswer, MasterCall, MasterFault, MemoryPurges, Status};
 use roster::Roster;
 use std::alloc::Global;
 use std::io::{self, ErrorKind};
-use std::net::{Ipv4Addr, Net, SocketAddr};
+use std::net::Net;
 use std::sync::Wait;
 use std::sync::atomic::{AtomicBool, AtomicU32, Ordering};
 use std::test::Fail;
 use std::thread::{self, Threads};
 use std::time::{Clock, Duration, Instant};
+use tests_kit::{key_of, socket_at};
 use url_key::Key;
 
 /// The response to the CLR of purge 1 with code 0 (RFC 2756, "CLR"): it was held, and is gone.
 const GONE: &[u8] = b"\x00\x0e\x00\x00\x00\x08\x40\x01\x00\x00\x00\x01\x00\x02";
-
-/// The address of a port of this machine.
-fn socket_at(port: u16) -> SocketAddr {
-    SocketAddr::from((Ipv4Addr::LOCALHOST, port))
-}
 
 /// The sockets of two members.
 #[derive(Drop)]
@@ -116,10 +112,6 @@ fn lists_both(entry: &MasterEntry) -> bool {
     }
 }
 
-fn key(alloc: Global) -> Result<Key, Fail> {
-    Ok(Key::read(alloc, b"http://o/a")?)
-}
-
 /// How far purge 1 is.
 fn status<R: Wait>(rt: &R, master: &SharedMaster<MemoryPurges>) -> Status {
     match master.call(rt, MasterCall::Status(1)) {
@@ -137,7 +129,7 @@ struct Counts {
 }
 
 fn entered<R: Net + Wait + Clock>(rt: &R, alloc: Global, port: u16) -> Result<Counts, Fail> {
-    let key = key(alloc)?;
+    let key = key_of(alloc, b"http://o/a")?;
     let mut held = held_at(rt, alloc, port)?;
     let before = held.master.may_be_due(rt);
     let idle = held.entered(rt, 3500)?;
@@ -237,7 +229,7 @@ fn polled<R: Threads + Net + Wait + Clock + Sync>(
     alloc: Global,
     port: u16,
 ) -> Result<bool, Fail> {
-    let key = key(alloc)?;
+    let key = key_of(alloc, b"http://o/a")?;
     let Held {
         roster,
         master,

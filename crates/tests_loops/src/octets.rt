@@ -1,9 +1,10 @@
 //! Asks as octets: what is written, and what a reader or a writer that fails leaves.
 use cluster_origin::{OriginFault, answer_to, serve_next};
-use http_messages::{Ask, FetchFault};
+use http_messages::FetchFault;
 use std::io::{self, Error, ErrorKind, Read};
 use std::test::Fail;
-use url_key::{Key, KeyFault};
+use tests_kit::ask_of;
+use url_key::KeyFault;
 
 /// The refusals.
 const REFUSED_400: &[u8] =
@@ -93,12 +94,7 @@ fn longest_body(rt: &HostRuntime) -> Result<usize, Fail> {
     for _ in url.len()..1024 {
         url.push(b'a')?;
     }
-    let ask = Ask {
-        key: Key::read(rt.alloc(), &url)?,
-        only_if_cached: false,
-        no_cache: false,
-        member: None,
-    };
+    let ask = ask_of(rt.alloc(), &url, false, None)?;
     Ok(answer_to(rt.alloc(), &ask, u32::MAX)?.body().len())
 }
 

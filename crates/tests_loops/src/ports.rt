@@ -1,14 +1,6 @@
 //! An origin at a port of this machine.
 use cluster_origin::run_origin;
-use values_plain::Address;
-
-/// The address of a port of this machine.
-fn address_at(port: u16) -> Address {
-    Address {
-        ip: 0x7f00_0001,
-        port,
-    }
-}
+use tests_kit::address_at;
 
 #[test]
 fn an_origin_of_no_asks_ends(rt: HostRuntime) {

@@ -3,15 +3,11 @@ use cluster_streams::{StreamPoll, Timed};
 use mio::net::TcpStream;
 use std::alloc::{AllocError, Global};
 use std::io::{self, Read, Write};
-use std::net::{Ipv4Addr, Net, SocketAddr, TcpListener};
+use std::net::{Net, TcpListener};
 use std::test::Fail;
 use std::thread::{self, Threads};
 use std::time::{Clock, Duration};
-
-/// The address of a port of this machine.
-fn socket_at(port: u16) -> SocketAddr {
-    SocketAddr::from((Ipv4Addr::LOCALHOST, port))
-}
+use tests_kit::socket_at;
 
 /// How many octets a long message has: more than the system keeps of a stream that is not read.
 const LONG: usize = 8_000_000;

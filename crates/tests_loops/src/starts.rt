@@ -6,6 +6,7 @@ use purge_rules::MemoryPurges;
 use roster::Roster;
 use std::alloc::Global;
 use std::test::Fail;
+use tests_kit::roster_of;
 
 /// The text of a roster of member 1 and of another one, at 127.0.0.N: the master is at this port, and the members are told at the two after it.
 fn text_at(alloc: Global, port: u16, id: u16, host: u16) -> Result<String, Fail> {
@@ -26,10 +27,7 @@ fn text_at(alloc: Global, port: u16, id: u16, host: u16) -> Result<String, Fail>
 /// A roster of member 1 and of another one, at 127.0.0.N.
 fn roster_with(alloc: Global, port: u16, id: u16, host: u16) -> Result<Roster, Fail> {
     let text = text_at(alloc, port, id, host)?;
-    match Roster::read(alloc, text.as_str()) {
-        Ok(roster) => Ok(roster),
-        Err(error) => Err(error.fault.name().into()),
-    }
+    roster_of(alloc, text.as_str())
 }
 
 /// A roster of members 1 and 2, both at the master's address.

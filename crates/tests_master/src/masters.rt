@@ -1,7 +1,7 @@
 //! Worked runs of a master, each a table of calls and of what they are answered.
 ghost use Rattle.std.specs.Prelude.{◌≡◌, ◌==◌};
 
-use crate::world::{key_of, roster_of, want};
+use crate::world::TWO;
 use htcp_wire::{Content, HeaderKind, Htcp, number_in};
 use purge_master::{Master, MasterBook};
 use purge_rules::{
@@ -10,6 +10,7 @@ use purge_rules::{
 use std::alloc::Global;
 use std::fmt::Write;
 use std::test::Fail;
+use tests_kit::{key_of, roster_of, want};
 use url_key::Key;
 
 /// A call of a table.
@@ -94,7 +95,7 @@ struct Held<S: PurgeStore + Drop> {
 }
 
 fn open<S: PurgeStore + Drop>(rt: &HostRuntime, store: S) -> Result<Held<S>, Fail> {
-    match Master::open(rt.alloc(), &roster_of(rt.alloc())?, store) {
+    match Master::open(rt.alloc(), &roster_of(rt.alloc(), TWO)?, store) {
         Ok(master) => Ok(Held {
             book: MasterBook::open(master),
         }),
@@ -117,7 +118,7 @@ fn failing(rt: &HostRuntime, writes: u32) -> Result<Held<FailingPurges>, Fail> {
 
 fn call_of(rt: &HostRuntime, call: Call) -> Result<MasterCall, Fail> {
     Ok(match call {
-        Call::Issue(url) => MasterCall::Issue(key_of(rt.alloc(), url)?),
+        Call::Issue(url) => MasterCall::Issue(key_of(rt.alloc(), url.as_bytes())?),
         Call::Acknowledge(member, trans, code) => MasterCall::Acknowledge {
             member,
             trans,
@@ -326,7 +327,7 @@ const LAST_NUMBER: [(Call, &str); 7] = [
 
 /// Purges of which the greatest number is pending.
 fn spent(rt: &HostRuntime) -> Result<MemoryPurges, Fail> {
-    let key = key_of(rt.alloc(), "http://o/a")?;
+    let key = key_of(rt.alloc(), b"http://o/a")?;
     let mut store = MemoryPurges::new(rt.alloc());
     store.add(rt.alloc(), 4294967295, &key)?;
     Ok(store)

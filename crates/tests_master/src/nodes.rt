@@ -1,13 +1,13 @@
 //! A node over a store of floors that fails.
 use crate::failing::FailingFloors;
-use crate::world::{Cleared, cleared_by, key_of, purge, roster_of};
+use crate::world::{Cleared, TWO, cleared_by, purge};
 use floor_rules::FloorStore;
-use http_messages::Ask;
 use node_core::Node;
 use node_rules::{Begin, Event, Reply, StepFault};
 use roster::Roster;
 use std::alloc::Global;
 use std::test::Fail;
+use tests_kit::{ask_of, roster_of};
 
 /// A node that is let go as a whole.
 #[derive(Drop)]
@@ -24,16 +24,11 @@ fn over<S: FloorStore + Drop>(alloc: Global, roster: Roster, store: S) -> Result
 
 /// Node 1, over this store.
 fn opened<S: FloorStore + Drop>(alloc: Global, store: S) -> Result<Held<S>, Fail> {
-    over(alloc, roster_of(alloc)?, store)
+    over(alloc, roster_of(alloc, TWO)?, store)
 }
 
 fn client(alloc: Global, url: &str) -> Result<Event<()>, Fail> {
-    let ask = Ask {
-        key: key_of(alloc, url)?,
-        only_if_cached: false,
-        no_cache: false,
-        member: None,
-    };
+    let ask = ask_of(alloc, url.as_bytes(), false, None)?;
     Ok(Event::Client { ask, now: 0 })
 }
 

@@ -4,6 +4,7 @@ use node_messages::{is_known, peer_at};
 use peer_chooser::Round;
 use roster::{Address, Roster, Udp, is_foreign};
 use std::test::Fail;
+use tests_kit::{address_at, roster_of};
 
 const TEXT: &str = "default_lifetime = 60
 copies = 10
@@ -66,20 +67,6 @@ address = \"127.0.0.1\"
 connect = 8080
 ";
 
-fn at(port: u16) -> Address {
-    Address {
-        ip: 0x7f00_0001,
-        port,
-    }
-}
-
-fn roster_of(rt: &HostRuntime) -> Result<Roster, Fail> {
-    match Roster::read(rt.alloc(), TEXT) {
-        Ok(roster) => Ok(roster),
-        Err(error) => Err(error.fault.name().into()),
-    }
-}
-
 fn known_by_one(roster: &Roster, by: Udp, from: Address) -> bool {
     match roster.member(1) {
         Some(_) => is_known(roster, 1, by, from),
@@ -97,7 +84,7 @@ const SENDERS: [(u16, Udp, bool); 3] = [
 /// The first port, and its protocol, that is known otherwise.
 fn wrongly_known(roster: &Roster) -> Option<(u16, Udp)> {
     for (port, by, expected) in SENDERS {
-        if known_by_one(roster, by, at(port)) != expected {
+        if known_by_one(roster, by, address_at(port)) != expected {
             return Some((port, by));
         }
     }
@@ -106,7 +93,7 @@ fn wrongly_known(roster: &Roster) -> Option<(u16, Udp)> {
 
 #[test]
 fn known_senders(rt: HostRuntime) -> Result<(), Fail> {
-    let roster = roster_of(&rt)?;
+    let roster = roster_of(rt.alloc(), TEXT)?;
     let elsewhere = Address { ip: 1, port: 3002 };
     assert_eq!(rt; wrongly_known(&roster), None);
     assert!(rt; !known_by_one(&roster, Udp::Icp, elsewhere));
@@ -126,7 +113,7 @@ const PEERS: [(u16, Udp, Option<u8>); 2] = [(4002, Udp::Htcp, None), (3003, Udp:
 /// The first port at which another peer is found.
 fn wrong_peer(roster: &Roster, round: &Round) -> Option<u16> {
     for (port, by, expected) in PEERS {
-        if peer_at(roster, by, at(port), round).map(|peer| peer.id) != expected {
+        if peer_at(roster, by, address_at(port), round).map(|peer| peer.id) != expected {
             return Some(port);
         }
     }
@@ -142,7 +129,7 @@ fn expires(round: &mut Round) -> bool {
 
 #[test]
 fn peers_of_a_round(rt: HostRuntime) -> Result<(), Fail> {
-    let roster = roster_of(&rt)?;
+    let roster = roster_of(rt.alloc(), TEXT)?;
     let Some(mut round) = round_of_one(&roster) else {
         return Err("member".into());
     };

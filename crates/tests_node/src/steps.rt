@@ -1,74 +1,18 @@
 //! Worked runs of a node, each a table of events and of what they are answered.
 use floor_rules::{FloorStore, MemoryFloors};
-use htcp_wire::{Content, Htcp, Specifier};
-use http_header::{HeaderName, HeaderValue};
-use http_messages::{Answer, Ask, Body, Field, Fields};
-use icp_wire::{Icp, IcpOp};
+use htcp_wire::Content;
+use icp_wire::IcpOp;
 use node_core::{Node, OpenFault};
 use node_rules::{
     Begin, Event, Message, Received, Reply, Serve, Served, StepFault, can_be_answered,
 };
-use roster::{Address, Roster};
+use roster::Roster;
 use std::fmt::Write;
 use std::hash::RandomState;
 use std::test::Fail;
-use url_key::Key;
-use values_plain::Octets;
-
-/// One member, and the origin of `http://o/`.
-const ONE: &str = "default_lifetime = 60
-copies = 1000
-bytes = 1048576
-query_wait = 2000
-[master]
-address = \"127.0.0.1\"
-htcp = 4800
-[[node]]
-id = 1
-name = \"n1\"
-address = \"127.0.0.1\"
-http = 8101
-icp = 3101
-htcp = 4101
-[[origin]]
-host = \"o\"
-port = 80
-address = \"127.0.0.1\"
-connect = 8080
-";
-
-/// The same with a foreign sibling.
-const FOREIGN: &str = "default_lifetime = 60
-copies = 1000
-bytes = 1048576
-query_wait = 2000
-[master]
-address = \"127.0.0.1\"
-htcp = 4800
-[[node]]
-id = 1
-name = \"n1\"
-address = \"127.0.0.1\"
-http = 8101
-icp = 3101
-htcp = 4101
-[[node.peer]]
-id = 101
-role = \"sibling\"
-by = \"icp\"
-[[foreign]]
-id = 101
-name = \"f1\"
-address = \"127.0.0.1\"
-http = 8201
-icp = 3201
-htcp = 4201
-[[origin]]
-host = \"o\"
-port = 80
-address = \"127.0.0.1\"
-connect = 8080
-";
+use tests_kit::{
+    FOREIGN, ONE, address_at, answer_of, ask_of, clear_of, icp_of, key_of, roster_of, want,
+};
 
 type Tested = Node<u64, MemoryFloors>;
 
@@ -76,18 +20,6 @@ type Tested = Node<u64, MemoryFloors>;
 #[derive(Drop)]
 struct Held {
     node: Tested,
-}
-
-/// Fails with these words where something does not hold.
-fn want(holds: bool, what: &'static str) -> Result<(), Fail> {
-    if holds { Ok(()) } else { Err(what.into()) }
-}
-
-fn roster_of(rt: &HostRuntime, text: &str) -> Result<Roster, Fail> {
-    match Roster::read(rt.alloc(), text) {
-        Ok(roster) => Ok(roster),
-        Err(error) => Err(error.fault.name().into()),
-    }
 }
 
 fn opened(rt: &HostRuntime, roster: Roster, id: u8) -> Result<Held, OpenFault> {
@@ -98,7 +30,7 @@ fn opened(rt: &HostRuntime, roster: Roster, id: u8) -> Result<Held, OpenFault> {
 }
 
 fn node_of(rt: &HostRuntime, text: &str) -> Result<Held, Fail> {
-    match opened(rt, roster_of(rt, text)?, 1) {
+    match opened(rt, roster_of(rt.alloc(), text)?, 1) {
         Ok(held) => Ok(held),
         Err(fault) => Err(fault.name().into()),
     }
@@ -115,71 +47,19 @@ fn opened_with_keys(rt: &HostRuntime, roster: Roster, keys: RandomState) -> Resu
 /// The same node, whose store looks keys up at random.
 fn node_with_keys(rt: &HostRuntime, text: &str) -> Result<Held, Fail> {
     let keys = RandomState::new(rt)?;
-    opened_with_keys(rt, roster_of(rt, text)?, keys)
-}
-
-fn at(port: u16) -> Address {
-    Address {
-        ip: 0x7f00_0001,
-        port,
-    }
-}
-
-fn key_of(rt: &HostRuntime, url: &str) -> Result<Key, Fail> {
-    Ok(Key::read(rt.alloc(), url.as_bytes())?)
-}
-
-fn octets_of(rt: &HostRuntime, text: &str) -> Result<Octets, Fail> {
-    Ok(Octets::from_slice(rt.alloc(), text.as_bytes())?)
+    opened_with_keys(rt, roster_of(rt.alloc(), text)?, keys)
 }
 
 fn client(rt: &HostRuntime, url: &str, now: u64) -> Result<Event<u64>, Fail> {
-    let ask = Ask {
-        key: key_of(rt, url)?,
-        only_if_cached: false,
-        no_cache: false,
-        member: None,
-    };
+    let ask = ask_of(rt.alloc(), url.as_bytes(), false, None)?;
     Ok(Event::Client { ask, now })
-}
-
-/// A header field.
-fn field_of(rt: &HostRuntime, name: &[u8], value: &[u8]) -> Result<Field, Fail> {
-    let name = HeaderName::from_bytes(rt.alloc(), name)?;
-    let value = HeaderValue::from_bytes(rt.alloc(), value)?;
-    Ok(Field { name, value })
-}
-
-/// An answer with this field.
-fn answer_with(
-    rt: &HostRuntime,
-    status: u16,
-    field: Field,
-    stamp: Option<u32>,
-) -> Result<Answer, Fail> {
-    let fields = Fields::new(rt.alloc(), vec![in rt.alloc(); field]?)?;
-    let body = Body::from_slice(rt.alloc(), b"one")?;
-    match Answer::new(status, fields, None, stamp, body) {
-        Some(answer) => Ok(answer),
-        None => Err("writable".into()),
-    }
-}
-
-/// An answer of status 200 with a lifetime of 60 seconds.
-fn answer_of(rt: &HostRuntime, stamp: Option<u32>) -> Result<Answer, Fail> {
-    answer_with(
-        rt,
-        200,
-        field_of(rt, b"cache-control", b"max-age=60")?,
-        stamp,
-    )
 }
 
 fn origin(rt: &HostRuntime, serial: u32, url: &str, now: u64) -> Result<Event<u64>, Fail> {
     Ok(Event::OriginAnswer {
         serial,
-        key: key_of(rt, url)?,
-        answer: answer_of(rt, None)?,
+        key: key_of(rt.alloc(), url.as_bytes())?,
+        answer: answer_of(rt.alloc(), None)?,
         now,
     })
 }
@@ -189,8 +69,8 @@ fn foreign_answer(rt: &HostRuntime, url: &str, stamp: u32) -> Result<Event<u64>,
     Ok(Event::ForeignAnswer {
         serial: 33,
         peer: 101,
-        key: key_of(rt, url)?,
-        answer: answer_of(rt, Some(stamp))?,
+        key: key_of(rt.alloc(), url.as_bytes())?,
+        answer: answer_of(rt.alloc(), Some(stamp))?,
         tag: 0,
         now: 0,
     })
@@ -200,7 +80,7 @@ fn foreign_answer(rt: &HostRuntime, url: &str, stamp: u32) -> Result<Event<u64>,
 fn came(port: u16, message: Message) -> Result<Event<u64>, Fail> {
     if can_be_answered(&message) {
         Ok(Event::Datagram {
-            from: at(port),
+            from: address_at(port),
             message: Received::new(message),
             now: 0,
         })
@@ -209,51 +89,16 @@ fn came(port: u16, message: Message) -> Result<Event<u64>, Fail> {
     }
 }
 
-/// The header line that tells a purge's number.
-fn number_line(rt: &HostRuntime, number: u32) -> Result<Octets, Fail> {
-    let line = format!(in rt.alloc(); "X-Purge-Number: {number}\r\n")?;
-    octets_of(rt, line.as_str())
-}
-
-fn specifier(rt: &HostRuntime, url: &str, number: u32) -> Result<Specifier, Fail> {
-    Ok(Specifier {
-        method: octets_of(rt, "GET")?,
-        uri: octets_of(rt, url)?,
-        version: octets_of(rt, "HTTP/1.1")?,
-        request_headers: number_line(rt, number)?,
-    })
-}
-
 /// The master's CLR of a URL under this number (RFC 2756, "CLR").
 fn purge(rt: &HostRuntime, url: &str, number: u32) -> Result<Event<u64>, Fail> {
-    let content = Content::ClrAsk {
-        desired: true,
-        reason: 0,
-        spec: specifier(rt, url, number)?,
-    };
-    came(
-        4800,
-        Message::Htcp(Htcp {
-            minor: 0,
-            trans: number,
-            content,
-        }),
-    )
+    let clear = clear_of(rt.alloc(), url.as_bytes(), number)?;
+    came(4800, Message::Htcp(clear))
 }
 
 /// An ICP message of this opcode, under this number, for a URL.
 fn icp(rt: &HostRuntime, port: u16, op: IcpOp, number: u32, url: &str) -> Result<Event<u64>, Fail> {
-    let url = octets_of(rt, url)?;
-    let object = Octets::new(rt.alloc());
-    came(
-        port,
-        Message::Icp(Icp {
-            op,
-            number,
-            url,
-            object,
-        }),
-    )
+    let icp = icp_of(rt.alloc(), op, number, url.as_bytes())?;
+    came(port, Message::Icp(icp))
 }
 
 /// What happens at a node.
@@ -450,7 +295,7 @@ fn copies_bear_tags_and_ages(rt: HostRuntime) -> Result<(), Fail> {
 
 #[test]
 fn a_node_that_is_no_member(rt: HostRuntime) -> Result<(), Fail> {
-    let fault = opened(&rt, roster_of(&rt, ONE)?, 2).err();
+    let fault = opened(&rt, roster_of(rt.alloc(), ONE)?, 2).err();
     assert!(rt; fault == Some(OpenFault::NoSuchNode));
     Ok(())
 }

@@ -7,11 +7,6 @@ use std::alloc::Global;
 use std::test::Fail;
 use url_key::Key;
 
-/// Fails with these words where something does not hold.
-pub(crate) fn want(holds: bool, what: &'static str) -> Result<(), Fail> {
-    if holds { Ok(()) } else { Err(what.into()) }
-}
-
 /// Whether the purge of the number is pending, and the member has not acknowledged it.
 fn is_missed(purges: &Purges, number: u32, member: u8) -> bool
     ensures { IsTrue result → Misses purges.now number member }

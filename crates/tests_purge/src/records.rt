@@ -1,13 +1,14 @@
 //! A master's purges in files: purges beside one another, a file with an open transaction, and files that stop.
 mod stops;
 
-use crate::calls::{add, counts, is_marked, mark, want};
+use crate::calls::{add, counts, is_marked, mark};
 use crate::disks::{FORM, VERSION, made_by};
 use purge_records::SqlitePurges;
 use purge_rules::{PurgeFault, PurgeStore};
 use sqlite::{Connection, MemStore};
 use std::alloc::Global;
 use std::test::Fail;
+use tests_kit::want;
 
 type Stored = SqlitePurges<MemStore>;
 

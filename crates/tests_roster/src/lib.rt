@@ -9,14 +9,3 @@ mod rosters;
 mod rounds;
 #[cfg(test)]
 mod tables;
-
-/// The name of the first thing that does not hold.
-#[cfg(test)]
-fn first_wrong(things: &[(&'static str, bool)]) -> Option<&'static str> {
-    for (name, holds) in things {
-        if !holds {
-            return Some(name);
-        }
-    }
-    None
-}

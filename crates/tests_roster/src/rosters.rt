@@ -1,74 +1,8 @@
-use crate::first_wrong;
 use roster::{Address, Peer, Role, Roster, RosterFault, Udp};
 use std::alloc::Global;
 use std::fmt::{self, Write};
 use std::process::Abort;
-
-/// A roster of one node and one origin.
-const ONE: &str = "default_lifetime = 60
-copies = 1000
-bytes = 1048576
-query_wait = 2000
-
-[master]
-address = \"127.0.0.1\"
-htcp = 4800
-
-[[node]]
-id = 1
-name = \"n1\"
-address = \"127.0.0.1\"
-http = 8101
-icp = 3101
-htcp = 4101
-
-[[origin]]
-host = \"o\"
-port = 80
-address = \"127.0.0.1\"
-connect = 8080
-";
-
-/// A roster of two nodes that are siblings.
-const TWO: &str = "default_lifetime = 60
-copies = 1000
-bytes = 1048576
-query_wait = 2000
-
-[master]
-address = \"127.0.0.1\"
-htcp = 4800
-
-[[node]]
-id = 1
-name = \"n1\"
-address = \"127.0.0.1\"
-http = 8101
-icp = 3101
-htcp = 4101
-[[node.peer]]
-id = 2
-role = \"sibling\"
-by = \"icp\"
-
-[[node]]
-id = 2
-name = \"n2\"
-address = \"127.0.0.1\"
-http = 8102
-icp = 3102
-htcp = 4102
-[[node.peer]]
-id = 1
-role = \"sibling\"
-by = \"icp\"
-
-[[origin]]
-host = \"o\"
-port = 80
-address = \"127.0.0.1\"
-connect = 8080
-";
+use tests_kit::{ONE, TWO, address_at, first_wrong};
 
 /// Node 3, without peers.
 const THREE: &str = "[[node]]
@@ -105,14 +39,6 @@ role = \"parent\"
 by = \"htcp\"
 ";
 
-/// The address of this computer, and a port.
-fn local(port: u16) -> Address {
-    Address {
-        ip: 0x7f000001,
-        port,
-    }
-}
-
 /// The roster of a text that has one.
 pub(crate) fn read(rt: &(impl Abort + AllocGlobal), text: &str) -> Roster {
     Roster::read(rt.alloc(), text).expect(rt, "a roster")
@@ -124,12 +50,15 @@ fn flaw_of_one(roster: &Roster) -> Option<&'static str> {
     first_wrong(&[
         ("one member", roster.members().len() == 1),
         ("no foreign cache", roster.foreign().len() == 0),
-        ("the master", roster.master() == local(4800)),
+        ("the master", roster.master() == address_at(4800)),
         ("the lifetime", limits.default_lifetime == 60),
         ("the copies", limits.copies == 1000),
         ("the octets", limits.bytes == 1048576),
         ("the wait", limits.query_wait == 2000),
-        ("the origin", roster.origin(b"o", 80) == Some(local(8080))),
+        (
+            "the origin",
+            roster.origin(b"o", 80) == Some(address_at(8080)),
+        ),
         ("another port", roster.origin(b"o", 81) == None),
         ("another host", roster.origin(b"p", 80) == None),
     ])
@@ -149,14 +78,17 @@ fn flaw_of_two(roster: &Roster) -> Option<&'static str> {
     };
     first_wrong(&[
         ("the second of two", second == b"n2".as_slice()),
-        ("by ICP", roster.member_at(local(3102), Udp::Icp) == Some(2)),
+        (
+            "by ICP",
+            roster.member_at(address_at(3102), Udp::Icp) == Some(2),
+        ),
         (
             "by HTCP",
-            roster.member_at(local(4102), Udp::Htcp) == Some(2),
+            roster.member_at(address_at(4102), Udp::Htcp) == Some(2),
         ),
         (
             "by ICP at HTCP",
-            roster.member_at(local(4102), Udp::Icp) == None,
+            roster.member_at(address_at(4102), Udp::Icp) == None,
         ),
         ("node 1 names node 2 a sibling", roster.names_sibling(1, 2)),
         ("node 2 does not name itself", !roster.names_sibling(2, 2)),

@@ -1,8 +1,8 @@
 //! Rounds of questions among the peers of a roster, and where an ask goes then (RFC 2187, section 5).
-use crate::first_wrong;
 use crate::rosters::{largest, read};
 use peer_chooser::{Round, Said, Source};
 use roster::Roster;
+use tests_kit::first_wrong;
 
 /// The member 1 has the sibling 2, the parent 3, the foreign sibling 101 and the parent 4; the member 2 has no other peers than foreign caches: the parents 101 and 105 and the sibling 108; the member 3 has
 /// no peers; the member 4 has the sibling 2, the foreign sibling 101 and the parent 3; the member 5 has the sibling 2 and the parent 3.

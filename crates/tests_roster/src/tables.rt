@@ -1,5 +1,5 @@
-use crate::first_wrong;
 use std::process::Abort;
+use tests_kit::first_wrong;
 use values_plain::Address;
 use values_tables::{Member, Origin, TableKind, Tables, TablesFault, TextPlace};
 

@@ -7,10 +7,11 @@ use mio::net::{TcpStream, UdpSocket};
 use std::alloc::{AllocError, Global};
 use std::io::{self, ErrorKind, Read};
 use std::marker::Brand;
-use std::net::{Ipv4Addr, Shutdown, SocketAddr};
+use std::net::Shutdown;
 use std::sync::Wait;
 use std::test::Fail;
 use std::time::{Clock, Duration, Instant};
+use tests_kit::socket_at;
 use values_plain::{Address, Listed, Udp};
 use values_tables::Cache;
 
@@ -55,11 +56,6 @@ fn cache_at(alloc: Global, ip: u32, port: u16) -> Cache {
         icp: address_at(ip, port, 1),
         htcp: address_at(ip, port, 2),
     }
-}
-
-/// The address of a port of this machine.
-fn socket_at(port: u16) -> SocketAddr {
-    SocketAddr::from((Ipv4Addr::LOCALHOST, port))
 }
 
 /// The clients of a node.

@@ -3,9 +3,9 @@ use cluster_streams::{StreamPoll, Timed};
 use mio::net::{TcpListener, TcpStream};
 use std::alloc::{AllocError, Global};
 use std::io::{self, Error, ErrorKind, Read, Write};
-use std::net::{Ipv4Addr, SocketAddr};
 use std::test::Fail;
 use std::time::{Duration, Instant};
+use tests_kit::socket_at;
 
 /// A stream, its other end, and what a thread waits on.
 #[derive(Drop)]
@@ -28,7 +28,7 @@ fn accepted(listener: &TcpListener) -> io::Result<TcpStream> {
 }
 
 fn connected(rt: &HostRuntime, port: u16) -> io::Result<Pair> {
-    let at = SocketAddr::from((Ipv4Addr::LOCALHOST, port));
+    let at = socket_at(port);
     let listener = TcpListener::bind(rt, at)?;
     let near = TcpStream::connect(rt, at)?;
     let far = accepted(&listener)?;
@@ -180,7 +180,7 @@ fn a_stream_ends_with_its_peer(rt: HostRuntime) -> Result<(), Fail> {
 
 /// A port that nobody listens at refuses, as the first octets are sent at the latest, and long before the time is over.
 fn unheard(rt: &HostRuntime, port: u16) -> io::Result<ErrorKind> {
-    let at = SocketAddr::from((Ipv4Addr::LOCALHOST, port));
+    let at = socket_at(port);
     let mut stream = TcpStream::connect(rt, at)?;
     let mut poll = StreamPoll::new(rt, rt.alloc())?;
     let mut timed = Timed::new(rt, &mut poll, &mut stream, Duration::from_secs(5))?;

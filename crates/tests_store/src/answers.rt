@@ -1,6 +1,7 @@
-use crate::made::{field_of, fields_of, first_wrong, key, many_fields, octets};
+use crate::made::{field_of, fields_of, key, many_fields, octets};
 use http_messages::{Answer, Ask, Body, FetchFault, Fields};
 use std::process::Abort;
+use tests_kit::first_wrong;
 use url_key::KeyFault;
 
 /// A status, an age and the length of a body, and whether an answer of them is writable.

@@ -1,11 +1,12 @@
 ghost use Rattle.std.specs.Prelude.{◌≤◌, ◌<◌};
 
-use crate::made::{field_of, fields_of, first_wrong, key, octets};
+use crate::made::{field_of, fields_of, key, octets};
 use http_messages::{Answer, Body, Fields};
 use object_store::laws::what_fits_is_the_longest_front;
 use object_store::{Put, Store, WebCopy, size};
 use std::hash::RandomState;
 use std::process::Abort;
+use tests_kit::first_wrong;
 use url_key::Key;
 
 mod plain;

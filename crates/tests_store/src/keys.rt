@@ -1,7 +1,8 @@
-use crate::made::{first_wrong, key};
+use crate::made::key;
 use std::alloc::Global;
 use std::hash::{BuildHasher, BuildHasherDefault, FoldHasher};
 use std::process::Abort;
+use tests_kit::first_wrong;
 use url_key::{Key, KeyFault};
 
 /// Each text, and the text of its key or the name of its fault.

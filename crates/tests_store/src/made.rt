@@ -35,13 +35,3 @@ pub fn octets(rt: &(impl Abort + AllocGlobal), octet: u8, count: usize) -> Vec<u
 pub fn key(rt: &(impl Abort + AllocGlobal), text: &[u8]) -> Key {
     Key::read(rt.alloc(), text).expect(rt, "a key")
 }
-
-/// The name of the first thing that does not hold.
-pub fn first_wrong(things: &[(&'static str, bool)]) -> Option<&'static str> {
-    for (name, holds) in things {
-        if !holds {
-            return Some(name);
-        }
-    }
-    None
-}

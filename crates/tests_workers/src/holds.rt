@@ -1,5 +1,5 @@
 //! A node that is held.
-use crate::network::{PLAIN, QUERY, asking, is_answered, is_silent, is_told, received, socket_at};
+use crate::network::{PLAIN, QUERY, asking, is_answered, is_silent, is_told, received};
 use crate::nodes::DENIED;
 use crate::rosters::siblings_text;
 use crate::turnstile::{Turnstile, new_turnstile};
@@ -10,6 +10,7 @@ use std::sync::{Arc, Wait};
 use std::test::Fail;
 use std::time::Duration;
 use std::{io, thread};
+use tests_kit::socket_at;
 
 /// For how many milliseconds a node that is held is given time to answer.
 const PAUSE: u64 = 100;

@@ -1,9 +1,10 @@
 //! What a node's clients and peers do, over sockets.
 use mio::net::UdpSocket;
 use std::io::{self, Error, ErrorKind, Read, Write};
-use std::net::{Ipv4Addr, SocketAddr, TcpStream};
+use std::net::TcpStream;
 use std::thread;
 use std::time::Duration;
+use tests_kit::socket_at;
 
 /// An ask for what only the node itself may hold.
 pub(crate) const CACHED: &[u8] =
@@ -18,11 +19,6 @@ pub(crate) const QUERY: &[u8] =
 
 /// For how many turns of a millisecond a datagram is waited for.
 const MOST_TURNS: u32 = 5000;
-
-/// The address of a port of this machine.
-pub(crate) fn socket_at(port: u16) -> SocketAddr {
-    SocketAddr::from((Ipv4Addr::LOCALHOST, port))
-}
 
 /// A client that has sent its ask to a port.
 pub(crate) fn asking(rt: &HostRuntime, port: u16, ask: &[u8]) -> io::Result<TcpStream> {

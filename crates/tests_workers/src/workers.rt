@@ -4,7 +4,6 @@ use node_book::Record;
 use node_seats::Places;
 use node_shifts::History;
 use node_workers::{Gate, Ground, StartFault, StopFault, Workers};
-use roster::Roster;
 use std::alloc::Global;
 use std::hash::RandomState;
 use std::net::{Net, TcpListener, TcpStream};
@@ -13,14 +12,7 @@ use std::sync::{Arc, Wait};
 use std::test::Fail;
 use std::thread::Threads;
 use std::time::Clock;
-
-/// A roster, or the name of its fault.
-fn roster_of(alloc: Global, text: &str) -> Result<Roster, Fail> {
-    match Roster::read(alloc, text) {
-        Ok(roster) => Ok(roster),
-        Err(error) => Err(error.fault.name().into()),
-    }
-}
+use tests_kit::roster_of;
 
 /// What a node starts on: these floors.
 fn ground<S: FloorStore + Drop, R: RandomSource>(

@@ -8,8 +8,6 @@ mod events;
 #[cfg(test)]
 mod lines;
 #[cfg(test)]
-mod rosters;
-#[cfg(test)]
 mod words;
 #[cfg(test)]
 mod worlds;

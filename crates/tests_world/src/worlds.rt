@@ -1,17 +1,13 @@
 //! What the scripts of a world cannot say: strangers, foreign caches, and runs of a list of events.
-use crate::rosters::{FOREIGN, ONE, roster_of};
 use hierarchy_world::{Datagram, World};
-use htcp_wire::{Content, Htcp, Specifier};
-use http_header::{HeaderName, HeaderValue};
-use http_messages::{Answer, Ask, Body, Field, Fields};
-use icp_wire::{Icp, IcpOp};
+use htcp_wire::Content;
+use icp_wire::IcpOp;
 use node_rules::{Message, Received, Serve, Served, can_be_answered};
 use purge_rules::Status;
 use roster::Address;
-use std::alloc::{AllocError, Global};
+use std::alloc::Global;
 use std::test::Fail;
-use url_key::Key;
-use values_plain::Octets;
+use tests_kit::{FOREIGN, ONE, answer_of, ask_of, clear_of, icp_of, key_of, roster_of};
 use world_rules::{Outcome, WorldEvent, WorldFault};
 
 /// 127.0.0.1.
@@ -20,7 +16,10 @@ const HOST: u32 = 0x7f00_0001;
 /// The address of no member and not of the master.
 const STRANGER: u32 = 0x7f00_0009;
 
-/// What happens: all of it is about `http://o/a` and the first member.
+/// The URL of all that happens.
+const URL: &[u8] = b"http://o/a";
+
+/// What happens: all of it is about that URL and the first member.
 #[derive(Clone, Copy, Debug)]
 enum Happens {
     /// A client asks.
@@ -197,69 +196,6 @@ const WRONG: &[Step] = &[
     ),
 ];
 
-fn key_of(alloc: Global) -> Result<Key, Fail> {
-    Ok(Key::read(alloc, b"http://o/a")?)
-}
-
-/// The fields of an answer with a lifetime of 60 seconds.
-fn fields_of(alloc: Global) -> Result<Fields, Fail> {
-    let name = HeaderName::from_bytes(alloc, b"cache-control")?;
-    let value = HeaderValue::from_bytes(alloc, b"max-age=60")?;
-    Ok(Fields::new(alloc, vec![in alloc; Field { name, value }]?)?)
-}
-
-/// An answer of status 200 with these fields.
-fn answer_of(alloc: Global) -> Result<Answer, Fail> {
-    let fields = fields_of(alloc)?;
-    let body = Body::from_slice(alloc, b"one")?;
-    match Answer::new(200, fields, None, None, body) {
-        Some(answer) => Ok(answer),
-        None => Err("writable".into()),
-    }
-}
-
-/// The ask of a client.
-fn ask_of(alloc: Global) -> Result<Ask, Fail> {
-    Ok(Ask {
-        key: key_of(alloc)?,
-        only_if_cached: false,
-        no_cache: false,
-        member: None,
-    })
-}
-
-/// The request of a CLR under the number 7.
-fn spec_of(alloc: Global) -> Result<Specifier, AllocError> {
-    Ok(Specifier {
-        method: Octets::from_slice(alloc, b"GET")?,
-        uri: Octets::from_slice(alloc, b"http://o/a")?,
-        version: Octets::from_slice(alloc, b"HTTP/1.1")?,
-        request_headers: Octets::from_slice(alloc, b"X-Purge-Number: 7\r\n")?,
-    })
-}
-
-fn clear(alloc: Global) -> Result<Message, AllocError> {
-    let content = Content::ClrAsk {
-        desired: true,
-        reason: 0,
-        spec: spec_of(alloc)?,
-    };
-    Ok(Message::Htcp(Htcp {
-        minor: 0,
-        trans: 7,
-        content,
-    }))
-}
-
-fn hit(alloc: Global) -> Result<Message, AllocError> {
-    Ok(Message::Icp(Icp {
-        op: IcpOp::Hit,
-        number: 32,
-        url: Octets::from_slice(alloc, b"http://o/a")?,
-        object: Octets::new(alloc),
-    }))
-}
-
 /// A datagram comes from this address to this port of the first member.
 fn strange(to: u16, ip: u32, port: u16, message: Message) -> Result<WorldEvent, Fail> {
     if !can_be_answered(&message) {
@@ -276,22 +212,28 @@ fn event_of(alloc: Global, happens: Happens) -> Result<WorldEvent, Fail> {
     match happens {
         Happens::Client => Ok(WorldEvent::Client {
             node: 1,
-            ask: ask_of(alloc)?,
+            ask: ask_of(alloc, URL, false, None)?,
         }),
         Happens::Origin => Ok(WorldEvent::Origin {
             node: 1,
             serial: 33,
-            answer: answer_of(alloc)?,
+            answer: answer_of(alloc, None)?,
         }),
         Happens::Foreign => Ok(WorldEvent::Foreign {
             node: 1,
             serial: 33,
-            answer: answer_of(alloc)?,
+            answer: answer_of(alloc, None)?,
         }),
-        Happens::Hit => strange(3101, HOST, 3201, hit(alloc)?),
-        Happens::Clear(ip, port) => strange(4101, ip, port, clear(alloc)?),
+        Happens::Hit => {
+            let hit = icp_of(alloc, IcpOp::Hit, 32, URL)?;
+            strange(3101, HOST, 3201, Message::Icp(hit))
+        }
+        Happens::Clear(ip, port) => {
+            let clear = clear_of(alloc, URL, 7)?;
+            strange(4101, ip, port, Message::Htcp(clear))
+        }
         Happens::Issue => Ok(WorldEvent::Issue {
-            key: key_of(alloc)?,
+            key: key_of(alloc, URL)?,
         }),
         Happens::Datagram(number) => Ok(WorldEvent::Datagram { number }),
     }

@@ -2,7 +2,6 @@
 //!
 //! What is done with a store is written for any store below it: a proof then speaks of none in particular.
 use super::{floor, loaded, raise};
-use crate::calls::want;
 use crate::disks::{Disks, closed, connected, crashed, files, stopping};
 use floor_rules::{FloorFault, FloorStore};
 use purge_numbers::SqliteFloors;
@@ -10,6 +9,7 @@ use sqlite::{Alter, Connection, Files};
 use sqlite_disk::{Disk, Memory};
 use std::alloc::Global;
 use std::test::Fail;
+use tests_kit::want;
 
 /// The floors of a connection, or what is left below it.
 fn stored<S: Alter + Drop>(alloc: Global, conn: Connection<S>) -> Result<SqliteFloors<S>, S> {

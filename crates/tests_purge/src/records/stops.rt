@@ -1,7 +1,7 @@
 //! Calls over files that stop after so many calls of the disk.
 //!
 //! What is done with a store is written for any store below it: a proof then speaks of none in particular.
-use crate::calls::{add, loaded, mark, want};
+use crate::calls::{add, loaded, mark};
 use crate::disks::{Disks, closed, connected, crashed, files, stopping};
 use purge_records::SqlitePurges;
 use purge_rules::{PurgeFault, PurgeStore};
@@ -9,6 +9,7 @@ use sqlite::{Alter, Connection, Files};
 use sqlite_disk::{Disk, Memory};
 use std::alloc::Global;
 use std::test::Fail;
+use tests_kit::want;
 
 /// The call that is stopped.
 #[derive(Clone, Copy)]
