@@ -1,13 +1,14 @@
 //! Verdicts on the records of a node that threads share.
-ghost use Rattle.std.specs.Prelude.{◌≡◌, ◌≤◌, []};
+ghost use Rattle.std.specs.Prelude.{◌≡◌, ◌≤◌};
 
-use crate::seats::{Held, asked, book_of, call_once, called, closed, roster_of, shared};
-use floor_rules::MemoryFloors;
-use node_book::{NodeBook, NodeEntry, Record};
+use crate::nodes::{WITH_AN_ORIGIN, roster_of};
+use crate::seats::{Held, NextShift, called, closed, is_answered, shared, turned};
+use floor_rules::FloorStore;
+use node_book::{NodeEntry, Record};
 use node_copies::{copy_of_event, copy_of_reply};
 use node_rules::{Event, Reply, StepFault};
-use node_seats::{Calls, Places, Shift};
-use roster::Listed;
+use node_seats::{Calls, Shift};
+use roster::{Listed, Roster};
 use run_check::{Cause, Verdict, check_run};
 use std::alloc::{AllocError, Global};
 use std::hash::RandomState;
@@ -23,149 +24,272 @@ const READ_FAILS: Event<()> = Event::FetchFailed {
     now: 10,
 };
 
-/// The record of a shift, and the shift after it.
-fn turned<L: Calls>(shift: Shift<MemoryFloors, L>) -> Option<(Record, Held<L>)>
+/// Puts the record of a shift behind the others, and opens the next shift.
+fn next_of<S: FloorStore + Drop, L: Calls>(
+    shift: Shift<S, L>,
+    records: &mut Vec<Record>,
+) -> Option<Held<S, L>>
     requires { 2 ≤ L.all }
 {
-    match shift.next(2) {
-        Ok((record, node, seats)) => Some((record, Held { node, seats })),
+    let NextShift { record, held } = turned(shift)?;
+    match records.push(record) {
+        Ok(()) => Some(held),
         Err(_) => None,
     }
 }
 
-/// The record of a shift with one call, which is answered.
-fn one_call<L: Calls, R: Wait>(rt: &R, held: Held<L>, event: Event<()>) -> Option<Record>
+/// Ends a shift, and does the same with it.
+fn ended<S: FloorStore + Drop, L: Calls>(
+    held: Held<S, L>,
+    records: &mut Vec<Record>,
+) -> Option<Held<S, L>>
     requires parts { (L.all ≡ L.parts) × (2 ≤ L.all) }
 {
-    let Held { node, mut seats } = held;
-    let (seat, is_answered) = call_once(rt, &node, seats.pop()?, event);
-    if !is_answered {
-        return None;
+    match closed(held) {
+        Ok(shift) => next_of(shift, records),
+        Err(_) => None,
     }
-    seats.push(seat).ok()?;
-    let (record, _held) = turned(closed(Held { node, seats }).ok()?)?;
-    Some(record)
 }
 
-/// The records of two shifts. In the first two threads make a call each, one of which is an ask that waits for the origin; the one call of the second ends that ask.
+/// A shift with one call, which ends the ask that waits. Whether the call is answered, and the shift
+/// ends.
+fn is_ended<S: FloorStore + Drop, L: Calls, R: Wait>(
+    rt: &R,
+    mut held: Held<S, L>,
+    records: &mut Vec<Record>,
+) -> bool
+    requires parts { (L.all ≡ L.parts) × (2 ≤ L.all) }
+{
+    let answered = is_answered(rt, &held.node, &mut held.seats, READ_FAILS);
+    ended(held, records).is_some() && answered
+}
+
+/// Puts the records of two shifts behind these. In the first shift two threads make a call each: one
+/// asks, and waits for the origin. The one call of the second shift ends that ask. Whether all that
+/// was done.
 fn two_shifts<L: Calls + Send + Sync, R: Threads + Wait + Sync>(
     rt: &R,
     alloc: Global,
-    book: NodeBook<MemoryFloors>,
     blank: Blank,
-    places: Places,
-    ask: Event<()>,
-) -> Option<Vec<Record>>
-    requires fresh { book.entries ≡ [] }
+    records: &mut Vec<Record>,
+) -> bool
     requires name { blank.name ≡ L.name }
     requires parts { (blank.parts ≡ L.parts) × (L.all ≡ L.parts) × (2 ≤ L.all) }
 {
-    let held = shared::<L>(alloc, book, blank, places)?;
-    let (held, _asked, _told) = called(rt, alloc, held, ask)?;
-    let (first, held) = turned(closed(held).ok()?)?;
-    let second = one_call(rt, held, READ_FAILS)?;
-    vec![in alloc; first, second].ok()
-}
-
-/// How many asks wait where each record closes.
-fn waiting(records: &[Record]) -> [usize; 2] {
-    let mut waiting = [0; 2];
-    for (place, record) in records.iter().enumerate() {
-        if let Some(count) = waiting.get_mut(place) {
-            *count = record.closing.pending.as_slice().len();
-        }
+    let Some(mut held) = shared::<L>(alloc, blank) else {
+        return false;
+    };
+    let is_called = called(rt, alloc, &mut held, false).is_some();
+    match ended(held, records) {
+        Some(held) => is_ended(rt, held, records) && is_called,
+        None => false,
     }
-    waiting
 }
 
-/// The verdict on the first so many of the records.
-fn verdict(rt: &HostRuntime, records: &[Record], count: usize) -> Result<Verdict, Fail> {
-    let roster = roster_of(rt.alloc())?;
-    let keys = RandomState::new(rt)?;
-    let some = records.get(..count).unwrap_or(&[]);
-    Ok(check_run(rt.alloc(), keys, &roster, some, &[])?)
+/// How many asks wait where each of two records closes.
+fn waiting(records: &[Record]) -> Option<[usize; 2]> {
+    match records {
+        [first, second] => Some([
+            first.closing.pending.as_slice().len(),
+            second.closing.pending.as_slice().len(),
+        ]),
+        _ => None,
+    }
 }
 
-/// A reply that serves nothing and begins nothing, where the step was not refused.
+/// Has a reply serve nothing and begin nothing.
+fn silence(reply: &mut Reply<()>) {
+    reply.serve = None;
+    reply.begin = None;
+}
+
+/// A copy of a reply that serves nothing and begins nothing.
+fn silent(alloc: Global, reply: &Reply<()>) -> Result<Reply<()>, AllocError> {
+    let mut copy = copy_of_reply(alloc, reply)?;
+    silence(&mut copy);
+    Ok(copy)
+}
+
+/// What a step told, with its reply silenced.
 fn silenced(
     alloc: Global,
     outcome: &Result<Reply<()>, StepFault>,
 ) -> Result<Result<Reply<()>, StepFault>, AllocError> {
     match outcome {
-        Ok(reply) => {
-            let mut copy = copy_of_reply(alloc, reply)?;
-            copy.serve = None;
-            copy.begin = None;
-            Ok(Ok(copy))
-        }
+        Ok(reply) => match silent(alloc, reply) {
+            Ok(copy) => Ok(Ok(copy)),
+            Err(fault) => Err(fault),
+        },
         Err(fault) => Ok(Err(*fault)),
+    }
+}
+
+/// An entry of this event, with the reply silenced.
+fn altered_of(alloc: Global, entry: &NodeEntry, event: Event<()>) -> Result<NodeEntry, AllocError> {
+    match silenced(alloc, &entry.outcome) {
+        Ok(outcome) => Ok(NodeEntry {
+            seat: entry.seat,
+            place: entry.place,
+            event,
+            outcome,
+        }),
+        Err(fault) => Err(fault),
     }
 }
 
 /// An entry with its reply silenced.
 fn altered(alloc: Global, entry: &NodeEntry) -> Result<NodeEntry, AllocError> {
-    Ok(NodeEntry {
-        seat: entry.seat,
-        place: entry.place,
-        event: copy_of_event(alloc, &entry.event)?,
-        outcome: silenced(alloc, &entry.outcome)?,
-    })
+    let event = copy_of_event(alloc, &entry.event)?;
+    altered_of(alloc, entry, event)
 }
 
-/// Silences the one reply of a record: its place.
-fn alter(alloc: Global, record: &mut Record) -> Result<u64, AllocError> {
-    let mut place = 0;
+/// Puts an entry with its reply silenced behind the others.
+fn put_altered(
+    alloc: Global,
+    copies: &mut Vec<NodeEntry>,
+    entry: &NodeEntry,
+) -> Result<(), AllocError> {
+    let copy = altered(alloc, entry)?;
+    match copies.push(copy) {
+        Ok(()) => Ok(()),
+        Err(_) => Err(AllocError),
+    }
+}
+
+/// The entries, each with its reply silenced.
+fn all_altered(alloc: Global, entries: &[NodeEntry]) -> Result<Vec<NodeEntry>, AllocError> {
     let mut copies = Vec::new(alloc);
-    for entry in record.entries.as_slice() {
+    for entry in entries {
+        put_altered(alloc, &mut copies, entry)?;
+    }
+    Ok(copies)
+}
+
+/// The place of the one entry with a reply.
+fn place_of_reply(entries: &[NodeEntry]) -> u64 {
+    let mut place = 0;
+    for entry in entries {
         if entry.outcome.is_ok() {
             place = entry.place;
         }
-        copies.push(altered(alloc, entry)?)?;
     }
-    record.entries = Listed::new(copies);
-    Ok(place)
+    place
 }
 
-/// The verdict on the first so many of the records, the last of which has its reply silenced, and the flaw that is there.
-fn altered_verdict(
-    rt: &HostRuntime,
-    records: &mut [Record],
+/// Silences the one reply of a record: its place.
+fn alter(alloc: Global, record: &mut Record) -> Option<u64> {
+    let place = place_of_reply(record.entries.as_slice());
+    match all_altered(alloc, record.entries.as_slice()) {
+        Ok(copies) => {
+            record.entries = Listed::new(copies);
+            Some(place)
+        }
+        Err(_) => None,
+    }
+}
+
+/// How many of the records are judged. Where it is altered, the last of these has its reply silenced
+/// first.
+#[derive(Clone, Copy)]
+struct Trial {
     count: usize,
-) -> Result<(Verdict, Verdict), Fail> {
-    let place = match records.get_mut(count.saturating_sub(1)) {
-        Some(record) => alter(rt.alloc(), record)?,
-        None => 0,
-    };
-    let cause = Cause::OtherReply;
-    Ok((verdict(rt, records, count)?, Verdict::No { place, cause }))
+    is_altered: bool,
 }
 
-/// The verdicts on the first record, on both, on both with the second altered, and on the first alone, altered; and what they are to be.
-fn verdicts(rt: &HostRuntime, records: &mut [Record]) -> Result<[(Verdict, Verdict); 4], Fail> {
-    Ok([
-        (verdict(rt, records, 1)?, Verdict::Yes),
-        (verdict(rt, records, 2)?, Verdict::Yes),
-        altered_verdict(rt, records, 2)?,
-        altered_verdict(rt, records, 1)?,
-    ])
+/// The first record, both, both with the second altered, and the first alone, altered.
+const TRIALS: [Trial; 4] = [
+    Trial {
+        count: 1,
+        is_altered: false,
+    },
+    Trial {
+        count: 2,
+        is_altered: false,
+    },
+    Trial {
+        count: 2,
+        is_altered: true,
+    },
+    Trial {
+        count: 1,
+        is_altered: true,
+    },
+];
+
+/// Alters the records for a trial: the verdict that is wanted.
+fn wanted(alloc: Global, records: &mut [Record], trial: &Trial) -> Option<Verdict> {
+    if !trial.is_altered {
+        return Some(Verdict::Yes);
+    }
+    let record = records.get_mut(trial.count.saturating_sub(1))?;
+    let place = alter(alloc, record)?;
+    let cause = Cause::OtherReply;
+    Some(Verdict::No { place, cause })
+}
+
+/// The verdict on the first so many of the records.
+fn verdict(
+    alloc: Global,
+    keys: RandomState,
+    roster: &Roster,
+    records: &[Record],
+    count: usize,
+) -> Option<Verdict> {
+    check_run(alloc, keys, roster, records.get(..count)?, &[]).ok()
+}
+
+/// Whether a trial has the verdict that is wanted.
+fn is_right(
+    alloc: Global,
+    keys: RandomState,
+    roster: &Roster,
+    records: &mut [Record],
+    trial: &Trial,
+) -> bool {
+    match wanted(alloc, records, trial) {
+        Some(wanted) => verdict(alloc, keys, roster, records, trial.count) == Some(wanted),
+        None => false,
+    }
+}
+
+/// The first trial that has another verdict, if one has.
+fn wrong_trial(
+    alloc: Global,
+    keys: RandomState,
+    roster: &Roster,
+    records: &mut [Record],
+) -> Option<usize> {
+    for (place, trial) in TRIALS.iter().enumerate() {
+        if !is_right(alloc, keys, roster, records, trial) {
+            return Some(place);
+        }
+    }
+    None
+}
+
+/// How many asks wait where each of two records closes, and the first trial that has another
+/// verdict.
+type Seen = ([usize; 2], Option<usize>);
+
+/// What is seen of these records.
+fn seen_of(alloc: Global, keys: RandomState, records: &mut [Record]) -> Option<Seen> {
+    let waiting = waiting(records)?;
+    let roster = roster_of(alloc, WITH_AN_ORIGIN)?;
+    Some((waiting, wrong_trial(alloc, keys, &roster, records)))
+}
+
+/// What is seen of the records of two shifts.
+fn seen_of_two_shifts(rt: &HostRuntime, alloc: Global, keys: RandomState) -> Option<Seen> {
+    let mut records = Vec::new(alloc);
+    let done = two_shifts::<Brand, HostRuntime>(rt, alloc, Blank::new(2), &mut records);
+    let seen = seen_of(alloc, keys, records.as_mut_slice());
+    if done { seen } else { None }
 }
 
 #[test]
 fn records_of_shifts_are_judged(rt: HostRuntime) -> Result<(), Fail> {
-    let alloc = rt.alloc();
-    let places = Places::new(alloc)?;
-    let ask = asked(alloc, false)?;
-    let book = book_of(alloc)?;
-    let done = two_shifts::<Brand, HostRuntime>(&rt, alloc, book, Blank::new(2), places, ask);
-    let told = match done {
-        Some(mut records) => {
-            assert_eq!(rt; waiting(records.as_slice()), [1, 0]);
-            verdicts(&rt, records.as_mut_slice())
-        }
-        None => Err("the shifts".into()),
-    };
-    for (count, (verdict, wanted)) in told?.iter().enumerate() {
-        assert_eq!(rt; *verdict, *wanted, "run {count}");
-    }
+    let keys = RandomState::new(&rt)?;
+    let seen = seen_of_two_shifts(&rt, rt.alloc(), keys);
+    assert!(rt; seen == Some(([1, 0], None)));
     Ok(())
 }

@@ -6,6 +6,8 @@
 #[cfg(test)]
 mod judged;
 #[cfg(test)]
+mod nodes;
+#[cfg(test)]
 mod seats;
 #[cfg(test)]
 mod shifts;

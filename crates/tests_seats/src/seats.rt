@@ -1,162 +1,185 @@
 //! Seats, the calls made by them, and shifts.
-ghost use Rattle.std.specs.Prelude.{◌≡◌, ◌≤◌, [], IfOk};
+ghost use Rattle.std.specs.Prelude.{◌≡◌, ◌≤◌, []};
 
-use floor_rules::MemoryFloors;
-use http_messages::Ask;
-use node_book::{BookFault, NodeBook, Record};
-use node_core::Node;
-use node_rules::{Event, StepFault};
+use crate::nodes::{FAILS, Start, WITH_AN_ORIGIN, asked, start_of};
+use floor_rules::{FloorStore, MemoryFloors};
+use node_book::{BookFault, Record};
+use node_rules::{Event, Reply, StepFault};
 use node_seats::{Calls, CloseFault, Places, Seat, SharedNode, Shift, close};
-use roster::Roster;
 use std::alloc::Global;
 use std::marker::Brand;
 use std::sync::Wait;
 use std::sync::ledger::Blank;
 use std::test::Fail;
 use std::thread::{self, Threads};
-use url_key::Key;
 
-/// One member and an origin.
-const ONE: &str = "default_lifetime = 60
-copies = 1000
-bytes = 1048576
-query_wait = 2000
-[master]
-address = \"127.0.0.1\"
-htcp = 4800
-[[node]]
-id = 1
-name = \"n1\"
-address = \"127.0.0.1\"
-http = 8101
-icp = 3101
-htcp = 4101
-[[origin]]
-host = \"o\"
-port = 80
-address = \"127.0.0.1\"
-connect = 8080
-";
-
-/// The roster of the node.
-pub(crate) fn roster_of(alloc: Global) -> Result<Roster, Fail> {
-    match Roster::read(alloc, ONE) {
-        Ok(roster) => Ok(roster),
-        Err(error) => Err(error.fault.name().into()),
-    }
-}
-
-/// The book of a new node.
-pub(crate) fn book_of(alloc: Global) -> Result<NodeBook<MemoryFloors>, Fail>
-    ensures { IfOk result (λ book. book.entries ≡ []) }
-{
-    let roster = roster_of(alloc)?;
-    book_over(alloc, roster)
-}
-
-fn book_over(alloc: Global, roster: Roster) -> Result<NodeBook<MemoryFloors>, Fail>
-    ensures { IfOk result (λ book. book.entries ≡ []) }
-{
-    let node = match Node::open(alloc, roster, 1, MemoryFloors::new(alloc)) {
-        Ok(node) => node,
-        Err(fault) => return Err(fault.name().into()),
-    };
-    match NodeBook::open(alloc, node) {
-        Ok(book) => Ok(book),
-        Err(_) => Err("the book".into()),
-    }
-}
-
-/// A client asks for a page of which there is no copy: for what is held alone, or else for one of the origin's.
-pub(crate) fn asked(alloc: Global, only_if_cached: bool) -> Result<Event<()>, Fail> {
-    let ask = Ask {
-        key: Key::read(alloc, b"http://o/a")?,
-        only_if_cached,
-        no_cache: false,
-        member: None,
-    };
-    Ok(Event::Client { ask, now: 9 })
-}
-
-/// A fetch fails that there was not.
-const FAILS: Event<()> = Event::FetchFailed { serial: 34, now: 9 };
+/// What a call was told: that it was answered, or its fault.
+type Told = Result<(), BookFault>;
 
 /// A node and its seats.
 #[derive(Drop)]
-pub(crate) struct Held<L: Calls> {
-    pub(crate) node: SharedNode<MemoryFloors, L>,
+pub(crate) struct Held<S: FloorStore, L: Calls> {
+    pub(crate) node: SharedNode<S, L>,
     pub(crate) seats: Vec<Seat<L>>,
 }
 
 /// Shares the book by two seats.
-pub(crate) fn shared<L: Calls>(
+fn seated<S: FloorStore + Drop, L: Calls>(
     alloc: Global,
-    book: NodeBook<MemoryFloors>,
+    start: Start<S>,
     blank: Blank,
-    places: Places,
-) -> Option<Held<L>>
-    requires fresh { book.entries ≡ [] }
+) -> Option<Held<S, L>>
+    requires fresh { start.book.entries ≡ [] }
     requires name { blank.name ≡ L.name }
     requires parts { (blank.parts ≡ L.parts) × (L.all ≡ L.parts) × (2 ≤ L.all) }
 {
+    let Start { book, places } = start;
     match SharedNode::open(alloc, book, 2, blank, places) {
         Ok((node, seats)) => Some(Held { node, seats }),
         Err(_) => None,
     }
 }
 
-/// Both seats, in their order.
-fn two_of<L: Calls>(mut seats: Vec<Seat<L>>) -> Option<(Seat<L>, Seat<L>)> {
-    let second = seats.pop()?;
-    let first = seats.pop()?;
-    Some((first, second))
+/// A new node with an origin, which two seats share.
+pub(crate) fn shared<L: Calls>(alloc: Global, blank: Blank) -> Option<Held<MemoryFloors, L>>
+    requires name { blank.name ≡ L.name }
+    requires parts { (blank.parts ≡ L.parts) × (L.all ≡ L.parts) × (2 ≤ L.all) }
+{
+    let start = start_of(alloc, WITH_AN_ORIGIN)?;
+    seated(alloc, start, blank)
 }
 
-fn row_of<L: Calls>(alloc: Global, first: Seat<L>, second: Seat<L>) -> Option<Vec<Seat<L>>> {
-    let mut seats = Vec::with_capacity(alloc, 2).ok()?;
-    seats.push(first).ok()?;
-    seats.push(second).ok()?;
-    Some(seats)
+/// What an answer tells of its call.
+fn told_by(answer: Result<Reply<()>, BookFault>) -> Told {
+    match answer {
+        Ok(_) => Ok(()),
+        Err(fault) => Err(fault),
+    }
 }
 
-/// Makes a call, and says whether it was answered.
-pub(crate) fn call_once<L: Calls, R: Wait>(
+/// Puts a seat behind the others, where there is memory for it.
+fn put_back<L: Calls>(seats: &mut Vec<Seat<L>>, seat: Seat<L>) -> bool {
+    seats.push(seat).is_ok()
+}
+
+/// Makes a call by the last of these seats, and says what it was told.
+fn call_last<S: FloorStore, L: Calls, R: Wait>(
     rt: &R,
-    node: &SharedNode<MemoryFloors, L>,
-    seat: Seat<L>,
+    node: &SharedNode<S, L>,
+    seats: &mut Vec<Seat<L>>,
     event: Event<()>,
-) -> (Seat<L>, bool) {
+) -> Option<Told> {
+    let seat = seats.pop()?;
     let (seat, answer) = node.call(rt, seat, event);
-    (seat, answer.is_ok())
+    let told = told_by(answer);
+    if put_back(seats, seat) {
+        Some(told)
+    } else {
+        None
+    }
 }
 
-/// Two threads make a call each: the node and the seats, and whether each was answered.
-pub(crate) fn called<L: Calls + Send + Sync, R: Threads + Wait + Sync>(
+/// Makes a call by the last of these seats, and says whether it was answered.
+pub(crate) fn is_answered<S: FloorStore, L: Calls, R: Wait>(
+    rt: &R,
+    node: &SharedNode<S, L>,
+    seats: &mut Vec<Seat<L>>,
+    event: Event<()>,
+) -> bool {
+    matches!(call_last(rt, node, seats, event), Some(Ok(())))
+}
+
+/// Takes the last of these seats into a row of its own.
+fn last_alone<L: Calls>(alloc: Global, seats: &mut Vec<Seat<L>>) -> Vec<Seat<L>> {
+    let mut alone = Vec::new(alloc);
+    if let Some(seat) = seats.pop() {
+        put_back(&mut alone, seat);
+    }
+    alone
+}
+
+/// Two threads make a call each, by these seats: whether each was answered.
+fn called_beside<S: FloorStore + Drop + Send, L: Calls + Send + Sync, R: Threads + Wait + Sync>(
+    rt: &R,
+    node: &SharedNode<S, L>,
+    first: &mut Vec<Seat<L>>,
+    second: &mut Vec<Seat<L>>,
+    event: Event<()>,
+) -> (bool, bool) {
+    thread::join(
+        rt,
+        move || is_answered(rt, node, first, event),
+        move || is_answered(rt, node, second, FAILS),
+    )
+}
+
+/// Seat 0 makes this call in one thread. Seat 1 tells in another of a fetch that there was not.
+/// Whether each was answered.
+fn called_by_two<S: FloorStore + Drop + Send, L: Calls + Send + Sync, R: Threads + Wait + Sync>(
     rt: &R,
     alloc: Global,
-    held: Held<L>,
+    held: &mut Held<S, L>,
     event: Event<()>,
-) -> Option<(Held<L>, bool, bool)> {
-    let Held { node, seats } = held;
-    let (first, second) = two_of(seats)?;
-    let shared = &node;
-    let ((first, one), (second, two)) = thread::join(
-        rt,
-        move || call_once(rt, shared, first, event),
-        move || call_once(rt, shared, second, FAILS),
-    );
-    let seats = row_of(alloc, first, second)?;
-    Some((Held { node, seats }, one, two))
+) -> Option<(bool, bool)> {
+    let mut second = last_alone(alloc, &mut held.seats);
+    let answered = called_beside(rt, &held.node, &mut held.seats, &mut second, event);
+    match held.seats.append(&mut second) {
+        Ok(()) => Some(answered),
+        Err(_) => None,
+    }
+}
+
+/// The same, where the call of seat 0 asks for a page of which there is no copy.
+pub(crate) fn called<S: FloorStore + Drop + Send, L: Calls + Send + Sync, R: Threads + Wait + Sync>(
+    rt: &R,
+    alloc: Global,
+    held: &mut Held<S, L>,
+    only_if_cached: bool,
+) -> Option<(bool, bool)> {
+    let event = asked(alloc, only_if_cached)?;
+    called_by_two(rt, alloc, held, event)
 }
 
 /// What a shift is closed to.
-pub(crate) fn closed<L: Calls>(held: Held<L>) -> Result<Shift<MemoryFloors, L>, CloseFault>
+pub(crate) fn closed<S: FloorStore + Drop, L: Calls>(
+    held: Held<S, L>,
+) -> Result<Shift<S, L>, CloseFault>
     requires parts { L.all ≡ L.parts }
 {
     let Held { node, seats } = held;
     match close(node, seats) {
         Ok(shift) => Ok(shift),
         Err((_, _, fault)) => Err(fault),
+    }
+}
+
+/// The record of a shift that ended, and the shift after it.
+#[derive(Drop)]
+pub(crate) struct NextShift<S: FloorStore, L: Calls> {
+    pub(crate) record: Record,
+    pub(crate) held: Held<S, L>,
+}
+
+/// Opens the next shift by two seats.
+pub(crate) fn turned<S: FloorStore + Drop, L: Calls>(shift: Shift<S, L>) -> Option<NextShift<S, L>>
+    requires { 2 ≤ L.all }
+{
+    match shift.next(2) {
+        Ok((record, node, seats)) => Some(NextShift {
+            record,
+            held: Held { node, seats },
+        }),
+        Err(_) => None,
+    }
+}
+
+/// How many seats the next shift has.
+fn next_seats<S: FloorStore + Drop, L: Calls>(shift: Shift<S, L>) -> usize
+    requires { 2 ≤ L.all }
+{
+    match turned(shift) {
+        Some(turned) => turned.held.seats.len(),
+        None => 0,
     }
 }
 
@@ -169,134 +192,155 @@ fn are_entered(record: &Record) -> bool {
     }
 }
 
-/// How many seats the next shift has.
-fn next_seats<L: Calls>(shift: Shift<MemoryFloors, L>) -> usize
+/// Whether the record has the calls of both, and how many seats the next shift has.
+fn seen_at_the_end<S: FloorStore + Drop, L: Calls>(shift: Shift<S, L>) -> (bool, usize)
     requires { 2 ≤ L.all }
 {
-    match shift.next(2) {
-        Ok((_, _, seats)) => seats.len(),
-        Err(_) => 0,
-    }
+    let entered = are_entered(shift.record());
+    (entered, next_seats(shift))
 }
 
-/// Two threads make a call each: whether the record has both, and how many seats the next shift has.
+/// Two threads make a call each, and the shift ends. Whether each was answered; whether the record
+/// has both, and how many seats the next shift has.
 fn two_calls<L: Calls + Send + Sync, R: Threads + Wait + Sync>(
     rt: &R,
     alloc: Global,
-    book: NodeBook<MemoryFloors>,
     blank: Blank,
-    places: Places,
-    event: Event<()>,
-) -> Option<(bool, usize)>
-    requires fresh { book.entries ≡ [] }
+) -> Option<((bool, bool), (bool, usize))>
     requires name { blank.name ≡ L.name }
     requires parts { (blank.parts ≡ L.parts) × (L.all ≡ L.parts) × (2 ≤ L.all) }
 {
-    let held = shared::<L>(alloc, book, blank, places)?;
-    let (held, one, two) = called(rt, alloc, held, event)?;
-    let shift = closed(held).ok()?;
-    let entered = one && !two && are_entered(shift.record());
-    Some((entered, next_seats(shift)))
+    let mut held = shared::<L>(alloc, blank)?;
+    let answered = called(rt, alloc, &mut held, true);
+    let seen = match closed(held) {
+        Ok(shift) => seen_at_the_end(shift),
+        Err(_) => return None,
+    };
+    Some((answered?, seen))
 }
 
 #[test]
 fn two_seats_make_a_call_each(rt: HostRuntime) -> Result<(), Fail> {
-    let alloc = rt.alloc();
-    let places = Places::new(alloc)?;
-    let event = asked(alloc, true)?;
-    let book = book_of(alloc)?;
-    let done = two_calls::<Brand, HostRuntime>(&rt, alloc, book, Blank::new(2), places, event);
-    assert!(rt; done == Some((true, 2)));
+    let done = two_calls::<Brand, HostRuntime>(&rt, rt.alloc(), Blank::new(2));
+    assert!(rt; done == Some(((true, false), (true, 2))));
     Ok(())
 }
 
+/// Lets the last of these seats go, if there is one.
+fn lose_last<L: Calls>(seats: &mut Vec<Seat<L>>) -> bool {
+    seats.pop().is_some()
+}
+
+/// Why a node is not closed, if it is not.
+fn fault_of<S: FloorStore + Drop, L: Calls>(held: Held<S, L>) -> Option<CloseFault>
+    requires parts { L.all ≡ L.parts }
+{
+    match closed(held) {
+        Ok(_) => None,
+        Err(fault) => Some(fault),
+    }
+}
+
 /// Why a node is not closed by one of its two seats.
-fn one_of_two<L: Calls>(
-    alloc: Global,
-    book: NodeBook<MemoryFloors>,
-    blank: Blank,
-    places: Places,
-) -> Option<CloseFault>
-    requires fresh { book.entries ≡ [] }
+fn one_of_two<L: Calls>(alloc: Global, blank: Blank) -> Option<CloseFault>
     requires name { blank.name ≡ L.name }
     requires parts { (blank.parts ≡ L.parts) × (L.all ≡ L.parts) × (2 ≤ L.all) }
 {
-    let mut held = shared::<L>(alloc, book, blank, places)?;
-    let _second = held.seats.pop();
-    closed(held).err()
+    let mut held = shared::<L>(alloc, blank)?;
+    let is_lost = lose_last(&mut held.seats);
+    let fault = fault_of(held);
+    if is_lost { fault } else { None }
 }
 
 #[test]
 fn a_missing_seat_is_told(rt: HostRuntime) -> Result<(), Fail> {
-    let alloc = rt.alloc();
-    let places = Places::new(alloc)?;
-    let book = book_of(alloc)?;
-    let fault = one_of_two::<Brand>(alloc, book, Blank::new(2), places);
+    let fault = one_of_two::<Brand>(rt.alloc(), Blank::new(2));
     assert!(rt; fault == Some(CloseFault::SeatMissing));
     Ok(())
 }
 
-/// So many calls of one kind, and whether each was told the step's fault.
-fn fill<L: Calls, R: Wait>(
+/// Makes a call by the last of these seats, and says whether it was told the step's fault.
+fn is_unknown<S: FloorStore, L: Calls, R: Wait>(
     rt: &R,
-    node: &SharedNode<MemoryFloors, L>,
-    mut seat: Seat<L>,
+    node: &SharedNode<S, L>,
+    seats: &mut Vec<Seat<L>>,
+) -> bool {
+    let told = call_last(rt, node, seats, FAILS);
+    matches!(told, Some(Err(BookFault::Step(StepFault::UnknownSerial))))
+}
+
+/// Makes so many calls by the last of these seats: how many were told the step's fault.
+fn fill<S: FloorStore, L: Calls, R: Wait>(
+    rt: &R,
+    node: &SharedNode<S, L>,
+    seats: &mut Vec<Seat<L>>,
     count: u32,
-) -> (Seat<L>, bool) {
-    let mut told = true;
+) -> u32 {
+    let mut unknown = 0u32;
     for _ in 0..count {
-        let (after, answer) = node.call(rt, seat, FAILS);
-        seat = after;
-        told = told && matches!(answer, Err(BookFault::Step(StepFault::UnknownSerial)));
+        if is_unknown(rt, node, seats) {
+            unknown = unknown.saturating_add(1);
+        }
     }
-    (seat, told)
+    unknown
 }
 
-/// A shift has room for 4,096 calls: whether each of them was told its step's fault, and what the one after them is told.
-fn filled<L: Calls, R: Wait>(
+/// A shift has room for 4,096 calls: how many of them were told the step's fault, and whether the
+/// one after them is told that the shift is full.
+fn filled<S: FloorStore, L: Calls, R: Wait>(
     rt: &R,
-    node: &SharedNode<MemoryFloors, L>,
-    seat: Seat<L>,
-) -> (Seat<L>, bool, bool) {
-    let (seat, told) = fill(rt, node, seat, 4096);
-    let (seat, answer) = node.call(rt, seat, FAILS);
-    (seat, told, matches!(answer, Err(BookFault::ShiftFull)))
+    node: &SharedNode<S, L>,
+    seats: &mut Vec<Seat<L>>,
+) -> (u32, bool) {
+    let unknown = fill(rt, node, seats, 4096);
+    let told = call_last(rt, node, seats, FAILS);
+    (unknown, matches!(told, Some(Err(BookFault::ShiftFull))))
 }
 
-/// Whether a shift has room for 4,096 calls and no more, and its record has them.
-fn full_shift<L: Calls, R: Wait>(
-    rt: &R,
-    alloc: Global,
-    book: NodeBook<MemoryFloors>,
-    blank: Blank,
-    places: Places,
-) -> Option<(bool, bool, usize)>
-    requires fresh { book.entries ≡ [] }
+/// How many entries the record has of the shift that ends.
+fn entries_of<S: FloorStore + Drop, L: Calls>(held: Held<S, L>) -> Option<usize>
+    requires parts { L.all ≡ L.parts }
+{
+    match closed(held) {
+        Ok(shift) => Some(shift.record().entries.as_slice().len()),
+        Err(_) => None,
+    }
+}
+
+/// The same of a new node, and how many entries its record has.
+fn full_shift<L: Calls, R: Wait>(rt: &R, alloc: Global, blank: Blank) -> Option<(u32, bool, usize)>
     requires name { blank.name ≡ L.name }
     requires parts { (blank.parts ≡ L.parts) × (L.all ≡ L.parts) × (2 ≤ L.all) }
 {
-    let Held { node, mut seats } = shared::<L>(alloc, book, blank, places)?;
-    let second = seats.pop()?;
-    let (second, told, is_full) = filled(rt, &node, second);
-    seats.push(second).ok()?;
-    let shift = closed(Held { node, seats }).ok()?;
-    Some((told, is_full, shift.record().entries.as_slice().len()))
+    let mut held = shared::<L>(alloc, blank)?;
+    let (unknown, is_full) = filled(rt, &held.node, &mut held.seats);
+    match entries_of(held) {
+        Some(entries) => Some((unknown, is_full, entries)),
+        None => None,
+    }
 }
 
 #[test]
 fn a_shift_has_4096_calls(rt: HostRuntime) -> Result<(), Fail> {
-    let alloc = rt.alloc();
-    let places = Places::new(alloc)?;
-    let book = book_of(alloc)?;
-    let done = full_shift::<Brand, HostRuntime>(&rt, alloc, book, Blank::new(2), places);
-    assert!(rt; done == Some((true, true, 4096)));
+    let done = full_shift::<Brand, HostRuntime>(&rt, rt.alloc(), Blank::new(2));
+    assert!(rt; done == Some((4096, true, 4096)));
     Ok(())
+}
+
+/// What a counter of places and its copy give in turn.
+fn drawn_by_both(places: &Places) -> Option<(u64, u64, u64)> {
+    let others = places.copy().ok()?;
+    Some((places.draw(), others.draw(), places.draw()))
+}
+
+/// The same of a new counter.
+fn drawn(alloc: Global) -> Option<(u64, u64, u64)> {
+    let places = Places::new(alloc).ok()?;
+    drawn_by_both(&places)
 }
 
 #[test]
 fn places_are_counted(rt: HostRuntime) -> Result<(), Fail> {
-    let places = Places::new(rt.alloc())?;
-    let others = places.copy()?;
-    assert!(rt; (places.draw(), others.draw(), places.draw()) == (1, 2, 3));
+    assert!(rt; drawn(rt.alloc()) == Some((1, 2, 3)));
     Ok(())
 }

@@ -1,103 +1,103 @@
 //! A node from shift to shift.
-ghost use Rattle.std.specs.Prelude.{◌≡◌, ◌≤◌, [], IfOk};
+ghost use Rattle.std.specs.Prelude.{◌≡◌, ◌≤◌, []};
 
-use floor_rules::MemoryFloors;
+use crate::nodes::{FAILS, ONE, PAGE, Start, key_of, start_of};
+use floor_rules::{FloorStore, MemoryFloors};
 use http_messages::{Answer, Body, Fields};
-use node_book::{NodeBook, Record};
+use node_book::Record;
 use node_bytes::Stepper;
-use node_core::Node;
 use node_rules::{Event, StepFault};
-use node_seats::{Calls, Places};
+use node_seats::{Calls, CloseFault};
 use node_shifts::{AtSeat, History, Shifts};
-use roster::Roster;
 use std::alloc::Global;
 use std::marker::Brand;
 use std::sync::ledger::Blank;
 use std::sync::{Mutex, Wait};
 use std::test::Fail;
-use url_key::Key;
 
-/// One member.
-const ONE: &str = "default_lifetime = 60
-copies = 1000
-bytes = 1048576
-query_wait = 2000
-[master]
-address = \"127.0.0.1\"
-htcp = 4800
-[[node]]
-id = 1
-name = \"n1\"
-address = \"127.0.0.1\"
-http = 8101
-icp = 3101
-htcp = 4101
-";
-
-/// The book of a new node.
-fn book_of(alloc: Global) -> Result<NodeBook<MemoryFloors>, Fail>
-    ensures { IfOk result (λ book. book.entries ≡ []) }
-{
-    let roster = match Roster::read(alloc, ONE) {
-        Ok(roster) => roster,
-        Err(error) => return Err(error.fault.name().into()),
-    };
-    book_over(alloc, roster)
-}
-
-fn book_over(alloc: Global, roster: Roster) -> Result<NodeBook<MemoryFloors>, Fail>
-    ensures { IfOk result (λ book. book.entries ≡ []) }
-{
-    let node = match Node::open(alloc, roster, 1, MemoryFloors::new(alloc)) {
-        Ok(node) => node,
-        Err(fault) => return Err(fault.name().into()),
-    };
-    match NodeBook::open(alloc, node) {
-        Ok(book) => Ok(book),
-        Err(_) => Err("the book".into()),
-    }
-}
-
-/// A fetch fails that there was not.
-const FAILS: Event<()> = Event::FetchFailed { serial: 34, now: 9 };
-
-/// The shifts of a node with two seats.
-fn shifts_of<L: Calls>(
+/// The shifts of a book with two seats.
+fn shifts_over<S: FloorStore + Drop, L: Calls>(
     alloc: Global,
-    book: NodeBook<MemoryFloors>,
+    start: Start<S>,
     history: History,
     blank: Blank,
-    places: Places,
-) -> Option<Mutex<Shifts<MemoryFloors, L>>>
-    requires fresh { book.entries ≡ [] }
+) -> Option<Mutex<Shifts<S, L>>>
+    requires fresh { start.book.entries ≡ [] }
     requires name { blank.name ≡ L.name }
     requires parts { (blank.parts ≡ L.parts) × (L.all ≡ L.parts) × (2 ≤ L.all) }
 {
+    let Start { book, places } = start;
     match Shifts::open(alloc, book, 2, history, blank, places) {
         Ok(shifts) => Some(Mutex::new(shifts)),
         Err(_) => None,
     }
 }
 
-/// How many of so many steps by the seat of this number are told that no fetch has their serial.
-fn steps_by<L: Calls, R: Wait>(
-    rt: &R,
-    node: &Mutex<Shifts<MemoryFloors, L>>,
-    number: u8,
-    count: u32,
-) -> u32 {
-    let mut seat = AtSeat::new(rt, node, number);
+/// The shifts of a new node with two seats.
+fn shifts_of<L: Calls>(
+    alloc: Global,
+    history: History,
+    blank: Blank,
+) -> Option<Mutex<Shifts<MemoryFloors, L>>>
+    requires name { blank.name ≡ L.name }
+    requires parts { (blank.parts ≡ L.parts) × (L.all ≡ L.parts) × (2 ≤ L.all) }
+{
+    let start = start_of(alloc, ONE)?;
+    shifts_over(alloc, start, history, blank)
+}
+
+/// Whether a step is told that no fetch has its serial.
+fn is_unknown<N: Stepper>(node: &mut N, event: Event<()>) -> bool {
+    matches!(node.step(event), Err(StepFault::UnknownSerial))
+}
+
+/// How many of so many steps are told that no fetch has their serial.
+fn unknown_of<N: Stepper>(node: &mut N, count: u32) -> u32 {
     let mut told = 0u32;
     for _ in 0..count {
-        if matches!(seat.step(FAILS), Err(StepFault::UnknownSerial)) {
+        if is_unknown(node, FAILS) {
             told = told.saturating_add(1);
         }
     }
     told
 }
 
+/// The same of steps by the seat of this number.
+fn steps_by<S: FloorStore + Drop, L: Calls, R: Wait>(
+    rt: &R,
+    node: &Mutex<Shifts<S, L>>,
+    number: u8,
+    count: u32,
+) -> u32 {
+    let mut seat = AtSeat::new(rt, node, number);
+    unknown_of(&mut seat, count)
+}
+
+/// Ends the open shift by hand, and opens the next.
+fn turn<S: FloorStore + Drop, L: Calls, R: Wait>(rt: &R, node: &Mutex<Shifts<S, L>>) -> bool {
+    node.lock(rt).turn().is_ok()
+}
+
+/// Takes 4,100 steps by two seats, and by a third number, which the last seat has. Then ends the
+/// shift by hand, and takes one more. How many steps were told their fault.
+fn all_steps<S: FloorStore + Drop, L: Calls, R: Wait>(
+    rt: &R,
+    node: &Mutex<Shifts<S, L>>,
+) -> Option<u32> {
+    let mut told = steps_by(rt, node, 0, 4000);
+    told = told.saturating_add(steps_by(rt, node, 1, 90));
+    told = told.saturating_add(steps_by(rt, node, 7, 10));
+    if !turn(rt, node) {
+        return None;
+    }
+    Some(told.saturating_add(steps_by(rt, node, 1, 1)))
+}
+
+/// How many entries each of at most three records has.
+type Entries = [usize; 3];
+
 /// The entries of the records, in their order.
-fn entries_of(records: &[Record]) -> [usize; 3] {
+fn entries_of(records: &[Record]) -> Entries {
     let mut entries = [0; 3];
     for (place, record) in records.iter().enumerate() {
         if let Some(count) = entries.get_mut(place) {
@@ -107,169 +107,187 @@ fn entries_of(records: &[Record]) -> [usize; 3] {
     entries
 }
 
-/// Takes 4,100 steps by two seats, and by a third number, which the last seat has; then ends the shift by hand, and takes one more. How many steps were told their fault, and the entries of the records.
+/// The entries of the records that are kept in the end.
+fn entries_at_the_end<S: FloorStore + Drop, L: Calls>(
+    node: Mutex<Shifts<S, L>>,
+) -> Option<Entries> {
+    match node.into_inner().into_records() {
+        Ok(records) => Some(entries_of(records.as_slice())),
+        Err(_) => None,
+    }
+}
+
+/// The same of a new node, and the entries of the records.
 fn stepped<L: Calls, R: Wait>(
     rt: &R,
     alloc: Global,
-    book: NodeBook<MemoryFloors>,
     history: History,
     blank: Blank,
-    places: Places,
-) -> Option<(u32, [usize; 3])>
-    requires fresh { book.entries ≡ [] }
+) -> Option<(u32, Entries)>
     requires name { blank.name ≡ L.name }
     requires parts { (blank.parts ≡ L.parts) × (L.all ≡ L.parts) × (2 ≤ L.all) }
 {
-    let node = shifts_of::<L>(alloc, book, history, blank, places)?;
-    let mut told = steps_by(rt, &node, 0, 4000);
-    told = told.saturating_add(steps_by(rt, &node, 1, 90));
-    told = told.saturating_add(steps_by(rt, &node, 7, 10));
-    node.lock(rt).turn().ok()?;
-    told = told.saturating_add(steps_by(rt, &node, 1, 1));
-    let records = node.into_inner().into_records().ok()?;
-    Some((told, entries_of(records.as_slice())))
+    let node = shifts_of::<L>(alloc, history, blank)?;
+    let told = all_steps(rt, &node);
+    let entries = entries_at_the_end(node);
+    Some((told?, entries?))
+}
+
+/// The same of a ledger of its own, where this becomes of the records.
+fn stepped_with(rt: &HostRuntime, history: History) -> Option<(u32, Entries)> {
+    stepped::<Brand, HostRuntime>(rt, rt.alloc(), history, Blank::new(2))
 }
 
 #[test]
 fn shifts_follow_one_another(rt: HostRuntime) -> Result<(), Fail> {
-    let alloc = rt.alloc();
-    let places = Places::new(alloc)?;
-    let book = book_of(alloc)?;
-    let done = stepped::<Brand, HostRuntime>(
-        &rt,
-        alloc,
-        book,
-        History::UpTo(3),
-        Blank::new(2),
-        places,
-    );
-    assert!(rt; done == Some((4101, [4096, 4, 1])));
+    assert!(rt; stepped_with(&rt, History::UpTo(3)) == Some((4101, [4096, 4, 1])));
     Ok(())
 }
 
 #[test]
 fn records_are_dropped(rt: HostRuntime) -> Result<(), Fail> {
-    let alloc = rt.alloc();
-    let places = Places::new(alloc)?;
-    let book = book_of(alloc)?;
-    let done = stepped::<Brand, HostRuntime>(
-        &rt,
-        alloc,
-        book,
-        History::Dropped,
-        Blank::new(2),
-        places,
-    );
-    assert!(rt; done == Some((4101, [0, 0, 0])));
+    assert!(rt; stepped_with(&rt, History::Dropped) == Some((4101, [0, 0, 0])));
     Ok(())
 }
 
 #[test]
 fn more_records_than_are_kept_are_dropped(rt: HostRuntime) -> Result<(), Fail> {
-    let alloc = rt.alloc();
-    let places = Places::new(alloc)?;
-    let book = book_of(alloc)?;
-    let done = stepped::<Brand, HostRuntime>(
-        &rt,
-        alloc,
-        book,
-        History::UpTo(2),
-        Blank::new(2),
-        places,
-    );
-    assert!(rt; done == Some((4101, [0, 0, 0])));
+    assert!(rt; stepped_with(&rt, History::UpTo(2)) == Some((4101, [0, 0, 0])));
     Ok(())
 }
 
-/// Takes the records out after one step and after two more, and once more where so many are kept that none is left: the entries of the first two, and whether there is a history at the end.
+/// The entries of records that are taken out, where there is a history.
+fn entries_taken(taken: Result<Option<Vec<Record>>, CloseFault>) -> Option<Option<Entries>> {
+    match taken {
+        Ok(Some(records)) => Some(Some(entries_of(records.as_slice()))),
+        Ok(None) => Some(None),
+        Err(_) => None,
+    }
+}
+
+/// Takes the records out: their entries, where there is a history.
+fn take_out<S: FloorStore + Drop, L: Calls, R: Wait>(
+    rt: &R,
+    node: &Mutex<Shifts<S, L>>,
+) -> Option<Option<Entries>> {
+    let taken = node.lock(rt).take_records();
+    entries_taken(taken)
+}
+
+/// Takes the records out after one step and after two more. Then ends a shift, so that more records
+/// come than are kept, and takes them out once more. The entries of the first two, and whether there
+/// is a history at the end.
+fn taken_in_turn<S: FloorStore + Drop, L: Calls, R: Wait>(
+    rt: &R,
+    node: &Mutex<Shifts<S, L>>,
+) -> Option<(Entries, Entries, bool)> {
+    steps_by(rt, node, 0, 1);
+    let first = take_out(rt, node)??;
+    steps_by(rt, node, 1, 2);
+    let second = take_out(rt, node)??;
+    if !turn(rt, node) {
+        return None;
+    }
+    let is_kept = take_out(rt, node)?.is_some();
+    Some((first, second, is_kept))
+}
+
+/// The same of a new node that keeps one record.
 fn taken_out<L: Calls, R: Wait>(
     rt: &R,
     alloc: Global,
-    book: NodeBook<MemoryFloors>,
     blank: Blank,
-    places: Places,
-) -> Option<([usize; 3], [usize; 3], bool)>
-    requires fresh { book.entries ≡ [] }
+) -> Option<(Entries, Entries, bool)>
     requires name { blank.name ≡ L.name }
     requires parts { (blank.parts ≡ L.parts) × (L.all ≡ L.parts) × (2 ≤ L.all) }
 {
-    let node = shifts_of::<L>(alloc, book, History::UpTo(1), blank, places)?;
-    steps_by(rt, &node, 0, 1);
-    let first = entries_of(node.lock(rt).take_records().ok()??.as_slice());
-    steps_by(rt, &node, 1, 2);
-    let second = entries_of(node.lock(rt).take_records().ok()??.as_slice());
-    node.lock(rt).turn().ok()?;
-    let is_kept = node.lock(rt).take_records().ok()?.is_some();
-    Some((first, second, is_kept))
+    let node = shifts_of::<L>(alloc, History::UpTo(1), blank)?;
+    taken_in_turn(rt, &node)
 }
 
 #[test]
 fn records_are_taken_out_once(rt: HostRuntime) -> Result<(), Fail> {
-    let alloc = rt.alloc();
-    let places = Places::new(alloc)?;
-    let book = book_of(alloc)?;
-    let done = taken_out::<Brand, HostRuntime>(&rt, alloc, book, Blank::new(2), places);
+    let done = taken_out::<Brand, HostRuntime>(&rt, rt.alloc(), Blank::new(2));
     assert!(rt; done == Some(([1, 0, 0], [2, 0, 0], false)));
     Ok(())
 }
 
+/// A body of 65,536 octets.
+fn heavy_body(alloc: Global) -> Option<Body> {
+    let octets = vec![in alloc; 120; 65_536].ok()?;
+    Body::from_vec(octets).ok()
+}
+
+/// An answer with this body and no field.
+fn heavy_answer(alloc: Global) -> Option<Answer> {
+    let fields = Fields::new(alloc, Vec::new(alloc)).ok()?;
+    let body = heavy_body(alloc)?;
+    Answer::new(200, fields, None, None, body)
+}
+
 /// An origin's answer of 65,536 octets to no read.
-fn heavy(alloc: Global) -> Result<Event<()>, Fail> {
-    let fields = Fields::new(alloc, Vec::new(alloc))?;
-    let body = Body::from_vec(vec![in alloc; 120; 65_536]?)?;
-    Ok(Event::OriginAnswer {
+fn heavy(alloc: Global) -> Option<Event<()>> {
+    let key = key_of(alloc, PAGE)?;
+    let answer = heavy_answer(alloc)?;
+    Some(Event::OriginAnswer {
         serial: 33,
-        key: Key::read(alloc, b"http://o/a")?,
-        answer: Answer::new(200, fields, None, None, body).ok_or("writable")?,
+        key,
+        answer,
         now: 9,
     })
 }
 
-/// Takes so many steps with heavy answers.
-fn heavy_steps<L: Calls, R: Wait>(
-    rt: &R,
-    alloc: Global,
-    node: &Mutex<Shifts<MemoryFloors, L>>,
-    count: u32,
-) -> Result<(), Fail> {
-    let mut seat = AtSeat::new(rt, node, 0);
-    for _ in 0..count {
-        if !matches!(seat.step(heavy(alloc)?), Err(StepFault::UnknownSerial)) {
-            return Err("another answer".into());
-        }
+/// Whether a step with a heavy answer is told that no fetch has its serial.
+fn is_heavy_unknown<N: Stepper>(node: &mut N, alloc: Global) -> bool {
+    match heavy(alloc) {
+        Some(event) => is_unknown(node, event),
+        None => false,
     }
-    Ok(())
 }
 
-/// Takes so many steps with heavy answers by one of two seats: the entries of the records.
+/// How many of so many steps with heavy answers are told so.
+fn heavy_unknown_of<N: Stepper>(node: &mut N, alloc: Global, count: u32) -> u32 {
+    let mut told = 0u32;
+    for _ in 0..count {
+        if is_heavy_unknown(node, alloc) {
+            told = told.saturating_add(1);
+        }
+    }
+    told
+}
+
+/// The same of steps by the first seat.
+fn heavy_steps<S: FloorStore + Drop, L: Calls, R: Wait>(
+    rt: &R,
+    alloc: Global,
+    node: &Mutex<Shifts<S, L>>,
+    count: u32,
+) -> u32 {
+    let mut seat = AtSeat::new(rt, node, 0);
+    heavy_unknown_of(&mut seat, alloc, count)
+}
+
+/// The same of a new node, and the entries of the records.
 fn weighed<L: Calls, R: Wait>(
     rt: &R,
     alloc: Global,
-    book: NodeBook<MemoryFloors>,
     blank: Blank,
-    places: Places,
     count: u32,
-) -> Result<[usize; 3], Fail>
-    requires fresh { book.entries ≡ [] }
+) -> Option<(u32, Entries)>
     requires name { blank.name ≡ L.name }
     requires parts { (blank.parts ≡ L.parts) × (L.all ≡ L.parts) × (2 ≤ L.all) }
 {
-    let Some(node) = shifts_of::<L>(alloc, book, History::UpTo(3), blank, places) else {
-        return Err("shifts".into());
-    };
-    heavy_steps(rt, alloc, &node, count)?;
-    match node.into_inner().into_records() {
-        Ok(records) => Ok(entries_of(records.as_slice())),
-        Err(_) => Err("records".into()),
+    let node = shifts_of::<L>(alloc, History::UpTo(3), blank)?;
+    let told = heavy_steps(rt, alloc, &node, count);
+    match entries_at_the_end(node) {
+        Some(entries) => Some((told, entries)),
+        None => None,
     }
 }
 
 #[test]
 fn heavy_events_end_a_shift(rt: HostRuntime) -> Result<(), Fail> {
-    let alloc = rt.alloc();
-    let places = Places::new(alloc)?;
-    let book = book_of(alloc)?;
-    let entries = weighed::<Brand, HostRuntime>(&rt, alloc, book, Blank::new(2), places, 130)?;
-    assert!(rt; entries == [64, 64, 2]);
+    let done = weighed::<Brand, HostRuntime>(&rt, rt.alloc(), Blank::new(2), 130);
+    assert!(rt; done == Some((130, [64, 64, 2])));
     Ok(())
 }

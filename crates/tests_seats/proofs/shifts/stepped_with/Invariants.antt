@@ -1,4 +1,4 @@
-use Rattle.tests_seats.proofs.shifts.shifts_follow_one_another.Given as goal
+use Rattle.tests_seats.proofs.shifts.stepped_with.Given as goal
 
 abbrev pub ghosts-stepped-L-Ledger : goal.ghosts-stepped-L-Ledger
 ghosts-stepped-L-Ledger g a = record { name = a.blank.name; parts = a.blank.parts }

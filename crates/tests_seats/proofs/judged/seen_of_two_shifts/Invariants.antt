@@ -1,4 +1,4 @@
-use Rattle.tests_seats.proofs.judged.records_of_shifts_are_judged.Given as goal
+use Rattle.tests_seats.proofs.judged.seen_of_two_shifts.Given as goal
 
 abbrev pub ghosts-two_shifts-L-Ledger : goal.ghosts-two_shifts-L-Ledger
 ghosts-two_shifts-L-Ledger g a = record { name = a.blank.name; parts = a.blank.parts }
