@@ -1,7 +1,7 @@
 //! Worked runs of a master, each a table of calls and of what they are answered.
 ghost use Rattle.std.specs.Prelude.{◌≡◌, ◌==◌};
 
-use crate::world::TWO;
+use crate::setting::TWO;
 use htcp_wire::{Content, HeaderKind, Htcp, number_in};
 use purge_master::{Master, MasterBook};
 use purge_rules::{

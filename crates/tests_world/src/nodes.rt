@@ -1,6 +1,6 @@
 //! A node over a store of floors that fails.
 use crate::failing::FailingFloors;
-use crate::world::{Cleared, TWO, cleared_by, purge};
+use crate::setting::{Cleared, TWO, cleared_by, purge};
 use floor_rules::FloorStore;
 use node_core::Node;
 use node_rules::{Begin, Event, Reply, StepFault};

@@ -1,5 +1,5 @@
 //! The members of a roster, on sockets of their own, and the master's loop.
-use crate::starts::{roster_at, shared};
+use crate::loop_starts::{roster_at, shared};
 use cluster_master::{KeptEntries, MasterLoop, MasterSender, SharedMaster};
 use mio::net::UdpSocket;
 use purge_master::MasterEntry;

@@ -1,5 +1,5 @@
 //! A page of the book is filed where it is full.
-use crate::starts::{roster_at, shared};
+use crate::loop_starts::{roster_at, shared};
 use cluster_master::{KeptEntries, SharedMaster};
 use purge_master::MasterEntry;
 use purge_rules::{MasterAnswer, MasterCall, MasterFault, MemoryPurges, Status};
