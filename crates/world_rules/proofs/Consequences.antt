@@ -110,7 +110,7 @@ module _ (h : Tables) (proper : IsRoster h) (past : List Step) (w : World) (line
 
   reported_right : (event : WorldEvent) (number : ℕ) (new : World) →
       ((s : Seen) → purged_by event (Reported number (status_of (members_of h) new.master number)) ≡ None) → HasLineage h past new →
-      IsRight h past event (told h new number)
+      IsRight h past event (reports h new number)
   reported_right event number new silent kept = end_right event (Reported number (status_of (members_of h) new.master number)) new (silent Nothing) kept
       (λ n t. reported_raised h past new kept number n t) (λ c s. absurd s)
 
