@@ -279,9 +279,13 @@ fn seen_of(alloc: Global, keys: RandomState, records: &mut [Record]) -> Option<S
 }
 
 /// What is seen of the records of two shifts.
-fn seen_of_two_shifts(rt: &HostRuntime, alloc: Global, keys: RandomState) -> Option<Seen> {
+fn seen_of_two_shifts<R: Threads + Wait + Sync>(
+    rt: &R,
+    alloc: Global,
+    keys: RandomState,
+) -> Option<Seen> {
     let mut records = Vec::new(alloc);
-    let done = two_shifts::<Brand, HostRuntime>(rt, alloc, Blank::new(2), &mut records);
+    let done = two_shifts::<Brand, R>(rt, alloc, Blank::new(2), &mut records);
     let seen = seen_of(alloc, keys, records.as_mut_slice());
     if done { seen } else { None }
 }

@@ -134,25 +134,25 @@ fn stepped<L: Calls, R: Wait>(
 }
 
 /// The same of a ledger of its own, where this becomes of the records.
-fn stepped_with(rt: &HostRuntime, history: History) -> Option<(u32, Entries)> {
-    stepped::<Brand, HostRuntime>(rt, rt.alloc(), history, Blank::new(2))
+fn stepped_with<R: Wait>(rt: &R, alloc: Global, history: History) -> Option<(u32, Entries)> {
+    stepped::<Brand, R>(rt, alloc, history, Blank::new(2))
 }
 
 #[test]
 fn shifts_follow_one_another(rt: HostRuntime) -> Result<(), Fail> {
-    assert!(rt; stepped_with(&rt, History::UpTo(3)) == Some((4101, [4096, 4, 1])));
+    assert!(rt; stepped_with(&rt, rt.alloc(), History::UpTo(3)) == Some((4101, [4096, 4, 1])));
     Ok(())
 }
 
 #[test]
 fn records_are_dropped(rt: HostRuntime) -> Result<(), Fail> {
-    assert!(rt; stepped_with(&rt, History::Dropped) == Some((4101, [0, 0, 0])));
+    assert!(rt; stepped_with(&rt, rt.alloc(), History::Dropped) == Some((4101, [0, 0, 0])));
     Ok(())
 }
 
 #[test]
 fn more_records_than_are_kept_are_dropped(rt: HostRuntime) -> Result<(), Fail> {
-    assert!(rt; stepped_with(&rt, History::UpTo(2)) == Some((4101, [0, 0, 0])));
+    assert!(rt; stepped_with(&rt, rt.alloc(), History::UpTo(2)) == Some((4101, [0, 0, 0])));
     Ok(())
 }
 
