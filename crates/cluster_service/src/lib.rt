@@ -10,7 +10,7 @@
 //!
 //! All three take the node's steps through a [`Stepper`](node_bytes::Stepper), so this crate does
 //! not stand on the seats. They share a [`Station`]: the tables, the bell, the errands, the roster
-//! and the senders. A [`Gate`] is told of each read of an origin before it begins. No lock is held
+//! and the senders. A [`Gate`] (a trait) is called before an origin is read. No lock is held
 //! while a socket is waited for.
 //!
 //! Order of reading: `src/station.rt` (what is shared); `src/worker.rt`, `src/fetcher.rt`,

@@ -4,7 +4,7 @@
 //! One thread may take a request and another take the step that serves it. [`WaitingClients`] is
 //! where the two meet: the client is left there under the block of serials of its request, the
 //! answer comes under the same block, and whichever is second gets the other. [`Rounds`] has the
-//! rounds of queries that wait for answers, in the order of their deadlines. [`WaitTables`] has
+//! rounds of queries that wait for replies, in the order of their deadlines. [`WaitTables`] has
 //! both, each under a lock of its own.
 //!
 //! [`Queue`] holds what one thread leaves to another. [`Errands`] is such a queue under a lock with
@@ -21,7 +21,7 @@
 //! A contract sees no value under a lock. So everything is said of `WaitingClients`, `Rounds`,
 //! `Queue` and `Rings`, and each function of `WaitTables`, `Errands` and `Bell` is one call of
 //! theirs under the lock. That a waiting thread is woken is tested. No contract says that memory is
-//! there, so a body that always answers `NoMemory` where there is room meets the contracts; that
+//! there, so a body that always answers `NoMemory` although it is there meets the contracts; that
 //! calls succeed with ample memory is tested.
 #![tactic(auto)]
 

@@ -2,8 +2,8 @@
 //!
 //! An [`Intake`] keeps the octets read so far. Its calls find heads and take bodies:
 //!
-//! - `read_request_head` and `read_response_head` read until a head is whole and give the places
-//!   of its parts. Heads may stand one after another: each call takes the place where its head
+//! - `read_request_head` and `read_response_head` read until a head is whole and give the offsets
+//!   of its parts. Heads may stand one after another: each call takes the offset where its head
 //!   begins.
 //! - `read_body_of` reads a body with a length, `read_to_end` one up to the end of the input,
 //!   `read_chunked_body` a chunked one with its trailer.

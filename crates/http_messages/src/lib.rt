@@ -10,9 +10,9 @@
 //! - [`FetchFault`]: why a message was not read or written.
 //! - [`MOST_FIELDS`] of a head, [`MOST_KEPT_FIELDS`] of a response and [`LONGEST_BODY`]: limits.
 //!
-//! Copies of a response share its body and its fields, in stores, in replies and in recorded runs:
-//! a copy raises two counts of owners and copies no octet. Contracts promise only that a copy is
-//! equal.
+//! Duplicates of a response share its body and its fields, in stores, in replies and in recorded
+//! runs: one more raises two counts of owners and duplicates no octet. Contracts promise only that
+//! it is equal.
 //!
 //! Contracts see an `Answer` as the record `AnswerText` of `specs/Answer`, a field as `FieldText`
 //! of `specs/Field`, and a body as the list of its octets.

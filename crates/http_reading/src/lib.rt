@@ -16,7 +16,7 @@
 //! first fault in a stated order (`specs/AskHead`, `specs/AnswerHead`).
 //!
 //! The functions on fields read nothing. Each takes `window`, the octets of a head, and `headers`,
-//! the places of its fields there, as `httparse::spans` finds them. It matches names ignoring case
+//! the offsets of its fields there, as `httparse::spans` finds them. It matches names ignoring case
 //! (RFC 9110, section 5.1). Of them only [`kept_fields`] allocates.
 //!
 //! - Fields of one name: [`count_named`], [`first_named`], [`only_named`] (`src/fields.rt`).

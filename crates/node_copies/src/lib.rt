@@ -1,4 +1,4 @@
-//! Copies a node's events, replies and messages, and compares them.
+//! Duplicates of a node's events, replies and messages, and comparisons of them.
 //!
 //! - `src/events.rt`: [`copy_of_event`]
 //! - `src/replies.rt`: [`copy_of_reply`]
@@ -8,15 +8,15 @@
 //! - `src/same_messages.rt`: [`same_message`]
 //! - `src/parts.rt`: [`same_key`], [`same_ask`], [`same_answer`], [`same_fields`], [`same_copy`]
 //!
-//! A copy is equal to the original. Bodies and fields of responses are shared, not duplicated.
+//! A duplicate is equal to the original, and shares the bodies and fields of its responses.
 //! `AllocError` is the only fault. Tags must be `Copy`.
 //!
 //! A comparison returns true exactly if its two arguments are equal as contracts see them, octet by
 //! octet. The order of the arguments does not matter. Tags are `()`: only a running node's values
 //! are compared. It allocates nothing.
 //!
-//! A node's book uses the copies (`node_book`): it keeps its own copy of each event and hands out a
-//! copy of each reply. `node_seats` compares what its threads were told with the book. The check of
+//! A node's book uses the duplicates (`node_book`): it keeps one of each event and hands out one of
+//! each reply. `node_seats` compares what its threads were told with the book. The check of
 //! recorded runs uses both, to compare a record with a replay. The crate touches no file, socket,
 //! clock or thread.
 #![tactic(auto)]

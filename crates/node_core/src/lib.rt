@@ -12,7 +12,7 @@
 //! - `src/asks.rt`: `Client`, `PeerAsk`
 //! - `src/arrivals.rt`: `PeerAnswer`, `ForeignAnswer`, `OriginAnswer`, `FetchFailed`, `Expired`
 //! - `src/datagrams.rt`: `Datagram`. It answers NOP and unknown opcodes, and hands on the rest:
-//!   - `src/questions.rt`: QUERY and TST, and answers of peers to a round
+//!   - `src/questions.rt`: QUERY and TST, and replies of peers to a round
 //!   - `src/purges.rt`: CLR
 //!
 //! They use `src/going_on.rt` (where a pending request goes next), `src/copies.rt` (which copy may

@@ -1,15 +1,15 @@
 //! A node from shift to shift: a shift that is full ends, and the next one opens, within a call.
 //!
-//! A shift is the life of a node's book. It has room for 4,096 calls, and until its events have
+//! A shift is the life of a node's book. It has space for 4,096 calls, and until its events have
 //! brought 4 MiB along ([`octets_of`]), which bounds the memory of its entries. [`Shifts`] has a
 //! shared node with all its seats. Each call is made by the seat of its caller. Where the shift has
-//! no room, it is closed (`node_seats::close`), its record is kept or dropped ([`History`]), and
+//! no space, it is closed (`node_seats::close`), its record is kept or dropped ([`History`]), and
 //! the next one is opened before the call. So callers need to know nothing of shifts, and a shift
 //! ends while fetches are under way and clients wait. Threads share a `Shifts` under a lock, which
 //! each holds for one call; [`AtSeat`] takes a node's steps that way, as a
 //! [`Stepper`](node_bytes::Stepper).
 //!
-//! Order of reading: `specs/Shifts.antt` (a call, and the change of shifts), `specs/Weight.antt`
+//! Order of reading: `specs/Shifts.antt` (a call, and the change of shift), `specs/Weight.antt`
 //! (what an event brings along); `src/shifts.rt`, `src/at_seat.rt`, `src/history.rt`,
 //! `src/weight.rt`; `proofs/Turns.antt`, `proofs/Rows.antt`.
 //!

@@ -1,15 +1,15 @@
 //! The pending requests of a node, as a list that is found by serials.
 //!
-//! The main type is [`PendingList`]: the requests in the order of their blocks of serials (`Pending`
-//! and `NodeState` of `node_rules`). It finds a request by the serial of its round
+//! The main type is [`PendingList`]: the requests in the order of their blocks of serials
+//! (`Pending` and `NodeState` of `node_rules`). It finds a request by the serial of its round
 //! ([`PendingList::of_round`]) or of its last fetch ([`PendingList::of_fetch`]) with one binary
-//! search. It changes a request in its place by a [`Progress`], the parts of a request that change,
-//! and takes it out when it ends.
+//! search. It changes a request where it stands by a [`Progress`], the parts of a request that
+//! change, and takes it out when it ends.
 //!
 //! Block b has the serials 32b to 32b + 31, so a serial tells its block by `serial / 32`. That is
-//! enough because no request begins more than 26 fetches: one for each of at most 23 answers to its
-//! round, and three origin reads. Each request in a `PendingList` *can go on*: its block has a serial
-//! for each fetch that it may still begin.
+//! enough because no request begins more than 26 fetches: one for each of at most 23 replies to its
+//! round, and three origin reads. Each request in a `PendingList` *can go on*: its block has a
+//! serial for each fetch that it may still begin.
 //!
 //! Where to read:
 //!

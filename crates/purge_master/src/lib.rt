@@ -2,7 +2,7 @@
 //! reports a purge done once no member is missing.
 //!
 //! - `Master`: the calls that `purge_rules` defines, over any store of purges (`PurgeStore`). A
-//!   call makes room in memory first; then the store commits; then it returns. If the store fails,
+//!   call reserves memory first; then the store commits; then it returns. If the store fails,
 //!   what was added in memory is undone, and the master is closed.
 //! - `MasterBook`: a master that enters each call with its place and what it returned, up to 4,096
 //!   entries, for a later check (`run_check`).

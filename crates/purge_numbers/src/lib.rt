@@ -2,19 +2,19 @@
 //! `floor_rules`.
 //!
 //! `SqliteFloors` owns a connection of the kit's `sqlite`, over any storage that it can write
-//! (`Alter`), and keeps a copy of the floors in memory beside it. It reads the file in `open`
-//! alone. Later the copy serves each load, and decides whether a raise needs a statement.
+//! (`Alter`), and keeps a duplicate of the floors in memory beside it. It reads the file in `open`
+//! alone. Later the duplicate serves each load, and decides whether a raise needs a statement.
 //!
 //! | Call | Statements that it runs |
 //! |---|---|
 //! | `open` of a blank file | makes both tables and the version in one transaction, then reads |
 //! | `open` of a node's file | one SELECT of the version, one of all floors |
-//! | `raise` to a number that is no greater, or without room | none |
+//! | `raise` to a number that is no greater, or without space | none |
 //! | any other `raise` | one INSERT with ON CONFLICT (SQLite, "UPSERT"), which commits by itself |
 //! | `load`, `failures`, `into_connection` | none |
 //!
 //! No transaction stays open between calls; a connection with an open one is refused. A raise
-//! commits first and then changes the copy. If the copy cannot grow, it returns `NoMemory`
+//! commits first and then changes the duplicate. If that cannot grow, it returns `NoMemory`
 //! although the floor is committed. After `StoreFault`, or `NoMemory` from a raise, each raise and
 //! load returns `StoreFault` until the file is opened again.
 //!
@@ -42,8 +42,8 @@
 //! `floor_rules` changes too. The proof of a raise (`proofs/PutLemmas`) can stay while the table
 //! `floors` and its index stay.
 //!
-//! A contract sees a `SqliteFloors` as its connection, the copy, whether no call has failed, and
-//! the count of failures (`Durable`). The crate touches nothing but the connection.
+//! A contract sees a `SqliteFloors` as its connection, the duplicate, whether no call has failed,
+//! and the count of failures (`Durable`). The crate touches nothing but the connection.
 //!
 //! Not promised: that a raise keeps the version in `form`. Its statement does not touch that table,
 //! but the contract of a raise speaks of the floors alone.

@@ -2,8 +2,8 @@
 //! `purge_rules`.
 //!
 //! `SqlitePurges` owns a connection of the kit's `sqlite`, over any storage that it can write
-//! (`Alter`), and keeps a copy of the purges in memory beside it. It reads the file in `open`
-//! alone. Later `load` returns a copy of that copy, and only a change runs statements.
+//! (`Alter`), and keeps a duplicate of the purges in memory beside it. It reads the file in
+//! `open` alone. Later `load` returns a duplicate of it, and only a change runs statements.
 //!
 //! | Call | Statements that it runs |
 //! |---|---|
@@ -15,8 +15,8 @@
 //! | `load`, `failures`, `into_connection` | none |
 //!
 //! No transaction stays open between calls; a connection with an open one is refused. If a
-//! statement fails, its transaction rolls back. A change is made in the copy first and then
-//! committed. If that fails, the copy may be ahead of the file. So after `StoreFault`, or
+//! statement fails, its transaction rolls back. A change is made in the duplicate first and
+//! then committed. If that fails, the duplicate may be ahead of the file. So after `StoreFault`, or
 //! `NoMemory` from a call that writes, each call but `failures` and `into_connection` returns
 //! `StoreFault` until the file is opened again.
 //!
@@ -29,8 +29,8 @@
 //! Read in this order:
 //!
 //! 1. `specs/Tables.antt`: the tables, the purges that rows mean (`purges_in`), and which rows may
-//!    stand there (`AreTables`). `specs/Rows.antt`: what a query shows of rows, and reading in
-//!    turn.
+//!    stand there (`AreTables`). `specs/Rows.antt`: what a query shows of rows, and reading
+//!    one after another.
 //! 2. `specs/Store.antt`: a connection over a master's file. `specs/Making.antt`: how a blank file
 //!    gets its tables, which files open, and what an open finds.
 //! 3. `specs/Writing.antt`: what holds between the statements of a transaction.
@@ -44,8 +44,8 @@
 //! A second form of the file goes into `specs/Tables`, `specs/Making`, `src/making.rt` and
 //! `src/opening.rt` with their statements (`proofs/Texts`), and its schema into `src/tables.rt`.
 //!
-//! A contract sees a `SqlitePurges` as its connection, the copy, whether no call has failed, and
-//! the count of failures (`Durable`). The crate touches nothing but the connection.
+//! A contract sees a `SqlitePurges` as its connection, the duplicate, whether no call has failed,
+//! and the count of failures (`Durable`). The crate touches nothing but the connection.
 //!
 //! Not promised: that `StoreFault` from a write has its cause in the database. The contract demands
 //! only that `failures` rises or stands at its maximum.

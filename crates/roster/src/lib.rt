@@ -25,12 +25,12 @@
 //!    `specs/Faults.antt`: the order of the faults.
 //! 2. `specs/Lookups.antt`: what each look-up gives.
 //! 3. `src/roster.rt`: `Roster`. `src/judge.rt`: the tests, with `src/doubles.rt` and
-//!    `src/loops.rt` (and `specs/Among.antt`). `src/copying.rt`: a second copy. `src/fault.rt`:
+//!    `src/loops.rt` (and `specs/Among.antt`). `src/copying.rt`: a duplicate. `src/fault.rt`:
 //!    faults and their sentences.
 //! 4. `proofs/Circles.antt`: cycles of parents. `proofs/Addresses.antt`: members by their
 //!    addresses.
 //!
-//! No contract speaks of the place that an error names, nor of its sentence: a `Display` that
+//! No contract says where an error is said to be, nor its sentence: a `Display` that
 //! writes nothing would pass. Tests show both. The crate reads no file and touches no socket.
 #![tactic(auto)]
 

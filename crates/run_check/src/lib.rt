@@ -8,7 +8,7 @@
 //! node of its own (`Node` of `node_core`) or on the master's purges, and compares outcomes and
 //! states with those recorded. What a note received from a member or from the master it looks up in
 //! what was sent so far (`run_network`). The crate touches no file, socket, clock or thread. Its
-//! one fault is want of memory, which is never a verdict.
+//! one fault is lack of memory, which is never a verdict.
 //!
 //! Not promised: how long a check takes, or that what was recorded is all that was done.
 //!

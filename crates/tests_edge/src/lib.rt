@@ -1,6 +1,6 @@
 //! Tests of what stands around a node: datagrams as octets, HTTP requests, the book of its steps,
-//! and copies and comparisons of events and replies. They need a caller of the crates: it passes in
-//! readers, writers and nodes that fail, fills a book, and compares single parts.
+//! and duplicates and comparisons of events and replies. They need a caller of the crates: it
+//! passes in readers, writers and nodes that fail, fills a book, and compares single parts.
 //!
 //! What is made is None where there is no memory for it, or where it is not valid: a test then
 //! fails.

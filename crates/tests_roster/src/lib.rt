@@ -1,6 +1,6 @@
 //! Tests of rosters: their text as tables, who takes part, and rounds of queries among them (RFC
-//! 2187). They need a caller of the crates: it sees the place and the sentence of each fault, and
-//! each choice of a round.
+//! 2187). They need a caller of the crates: it sees where each fault is said to be, its sentence,
+//! and each choice of a round.
 #![tactic(auto)]
 
 #[cfg(test)]

@@ -1,6 +1,6 @@
 //! Reads the text of a roster, the configuration of a hierarchy, into plain data. The text is a
-//! TOML 1.1 document. Each key is checked alone: its table, type and range. Whether the tables fit
-//! together is judged by the crate `roster`.
+//! TOML 1.1 document. Each TOML key is checked alone: its table, type and range. Whether the tables
+//! fit together is judged by the crate `roster`.
 //!
 //! - [`Tables`]: the whole text, read by `Tables::read`: [`Limits`], the master's address, and
 //!   lists of [`Member`], [`Cache`] (foreign caches) and [`Origin`]. A member has [`Peer`]s, each
@@ -9,16 +9,16 @@
 //!
 //! To read, in this order:
 //!
-//! 1. `specs/Keys.antt`: the keys of each table. `specs/Ranges.antt`: the ranges (`are_tables`).
-//!    `specs/Roles.antt`: sibling and parent.
+//! 1. `specs/Keys.antt`: the TOML keys of each table. `specs/Ranges.antt`: the ranges
+//!    (`are_tables`). `specs/Roles.antt`: sibling and parent.
 //! 2. `specs/Reading.antt`: what a document says (`tables_in`). `specs/Fault.antt`: what a fault
 //!    says of the text.
 //! 3. `src/plain.rt`: the types, with units and ranges.
 //! 4. `src/read.rt`: the whole document. `src/entries.rt`: each kind of table. `src/fields.rt`: one
-//!    key. `src/place.rt`, `src/fault.rt`.
+//!    TOML key. `src/place.rt`, `src/fault.rt`.
 //! 5. `proofs/Lists.antt`, `proofs/Ips.antt`.
 //!
-//! No contract speaks of the place that a fault names; tests show it. The crate reads no file: the
+//! No contract says where a fault is said to be; tests show it. The crate reads no file: the
 //! text is passed in.
 #![tactic(auto)]
 
