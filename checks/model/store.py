@@ -1,4 +1,4 @@
-"""Answers, copies and the store: docs/RULES.md, "The store", "Answers" and "Lifetimes" (RFC 9111, section 4.2)."""
+"""Answers, copies and the store: docs/RULES.md, "The store", "Responses that are kept" and "Lifetimes" (RFC 9111, section 4.2)."""
 
 from dataclasses import dataclass, field
 
