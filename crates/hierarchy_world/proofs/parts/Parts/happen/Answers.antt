@@ -6,6 +6,6 @@ use Rattle.hierarchy_world.proofs.parts.Parts.happen.Goals as goal
 
 pub returns : goal.returns
 returns c =
-    consequence_made c.args.self.now c.consequence.new.self c.args.event c.in_ok-seen.seen c.in_ok-outcome.outcome c.in_ok-seen.ensures.taken c.in_ok-seen.ensures.key
-    (c.in_ok-outcome.ensures ∙ outcome_told (world_of c.args.self.now) (world_of c.consequence.new.self) _ _ (seen_of c.in_ok-seen.seen) c.counts-before.ensures
+    consequence_made c.args.self.now c.follow.new.self c.args.event c.in_ok-seen.seen c.in_ok-outcome.outcome c.in_ok-seen.ensures.taken c.in_ok-seen.ensures.key
+    (c.in_ok-outcome.ensures ∙ outcome_told (world_of c.args.self.now) (world_of c.follow.new.self) _ _ (seen_of c.in_ok-seen.seen) c.counts-before.ensures
     c.counts.ensures)

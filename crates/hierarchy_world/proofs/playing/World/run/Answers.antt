@@ -2,7 +2,7 @@
 -- fault the next event is the one that was refused; at the end all were applied (Runs).
 use Rattle.std.proofs.Common.{sym, ◌∙◌, subst, ap, suc, length, drop, rules}
 use Rattle.std.proofs.lemmas.Iterator.Adapters.{YieldsList-from_vec}
-use Rattle.std.proofs.lemmas.Iterator.Consumers.{YieldsList-consequence, YieldsList-so_far, YieldsList-end}
+use Rattle.std.proofs.lemmas.Iterator.Consumers.{YieldsList-turn, YieldsList-so_far, YieldsList-end}
 use Rattle.std.proofs.lemmas.List.{map-id}
 use Rattle.std.proofs.lemmas.Result.{err_from_is_err_and}
 use Rattle.values_tables.specs.declared.plain.Tables.{Tables}
@@ -26,7 +26,7 @@ returns-in_err-outcome-clause-stopped c =
     let p = err_from_is_err_and c.from_residual-in_err-outcome.result c.from_residual-in_err-outcome.ensures.1 in
     let road = YieldsList-from_vec {s = c.into_iter-event-iterator.result} c.args.events.items (search rules) (search rules) in
     let first = YieldsList-so_far road c.loop-event.yielded _ c.loop-event.yielded_by in
-    let here = YieldsList-consequence road c.loop-event.yielded _ c.loop-event.yielded_by c.next.result c.next.new.self c.in-Some.event c.in-Some.is
+    let here = YieldsList-turn road c.loop-event.yielded _ c.loop-event.yielded_by c.next.result c.next.new.self c.in-Some.event c.in-Some.is
     c.next.ensures.steps in
     rw (p.1, p.2)
     (view_stops c.args.roster.now c.args.events.items c.loop-event.yielded c.loop-event.world c.apply.new.self c.loop-event.outcomes.items c.in-Some.event
