@@ -1,6 +1,6 @@
 -- What a raise does to a connection: outside a transaction its statement commits by itself, so a
 -- crash finds the floors from before it or those with the url's new number.
-use Rattle.std.proofs.Common.{◌≡◌, ◌⊎◌, inl, inr, ℕ, List, None, Ok, Err, Result, IsTrue, sym, ap, subst, ◌∙◌, append-nil, OnOk, IfErr, arith}
+use Rattle.std.proofs.Common.{◌≡◌, ◌⊎◌, inl, inr, ℕ, List, None, Ok, Err, Result, sym, ap, subst, ◌∙◌, append-nil, OnOk, IfErr, arith}
 use Rattle.std.specs.FinMap.{insert}
 use Rattle.sqlite_trees.specs.Tree.{Trees}
 use Rattle.sqlite.specs.Listing.{understood}
@@ -12,6 +12,7 @@ use Rattle.sqlite_trees.specs.declared.store.Store.{Ghosts}
 use Rattle.sqlite.specs.Held.{Held, state}
 use Rattle.sqlite.specs.declared.error.Error.{Error}
 use Rattle.floor_rules.specs.Floors.{FloorMap}
+use Rattle.purge_tables.proofs.StatementLemmas.{IsSettledBy}
 use Rattle.purge_numbers.specs.Tables.{node_schema, floors_in}
 use Rattle.purge_numbers.specs.Store.{IsReady, committed_floors, MayFind}
 use Rattle.purge_numbers.proofs.Texts.{put_command, put_is, put_plain}
@@ -52,10 +53,6 @@ pub put_ready : (old new : State) (u : List ℕ) (n : ℕ) (r : Result ℕ Error
 put_ready old new u n (Err e) was back h = (tt, tt)
 put_ready old new u n (Ok count) was back h =
     let all = λ (clean : HasCleanDisk new). put_runs old new u n count (was (back clean)) (h clean) in (λ clean. (all clean).0, λ clean. (all clean).1)
-
--- while the store is open, a crash leaves the last commit
-abbrev pub IsSettledBy : {S : Type 0} → Ghosts S → Type 0
-IsSettledBy {S} g = (s : S) (db : Trees) → IsTrue (g.view s).is_open → g.recovers s db → db ≡ (g.view s).committed
 
 pub put_crash : {S : Type 0} (g : Ghosts S) (old new : Held S) (u : List ℕ) (n : ℕ) → IsSettledBy g → (HasCleanDisk (state g old) → IsReady (state g old))
     → Survives (state g old) (state g new) (CommitsBy put_text (put_params u n) (state g old)) → HasCleanDisk (state g new)

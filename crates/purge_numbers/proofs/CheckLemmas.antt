@@ -11,20 +11,6 @@ use Rattle.sqlite_schema.specs.Code.{op_term, term_to, term_in}
 use Rattle.sqlite_schema.specs.declared.code.Op.{Op}
 use Rattle.sqlite_schema.specs.declared.code.Op.TheVariants.{Literal, Column, Unary, Binary, Case}
 
-pub is_col : (below : ℕ → Term) (x : Op) (s a : ℕ) → op_term below x ≡ col s a → x ≡ Column s a
-is_col below (Literal v) s a e = absurd (cc)
-is_col below (Column t b) s a e = cc
-is_col below (Unary o p) s a e = absurd (cc)
-is_col below (Binary o p q) s a e = absurd (cc)
-is_col below (Case t p q) s a e = absurd (cc)
-
-pub is_lit : (below : ℕ → Term) (x : Op) (v : Value) → op_term below x ≡ lit v → x ≡ Literal v
-is_lit below (Literal w) v e = cc
-is_lit below (Column t b) v e = absurd (cc)
-is_lit below (Unary o p) v e = absurd (cc)
-is_lit below (Binary o p q) v e = absurd (cc)
-is_lit below (Case t p q) v e = absurd (cc)
-
 pub is_op2 : (below : ℕ → Term) (x : Op) (by : BinaryOp) (s t : Term) → op_term below x ≡ op2 by s t → (a : ℕ) × (b : ℕ) × (x ≡ Binary by a b) × (below a ≡ s)
     × (below b ≡ t)
 is_op2 below (Literal w) by s t e = absurd (cc)

@@ -1,56 +1,28 @@
--- The statements that make the tables lead, one by one, from a blank file to a new node's file.
--- Each text defines the table of `specs/Tables`, and a new table has no rows.
-use Rattle.std.proofs.Common.{◌≡◌, ℕ, pos, List, [], ◌∷◌, map, false, None, Ok, Err, Result, OnOk, IsTrue, refl, sym, ap, subst, ◌∙◌, arith}
+-- The statements that make the tables lead, one by one, from a file with `form` alone to a new
+-- node's file. The text of `floors` defines the table of `specs/Tables`, and a new table has no
+-- rows.
+use Rattle.std.proofs.Common.{◌≡◌, ℕ, pos, List, [], ◌∷◌, map, None, Ok, Err, Result, OnOk, refl, ap, subst, ◌∙◌, arith}
 use Rattle.sqlite.specs.declared.types.Value.TheVariants.{Null, Int}
 use Rattle.sqlite_value.specs.Order.{Row}
 use Rattle.sqlite_trees.specs.Tree.{Trees}
 use Rattle.sqlite_rules.specs.Cast.{cast}
 use Rattle.sqlite.specs.Kind.TheVariants.{Integer}
 use Rattle.sqlite.specs.declared.error.Error.{Error}
-use Rattle.sqlite.specs.Table.{Table}
-use Rattle.sqlite.specs.Schema.{Schema}
 use Rattle.sqlite.specs.Edit.{edit_of, edited}
 use Rattle.sqlite.specs.Rowids.TheVariants.{Chosen}
-use Rattle.sqlite.specs.Change.{created, next_tree, KeepsRows}
-use Rattle.sqlite.specs.Compile.{table_defined_by}
-use Rattle.sqlite.specs.Command.TheVariants.{CreateTable}
-use Rattle.sqlite.specs.Does.{Tally, Does, lacks_sequence}
+use Rattle.sqlite.specs.Does.{Tally, Does}
 use Rattle.sqlite.specs.Rows.{Written}
 use Rattle.sqlite.specs.Effect.{Database}
 use Rattle.sqlite.specs.Listing.{understood}
-use Rattle.sqlite.specs.State.{State, HasCleanDisk, Writes, Executes, ExecutesInside, mode_of}
-use Rattle.sqlite.proofs.Callers.{IsPlain, command_of, statement_of, runs_as, one_step}
-use Rattle.purge_numbers.specs.Tables.{form_table, floors_table, empty_schema, form_schema, node_schema}
-use Rattle.purge_numbers.specs.Making.{IsBlank, IsFormed, IsUnversioned, IsVersioned, Makes}
-use Rattle.purge_numbers.specs.Rows.{shown_version}
-use Rattle.purge_numbers.proofs.Texts.{create_form, create_floors, form_defined, floors_defined, form_created, floors_created, create_form_is, create_form_plain, create_floors_is, create_floors_text, create_floors_plain, name_text, name_command, name_is, name_plain}
-use Rattle.purge_numbers.proofs.PutLemmas.{went, same_value, cast_int}
-
-module _ (text : List ℕ) (before after : Schema) (table : Table) (is : command_of (understood before text) ≡ CreateTable)
-    (whole : statement_of text (understood before text) ≡ text) (plain : IsPlain (understood before text))
-    (defined : table_defined_by text ≡ Ok table) (makes : created before table ≡ after) (uncounted : lacks_sequence after ≡ false) where
-  creates : (old new : State) (count : ℕ) → old.now.schema ≡ before → Executes text [] old new (Ok count)
-      → (new.now.schema ≡ after) × (new.now.trees (next_tree before) ≡ []) × KeepsRows before.tables old.now.trees new.now.trees
-  creates old new count has h =
-      let w = subst (λ t. Writes old new None CreateTable t [] count) whole (runs_as text [] old new before has CreateTable is plain count h) in
-      let all = went w.changed in
-      let first = went all.1 in
-      let made = first.1 in
-      let both : Ok made.table ≡ Ok table = sym made.defined ∙ defined in
-      let same : made.table ≡ table = cc in
-      let schema : first.0.schema ≡ after = made.is ∙ ap (λ s. created s made.table) has ∙ ap (created before) same ∙ makes in
-      let none : lacks_sequence first.0.schema ≡ false = ap lacks_sequence schema ∙ uncounted in
-      let now : new.now ≡ first.0 = ap (λ (p : Tally × Database). p.1) (same_value all.2) ∙ same_value (rw none at first.2) in
-      let kept : KeepsRows before.tables old.now.trees first.0.trees = subst (λ s. KeepsRows s.tables old.now.trees first.0.trees) has made.others in (
-        ap (λ (d : Database). d.schema) now ∙ schema,
-        ap (λ (d : Database). d.trees (next_tree before)) now ∙ subst (λ s. first.0.trees (next_tree s) ≡ []) has made.empty,
-        subst (λ (d : Database). KeepsRows before.tables old.now.trees d.trees) (sym now) kept,
-      )
-
-form_step : (old new : State) (count : ℕ) → old.now.schema ≡ empty_schema → Executes create_form [] old new (Ok count) → IsFormed new.now
-form_step old new count has h =
-    let made = creates create_form empty_schema form_schema form_table create_form_is.0 create_form_is.1 create_form_plain form_defined form_created refl old
-    new count has h in (made.0, made.1)
+use Rattle.sqlite.specs.State.{State, HasCleanDisk, Executes, mode_of}
+use Rattle.sqlite.proofs.Callers.{statement_of, runs_as, one_step}
+use Rattle.purge_tables.specs.Tables.{form_table, form_schema}
+use Rattle.purge_tables.specs.Making.{IsFormed, Makes}
+use Rattle.purge_tables.specs.Rows.{shown_version}
+use Rattle.purge_tables.proofs.StatementLemmas.{went, same_value, cast_int, creates, Ran, inside}
+use Rattle.purge_numbers.specs.Tables.{floors_table, node_schema}
+use Rattle.purge_numbers.specs.Making.{IsUnversioned, IsVersioned}
+use Rattle.purge_numbers.proofs.Texts.{create_floors, floors_defined, floors_created, create_floors_is, create_floors_text, create_floors_plain, name_text, name_command, name_is, name_plain}
 
 floors_step : (old new : State) (count : ℕ) → IsFormed old.now → Executes create_floors [] old new (Ok count) → IsUnversioned new.now
 floors_step old new count formed h =
@@ -89,17 +61,6 @@ name_step version old new count unversioned h =
       ap (λ (d : Database). d.trees 1) now ∙ ap (λ (t : Trees). t 1) trees ∙ step.tables.1.0 (omega arith) ∙ unversioned.2,
       ap (map shown_version) rows,
     )
-
-inside : (old new : State) (text : List ℕ) (params : Row) (count : ℕ) → ExecutesInside 0 text params old new (Ok count) →
-    Executes text params old new (Ok count) × IsTrue new.in_transaction
-inside old new text params count h = (h.0, h.1.mode)
-
-abbrev Ran : List ℕ → Row → State → State → Result ℕ Error → Type 0
-Ran text params old new r = HasCleanDisk new → IsTrue old.in_transaction → ExecutesInside 0 text params old new r
-
-pub makes_form : (old new : State) (r : Result ℕ Error) → Ran create_form [] old new r → OnOk r (HasCleanDisk new → Makes IsBlank IsFormed old new)
-makes_form old new (Err e) h = tt
-makes_form old new (Ok count) h = λ clean on from. let it = inside old new create_form [] count (h clean on) in (it.1, form_step old new count from it.0)
 
 pub makes_floors : (old new : State) (r : Result ℕ Error) → Ran create_floors [] old new r → OnOk r (HasCleanDisk new → Makes IsFormed IsUnversioned old new)
 makes_floors old new (Err e) h = tt

@@ -1,21 +1,20 @@
 -- A file whose rows were read is a node's file and its connection is ready, since the queries
 -- change nothing. A file that is refused is no node's file, since a node's rows can all be added.
-use Rattle.std.proofs.Common.{◌≤◌, ◌≡◌, ◌≢◌, ◌<◌, length, pos, inl, inr, subst, arith, List, [], ◌∷◌, map, false, IsTrue, Ok, Err, Result, IfOk, OnOk, sym, ap, ◌∙◌}
+use Rattle.std.proofs.Common.{◌≤◌, ◌≡◌, ◌<◌, length, inl, inr, subst, arith, List, map, false, IsTrue, Ok, Err, Result, IfOk, OnOk, sym, ap, ◌∙◌}
 use Rattle.std.specs.List.{AllByRecursion}
 use Rattle.std.specs.List.Sorted.{IsPermutation}
 use Rattle.std.specs.FinMap.{empty}
-use Rattle.sqlite.specs.declared.types.Value.TheVariants.{Int}
 use Rattle.sqlite_value.specs.Order.{Row}
 use Rattle.sqlite.specs.Effect.{Database}
 use Rattle.sqlite.specs.State.{State, HasCleanDisk, IsUnchanged, Survives}
-use Rattle.sqlite.proofs.Callers.{one_permutation}
-use Rattle.std.proofs.lemmas.List.Sorted.{IsPermutation-sym, length_permutation}
+use Rattle.std.proofs.lemmas.List.Sorted.{length_permutation}
 use Rattle.std.proofs.lemmas.List.{length-map}
 use Rattle.floor_rules.specs.declared.fault.FloorFault.{FloorFault}
 use Rattle.floor_rules.specs.Floors.{FloorMap}
 use Rattle.purge_numbers.specs.Tables.{node_schema, floors_in, IsFloorTable}
 use Rattle.purge_numbers.specs.Making.{IsNodeFile, LeavesNoOther}
-use Rattle.purge_numbers.specs.Rows.{Adds, IsFloor, shown_row, shown_version, HasVersionOne}
+use Rattle.purge_tables.specs.Rows.{HasVersionOne}
+use Rattle.purge_numbers.specs.Rows.{Adds, IsFloor, shown_row}
 use Rattle.purge_numbers.specs.Store.{AreIn, committed_floors}
 use Rattle.purge_numbers.proofs.AddLemmas.{reads_floors, floor_rows, shown_add}
 
@@ -54,9 +53,6 @@ same_file a b mode now file = record {
   few = subst (λ (d : Database). length (d.trees 1) ≤ 65536) now file.few;
 }
 
-pub one_version : (table rows : List Row) (row : Row) → IsPermutation (map shown_version table) rows → rows ≡ row ∷ [] → map shown_version table ≡ row ∷ []
-one_version table rows row same is = one_permutation row (map shown_version table) (IsPermutation-sym (map shown_version table) (row ∷ []) (rw (← is) same))
-
 module _ (old new : State) (rows : List Row) (autocommit : old.in_transaction ≡ false) (settled : IsTrue old.is_open → old.now ≡ old.committed)
     (has : old.now.schema ≡ node_schema)
     (same : HasCleanDisk new → IsUnchanged old new) (shown : HasCleanDisk new → IsPermutation (map shown_row (old.now.trees 1)) rows) where
@@ -77,10 +73,6 @@ module _ (old new : State) (rows : List Row) (autocommit : old.in_transaction �
   pub read_kept : (r : Result FloorMap FloorFault) → IfOk r (λ all. Adds empty rows all) → IfOk r (λ all. HasCleanDisk new → AreIn new all)
   read_kept (Err fault) adds = tt
   read_kept (Ok all) adds = λ clean. read_ready old new rows all autocommit settled has (same clean) (shown clean) adds
-
--- a version that was not found is not there
-pub no_version : (table rows : List Row) → IsPermutation (map shown_version table) rows → rows ≢ (Int (pos 1) ∷ []) ∷ [] → ¬ HasVersionOne table
-no_version table rows same other one = other (one_permutation (Int (pos 1) ∷ []) rows (subst (λ xs. IsPermutation xs rows) one same))
 
 -- rows that cannot be added are not those of a node's file
 pub not_added : (old : State) (rows : List Row) → IsPermutation (map shown_row (old.now.trees 1)) rows → ((all : FloorMap) → ¬ Adds empty rows all) →

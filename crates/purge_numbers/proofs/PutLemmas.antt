@@ -1,21 +1,20 @@
 -- The statement of a raise inserts a row for the url, or sets the number of the one row that has
 -- it. A row conflicts with the new one exactly if it has the url. Without conflict the new row goes
 -- in beside rows of other urls; with one, the update finds that row by its rowid and replaces it.
-use Rattle.std.proofs.Common.{◌≡◌, ◌⊎◌, ℕ, ℤ, pos, Bool, true, false, not, cond, List, [], ◌∷◌, map, filter, Some, None, Option, Ok, Err, Result, arith, refl, sym, ap, subst, ◌∙◌, inl, inr, drop, ◌&&◌, ◌||◌, unwrap_or, if◌then◌else◌}
+use Rattle.std.proofs.Common.{◌≡◌, ℕ, ℤ, pos, Bool, true, false, not, cond, List, [], ◌∷◌, map, filter, Some, None, Option, Ok, arith, refl, sym, ap, subst, ◌∙◌, inl, inr, drop, ◌&&◌, ◌||◌, unwrap_or, if◌then◌else◌}
 use Rattle.std.specs.List.{AllByRecursion, list_all, flat_map}
-use Rattle.sqlite.specs.Query.{IsAnswer, output, Output}
+use Rattle.sqlite.specs.Query.{IsAnswer, output}
 use Rattle.sqlite.specs.Term.{holds}
 use Rattle.sqlite.specs.Program.{overlay}
 use Rattle.std.specs.Ordering.{is_eq, match_ordering, int_cmp}
 use Rattle.std.specs.FinMap.{insert}
 use Rattle.std.proofs.lemmas.Bool.{cases_Bool}
-use Rattle.sqlite.specs.declared.types.Value.{Value}
 use Rattle.sqlite.specs.declared.types.Value.TheVariants.{Null, Int, Text}
 use Rattle.sqlite_value.specs.Order.{Row, column, bytes, value_cmp}
 use Rattle.sqlite_value.proofs.OrderLemmas.{value_cmp-Text, value_cmp-Int}
 use Rattle.sqlite_value.proofs.KeyLemmas.{first_key-plain}
 use Rattle.sqlite.specs.Collation.TheVariants.{Binary}
-use Rattle.sqlite_sql.specs.Ops.{unary, binary, truth, from_truth}
+use Rattle.sqlite_sql.specs.Ops.{binary, truth, from_truth}
 use Rattle.sqlite_schema.specs.Rules.{equal}
 use Rattle.sqlite_trees.specs.Tree.{Trees, rowid, put_row, has_rowid, IsAscending}
 use Rattle.sqlite_rules.specs.Lists.{Has}
@@ -39,7 +38,7 @@ use Rattle.sqlite.specs.Does.{Tally, Does}
 use Rattle.sqlite.specs.Rows.{Written, Task, nothing, TriesEach, Tries, Puts, Clears, Meets, Upserts, Judged, Updates}
 use Rattle.sqlite.proofs.Callers.{one_step, one_permutation}
 use Rattle.std.specs.List.Sorted.{IsPermutation}
-use Rattle.std.proofs.lemmas.List.Sorted.{IsPermutation-map, length_permutation, All-permutation}
+use Rattle.std.proofs.lemmas.List.Sorted.{length_permutation, All-permutation}
 use Rattle.std.proofs.lemmas.List.Elements.{All-from_recursion, recursion_from_All}
 use Rattle.std.specs.FinMap.{int_cmp-IsAntisymmetric}
 use Rattle.std.specs.Cmp.{eq_by_cmp_equiv}
@@ -47,30 +46,12 @@ use Rattle.std.specs.declared.cmp.Ordering.{Ordering}
 use Rattle.sqlite_value.proofs.OrderLemmas.{value_cmp_total}
 use Rattle.sqlite_catalog.proofs.LayoutLemmas.{ascending_filter}
 use Rattle.sqlite_rules.specs.Calls.{ids_of}
+use Rattle.purge_tables.proofs.StatementLemmas.{went, same_value, cast_null, cast_int}
+use Rattle.purge_tables.proofs.QueryLemmas.{answered}
 use Rattle.purge_numbers.specs.Tables.{node_schema, floors_table, floors_in, IsFloorRow, IsFloorTable, url_index}
 use Rattle.purge_numbers.proofs.Texts.{put_command, update_query}
 use Rattle.floor_rules.proofs.Urls.{same_url, equal_urls, own_url}
 use Rattle.purge_numbers.proofs.LookLemmas.{url_of, look, look_put, look_kept, one_put}
-
--- a part that gave a value did not stop on the way
-pub went : {B E R : Type 0} {b : B} {Stops : E → Type 0} → ((stop : E) × Stops stop × (Ok b ≡ Err stop)) ⊎ R → R
-went (inl stopped) = absurd (let e = stopped.2 in cc)
-went (inr on) = on
-
-pub same_value : {B E : Type 0} {a b : B} → ◌≡◌ {A = Result B E} (Ok a) (Ok b) → a ≡ b
-same_value e = cc
-
-either : (b : Bool) (x : Value) → cond b x x ≡ x
-either true x = refl
-either false x = refl
-
-cast_null : cast Integer Null ≡ Null
-unfolding unary
-cast_null = either _ Null
-
-pub cast_int : (n : ℤ) → cast Integer (Int n) ≡ Int n
-unfolding unary
-cast_int n = either _ (Int n)
 
 -- the row that is put
 abbrev pub floor_row : ℤ → List ℕ → ℕ → Row
@@ -178,24 +159,11 @@ matched at given trees (r ∷ rows) is all =
       | inr other ↦ rw (other) (matched at given trees rows is all.1)
     ])
 
-shown_map : (n : ℕ) (hits : List Row) → map (λ (o : Output). o.1) (map (λ r. let o : Output = ([], shown n r) in o) hits) ≡ map (shown n) hits
-shown_map n [] = refl
-shown_map n (r ∷ hits) = ap (λ more. shown n r ∷ more) (shown_map n hits)
-
-none_dropped : (xs : List Row) → drop 0 xs ≡ xs
-none_dropped [] = refl
-none_dropped (x ∷ xs) = refl
-
-answered : (trees : Trees) (u : List ℕ) (n : ℕ) (id at : ℤ) (there : Row) (xs : List Row) → AllByRecursion IsFloorRow (trees 1) → rowid there ≡ Int at
+found_by : (trees : Trees) (u : List ℕ) (n : ℕ) (id at : ℤ) (there : Row) (xs : List Row) → AllByRecursion IsFloorRow (trees 1) → rowid there ≡ Int at
     → IsAnswer update_query (overlay trees []) (update_given there id u n) xs → IsPermutation (map (shown n) (filter (has_rowid at) (trees 1))) xs
-answered trees u n id at there xs all is a =
-    let given = update_given there id u n in
-    let second = λ (o : Output). o.1 in
-    let kept : a.kept ≡ map (λ r. let o : Output = ([], shown n r) in o) (filter (has_rowid at) (trees 1)) =
-    a.distinct ∙ ap (map (output update_query)) a.grouped ∙ matched at given trees (trees 1) is all in
-    let whole : xs ≡ map second a.ordered = a.shown ∙ none_dropped (map second a.ordered) in
-    subst (λ ys. IsPermutation ys xs) (ap (map second) kept ∙ shown_map n (filter (has_rowid at) (trees 1)))
-    (subst (IsPermutation (map second a.kept)) (sym whole) (IsPermutation-map second a.kept a.ordered a.same))
+found_by trees u n id at there xs all is a =
+    answered (λ r. []) (shown n) (filter (has_rowid at) (trees 1)) xs a.kept a.ordered
+    (a.distinct ∙ ap (map (output update_query)) a.grouped ∙ matched at (update_given there id u n) trees (trees 1) is all) a.same a.shown
 
 rowid_is : (at : ℤ) (x : Row) → IsFloorRow x → has_rowid at x ≡ true → rowid x ≡ Int at
 rowid_is at x is h =
@@ -317,7 +285,7 @@ module _ (limit : Option ℕ) (keys : Keys) (trees : Trees) (u : List ℕ) (n : 
       let there_is : rowid there ≡ Int own = ap rowid is ∙ keyed.0.1 in
       let hits = filter (has_rowid own) (trees 1) in
       let own_hit : has_rowid own r ≡ true = rw keyed.0.1 (own_rowid own) in
-      let same = answered trees u n id own there ans.0 is_table.0 there_is (ans.1.answer Null) in
+      let same = found_by trees u n id own there ans.0 is_table.0 there_is (ans.1.answer Null) in
       let step = one_step node_schema keys trees put.0 (edit_of trees floors_table (ids_of ans.0) Given 1 ans.0) refl put.1 in
       let all = all_from (λ x. IsFloorRow x × (has_rowid own x ≡ true)) hits (λ x has_x.
       let kept = has_filtered (has_rowid own) (trees 1) x has_x in (all_has IsFloorRow (trees 1) x is_table.0 kept.0, kept.1)) in

@@ -16,25 +16,17 @@ use Rattle.sqlite.specs.Change.{created}
 use Rattle.sqlite.specs.Listing.{understood, reads_listing}
 use Rattle.sqlite_tied.specs.Compute.{everything}
 use Rattle.sqlite.proofs.Callers.{IsPlain, command_of, statement_of}
+use Rattle.purge_tables.specs.Tables.{form_schema}
+use Rattle.purge_tables.proofs.Texts.{AsksVersion}
 use Rattle.purge_numbers.specs.Put.{put_text}
-use Rattle.purge_numbers.specs.Tables.{form_table, floors_table, empty_schema, form_schema, node_schema}
-
-abbrev pub create_form : List ℕ
-create_form = codes "CREATE TABLE form (version INTEGER PRIMARY KEY) STRICT"
+use Rattle.purge_numbers.specs.Tables.{floors_table, node_schema}
 
 abbrev pub create_floors : List ℕ
 create_floors = codes "CREATE TABLE floors (url TEXT PRIMARY KEY NOT NULL, number INTEGER NOT NULL CHECK (number >= 1 AND number <= 4294967295)) STRICT"
 
-pub form_defined : table_defined_by create_form ≡ Ok form_table
-unfolding everything
-form_defined = refl
-
 pub floors_defined : table_defined_by create_floors ≡ Ok (record floors_table { tree = 0 })
 unfolding everything
 floors_defined = refl
-
-pub form_created : created empty_schema form_table ≡ form_schema
-form_created = refl
 
 pub floors_created : created form_schema (record floors_table { tree = 0 }) ≡ node_schema
 floors_created = refl
@@ -94,29 +86,9 @@ pub load_plain : IsPlain (understood node_schema load_text)
 unfolding understood everything
 load_plain = (refl, refl)
 
-abbrev pub version_text : List ℕ
-version_text = codes "SELECT version FROM form"
-
-abbrev pub version_query : Query
-version_query = record {
-  from = inner 0 end;
-  filter = [];
-  group = None;
-  project = col 1 0 ∷ [];
-  distinct = false;
-  collations = [];
-  order = [];
-  limit = lit (Int (negsuc 0));
-  offset = lit (Int (pos 0));
-}
-
-pub version_is : (command_of (understood node_schema version_text) ≡ Select (record { lets = []; body = version_query }) (codes "version" ∷ [])) × (reads_listing node_schema version_text ≡ false)
+pub version_is : AsksVersion node_schema
 unfolding understood everything
-version_is = (refl, refl)
-
-pub version_plain : IsPlain (understood node_schema version_text)
-unfolding understood everything
-version_plain = (refl, refl)
+version_is = record { command = refl; listing = refl; plain = (refl, refl) }
 
 abbrev pub name_text : List ℕ
 name_text = codes "INSERT INTO form (version) VALUES (?1)"
@@ -131,15 +103,6 @@ name_is = refl
 pub name_plain : IsPlain (understood node_schema name_text)
 unfolding understood everything
 name_plain = (refl, refl)
-
-pub create_form_is : (command_of (understood empty_schema create_form) ≡ CreateTable)
-    × (statement_of create_form (understood empty_schema create_form) ≡ create_form)
-unfolding understood everything
-create_form_is = (refl, refl)
-
-pub create_form_plain : IsPlain (understood empty_schema create_form)
-unfolding understood everything
-create_form_plain = (refl, refl)
 
 pub create_floors_text : statement_of create_floors (understood form_schema create_floors) ≡ create_floors
 unfolding understood everything

@@ -1,21 +1,16 @@
--- How a blank file gets its tables, which files open, and what an open finds.
-use Rattle.std.specs.Prelude.{◌≡◌, ◌≤◌, ◌⊎◌, ℕ, [], false, length, IsTrue}
+-- How a blank file gets its tables, which files open, and what an open finds. `IsBlank`, `IsFormed`
+-- and `Makes`, for the table `form`, are those of `purge_tables`.
+use Rattle.std.specs.Prelude.{◌≡◌, ◌≤◌, ◌⊎◌, ℕ, [], false, length}
 use Rattle.std.specs.FinMap.{empty}
 use Rattle.std.specs.List.{AllByRecursion}
 use Rattle.sqlite.specs.Effect.{Database}
 use Rattle.sqlite.specs.State.{State, HasCleanDisk}
 use Rattle.floor_rules.specs.Floors.{FloorMap, most_rows}
-use Rattle.purge_numbers.specs.Rows.{HasVersion, HasVersionOne, IsFloor}
+use Rattle.purge_tables.specs.Making.{IsBlank}
+use Rattle.purge_tables.specs.Rows.{HasVersion, HasVersionOne}
+use Rattle.purge_numbers.specs.Rows.{IsFloor}
 use Rattle.purge_numbers.specs.Store.{MayFind, committed_floors}
-use Rattle.purge_numbers.specs.Tables.{empty_schema, form_schema, node_schema, IsFloorTable}
-
--- it is blank: no table, no index, no view
-abbrev pub IsBlank : Database → Type 0
-IsBlank db = db.schema ≡ empty_schema
-
--- it has the table `form` alone, without a row
-abbrev pub IsFormed : Database → Type 0
-IsFormed db = (db.schema ≡ form_schema) × (db.trees 0 ≡ [])
+use Rattle.purge_numbers.specs.Tables.{node_schema, IsFloorTable}
 
 -- it has a node's tables, without a row
 abbrev pub IsUnversioned : Database → Type 0
@@ -34,10 +29,6 @@ pub record IsMade (file : State) : Type 0 where
   pub autocommit : file.in_transaction ≡ false
   pub committed : file.committed ≡ file.now
   pub unused : IsUnused file.now
-
--- inside a transaction, a statement leads from such a database to such another
-abbrev pub Makes : (Database → Type 0) → (Database → Type 0) → State → State → Type 0
-Makes From To old new = IsTrue old.in_transaction → From old.now → IsTrue new.in_transaction × To new.now
 
 -- a node's file: exactly its tables, the version 1, and at most 65,536 rows that are floors of
 -- different urls; no transaction is open

@@ -1,5 +1,5 @@
 -- Which rows of a node's file are floors, what a query shows of them, and what reading them gives.
-use Rattle.std.specs.Prelude.{◌≡◌, ◌≤◌, ◌<◌, ◌^◌, ◌⊎◌, ℕ, ℤ, pos, Result, IfErr, List, [], ◌∷◌, map, None}
+use Rattle.std.specs.Prelude.{◌≡◌, ◌≤◌, ◌<◌, ◌^◌, ◌⊎◌, ℤ, pos, Result, IfErr, List, [], ◌∷◌, None}
 use Rattle.std.specs.FinMap.{get, insert}
 use Rattle.sqlite.specs.declared.types.Value.TheVariants.{Int, Text as Words}
 use Rattle.sqlite_value.specs.Order.{Row, column}
@@ -38,15 +38,3 @@ IsReadFault result = IfErr result (λ fault. (fault ≡ BadTable) ⊎ (fault ≡
 -- what the query shows of a row of `floors`: rowid, url, number
 abbrev pub shown_row : Row → Row
 shown_row row = rowid row ∷ column row 1 ∷ column row 2 ∷ []
-
--- what the query shows of a row of `form`: the version, which is its rowid
-abbrev pub shown_version : Row → Row
-shown_version row = rowid row ∷ []
-
--- `form` has one row, this version
-abbrev pub HasVersion : ℕ → List Row → Type 0
-HasVersion version rows = map shown_version rows ≡ (Int (pos version) ∷ []) ∷ []
-
--- `form` has one row, the version 1
-abbrev pub HasVersionOne : List Row → Type 0
-HasVersionOne rows = HasVersion 1 rows

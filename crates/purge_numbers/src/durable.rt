@@ -2,8 +2,9 @@
 ghost use Rattle.std.specs.Prelude.{◌≡◌, ◌≢◌, false, None, IsTrue, IfOk, IfErr};
 ghost use Rattle.sqlite.specs.State.{HasCleanDisk};
 ghost use Rattle.sqlite.specs.Held.{state};
+ghost use Rattle.purge_tables.specs.Making.{IsBlank};
 ghost use Rattle.purge_numbers.specs.Put.{FailsToPut};
-ghost use Rattle.purge_numbers.specs.Making.{IsBlank, IsNodeFile, LeavesNoOther, OpensWith};
+ghost use Rattle.purge_numbers.specs.Making.{IsNodeFile, LeavesNoOther, OpensWith};
 ghost use Rattle.purge_numbers.specs.Store.{MayFind, committed_floors};
 
 use crate::opening::open_file;

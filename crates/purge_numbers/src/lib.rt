@@ -19,9 +19,9 @@
 //! load returns `StoreFault` until the file is opened again.
 //!
 //! The file has two STRICT tables, `form` for the version and `floors`; `docs/FORMATS.md` has their
-//! text. `purge_records` shares the table `form`: it uses its definitions (`form_table` of
-//! `specs/Tables`, `HasVersionOne` of `specs/Rows`, `IsFormed` and `Makes` of `specs/Making`) and
-//! the proof that makes it (`proofs/MakeLemmas`).
+//! text. The table `form` and the tests of a table's parts are those of `purge_tables`: its
+//! definitions (`form_table`, `HasVersionOne`, `IsFormed`, `Makes`), the calls that make and compare
+//! it, and their proofs.
 //!
 //! Read in this order:
 //!

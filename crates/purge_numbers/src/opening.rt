@@ -1,21 +1,22 @@
 //! Opens a node's file: makes its tables if it is blank, checks schema and version, reads the rows.
-ghost use Rattle.std.specs.Prelude.{◌≡◌, ◌≢◌, ◌⊎◌, ◌∷◌, [], false, pos, map, IsPermutation, IsTrue, IfOk, OnOk, None, Err};
+ghost use Rattle.std.specs.Prelude.{◌≡◌, ◌≢◌, ◌⊎◌, [], false, map, IsPermutation, IfOk, OnOk, None, Err};
 ghost use Rattle.sqlite.specs.State.{HasCleanDisk, Survives, IsUnchanged};
 ghost use Rattle.sqlite.specs.Held.{state};
-ghost use Rattle.sqlite.specs.declared.types.Value.TheVariants.{Int};
-ghost use Rattle.purge_numbers.specs.Making.{IsBlank, IsFormed, IsMade, IsNodeFile, IsUnversioned, IsUnused, IsVersioned, LeavesNoOther, Makes, OpensWith};
-ghost use Rattle.purge_numbers.specs.Rows.{HasVersionOne, shown_row, shown_version};
+ghost use Rattle.purge_tables.specs.Making.{IsBlank, IsFormed, Makes};
+ghost use Rattle.purge_tables.specs.Rows.{HasVersionOne, shown_version};
+ghost use Rattle.purge_tables.specs.Tables.{empty_schema};
+ghost use Rattle.purge_numbers.specs.Making.{IsMade, IsNodeFile, IsUnversioned, IsUnused, IsVersioned, LeavesNoOther, OpensWith};
+ghost use Rattle.purge_numbers.specs.Rows.{shown_row};
 ghost use Rattle.purge_numbers.specs.Store.{AreIn, committed_floors};
-ghost use Rattle.purge_numbers.specs.Tables.{node_schema, empty_schema};
+ghost use Rattle.purge_numbers.specs.Tables.{node_schema};
 
 use crate::fault::fault_of;
 use crate::rows::floors_of;
 use crate::tables::is_node_schema;
 use floor_rules::{FloorFault, Floors, MOST_ROWS};
+use purge_tables::{create_form, is_blank, is_version_one};
 use sqlite::types::ToSql;
 use sqlite::{Alter, Connection, Error, Row, Transaction};
-use sqlite_schema::schema::Schema;
-use sqlite_value::value::ValueRef;
 use std::alloc::Global;
 
 /// All rows of the table `form`.
@@ -40,23 +41,6 @@ fn floor_rows<S: Alter>(conn: &mut Connection<S>) -> Result<Vec<Row>, Error>
     ensures survives { Survives (state S.Store conn.old) (state S.Store conn.new) (λ _. ⊥) }
 {
     conn.query_all("SELECT rowid, url, number FROM floors", &[])
-}
-
-/// Whether these rows are one row with the version 1.
-fn is_version_one(rows: &[Row]) -> bool
-    ensures yes { IsTrue result → rows.now ≡ (Int (pos 1) ∷ []) ∷ [] }
-    ensures no { result ≡ false → rows.now ≢ (Int (pos 1) ∷ []) ∷ [] }
-{
-    let [row] = rows else {
-        return false;
-    };
-    if row.column_count() != 1 {
-        return false;
-    }
-    match row.get_ref(0) {
-        Ok(ValueRef::Int(version)) => version == 1,
-        _ => false,
-    }
 }
 
 /// Refuses a file unless `form` has one row, the version 1.
@@ -107,21 +91,6 @@ fn read_floors<S: Alter>(conn: &mut Connection<S>, alloc: Global) -> Result<Floo
         Ok(_) => Err(FloorFault::BadTable),
         Err(error) => Err(fault_of(error)),
     }
-}
-
-/// Makes the table `form`.
-fn create_form<S: Alter>(tx: &mut Transaction<'_, S>) -> Result<usize, Error>
-    ensures same_reference { tx.new.conn.ghost_name ≡ tx.old.conn.ghost_name }
-    ensures made { OnOk result (HasCleanDisk (state S.Store tx.new.conn.now) →
-        Makes IsBlank IsFormed (state S.Store tx.old.conn.now)
-        (state S.Store tx.new.conn.now)) }
-    ensures survives { Survives (state S.Store tx.old.conn.now) (state S.Store tx.new.conn.now)
-        (λ _. ⊥) }
-{
-    tx.execute(
-        "CREATE TABLE form (version INTEGER PRIMARY KEY) STRICT",
-        &[],
-    )
 }
 
 /// Makes the table `floors`.
@@ -182,14 +151,6 @@ fn make_tables<S: Alter>(conn: &mut Connection<S>) -> Result<(), Error>
     let mut tx = conn.transaction();
     fill(&mut tx)?;
     tx.commit()
-}
-
-/// Whether there is no table, no index and no view.
-fn is_blank(schema: &Schema) -> bool
-    ensures yes { IsTrue result → schema.now ≡ empty_schema }
-    ensures no { result ≡ false → schema.now ≢ empty_schema }
-{
-    schema.tables.is_empty() && schema.indexes.is_empty() && schema.views.is_empty()
 }
 
 /// Makes the tables if the file is blank; else does nothing.

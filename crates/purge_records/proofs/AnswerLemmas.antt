@@ -1,6 +1,6 @@
 -- What a query of one table shows, and what a DELETE of what it finds leaves. A DELETE takes rows
 -- by rowid; a rowid stands in one row, so exactly the rows that passed the test go.
-use Rattle.std.proofs.Common.{◌≡◌, inl, inr, ℕ, ℤ, pos, ◌==◌, Bool, true, false, not, ◌&&◌, ◌||◌, cond, if◌then◌else◌, List, [], ◌∷◌, map, filter, drop, flat_map, Some, unwrap_or, refl, sym, ap, subst, ◌∙◌, arith}
+use Rattle.std.proofs.Common.{◌≡◌, inl, inr, ℕ, ℤ, pos, ◌==◌, Bool, true, false, not, ◌&&◌, ◌||◌, cond, if◌then◌else◌, List, [], ◌∷◌, map, filter, flat_map, Some, unwrap_or, refl, sym, ap, ◌∙◌, arith}
 use Rattle.std.specs.List.{AllByRecursion, list_any, list_all}
 use Rattle.std.specs.List.Sorted.{IsPermutation}
 use Rattle.std.specs.Ordering.{is_eq, int_cmp}
@@ -9,7 +9,7 @@ use Rattle.std.specs.declared.cmp.Ordering.{Ordering}
 use Rattle.std.specs.declared.cmp.Ordering.TheVariants.{Less, Equal, Greater}
 use Rattle.std.specs.FinMap.{int_cmp-IsAntisymmetric}
 use Rattle.std.proofs.lemmas.Bool.{cases_Bool, false_from_ne_true}
-use Rattle.std.proofs.lemmas.List.Sorted.{IsPermutation-map, IsPermutation-sym, Contains-permutation}
+use Rattle.std.proofs.lemmas.List.Sorted.{IsPermutation-sym, Contains-permutation}
 use Rattle.sqlite.specs.declared.types.Value.{Value}
 use Rattle.sqlite.specs.declared.types.Value.TheVariants.{Int}
 use Rattle.sqlite.specs.Collation.TheVariants.{Binary}
@@ -28,33 +28,7 @@ use Rattle.sqlite_rules.proofs.ListLemmas.{all_has, all_from, has_filtered, has_
 use Rattle.sqlite_rules.proofs.ProbeLemmas.{has_mapped, mapped_has}
 use Rattle.purge_records.specs.Tables.{HasOwnIds}
 
-pub none_dropped : (xs : List Row) → drop 0 xs ≡ xs
-none_dropped [] = refl
-none_dropped (x ∷ xs) = refl
-
-module _ (key show : Row → Row) where
-  abbrev pub with_key : Row → Output
-  with_key row = (key row, show row)
-
-  second_map : (rows : List Row) → map (λ (o : Output). o.1) (map with_key rows) ≡ map show rows
-  second_map [] = refl
-  second_map (r ∷ rows) = ap (λ more. show r ∷ more) (second_map rows)
-
-  -- the answer has what is shown of the rows, in some order
-  pub answered : (table rows : List Row) (kept ordered : List Output) → kept ≡ map with_key table → IsPermutation kept ordered →
-      rows ≡ drop 0 (map (λ (o : Output). o.1) ordered) → IsPermutation (map show table) rows
-  answered table rows kept ordered is same shown =
-      let second = λ (o : Output). o.1 in
-      subst (λ ys. IsPermutation ys rows) (ap (map second) is ∙ second_map table)
-      (subst (IsPermutation (map second kept)) (sym (shown ∙ none_dropped (map second ordered))) (IsPermutation-map second kept ordered same))
-
--- each row of a table gives one match
-pub all_matched : (f : List Row → Output) (given : Row) (rows : List Row) → map f (flat_map (λ r. (given ∷ r ∷ []) ∷ []) rows) ≡ map (λ r. f (given ∷ r ∷ []))
-    rows
-all_matched f given [] = refl
-all_matched f given (r ∷ rows) = ap (λ more. f (given ∷ r ∷ []) ∷ more) (all_matched f given rows)
-
--- or one where it passes
+-- each row of a table that passes gives one match
 pub some_matched : (f : List Row → Output) (given : Row) (test : Row → Bool) (rows : List Row) →
     map f (flat_map (λ r. if test r then (given ∷ r ∷ []) ∷ [] else []) rows) ≡ map (λ r. f (given ∷ r ∷ [])) (filter test rows)
 some_matched f given test [] = refl

@@ -10,7 +10,7 @@ use Rattle.sqlite.specs.State.{State, HasCleanDisk, Survives, Shows, KeepsCounts
 use Rattle.sqlite.specs.Held.{Held, state}
 use Rattle.sqlite.specs.declared.error.Error.{Error}
 use Rattle.sqlite.proofs.Callers.{IsPlain, command_of, statement_of, runs_as}
-use Rattle.purge_numbers.proofs.CallLemmas.{IsSettledBy}
+use Rattle.purge_tables.proofs.StatementLemmas.{IsSettledBy}
 use Rattle.purge_rules.specs.Purges.{PurgeList, with_mark}
 use Rattle.purge_rules.specs.Store.{IsEither, Misses}
 use Rattle.purge_records.specs.Tables.{master_schema, purges_in}

@@ -7,8 +7,21 @@ use Rattle.sqlite_sql.specs.Term.{Term, lit, col, op2}
 use Rattle.sqlite_sql.specs.declared.ops.BinaryOp.{BinaryOp}
 use Rattle.sqlite_schema.specs.Code.{op_term, term_to, term_in}
 use Rattle.sqlite_schema.specs.declared.code.Op.{Op}
-use Rattle.sqlite_schema.specs.declared.code.Op.TheVariants.{Literal, Column, Binary}
-use Rattle.purge_numbers.proofs.CheckLemmas.{is_col, is_lit}
+use Rattle.sqlite_schema.specs.declared.code.Op.TheVariants.{Literal, Column, Unary, Binary, Case}
+
+is_col : (below : ℕ → Term) (x : Op) (s a : ℕ) → op_term below x ≡ col s a → x ≡ Column s a
+is_col below (Literal v) s a e = absurd (cc)
+is_col below (Column t b) s a e = cc
+is_col below (Unary o p) s a e = absurd (cc)
+is_col below (Binary o p q) s a e = absurd (cc)
+is_col below (Case t p q) s a e = absurd (cc)
+
+is_lit : (below : ℕ → Term) (x : Op) (v : Value) → op_term below x ≡ lit v → x ≡ Literal v
+is_lit below (Literal w) v e = cc
+is_lit below (Column t b) v e = absurd (cc)
+is_lit below (Unary o p) v e = absurd (cc)
+is_lit below (Binary o p q) v e = absurd (cc)
+is_lit below (Case t p q) v e = absurd (cc)
 
 module _ (ops : List Op) (at left right slot place : ℕ) (by : BinaryOp) (v : Value) (is : slice_index_or ops at (Literal Null) ≡ Binary by left right) where
   at_depth : (d : ℕ) → term_to ops (suc (suc d)) at ≡ op2 by (op_term (term_to ops d) (slice_index_or ops left (Literal Null)))

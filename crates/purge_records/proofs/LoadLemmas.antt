@@ -1,6 +1,6 @@
--- What the four queries of an open show: each row of the table once, in the order asked for, if
--- any. They have no filter, so each row gives one match; and a SELECT changes and commits nothing.
-use Rattle.std.proofs.Common.{◌≡◌, ℕ, ◌+◌, ◌<◌, false, List, [], ◌∷◌, map, drop, length, get_or, All, Ok, Err, Result, IfOk, OnOk, Vec, Global, refl, sym, ap, subst, ◌∙◌, arith}
+-- What the queries of an open show of `last`, `pending` and `acks`: each row of the table once, in
+-- the order asked for, if any.
+use Rattle.std.proofs.Common.{◌≡◌, ℕ, ◌+◌, ◌<◌, false, List, [], ◌∷◌, map, drop, length, get_or, All, refl, sym, ap, subst, ◌∙◌, arith}
 use Rattle.std.specs.List.Sorted.{IsPermutation, IsSorted}
 use Rattle.std.specs.Ordering.{is_lt, ordering_then}
 use Rattle.std.specs.declared.cmp.Ordering.{Ordering}
@@ -13,23 +13,14 @@ use Rattle.sqlite.specs.Query.{IsAnswer, output, Output}
 use Rattle.sqlite.specs.Program.{overlay}
 use Rattle.sqlite_sql.specs.Query.{output_cmp}
 use Rattle.sqlite_trees.specs.Tree.{Trees, rowid}
-use Rattle.sqlite.specs.State.{State, HasCleanDisk, Survives, CommitsShowing, Shown, ShowsRows, IsUnchanged}
-use Rattle.sqlite.specs.declared.error.Error.{Error}
-use Rattle.sqlite.proofs.StateLemmas.{survives_weaker}
-use Rattle.sqlite.specs.Clock.{timed}
-use Rattle.sqlite.specs.Listing.{understood}
-use Rattle.sqlite.proofs.Callers.{IsPlain, reads_as, never_commits}
-use Rattle.purge_numbers.specs.Rows.{shown_version}
+use Rattle.sqlite.specs.State.{State, Shown}
+use Rattle.sqlite.proofs.Callers.{reads_as}
+use Rattle.purge_tables.proofs.QueryLemmas.{with_key, answered, all_matched, none_dropped}
 use Rattle.purge_records.specs.Tables.{master_schema, shown_last}
 use Rattle.purge_records.specs.Rows.{RisesFrom, shown_pending, shown_ack}
-use Rattle.purge_records.proofs.AnswerLemmas.{with_key, answered, all_matched, none_dropped}
 use Rattle.purge_records.proofs.Texts as text
 
 -- ---- what is shown
-
-version_load : (trees : Trees) (rows : List Row) → IsAnswer text.version_query (overlay trees []) [] rows → IsPermutation (map shown_version (trees 0)) rows
-version_load trees rows a = answered (λ r. []) shown_version (trees 0) rows a.kept a.ordered
-    (a.distinct ∙ ap (map (output text.version_query)) a.grouped ∙ all_matched (output text.version_query) [] (trees 0)) a.same a.shown
 
 last_load : (trees : Trees) (rows : List Row) → IsAnswer text.last_query (overlay trees []) [] rows → IsPermutation (map shown_last (trees 1)) rows
 last_load trees rows a = answered (λ r. []) shown_last (trees 1) rows a.kept a.ordered
@@ -82,36 +73,6 @@ acks_load : (trees : Trees) (rows : List Row) → IsAnswer text.acks_query (over
 acks_load trees rows a = rising shown_ack (λ r. refl) (output_cmp text.acks_query) (λ a b. then_equal (value_cmp (column a.0 0) (column b.0 0))) (trees 3) rows
     a.kept a.ordered
     (a.distinct ∙ ap (map (output text.acks_query)) a.grouped ∙ all_matched (output text.acks_query) [] (trees 3)) a.same a.sorted a.shown
-
--- ---- what stays
-
-module _ (sql : List ℕ) (plain : IsPlain (understood master_schema sql)) (old new : State) (has : HasCleanDisk old → old.now.schema ≡ master_schema)
-    (back : HasCleanDisk new → HasCleanDisk old) where
-  keeps : (clean : HasCleanDisk new) (rows : List Row) → Shown sql [] old new rows → IsUnchanged old new
-  unfolding Shown
-  keeps clean rows h =
-      let none = (subst IsPlain h.1.is (subst (λ s. IsPlain (understood s sql)) (sym (has (back clean))) plain)).0 in
-      (subst (ShowsRows old new sql h.0 (timed [] h.0.formats h.1.now) rows) none h.2).3
-
-  pub query_keeps : (r : Result (Vec Row Global) Error) → (HasCleanDisk new → IfOk r (λ rows. Shown sql [] old new rows.items)) →
-      OnOk r (HasCleanDisk new → IsUnchanged old new)
-  query_keeps (Err e) h = tt
-  query_keeps (Ok rows) h = λ clean. keeps clean rows.items (h clean)
-
-  pub query_survives : Survives old new (CommitsShowing sql [] old) → Survives old new (λ _. ⊥)
-  query_survives = survives_weaker old new _ _
-      (λ clean db. never_commits sql [] old db (subst (λ s. IsPlain (understood s sql)) (sym (has (back clean))) plain))
-
-  pub query_shows : (Q : List Row → Type 0) → (old.now.schema ≡ master_schema → (rows : List Row) → Shown sql [] old new rows → Q rows) →
-      (r : Result (Vec Row Global) Error)
-      → (HasCleanDisk new → IfOk r (λ rows. Shown sql [] old new rows.items)) → IfOk r (λ rows. HasCleanDisk new → Q rows.items)
-  query_shows Q f (Err e) h = tt
-  query_shows Q f (Ok rows) h = λ clean. f (has (back clean)) rows.items (h clean)
-
-pub version_shown : (old new : State) → old.now.schema ≡ master_schema → (rows : List Row) → Shown text.version_text [] old new rows →
-    IsPermutation (map shown_version (old.now.trees 0)) rows
-version_shown old new has rows h = version_load old.now.trees rows
-    ((reads_as text.version_text [] old new master_schema has _ text.version_is.0 text.version_plain text.version_is.1 rows h).answer Null)
 
 pub last_shown : (old new : State) → old.now.schema ≡ master_schema → (rows : List Row) → Shown text.last_text [] old new rows →
     IsPermutation (map shown_last (old.now.trees 1)) rows

@@ -1,55 +1,29 @@
--- The statements that make the tables lead, one by one, from a blank file to a new master's file.
--- Each text defines the table of `specs/Tables`, and a new table has no rows.
-use Rattle.std.proofs.Common.{◌≡◌, ℕ, pos, List, [], ◌∷◌, map, false, None, Ok, Err, Result, OnOk, IsTrue, refl, sym, ap, subst, ◌∙◌, arith}
+-- The statements that make the tables lead, one by one, from a file with `form` alone to a new
+-- master's file. Each text defines the table of `specs/Tables`, and a new table has no rows.
+use Rattle.std.proofs.Common.{◌≡◌, ℕ, pos, List, [], ◌∷◌, map, None, Ok, Err, Result, OnOk, refl, ap, subst, ◌∙◌, arith}
 use Rattle.sqlite.specs.declared.types.Value.TheVariants.{Null, Int}
 use Rattle.sqlite_value.specs.Order.{Row}
 use Rattle.sqlite_trees.specs.Tree.{Trees}
 use Rattle.sqlite_rules.specs.Cast.{cast}
 use Rattle.sqlite.specs.Kind.TheVariants.{Integer}
 use Rattle.sqlite.specs.declared.error.Error.{Error}
-use Rattle.sqlite.specs.Table.{Table}
-use Rattle.sqlite.specs.Schema.{Schema}
 use Rattle.sqlite.specs.Edit.{edit_of, edited}
 use Rattle.sqlite.specs.Rowids.TheVariants.{Chosen}
-use Rattle.sqlite.specs.Change.{created, next_tree, KeepsRows}
-use Rattle.sqlite.specs.Compile.{table_defined_by}
-use Rattle.sqlite.specs.Command.TheVariants.{CreateTable}
 use Rattle.sqlite.specs.Source.TheVariants.{Values}
 use Rattle.sqlite.specs.Term.{lit}
-use Rattle.sqlite.specs.Does.{Tally, Does, lacks_sequence}
+use Rattle.sqlite.specs.Does.{Does}
 use Rattle.sqlite.specs.Effect.{Database}
 use Rattle.sqlite.specs.Listing.{understood}
-use Rattle.sqlite.specs.State.{State, HasCleanDisk, Writes, Executes, ExecutesInside, mode_of}
-use Rattle.sqlite.proofs.Callers.{IsPlain, command_of, statement_of, runs_as}
-use Rattle.purge_numbers.specs.Tables.{form_table, form_schema}
-use Rattle.purge_numbers.specs.Making.{IsFormed, Makes}
-use Rattle.purge_numbers.specs.Rows.{shown_version}
-use Rattle.purge_numbers.proofs.PutLemmas.{went, same_value, cast_int}
+use Rattle.sqlite.specs.State.{State, HasCleanDisk, Executes, mode_of}
+use Rattle.sqlite.proofs.Callers.{statement_of, runs_as}
+use Rattle.purge_tables.specs.Tables.{form_table, form_schema}
+use Rattle.purge_tables.specs.Making.{IsFormed, Makes}
+use Rattle.purge_tables.specs.Rows.{shown_version}
+use Rattle.purge_tables.proofs.StatementLemmas.{cast_int, creates, Ran, inside}
 use Rattle.purge_records.specs.Tables.{last_table, pending_table, acks_table, last_schema, pending_schema, master_schema, shown_last}
 use Rattle.purge_records.specs.Making.{HasLast, HasPending, IsUnversioned, IsUnnumbered, IsUnused}
-use Rattle.purge_records.proofs.StepLemmas.{base, task_on, concluded, inserted, inside}
+use Rattle.purge_records.proofs.StepLemmas.{base, task_on, concluded, inserted}
 use Rattle.purge_records.proofs.Texts as text
-
-module _ (sql : List ℕ) (before after : Schema) (table : Table) (is : command_of (understood before sql) ≡ CreateTable)
-    (whole : statement_of sql (understood before sql) ≡ sql) (plain : IsPlain (understood before sql))
-    (defined : table_defined_by sql ≡ Ok table) (makes : created before table ≡ after) (uncounted : lacks_sequence after ≡ false) where
-  creates : (old new : State) (count : ℕ) → old.now.schema ≡ before → Executes sql [] old new (Ok count)
-      → (new.now.schema ≡ after) × (new.now.trees (next_tree before) ≡ []) × KeepsRows before.tables old.now.trees new.now.trees
-  creates old new count has h =
-      let w = subst (λ t. Writes old new None CreateTable t [] count) whole (runs_as sql [] old new before has CreateTable is plain count h) in
-      let all = went w.changed in
-      let first = went all.1 in
-      let made = first.1 in
-      let both : Ok made.table ≡ Ok table = sym made.defined ∙ defined in
-      let same : made.table ≡ table = cc in
-      let schema : first.0.schema ≡ after = made.is ∙ ap (λ s. created s made.table) has ∙ ap (created before) same ∙ makes in
-      let none : lacks_sequence first.0.schema ≡ false = ap lacks_sequence schema ∙ uncounted in
-      let now : new.now ≡ first.0 = ap (λ (p : Tally × Database). p.1) (same_value all.2) ∙ same_value (rw none at first.2) in
-      let kept : KeepsRows before.tables old.now.trees first.0.trees = subst (λ s. KeepsRows s.tables old.now.trees first.0.trees) has made.others in (
-        ap (λ (d : Database). d.schema) now ∙ schema,
-        ap (λ (d : Database). d.trees (next_tree before)) now ∙ subst (λ s. first.0.trees (next_tree s) ≡ []) has made.empty,
-        subst (λ (d : Database). KeepsRows before.tables old.now.trees d.trees) (sym now) kept,
-      )
 
 last_step : (old new : State) (count : ℕ) → IsFormed old.now → Executes text.create_last [] old new (Ok count) → HasLast new.now
 last_step old new count formed h =
@@ -115,9 +89,6 @@ start_step old new count from h =
     start_row : (db : Trees) (given : List Row) → db 1 ≡ [] → given ≡ (Int (pos 1) ∷ Null ∷ Int (pos 0) ∷ []) ∷ []
         → edited db (edit_of db last_table [] Chosen 0 given) ≡ (Int (pos 1) ∷ cast Integer Null ∷ Int (pos 0) ∷ []) ∷ []
     start_row db given none is = rw (none, is, cast_int (pos 1), cast_int (pos 0)) refl
-
-abbrev Ran : List ℕ → Row → State → State → Result ℕ Error → Type 0
-Ran sql params old new r = HasCleanDisk new → IsTrue old.in_transaction → ExecutesInside 0 sql params old new r
 
 pub makes_last : (old new : State) (r : Result ℕ Error) → Ran text.create_last [] old new r → OnOk r (HasCleanDisk new → Makes IsFormed HasLast old new)
 makes_last old new (Err e) h = tt

@@ -1,6 +1,6 @@
 -- What an INSERT, UPDATE or DELETE leaves: one edit of one table, since no foreign key acts and no
 -- table counts its rowids (AUTOINCREMENT).
-use Rattle.std.proofs.Common.{◌≡◌, ℕ, false, List, [], None, Option, Ok, IsTrue, sym, ap, subst, ◌∙◌}
+use Rattle.std.proofs.Common.{◌≡◌, ℕ, false, List, [], None, Option, Ok, sym, ap, subst, ◌∙◌}
 use Rattle.sqlite_value.specs.Order.{Row}
 use Rattle.sqlite_trees.specs.Tree.{Trees}
 use Rattle.sqlite_schema.specs.declared.schema.Schema.{Schema}
@@ -18,9 +18,8 @@ use Rattle.sqlite.specs.declared.run.Mode.{Mode}
 use Rattle.sqlite.specs.Effect.{Database, Answers, IsSource}
 use Rattle.sqlite.specs.Does.{Tally, OnRows, WritesRows}
 use Rattle.sqlite.specs.Rows.{Written, Task, Inserts, Deletes, Updates, stamped}
-use Rattle.sqlite.specs.State.{State, Executes, ExecutesInside}
 use Rattle.sqlite.proofs.Callers.{one_step}
-use Rattle.purge_numbers.proofs.PutLemmas.{went, same_value}
+use Rattle.purge_tables.proofs.StatementLemmas.{went, same_value}
 
 -- a database's schema and its trees
 abbrev pub base : Schema → Trees → Database
@@ -84,7 +83,3 @@ updated task q db w none h =
       ans.1,
       subst (Applies task.schema task.keys db edit) (sym trees) (one_step task.schema task.keys db put.0 edit (none (taken_by db edit) edit.news) put.1),
     )
-
-pub inside : (old new : State) (text : List ℕ) (params : Row) (count : ℕ) → ExecutesInside 0 text params old new (Ok count) →
-    Executes text params old new (Ok count) × IsTrue new.in_transaction
-inside old new text params count h = (h.0, h.1.mode)

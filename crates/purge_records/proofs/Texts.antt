@@ -15,7 +15,8 @@ use Rattle.sqlite.specs.Change.{created}
 use Rattle.sqlite.specs.Listing.{understood, reads_listing}
 use Rattle.sqlite_tied.specs.Compute.{everything}
 use Rattle.sqlite.proofs.Callers.{IsPlain, command_of, statement_of}
-use Rattle.purge_numbers.specs.Tables.{form_schema}
+use Rattle.purge_tables.specs.Tables.{form_schema}
+use Rattle.purge_tables.proofs.Texts.{AsksVersion}
 use Rattle.purge_records.specs.Tables.{last_table, pending_table, acks_table, last_schema, pending_schema, master_schema}
 
 abbrev pub create_last : List ℕ
@@ -229,29 +230,9 @@ pub acks_plain : IsPlain (understood master_schema acks_text)
 unfolding understood everything
 acks_plain = (refl, refl)
 
-abbrev pub version_text : List ℕ
-version_text = codes "SELECT version FROM form"
-
-abbrev pub version_query : Query
-version_query = record {
-  from = inner 0 end;
-  filter = [];
-  group = None;
-  project = col 1 0 ∷ [];
-  distinct = false;
-  collations = [];
-  order = [];
-  limit = lit (Int (negsuc 0));
-  offset = lit (Int (pos 0));
-}
-
-pub version_is : (command_of (understood master_schema version_text) ≡ Select (record { lets = []; body = version_query }) (codes "version" ∷ [])) × (reads_listing master_schema version_text ≡ false)
+pub version_is : AsksVersion master_schema
 unfolding understood everything
-version_is = (refl, refl)
-
-pub version_plain : IsPlain (understood master_schema version_text)
-unfolding understood everything
-version_plain = (refl, refl)
+version_is = record { command = refl; listing = refl; plain = (refl, refl) }
 
 abbrev pub name_text : List ℕ
 name_text = codes "INSERT INTO form (version) VALUES (1)"

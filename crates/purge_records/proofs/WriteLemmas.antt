@@ -1,19 +1,15 @@
 -- What the statements of `add`, `mark` and `finish` do to a master's file: each edits one table and
 -- leaves the others (`StepLemmas`), and the rows after it mean the changed purges (`RowLemmas`).
-use Rattle.std.proofs.Common.{◌≡◌, ℕ, ℤ, pos, ◌<◌, ◌≤◌, ◌==◌, ◌^◌, Bool, true, false, not, ◌&&◌, cond, List, [], ◌∷◌, map, filter, length, Option, None, Ok, Err, Result, OnOk, IsTrue, refl, sym, ap, subst, ◌∙◌, arith}
+use Rattle.std.proofs.Common.{◌≡◌, ℕ, ℤ, pos, ◌<◌, ◌≤◌, ◌==◌, ◌^◌, Bool, true, false, not, ◌&&◌, List, [], ◌∷◌, map, filter, length, Option, None, Ok, Err, Result, OnOk, IsTrue, refl, sym, ap, subst, ◌∙◌, arith}
 use Rattle.std.specs.List.{AllByRecursion}
 use Rattle.std.specs.List.Sorted.{IsPermutation}
-use Rattle.sqlite.specs.declared.types.Value.{Value}
 use Rattle.sqlite.specs.declared.types.Value.TheVariants.{Null, Int, Text as Words}
 use Rattle.sqlite_value.specs.Order.{Row, column}
 use Rattle.sqlite_trees.specs.Tree.{Trees, rowid, put_row}
-use Rattle.sqlite_sql.specs.Ops.{unary}
-use Rattle.sqlite_rules.specs.Cast.{cast}
 use Rattle.sqlite_rules.specs.Edit.{edit_of, edited, left_by, is_taken, are_fresh, next_rowid, without_all}
 use Rattle.sqlite_rules.specs.Calls.{ids_of}
 use Rattle.sqlite_rules.specs.declared.error.Rowids.TheVariants.{Chosen, Given}
 use Rattle.sqlite_rules.proofs.ListLemmas.{all_from, all_has}
-use Rattle.sqlite.specs.Kind.TheVariants.{Integer}
 use Rattle.sqlite.specs.Source.TheVariants.{Values}
 use Rattle.sqlite.specs.Term.{lit, col, holds}
 use Rattle.sqlite.specs.Query.{IsAnswer, output}
@@ -27,26 +23,19 @@ use Rattle.sqlite.specs.declared.error.Error.{Error}
 use Rattle.sqlite.proofs.Callers.{runs_as, statement_of, one_permutation}
 use Rattle.std.specs.List.{list_all}
 use Rattle.url_key.specs.Key.{IsKey}
-use Rattle.purge_numbers.specs.Making.{Makes}
-use Rattle.purge_numbers.specs.Rows.{HasVersionOne}
-use Rattle.purge_numbers.proofs.PutLemmas.{cast_int}
+use Rattle.purge_tables.specs.Making.{Makes}
+use Rattle.purge_tables.specs.Rows.{HasVersionOne}
+use Rattle.purge_tables.proofs.StatementLemmas.{cast_null, cast_int, inside}
+use Rattle.purge_tables.proofs.QueryLemmas.{answered, all_matched}
 use Rattle.purge_rules.specs.Purges.{PurgeList, with_purge, with_mark, without_purge}
 use Rattle.purge_rules.specs.Store.{Misses}
 use Rattle.purge_records.specs.Tables.{last_table, pending_table, acks_table, master_schema, last_in, number_of, ack_number, purges_in, shown_last, IsLast, IsPending, IsAck, AreRows, AreTables}
 use Rattle.purge_records.specs.Store.{IsMaster}
 use Rattle.purge_records.specs.Writing.{Holds, HasGiven, HasNoAcks}
-use Rattle.purge_records.proofs.StepLemmas.{base, task_on, concluded, inserted, deleted, updated, inside}
+use Rattle.purge_records.proofs.StepLemmas.{base, task_on, concluded, inserted, deleted, updated}
 use Rattle.purge_records.proofs.RowLemmas.{given_rows, given_below, purge_row, added_rows, added_is, ack_row, marked_rows, marked_is, missed, other_acks, cleared_rows, cleared_none, cleared_is, other_rows, dropped_rows, dropped_is}
-use Rattle.purge_records.proofs.AnswerLemmas.{answered, all_matched, some_matched, filter_same, finds_number, own_rowid, only_id, deleted_is}
+use Rattle.purge_records.proofs.AnswerLemmas.{some_matched, filter_same, finds_number, own_rowid, only_id, deleted_is}
 use Rattle.purge_records.proofs.Texts as text
-
-either : (b : Bool) (x : Value) → cond b x x ≡ x
-either true x = refl
-either false x = refl
-
-cast_null : cast Integer Null ≡ Null
-unfolding unary
-cast_null = either _ Null
 
 -- a tree that keeps its rows
 abbrev at : ℕ → Trees → List Row

@@ -1,10 +1,10 @@
 -- How a blank file gets its tables, which files open, and what an open finds. `IsBlank`, `IsFormed`
--- and `Makes`, for the table `form`, are those of `purge_numbers`.
+-- and `Makes`, for the table `form`, are those of `purge_tables`.
 use Rattle.std.specs.Prelude.{◌≡◌, ◌≤◌, ◌⊎◌, [], false, length}
 use Rattle.sqlite.specs.Effect.{Database}
 use Rattle.sqlite.specs.State.{State, HasCleanDisk}
-use Rattle.purge_numbers.specs.Making.{IsBlank}
-use Rattle.purge_numbers.specs.Rows.{HasVersionOne}
+use Rattle.purge_tables.specs.Making.{IsBlank}
+use Rattle.purge_tables.specs.Rows.{HasVersionOne}
 use Rattle.purge_rules.specs.Purges.{PurgeList, no_purges}
 use Rattle.purge_records.specs.Tables.{last_schema, pending_schema, master_schema, IsLast}
 use Rattle.purge_records.specs.Store.{IsMaster, MayFind, committed_purges}

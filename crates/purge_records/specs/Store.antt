@@ -8,7 +8,7 @@ use Rattle.sqlite.specs.State.{State, HasCleanDisk}
 use Rattle.sqlite.specs.Held.{Held, held_code, state}
 use Rattle.purge_rules.specs.declared.purges.Purge.{Purge}
 use Rattle.purge_rules.specs.Purges.{PurgeList}
-use Rattle.purge_numbers.specs.Rows.{HasVersionOne}
+use Rattle.purge_tables.specs.Rows.{HasVersionOne}
 use Rattle.purge_records.specs.Tables.{master_schema, purges_in, AreTables}
 
 -- it has exactly a master's tables, the version 1, and valid rows

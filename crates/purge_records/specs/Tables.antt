@@ -1,6 +1,6 @@
 -- The tables of a master's file, as SQLite's schema has them; the purges that their rows mean;
 -- which rows may stand there. The text of the tables stands in `src/making.rt`; `form` is that of
--- `purge_numbers`.
+-- `purge_tables`.
 use Rattle.std.specs.Prelude.{◌≡◌, ◌≤◌, ℕ, ℤ, pos, Bool, true, false, ◌&&◌, ◌==◌, nat_lt, List, [], ◌∷◌, map, filter, Some, None, codes, if◌then◌else◌}
 use Rattle.std.specs.List.{AllByRecursion, list_any}
 use Rattle.std.specs.Ordering.{is_eq}
@@ -21,7 +21,7 @@ use Rattle.url_key.specs.Key.{IsKey}
 use Rattle.purge_rules.specs.declared.purges.Purge.{Purge}
 use Rattle.purge_rules.specs.Members.{possible_ids}
 use Rattle.purge_rules.specs.Purges.{PurgeList}
-use Rattle.purge_numbers.specs.Tables.{form_table}
+use Rattle.purge_tables.specs.Tables.{form_table}
 
 -- the CHECK of `last`: the id is 1
 abbrev pub id_check : Term
@@ -96,11 +96,8 @@ pending_schema = record { tables = form_table ∷ last_table ∷ pending_table �
 
 -- a master's file: all four tables and the index
 abbrev pub master_schema : Schema
-master_schema = record {
-  tables = form_table ∷ last_table ∷ pending_table ∷ acks_table ∷ [];
-  indexes = ack_index ∷ [];
-  views = [];
-}
+master_schema =
+    record { tables = form_table ∷ last_table ∷ pending_table ∷ acks_table ∷ []; indexes = ack_index ∷ []; views = [] }
 
 -- ---- what the rows say
 

@@ -2,7 +2,7 @@
 ghost use Rattle.std.specs.Prelude.{◌≡◌, ◌≢◌, false, None, IsTrue, IfOk, IfErr};
 ghost use Rattle.sqlite.specs.State.{HasCleanDisk};
 ghost use Rattle.sqlite.specs.Held.{state};
-ghost use Rattle.purge_numbers.specs.Making.{IsBlank};
+ghost use Rattle.purge_tables.specs.Making.{IsBlank};
 ghost use Rattle.purge_records.specs.Making.{IsMasterFile, LeavesNoOther, OpensWith};
 ghost use Rattle.purge_records.specs.Store.{MayFind, committed_purges};
 

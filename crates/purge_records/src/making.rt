@@ -1,33 +1,18 @@
 //! Makes the tables of a master's file, in one transaction. Each function states what its statement
 //! leads from and to, by `specs/Making`.
-ghost use Rattle.std.specs.Prelude.{◌≡◌, ◌≢◌, ◌⊎◌, false, IsTrue, OnOk, Err};
+ghost use Rattle.std.specs.Prelude.{◌≡◌, ◌≢◌, ◌⊎◌, false, OnOk, Err};
 ghost use Rattle.sqlite.specs.State.{HasCleanDisk, Survives};
 ghost use Rattle.sqlite.specs.Held.{state};
-ghost use Rattle.purge_numbers.specs.Tables.{empty_schema};
-ghost use Rattle.purge_numbers.specs.Making.{IsBlank, IsFormed, Makes};
+ghost use Rattle.purge_tables.specs.Tables.{empty_schema};
+ghost use Rattle.purge_tables.specs.Making.{IsBlank, IsFormed, Makes};
 ghost use Rattle.purge_rules.specs.Purges.{no_purges};
 ghost use Rattle.purge_records.specs.Tables.{purges_in};
 ghost use Rattle.purge_records.specs.Making.{HasLast, HasPending, IsUnversioned, IsUnnumbered, IsUnused, IsMade, LeavesNoOther};
 
 use crate::fault::fault_of;
 use purge_rules::PurgeFault;
+use purge_tables::{create_form, is_blank};
 use sqlite::{Alter, Connection, Error, Transaction};
-use sqlite_schema::schema::Schema;
-
-/// Makes the table `form`, as in a node's file.
-fn create_form<S: Alter>(tx: &mut Transaction<'_, S>) -> Result<usize, Error>
-    ensures same_reference { tx.new.conn.ghost_name ≡ tx.old.conn.ghost_name }
-    ensures made { OnOk result (HasCleanDisk (state S.Store tx.new.conn.now) →
-        Makes IsBlank IsFormed (state S.Store tx.old.conn.now)
-        (state S.Store tx.new.conn.now)) }
-    ensures survives { Survives (state S.Store tx.old.conn.now) (state S.Store tx.new.conn.now)
-        (λ _. ⊥) }
-{
-    tx.execute(
-        "CREATE TABLE form (version INTEGER PRIMARY KEY) STRICT",
-        &[],
-    )
-}
 
 /// Makes the table `last`.
 fn create_last<S: Alter>(tx: &mut Transaction<'_, S>) -> Result<usize, Error>
@@ -155,14 +140,6 @@ fn make_tables<S: Alter>(conn: &mut Connection<S>) -> Result<(), Error>
     let mut tx = conn.transaction();
     fill(&mut tx)?;
     tx.commit()
-}
-
-/// Whether there is no table, no index and no view.
-fn is_blank(schema: &Schema) -> bool
-    ensures yes { IsTrue result → schema.now ≡ empty_schema }
-    ensures no { result ≡ false → schema.now ≢ empty_schema }
-{
-    schema.tables.is_empty() && schema.indexes.is_empty() && schema.views.is_empty()
 }
 
 /// Makes the tables if the file is blank; else does nothing.

@@ -1,11 +1,11 @@
 //! Opens a master's file: has its tables made if it is blank, checks schema and version, reads the
 //! rows.
-ghost use Rattle.std.specs.Prelude.{◌≡◌, ◌≢◌, ◌≤◌, ◌∷◌, [], ℕ, false, pos, map, IsPermutation, IsTrue, IfOk, IfSome, OnOk, None, Err};
+ghost use Rattle.std.specs.Prelude.{◌≡◌, ◌≢◌, ◌≤◌, ◌∷◌, [], ℕ, false, pos, map, IsPermutation, IfOk, IfSome, OnOk, None, Err};
 ghost use Rattle.sqlite.specs.State.{HasCleanDisk, Survives, IsUnchanged};
 ghost use Rattle.sqlite.specs.Held.{state};
 ghost use Rattle.sqlite.specs.declared.types.Value.TheVariants.{Int};
-ghost use Rattle.purge_numbers.specs.Making.{IsBlank};
-ghost use Rattle.purge_numbers.specs.Rows.{HasVersionOne, shown_version};
+ghost use Rattle.purge_tables.specs.Making.{IsBlank};
+ghost use Rattle.purge_tables.specs.Rows.{HasVersionOne, shown_version};
 ghost use Rattle.purge_rules.specs.Purges.{PurgeList};
 ghost use Rattle.purge_records.specs.Making.{IsMasterFile, LeavesNoOther, OpensWith};
 ghost use Rattle.purge_records.specs.Rows.{HasAdded, HasUnmarked, HasMarked, IsRead, RisesFrom, shown_pending, shown_ack};
@@ -17,6 +17,7 @@ use crate::making::make_where_blank;
 use crate::rows::{mark_all, number_in, purges_of};
 use crate::tables::is_master_schema;
 use purge_rules::{MOST_PENDING, PurgeFault, Purges};
+use purge_tables::is_version_one;
 use sqlite::{Alter, Connection, Error, Row};
 use sqlite_value::value::ValueRef;
 use std::alloc::Global;
@@ -74,23 +75,6 @@ fn ack_rows<S: Alter>(conn: &mut Connection<S>) -> Result<Vec<Row>, Error>
     ensures survives { Survives (state S.Store conn.old) (state S.Store conn.new) (λ _. ⊥) }
 {
     conn.query_all("SELECT rowid, number, member FROM acks ORDER BY rowid", &[])
-}
-
-/// Whether these rows are one row with the version 1.
-fn is_version_one(rows: &[Row]) -> bool
-    ensures yes { IsTrue result → rows.now ≡ (Int (pos 1) ∷ []) ∷ [] }
-    ensures no { result ≡ false → rows.now ≢ (Int (pos 1) ∷ []) ∷ [] }
-{
-    let [row] = rows else {
-        return false;
-    };
-    if row.column_count() != 1 {
-        return false;
-    }
-    match row.get_ref(0) {
-        Ok(ValueRef::Int(version)) => version == 1,
-        _ => false,
-    }
 }
 
 /// The number, of 32 bits, if these rows are one row of id 1.

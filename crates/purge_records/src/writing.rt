@@ -6,7 +6,7 @@ ghost use Rattle.std.specs.Prelude.{◌≡◌, ◌≢◌, ◌≤◌, ◌<◌, On
 ghost use Rattle.sqlite.specs.State.{HasCleanDisk, Survives};
 ghost use Rattle.sqlite.specs.Held.{state};
 ghost use Rattle.url_key.specs.Key.{IsKey};
-ghost use Rattle.purge_numbers.specs.Making.{Makes};
+ghost use Rattle.purge_tables.specs.Making.{Makes};
 ghost use Rattle.purge_rules.specs.Purges.{PurgeList, with_purge, with_mark, without_purge};
 ghost use Rattle.purge_rules.specs.Store.{IsEither, Misses};
 ghost use Rattle.purge_records.specs.Tables.{purges_in};

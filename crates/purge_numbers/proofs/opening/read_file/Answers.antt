@@ -4,7 +4,7 @@ use Rattle.sqlite.specs.State.{State, HasCleanDisk, IsUnchanged}
 use Rattle.sqlite.specs.Effect.{Database}
 use Rattle.sqlite.specs.Held.{state}
 use Rattle.purge_numbers.specs.Making.{IsNodeFile}
-use Rattle.purge_numbers.specs.Rows.{HasVersionOne}
+use Rattle.purge_tables.specs.Rows.{HasVersionOne}
 use Rattle.purge_numbers.proofs.OpenLemmas.{same_file}
 use Rattle.purge_numbers.proofs.opening.read_file.Goals as goal
 

@@ -1,14 +1,9 @@
--- The index is compared field by field. Its name ends in the decimal text of 1, which is one digit.
-use Rattle.std.proofs.Common.{◌≡◌, [], ◌∷◌, ◌++◌, refl, sym, ap, ◌∙◌, codes, arith}
-use Rattle.std.specs.Fmt.{decimal}
-use Rattle.std.proofs.lemmas.Fmt.{decimal_digit}
+-- The index is compared field by field. Its name ends in the decimal text of 1.
+use Rattle.std.proofs.Common.{◌≡◌, ◌++◌, refl, sym, ap, ◌∙◌, codes, arith}
 use Rattle.sqlite_schema.specs.declared.schema.Index.{Index}
 use Rattle.purge_numbers.specs.Tables.{url_index}
-use Rattle.purge_numbers.proofs.TableLemmas.{same_index}
+use Rattle.purge_tables.proofs.TableLemmas.{same_index, one_digit}
 use Rattle.purge_numbers.proofs.tables.is_url_index.Goals as goal
-
-one_digit : decimal 1 ≡ 49 ∷ []
-one_digit = decimal_digit 1 (omega arith)
 
 pub returns-clause-yes : goal.returns-clause-yes
 returns-clause-yes c unique =

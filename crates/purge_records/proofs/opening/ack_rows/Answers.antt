@@ -1,18 +1,20 @@
 use Rattle.std.proofs.Common.{arith}
 use Rattle.sqlite.specs.Held.{state}
-use Rattle.purge_records.proofs.LoadLemmas.{query_shows, query_keeps, query_survives, acks_shown}
+use Rattle.purge_tables.proofs.QueryLemmas.{query_shows, query_keeps, query_survives}
+use Rattle.purge_records.specs.Tables.{master_schema}
+use Rattle.purge_records.proofs.LoadLemmas.{acks_shown}
 use Rattle.purge_records.proofs.Texts.{acks_text, acks_plain}
 use Rattle.purge_records.proofs.opening.ack_rows.Goals as goal
 
 pub returns-clause-rows : goal.returns-clause-rows
-returns-clause-rows g c = query_shows acks_text acks_plain (state g.S.Store c.args.conn.now) (state g.S.Store c.query_all.new.self) c.requires
+returns-clause-rows g c = query_shows master_schema acks_text acks_plain (state g.S.Store c.args.conn.now) (state g.S.Store c.query_all.new.self) c.requires
     (λ clean. omega (arith, c.query_all.ensures.survives.clean)) _
     (acks_shown (state g.S.Store c.args.conn.now) (state g.S.Store c.query_all.new.self)) _ c.query_all.ensures.ok
 
 pub returns-clause-same : goal.returns-clause-same
-returns-clause-same g c = query_keeps acks_text acks_plain (state g.S.Store c.args.conn.now) (state g.S.Store c.query_all.new.self) c.requires
+returns-clause-same g c = query_keeps master_schema acks_text acks_plain (state g.S.Store c.args.conn.now) (state g.S.Store c.query_all.new.self) c.requires
     (λ clean. omega (arith, c.query_all.ensures.survives.clean)) _ c.query_all.ensures.ok
 
 pub returns-clause-survives : goal.returns-clause-survives
-returns-clause-survives g c = query_survives acks_text acks_plain (state g.S.Store c.args.conn.now) (state g.S.Store c.query_all.new.self) c.requires
-    (λ clean. omega (arith, c.query_all.ensures.survives.clean)) c.query_all.ensures.survives
+returns-clause-survives g c = query_survives master_schema acks_text acks_plain (state g.S.Store c.args.conn.now) (state g.S.Store c.query_all.new.self)
+    c.requires (λ clean. omega (arith, c.query_all.ensures.survives.clean)) c.query_all.ensures.survives

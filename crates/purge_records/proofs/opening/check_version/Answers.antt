@@ -1,6 +1,6 @@
 use Rattle.std.proofs.Common.{◌∙◌}
 use Rattle.sqlite.specs.Held.{state}
-use Rattle.purge_numbers.proofs.OpenLemmas.{no_version, one_version}
+use Rattle.purge_tables.proofs.VersionLemmas.{no_version, one_version}
 use Rattle.purge_records.proofs.opening.check_version.Goals as goal
 
 pub returns-in-Ok-clause-version : goal.returns-in-Ok-clause-version

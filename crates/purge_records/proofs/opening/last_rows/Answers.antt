@@ -1,18 +1,20 @@
 use Rattle.std.proofs.Common.{arith}
 use Rattle.sqlite.specs.Held.{state}
-use Rattle.purge_records.proofs.LoadLemmas.{query_shows, query_keeps, query_survives, last_shown}
+use Rattle.purge_tables.proofs.QueryLemmas.{query_shows, query_keeps, query_survives}
+use Rattle.purge_records.specs.Tables.{master_schema}
+use Rattle.purge_records.proofs.LoadLemmas.{last_shown}
 use Rattle.purge_records.proofs.Texts.{last_text, last_plain}
 use Rattle.purge_records.proofs.opening.last_rows.Goals as goal
 
 pub returns-clause-rows : goal.returns-clause-rows
-returns-clause-rows g c = query_shows last_text last_plain (state g.S.Store c.args.conn.now) (state g.S.Store c.query_all.new.self) c.requires
+returns-clause-rows g c = query_shows master_schema last_text last_plain (state g.S.Store c.args.conn.now) (state g.S.Store c.query_all.new.self) c.requires
     (λ clean. omega (arith, c.query_all.ensures.survives.clean)) _
     (last_shown (state g.S.Store c.args.conn.now) (state g.S.Store c.query_all.new.self)) _ c.query_all.ensures.ok
 
 pub returns-clause-same : goal.returns-clause-same
-returns-clause-same g c = query_keeps last_text last_plain (state g.S.Store c.args.conn.now) (state g.S.Store c.query_all.new.self) c.requires
+returns-clause-same g c = query_keeps master_schema last_text last_plain (state g.S.Store c.args.conn.now) (state g.S.Store c.query_all.new.self) c.requires
     (λ clean. omega (arith, c.query_all.ensures.survives.clean)) _ c.query_all.ensures.ok
 
 pub returns-clause-survives : goal.returns-clause-survives
-returns-clause-survives g c = query_survives last_text last_plain (state g.S.Store c.args.conn.now) (state g.S.Store c.query_all.new.self) c.requires
-    (λ clean. omega (arith, c.query_all.ensures.survives.clean)) c.query_all.ensures.survives
+returns-clause-survives g c = query_survives master_schema last_text last_plain (state g.S.Store c.args.conn.now) (state g.S.Store c.query_all.new.self)
+    c.requires (λ clean. omega (arith, c.query_all.ensures.survives.clean)) c.query_all.ensures.survives

@@ -1,5 +1,0 @@
-use Rattle.purge_numbers.proofs.MakeLemmas.{makes_form}
-use Rattle.purge_numbers.proofs.opening.create_form.Goals as goal
-
-pub returns-clause-made : goal.returns-clause-made
-returns-clause-made g c = makes_form _ _ _ c.execute.ensures.runs

@@ -1,0 +1,9 @@
+-- In this order. Schema: `TableLemmas` (an index field by field). Statements: `Texts` (what each
+-- text means), `StatementLemmas` (what a statement leaves), `MakeLemmas` (the table `form`).
+-- Opening: `QueryLemmas` (what a query shows and keeps), `VersionLemmas` (the version).
+pub mod TableLemmas
+pub mod Texts
+pub mod StatementLemmas
+pub mod MakeLemmas
+pub mod QueryLemmas
+pub mod VersionLemmas
