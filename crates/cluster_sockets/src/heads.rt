@@ -5,37 +5,13 @@ ghost use Rattle.cluster_sockets.specs.Polls.{HasCome};
 
 use cluster_jobs::Job;
 use cluster_streams::PATIENCE;
+use http_intake::{HeadEnd, LONGEST_HEAD};
 use mio::net::TcpStream;
 use mio::{Interest, Registry, Token};
 use std::alloc::{AllocError, Global};
 use std::io::{self, ErrorKind, Read};
 use std::net::Shutdown;
 use std::time::Instant;
-
-/// How many octets of a connection are read at most before a worker gets it. No request head is
-/// longer.
-const LONGEST_HEAD: usize = 16_384;
-
-/// How many octets of empty lines stand before the request line; they do not count (RFC 9112,
-/// section 2.2). The first `known` octets are known to be such.
-fn front_of(octets: &[u8], known: usize) -> usize {
-    let rest = octets.get(known..).unwrap_or_default();
-    let more = rest
-        .iter()
-        .position(|octet| !matches!(*octet, b'\r' | b'\n'))
-        .unwrap_or(rest.len());
-    known.saturating_add(more)
-}
-
-/// Whether the head that begins at `front` ends in these octets, of which the last `new` have just
-/// come: there is an empty line after its first line. A line ends with CRLF or LF alone (RFC 9112,
-/// section 2.2).
-fn ends_in(octets: &[u8], front: usize, new: usize) -> bool {
-    let old = octets.len().saturating_sub(new).saturating_sub(2);
-    let last = octets.get(front.max(old)..).unwrap_or_default();
-    last.windows(2).any(|pair| pair == b"\n\n".as_slice())
-        || last.windows(3).any(|triple| triple == b"\n\r\n".as_slice())
-}
 
 /// What became of a connection that was read.
 pub(crate) enum Reading {
@@ -53,7 +29,7 @@ pub(crate) struct Head {
     number: u64,
     stream: TcpStream,
     octets: Vec<u8>,
-    front: usize,
+    end: HeadEnd,
     since: Instant,
 }
 
@@ -64,7 +40,7 @@ impl Head {
             number,
             stream,
             octets: Vec::new(alloc),
-            front: 0,
+            end: HeadEnd::new(0, true),
             since,
         }
     }
@@ -72,9 +48,8 @@ impl Head {
     /// Adds octets that came. Returns whether the head has come whole, or is too long.
     fn take_in(&mut self, piece: &[u8]) -> Result<bool, AllocError> {
         self.octets.extend_from_slice(piece)?;
-        let octets = self.octets.as_slice();
-        self.front = front_of(octets, self.front);
-        Ok(octets.len() >= LONGEST_HEAD || ends_in(octets, self.front, piece.len()))
+        let has_come = self.end.has_come(self.octets.as_slice());
+        Ok(has_come || self.octets.len() >= LONGEST_HEAD)
     }
 
     /// Reads what is there, without waiting, until the head has come whole.
@@ -133,7 +108,7 @@ impl Head {
             number,
             stream,
             octets,
-            front: _,
+            end: _,
             since: _,
         } = self;
         Job::Stream {

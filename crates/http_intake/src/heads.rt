@@ -5,7 +5,7 @@ ghost use Rattle.httparse.specs.Outcome.{IfComplete, OnPartial};
 ghost use Rattle.httparse.specs.Spans.{IsRequestOf, IsRequestWithin, IsResponseOf, IsResponseWithin};
 ghost use Rattle.http_intake.specs.Heads.{most_fields, longest_head, IsLongRequest, IsLongResponse, IsOpenRequest, IsOpenResponse, IsHeadRefusal};
 
-use crate::head_watch::LONGEST_HEAD;
+use crate::head_end::LONGEST_HEAD;
 use http_messages::FetchFault;
 use httparse::spans::{HeaderSpan, RequestSpans, ResponseSpans, parse_request, parse_response};
 use httparse::{Error, Status};

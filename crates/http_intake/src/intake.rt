@@ -6,7 +6,8 @@ ghost use Rattle.httparse.specs.Spans.{IsRequestOf, IsRequestWithin, IsResponseO
 ghost use Rattle.http_intake.specs.Reading.{Takes, most_turns, IsReadFault};
 ghost use Rattle.http_intake.specs.Heads.{head_window, longest_head, longest_read, most_fields, IsLongRequest, IsLongResponse, IsOpenRequest, IsOpenResponse, IsHeadFault};
 
-use crate::head_watch::{HeadWatch, LONGEST_HEAD};
+use crate::head_end::LONGEST_HEAD;
+use crate::head_watch::HeadWatch;
 use crate::heads::{judge_request, judge_response};
 use crate::piece::read_piece;
 use http_messages::FetchFault;

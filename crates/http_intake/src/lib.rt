@@ -13,8 +13,8 @@
 //! message, and each call but the last gives at least one octet, so reading ends. The crate knows
 //! no clock: a call lasts as long as its reader blocks.
 //!
-//! [`HeadWatch`] says when the octets of a head are parsed again, so that a head which comes
-//! slowly is not parsed at each read.
+//! [`HeadEnd`] finds the empty line that ends a head which comes in pieces. [`HeadWatch`] says when
+//! the octets of such a head are parsed again, so that a slow head is not parsed at each read.
 //!
 //! Contracts see an `Intake` as the list of the octets read. Each call says what it took from the
 //! reader (`Takes` of `specs/Reading`), what it found, and for each fault what held of the octets.
@@ -26,19 +26,22 @@
 //! and what a slow head costs.
 //!
 //! Read first `specs/Reading` and `specs/Heads`, then `src/intake.rt` (`src/heads.rt`: the verdict
-//! of the parser; `src/piece.rt`: one call of the reader). Bodies: `specs/Bodies` and
-//! `src/bodies.rt` (with `src/fill.rt`), `specs/Chunks` and `src/chunks.rt`, `specs/Trailer` and
-//! `src/trailer.rt`. `http_reading` says what fields mean and joins both.
+//! of the parser; `src/head_end.rt` and `src/head_watch.rt`: when it is asked; `src/piece.rt`: one
+//! call of the reader). Bodies: `specs/Bodies` and `src/bodies.rt` (with `src/fill.rt`),
+//! `specs/Chunks` and `src/chunks.rt`, `specs/Trailer` and `src/trailer.rt`. `http_reading` says
+//! what fields mean and joins both.
 #![tactic(auto)]
 
 mod bodies;
 mod chunks;
 mod fill;
+mod head_end;
 mod head_watch;
 mod heads;
 mod intake;
 mod piece;
 mod trailer;
 
+pub use head_end::{HeadEnd, LONGEST_HEAD};
 pub use head_watch::HeadWatch;
 pub use intake::Intake;

@@ -7,7 +7,8 @@ ghost use Rattle.http_messages.specs.Answer.{longest_body};
 ghost use Rattle.http_intake.specs.Trailer.{HoldsTrailer, IsOpenTrailer, RefusesTrailer, StopsInTrailer, HoldsChunkedBody, StopsInChunkedBody};
 
 use crate::Intake;
-use crate::head_watch::{HeadWatch, LONGEST_HEAD};
+use crate::head_end::LONGEST_HEAD;
+use crate::head_watch::HeadWatch;
 use http_messages::{FetchFault, MOST_FIELDS};
 use httparse::spans::{EMPTY_HEADER_SPAN, parse_headers};
 use httparse::{Error, Status};

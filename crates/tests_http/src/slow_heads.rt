@@ -1,5 +1,5 @@
 //! When the octets of a head that comes in pieces are parsed.
-use http_intake::HeadWatch;
+use http_intake::{HeadEnd, HeadWatch};
 use std::alloc::AllocError;
 use std::test::Fail;
 
@@ -45,6 +45,44 @@ fn a_slow_head_is_parsed_seldom(rt: HostRuntime) -> Result<(), Fail> {
         let parsed = octets_parsed(text.as_slice());
         let most = text.len().saturating_mul(3);
         assert!(rt; parsed <= most, "{parsed} of {}", text.len());
+    }
+    Ok(())
+}
+
+/// How many octets of a head come until its end is found, where they come one at a time.
+fn found_at(text: &[u8], may_begin_blank: bool) -> Option<usize> {
+    let mut end = HeadEnd::new(0, may_begin_blank);
+    (1..=text.len()).find(|len| end.has_come(&text[..*len]))
+}
+
+/// Whether the end of a head is found where all its octets come at once.
+fn is_found(text: &[u8], may_begin_blank: bool) -> bool {
+    HeadEnd::new(0, may_begin_blank).has_come(text)
+}
+
+#[test]
+fn a_head_ends_with_an_empty_line(rt: HostRuntime) -> Result<(), Fail> {
+    let rows: [(&str, bool, Option<usize>); 13] = [
+        ("GET / HTTP/1.1\r\n\r\n", true, Some(18)),
+        ("GET / HTTP/1.1\n\n", true, Some(16)),
+        ("GET / HTTP/1.1\n\r\n", true, Some(17)),
+        ("GET / HTTP/1.1\r\na: b\r\n\r\nx", true, Some(24)),
+        ("GET / HTTP/1.1\r\na: b\r\n", true, None),
+        ("GET / HTTP/1.1\r\n\r", true, None),
+        ("GET / HTTP/1.1\r\r\n", true, None),
+        ("\r\n\r\nGET / HTTP/1.1\r\n", true, None),
+        ("\n\n\nGET / HTTP/1.1\n\n", true, Some(19)),
+        ("\r\n\r\n", true, None),
+        ("\r\n", false, Some(2)),
+        ("\n", false, Some(1)),
+        ("a: b\r\n\r\n", false, Some(8)),
+    ];
+    for (text, may_begin_blank, end) in rows {
+        let octets = text.as_bytes();
+        let found = found_at(octets, may_begin_blank);
+        assert!(rt; found == end, "{text:?} ends at {found:?}, not at {end:?}");
+        let is_whole = is_found(octets, may_begin_blank);
+        assert!(rt; is_whole == end.is_some(), "{text:?} at once: {is_whole}");
     }
     Ok(())
 }
