@@ -73,13 +73,13 @@ fn cluster_command<'a>(alloc: Global) -> Result<Command<'a>, AllocError> {
         .value_name("N")
         .value_parser(value_parser!(u32).range(0..=65536))
         .default_value("16")
-        .help("How many shifts of 4096 steps each member keeps in memory for check; 0 keeps none");
+        .help("How many records of 4096 steps each member keeps in memory for check; 0 keeps none");
     Command::new(alloc, "cluster")
         .about(
             "Runs the roster's members and its master in this process, and answers each line of standard input",
         )
         .after_help(
-            "Lines:\n  purge URL    issue a purge: purge P, or the fault's name\n  status P     how far purge P is: pending C (members are missing), done P, or unknown\n  get N URL    ask member N by HTTP: the status and the body in hex (- where empty), or the fault's name\n  check        whether all that was done so far is a run in which purges are safe: yes, no PLACE CAUSE,\n               forgotten, where there was more of it than --history keeps, or SeatMissing\n               or Mismatch, where the records of a member are not given\n  quit         stop, as the end of the input does\nAny other line is answered by: bad line",
+            "Lines:\n  purge URL    issue a purge: purge P, or the fault's name\n  status P     how far purge P is: pending C (members are missing), done P, or unknown\n  get N URL    ask member N by HTTP: the status and the body in hex (- where empty), or the fault's name\n  check        whether all that was done so far is a run in which purges are safe: yes, no PLACE CAUSE,\n               forgotten, where there was more of it than --history keeps, or Ended, where a\n               member has ended\n  quit         stop, as the end of the input does\nAny other line is answered by: bad line",
         )
         .arg(file)?
         .arg(data)?

@@ -23,7 +23,7 @@ const FEWEST_WORKERS: u8 = 2;
 /// How many workers a member has at most.
 const MOST_WORKERS: u8 = 8;
 
-/// How many shifts of each member are kept for `check` where the command line does not say.
+/// How many records of each member are kept for `check` where the command line does not say.
 const SHIFTS: u32 = 16;
 
 /// A script between standard input and standard output.
@@ -50,7 +50,7 @@ pub enum Task {
         dir: String,
         /// How many workers each member has: 2 to 8, and 2 where the words do not say.
         workers: u8,
-        /// How many shifts of each member are kept for `check`: 0 to 65,536, and 16 where the words
+        /// How many records of each member are kept for `check`: 0 to 65,536, and 16 where the words
         /// do not say.
         history: u32,
     },

@@ -26,5 +26,4 @@ abbrev pub IsChecked : Tables → Option Gathered → Checked → Type 0
 IsChecked roster gathered (checked.Judged verdict) = MatchOption gathered ⊥
     (λ g. IsVerdictOn roster g.records g.entries verdict)
 IsChecked roster gathered checked.Forgotten = gathered ≡ None
-IsChecked roster gathered checked.SeatMissing = Unit {0}
-IsChecked roster gathered checked.Mismatch = Unit {0}
+IsChecked roster gathered checked.Ended = Unit {0}

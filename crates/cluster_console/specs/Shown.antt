@@ -61,5 +61,4 @@ verdict_shown (No place cause) = codes "no " ++ decimal place ++ codes " " ++ ca
 abbrev pub checked_shown : Checked → List ℕ
 checked_shown (checked.Judged verdict) = verdict_shown verdict
 checked_shown checked.Forgotten = codes "forgotten"
-checked_shown checked.SeatMissing = codes "SeatMissing"
-checked_shown checked.Mismatch = codes "Mismatch"
+checked_shown checked.Ended = codes "Ended"

@@ -14,11 +14,8 @@ pub enum Checked {
     Judged(Verdict),
     /// Not all of it is kept, so there is no verdict.
     Forgotten,
-    /// The records of a member are not given: a seat did not come back.
-    SeatMissing,
-    /// The records of a member are not given: what a thread was told is not what the member's book
-    /// has.
-    Mismatch,
+    /// The records of a member are not given: its thread has ended.
+    Ended,
 }
 
 /// Judges the run of a hierarchy.

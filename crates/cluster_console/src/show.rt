@@ -135,7 +135,6 @@ pub(crate) fn push_checked(checked: Checked, text: &mut Vec<u8>) -> Result<(), A
     match checked {
         Checked::Judged(verdict) => push_verdict(verdict, text),
         Checked::Forgotten => text.extend_from_slice(b"forgotten"),
-        Checked::SeatMissing => text.extend_from_slice(b"SeatMissing"),
-        Checked::Mismatch => text.extend_from_slice(b"Mismatch"),
+        Checked::Ended => text.extend_from_slice(b"Ended"),
     }
 }

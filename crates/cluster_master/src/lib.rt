@@ -43,4 +43,4 @@ pub use fault::MasterStartFault;
 pub use locked_book::KeptEntries;
 pub use master_loop::MasterLoop;
 pub use sending::MasterSender;
-pub use shared::SharedMaster;
+pub use shared::{HeldMaster, SharedMaster};

@@ -9,7 +9,7 @@ use node_seats::Places;
 use purge_master::{MasterBook, MasterEntry};
 use purge_rules::{MasterAnswer, MasterCall, MasterFault, PurgeStore};
 use std::alloc::{AllocError, Global};
-use std::sync::{Mutex, Wait};
+use std::sync::{Mutex, MutexGuard, Wait};
 
 /// A master's book under its lock.
 #[derive(Drop)]
@@ -68,16 +68,11 @@ impl<S: PurgeStore> SharedMaster<S> {
         self.locked_book.lock(rt).message(number)
     }
 
-    /// Takes the entries since they were last taken, in their order; where no page is kept,
-    /// those since the page was filed. Where there is no memory to put the open page behind the
-    /// pages that are kept, its entries come with the next take.
-    pub fn take_entries<R: Wait>(&self, rt: &R) -> Vec<MasterEntry> {
-        self.locked_book.lock(rt).take_entries()
-    }
-
-    /// Whether entries were dropped, or none is kept: then what is taken is not all that there was.
-    pub fn has_forgotten<R: Wait>(&self, rt: &R) -> bool {
-        self.locked_book.lock(rt).has_forgotten()
+    /// Holds the master: no call is made until what is returned is dropped.
+    pub fn hold<R: Wait>(&self, rt: &R) -> HeldMaster<'_, S> {
+        HeldMaster {
+            locked_book: self.locked_book.lock(rt),
+        }
     }
 
     /// Gives the book back, with the entries of the pages that are kept, which stand before its
@@ -85,5 +80,25 @@ impl<S: PurgeStore> SharedMaster<S> {
     pub fn close(self) -> (MasterBook<S>, Vec<MasterEntry>) {
         let locked_book = self.locked_book.into_inner();
         (locked_book.book, locked_book.kept)
+    }
+}
+
+/// A master that is held.
+#[derive(Drop)]
+pub struct HeldMaster<'m, S: PurgeStore> {
+    locked_book: MutexGuard<'m, LockedBook<S>>,
+}
+
+impl<S: PurgeStore> HeldMaster<'_, S> {
+    /// Takes the entries since they were last taken, in their order; where no page is kept,
+    /// those since the page was filed. Where there is no memory to put the open page behind the
+    /// pages that are kept, its entries come with the next take.
+    pub fn take_entries(&mut self) -> Vec<MasterEntry> {
+        self.locked_book.take_entries()
+    }
+
+    /// Whether entries were dropped, or none is kept: then what is taken is not all that there was.
+    pub fn has_forgotten(&self) -> bool {
+        self.locked_book.has_forgotten()
     }
 }

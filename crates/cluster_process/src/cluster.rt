@@ -12,8 +12,7 @@ use crate::stores::{NodeFloors, Stores};
 use cluster_console::answer_lines;
 use cluster_streams::StreamPoll;
 use floor_rules::FloorStore;
-use node_seats::Places;
-use node_shifts::History;
+use node_seats::{Places, Retention};
 use node_workers::{Ground, LoopFault, NoGate, StartFault, Workers};
 use purge_rules::PurgeStore;
 use roster::Roster;
@@ -63,8 +62,8 @@ struct Common<'a> {
 /// a member are not given; `quit` prints nothing. Any other line, also one that names no member,
 /// prints `bad line`.
 ///
-/// For `check`, what the members and the master did is kept in memory: `history` shifts of each
-/// member, and as many pages of the master, of 4,096 steps or calls each. A shift is shorter where
+/// For `check`, what the members and the master did is kept in memory: `history` records of each
+/// member, and as many pages of the master, of 4,096 steps or calls each. A record is shorter where
 /// its events have brought 4 MiB along. All that is kept may not be more than so many steps and
 /// calls; four floors, copies or pending requests in the opening or closing state of a record count
 /// as one, and so do 1,024 octets that its events brought along. Where there would be more, all of
@@ -189,11 +188,11 @@ fn start_nodes<
 }
 
 /// What becomes of the records of a member of which this many are kept.
-fn history_of(most: u32) -> History {
+fn retention_of(most: u32) -> Retention {
     if most == 0 {
-        History::Dropped
+        Retention::Dropped
     } else {
-        History::UpTo(most)
+        Retention::UpTo(most)
     }
 }
 
@@ -217,7 +216,7 @@ fn start_node<
     let ground = Ground {
         floors,
         places: common.places.copy()?,
-        history: history_of(common.history),
+        retention: retention_of(common.history),
         keys,
     };
     let Ok(gate) = Arc::new(alloc, NoGate) else {

@@ -6,7 +6,7 @@ ghost use Rattle.cluster_process.specs.Kept.{gathered_in};
 use crate::cluster::Running;
 use crate::kept::{Kept, Memory};
 use cluster_console::{Checked, Checker};
-use cluster_master::SharedMaster;
+use cluster_master::{HeldMaster, SharedMaster};
 use node_workers::StopFault;
 use purge_rules::PurgeStore;
 use roster::Roster;
@@ -43,34 +43,34 @@ impl<S: PurgeStore> Judge<'_, S> {
 
     /// Adds the calls of the master to what was gathered.
     #[tactic(auto, using(crate::proofs::Gathering::kept_twice, crate::proofs::Gathering::dropped))]
-    fn take_entries<R: Wait>(&mut self, rt: &R) -> Result<(), AllocError>
+    fn take_entries(&mut self, master: &mut HeldMaster<'_, S>) -> Result<(), AllocError>
         ensures { GoesOn (gathered_in self.old.memory.kept) (gathered_in self.new.memory.kept) }
     {
         // (where there is no memory to put the open page behind the others, the second take has it)
-        self.memory.put_entries(self.master.take_entries(rt))?;
-        self.memory.put_entries(self.master.take_entries(rt))?;
-        if self.master.has_forgotten(rt) {
+        self.memory.put_entries(master.take_entries())?;
+        self.memory.put_entries(master.take_entries())?;
+        if master.has_forgotten() {
             self.memory.forget();
         }
         Ok(())
     }
 
-    /// Adds the records of the members and the calls of the master to what was gathered, while the
-    /// members are held.
+    /// Adds the records of the members and the calls of the master to what was gathered, while all
+    /// of them are held.
     #[tactic(auto, using(crate::proofs::Gathering::kept_as_it_was, crate::proofs::Gathering::kept_twice))]
-    fn take_all<R: Wait>(&mut self, rt: &R) -> Result<(), StopFault>
+    fn take_all<R: Wait>(&mut self, rt: &R, master: &mut HeldMaster<'_, S>) -> Result<(), StopFault>
         ensures { GoesOn (gathered_in self.old.memory.kept) (gathered_in self.new.memory.kept) }
     {
         for node in self.nodes {
             self.take_records(rt, node)?;
         }
-        self.take_entries(rt)?;
+        self.take_entries(master)?;
         self.memory.limit();
         Ok(())
     }
 
-    /// Holds all members, gathers what they and the master did since the last time, and lets the
-    /// members go on. The master is not held: each of its calls rests on what was done before it.
+    /// Holds all members and the master, gathers what they did since the last time, and lets them go
+    /// on. So nothing is done between the first record that is taken and the last entry.
     ///
     /// Faults: those of [`Workers::records`](node_workers::Workers::records). What was gathered
     /// before such a fault stays, and the rest is gathered the next time. Where there is no memory
@@ -81,7 +81,9 @@ impl<S: PurgeStore> Judge<'_, S> {
         for node in self.nodes {
             node.workers.hold(rt);
         }
-        let taken = self.take_all(rt);
+        let mut master = self.master.hold(rt);
+        let taken = self.take_all(rt, &mut master);
+        drop(master);
         for node in self.nodes {
             node.workers.resume(rt);
         }
@@ -127,8 +129,7 @@ impl<S: PurgeStore> Checker for Judge<'_, S> {
         match self.gather(rt) {
             Ok(()) => self.judged(alloc, roster),
             Err(StopFault::NoMemory) => Err(AllocError),
-            Err(StopFault::SeatMissing) => Ok(Checked::SeatMissing),
-            Err(StopFault::Mismatch) => Ok(Checked::Mismatch),
+            Err(StopFault::Ended) => Ok(Checked::Ended),
         }
     }
 }

@@ -5,14 +5,14 @@ ghost use Rattle.cluster_console.specs.Checked.{GoesOn};
 ghost use Rattle.cluster_process.specs.Kept.{gathered_at_first, gathered_in, tells_nothing, with_record};
 
 use node_book::{MOST_ENTRIES, NodeEntry, Record};
-use node_shifts::octets_of;
+use node_seats::octets_of;
 use purge_master::MasterEntry;
 use std::alloc::{AllocError, Global};
 
 /// What the members and the master of a hierarchy did, from the start on.
 #[derive(Drop)]
 pub struct Kept {
-    /// The records of the members, those of one member in the order of its shifts.
+    /// The records of the members, those of one member in their order.
     pub records: Vec<Record>,
     /// The master's calls, in their order.
     pub entries: Vec<MasterEntry>,
@@ -32,10 +32,10 @@ const ROWS_OF_AN_ENTRY: u64 = 4;
 /// This many octets that a record's events brought along count as one entry.
 const OCTETS_OF_AN_ENTRY: u64 = 1_024;
 
-/// How many entries are kept at most of this many members and a master, with this many shifts of
+/// How many entries are kept at most of this many members and a master, with this many records of
 /// each.
-fn most_entries(members: usize, shifts: u32) -> u64 {
-    let each = u64::from(shifts).saturating_mul(MOST_ENTRIES as u64);
+fn most_entries(members: usize, records: u32) -> u64 {
+    let each = u64::from(records).saturating_mul(MOST_ENTRIES as u64);
     each.saturating_mul((members as u64).saturating_add(1))
 }
 
@@ -74,7 +74,7 @@ fn has_record_of(records: &[Record], id: u8) -> bool
     records.iter().any(|record| record.node == id)
 }
 
-/// Whether a record tells nothing: nothing was done in its shift, and it is not the first of its
+/// Whether a record tells nothing: it has no entry, and it is not the first of its
 /// member.
 fn is_idle(records: &[Record], next: &Record) -> bool
     ensures { result ≡ tells_nothing records.now next.now }
@@ -116,18 +116,18 @@ impl Kept {
 }
 
 impl Memory {
-    /// Nothing was done so far. Of each of this many members, and of the master, this many shifts
+    /// Nothing was done so far. Of each of this many members, and of the master, this many records
     /// are kept; nothing, where that is 0.
-    pub(crate) fn new(alloc: Global, members: usize, shifts: u32) -> Memory
-        ensures { gathered_in result.kept ≡ gathered_at_first shifts }
+    pub(crate) fn new(alloc: Global, members: usize, records: u32) -> Memory
+        ensures { gathered_in result.kept ≡ gathered_at_first records }
     {
         let kept = Kept {
             records: Vec::new(alloc),
             entries: Vec::new(alloc),
         };
         Memory {
-            most: most_entries(members, shifts),
-            kept: if shifts == 0 { None } else { Some(kept) },
+            most: most_entries(members, records),
+            kept: if records == 0 { None } else { Some(kept) },
         }
     }
 

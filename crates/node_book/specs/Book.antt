@@ -28,6 +28,10 @@ Replays g old [] new = new ≡ old
 Replays g old (e ∷ es) new = (middle : NodeState (Unit {0})) × Steps g old e.event tt e.outcome middle
     × Replays g middle es new
 
+-- The entries of a book lead from its opening state to the node's state.
+abbrev pub IsReplayed : {S : Type 0} → BookView S → Type 0
+IsReplayed book = Replays (setting book.node.roster book.node.id) book.opening book.entries book.node.state
+
 -- The entries lead from the opening state to the node's state, and are at most 4,096.
 pub record IsBook (roster : Tables) (id : ℕ) (state opening : NodeState (Unit {0})) (entries : List NodeEntry) :
     Type 0 where

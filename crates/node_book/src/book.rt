@@ -1,7 +1,7 @@
 ghost use Rattle.std.specs.Prelude.{◌≡◌, ◌⊎◌, ◌<◌, ◌≤◌, [], length, IfOk, IfErr, Ok, Err};
 ghost use Rattle.std.specs.Vec.{vec_len, vec_capacity};
 ghost use Rattle.floor_rules.specs.Store.{HaveRisen};
-ghost use Rattle.node_book.specs.Book.{IsApplied, IsToldOf};
+ghost use Rattle.node_book.specs.Book.{IsApplied, IsReplayed, IsToldOf};
 ghost use Rattle.node_book.specs.declared.book.BookFault.TheVariants as faults;
 ghost use Rattle.node_book.specs.Closed.{IsRecorded};
 ghost use Rattle.node_bytes.specs.Stepping.{AnswersAsk};
@@ -15,6 +15,7 @@ use node_rules::{Event, NodeState, Reply, StepFault};
 use roster::Listed;
 use std::alloc::{AllocError, Global};
 use std::marker::Model;
+use std::mem::replace;
 use thiserror::Error;
 
 /// The most entries of a book.
@@ -165,6 +166,45 @@ impl<S: FloorStore> NodeBook<S> {
             }
             Err(fault) => Err((self, fault)),
         }
+    }
+
+    /// Ends the record: returns the record of the steps so far, and goes on without entries at the
+    /// node's state. It copies that state twice; if there is no memory for that, nothing changes.
+    pub fn end_record(&mut self) -> Result<Record, AllocError>
+        ensures ended { IfOk result (λ done. IsRecorded self.old done
+            × (self.new ≡ record {
+              node = self.old.node;
+              opening = self.old.node.state;
+              entries = [];
+            })) }
+        ensures same { IfErr result (λ _. self.new ≡ self.old) }
+    {
+        let closing = self.node.state()?;
+        let next = self.node.state()?;
+        let entries = replace(&mut self.entries, Vec::new(self.alloc));
+        Ok(Record {
+            node: self.node.id(),
+            opening: replace(&mut self.opening, next),
+            entries: Listed::new(entries),
+            closing,
+        })
+    }
+
+    /// The node, without its book.
+    pub fn into_node(self) -> Node<(), S>
+        ensures node { result ≡ self.node }
+        ensures replayed { IsReplayed self }
+    {
+        self.node
+    }
+
+    /// The entries lead from the opening state to the node's state. It does nothing: its contract
+    /// states the law.
+    pub fn is_replayed(&self)
+        ensures { IsReplayed self.now }
+    {
+        // (a function knows the invariant of a value of which it uses a field)
+        let _ = &self.alloc;
     }
 
     /// The node.

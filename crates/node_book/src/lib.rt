@@ -3,7 +3,8 @@
 //!
 //! The main type is [`NodeBook`]. [`NodeBook::open`] takes a node; [`NodeBook::apply`] takes a step
 //! and enters it as a [`NodeEntry`]; [`NodeBook::close`] gives the node back, with a [`Record`] of
-//! its steps. A book has at most 4,096 entries; `node_shifts` then closes it and opens the next.
+//! its steps. A book has at most 4,096 entries; [`NodeBook::end_record`] makes a record of them and
+//! goes on without entries.
 //!
 //! Where to read:
 //!

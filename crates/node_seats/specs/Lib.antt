@@ -1,2 +1,5 @@
+pub mod Beginning
 pub mod Seats
-pub mod Shifts
+pub mod Records
+pub mod Desks
+pub mod Weight

@@ -1,184 +1,251 @@
 //! What the lock of a shared node holds.
-ghost use Rattle.std.specs.Prelude.{◌≡◌, ◌+◌, ◌≤◌, ◌<◌, ◌⊎◌, ◌↔◌, length, vec_len, vec_capacity, Some, None, Ok, Err, IfOk, IsTrue};
-ghost use Rattle.floor_rules.specs.Store.{HaveRisen};
-ghost use Rattle.node_book.specs.declared.book.BookFault.TheVariants as faults;
-ghost use Rattle.node_book.specs.Book.{IsApplied};
+ghost use Rattle.std.specs.Prelude.{◌≡◌, [], Some, IfOk, IfSome, IsFalse, OnOk, OnErr};
 ghost use Rattle.node_bytes.specs.Stepping.{AnswersAsk};
-ghost use Rattle.node_seats.specs.Seats.{Called, IsGiven, IsSpent, Posted, counted, listed, told_of};
-ghost use Rattle.node_seats.specs.declared.seat.Told.{Told};
+ghost use Rattle.node_seats.specs.Beginning.{beginning_of};
+ghost use Rattle.node_seats.specs.Desks.{AreNewSteps, HasRoom, IsEndedIn, IsWithoutBook};
+ghost use Rattle.node_seats.specs.Records.{ArePart, keeps};
+ghost use Rattle.node_seats.specs.Seats.{Called, IsNext};
 
+use crate::entering::{Told, enter_alone, enter_recorded};
 use crate::places::Places;
-use crate::seat::{Calls, Made, Seat, Told};
+use crate::retention::Retention;
+use crate::seat::{Origin, Seat};
+use crate::steps::Steps;
+use crate::weight::octets_of;
+use crate::whole::Whole;
 use floor_rules::FloorStore;
-use node_book::{BookFault, MOST_ENTRIES, NodeBook};
-use node_copies::{copy_of_event, copy_of_reply};
-use node_rules::{Event, Reply};
+use node_book::{MOST_ENTRIES, NodeBook, Record};
+use node_core::Node;
+use node_rules::{Event, StepFault};
 use std::alloc::{AllocError, Global};
 use std::marker::Model;
-use std::sync::ledger::{Book, Share};
+use std::mem::replace;
 
-/// A node's book with the ledger of its calls. The ledger's count is the number of calls before
-/// this shift and the number of entries, added.
+/// Once the events of a record have brought this many octets along, the next record begins. This
+/// bounds what its entries keep in memory.
+const MOST_OCTETS: u64 = 4_194_304;
+
+/// A node with its history, and with the records that are kept for a check.
+///
+/// A contract sees the history, and the records.
 #[derive(Drop)]
-pub(crate) struct Desk<S: FloorStore, L: Calls> {
+pub(crate) struct Desk<S: FloorStore, J: Origin> {
     pub(crate) alloc: Global,
-    /// The node and its steps in this shift.
-    pub(crate) book: NodeBook<S>,
-    /// How many calls were made before this shift.
-    pub(crate) before: u64,
-    /// The ledger in which the calls are counted.
-    pub(crate) calls: Book<L>,
+    /// The node, and the book of its open record. None once an entry could not be added to the
+    /// history, which never happens.
+    pub(crate) steps: Option<Steps<S>>,
+    /// The whole history.
+    pub(crate) whole: Whole<J>,
     /// Where each call draws its place.
     pub(crate) places: Places,
+    /// How many octets the events of the open record have brought along.
+    pub(crate) octets: u64,
+    /// What becomes of the records.
+    pub(crate) retention: Retention,
+    /// The records that ended and are kept.
+    pub(crate) records: Vec<Record>,
 }
 
-impl<S: FloorStore, L: Calls> Model for Desk<S, L> {
+impl<S: FloorStore, J: Origin> Model for Desk<S, J> {
     ghost use Rattle.std.specs.Coded.{codes, coded_list, coded_ℕ};
     ghost use Rattle.std.specs.FinMap.{code as map_code};
     ghost use Rattle.std.specs.Ordering.{nat_cmp};
     ghost use Rattle.std.specs.Cmp.Lexicographic.{slice_cmp};
-    ghost use Rattle.std.specs.Prelude.{◌≡◌, ◌+◌, ◌<◌, ◌^◌, length};
-    ghost use Rattle.node_seats.specs.Seats.{DeskView};
+    ghost use Rattle.node_seats.specs.Desks.{DeskView};
+    ghost use Rattle.node_seats.specs.Records.{Stands};
 
     ghost Value = { DeskView S };
 
     ghost coded = { Prim.hlevel (codes, map_code {R = slice_cmp nat_cmp} (coded_list coded_ℕ) coded_ℕ) };
 
-    ghost view = { λ desk. record { book = desk.book; before = desk.before } };
+    ghost view = { λ desk. record { log = desk.whole; steps = desk.steps; records = desk.records.items; octets = desk.octets } };
 
-    ghost invariant = { λ desk. (desk.calls.total ≡ desk.before + length desk.book.entries) × (desk.before + length desk.book.entries < 2 ^ 64) };
+    ghost invariant = { λ desk. Stands J.beginning desk.whole desk.records.items desk.steps };
 }
 
-impl<S: FloorStore, L: Calls> Desk<S, L> {
-    /// Makes one call by a seat. `ShiftFull` comes exactly where the book has 4,096 entries or the
-    /// count is at its greatest, before anything else. After `ShiftFull` and `NoMemory` nothing is
-    /// changed. Else the book has one entry more, of this event and the number of the seat, with
-    /// the outcome that is told; after `ReplyLost` the outcome is not told.
-    pub(crate) fn call(
-        &mut self,
-        seat: &mut Seat<L>,
-        event: Event<()>,
-    ) -> Result<Reply<()>, BookFault>
-        ensures seat { Called seat.old event result seat.new }
+impl<S: FloorStore + Drop, J: Origin> Desk<S, J> {
+    /// A node under a desk without records, before its first step.
+    pub(crate) fn new(
+        alloc: Global,
+        node: Node<(), S>,
+        whole: Whole<J>,
+        places: Places,
+        retention: Retention,
+    ) -> Result<Desk<S, J>, AllocError>
+        requires none { whole ≡ [] }
+        requires beginning { J.beginning ≡ Some (beginning_of node) }
+    {
+        let steps = new_steps(alloc, node, retention)?;
+        Ok(Desk {
+            alloc,
+            steps: Some(steps),
+            whole,
+            places,
+            octets: 0,
+            retention,
+            records: Vec::new(alloc),
+        })
+    }
+
+    /// Makes one call by a seat: takes a step, and adds its entry to the history. Where the open
+    /// record has no room, the next record begins before the call.
+    ///
+    /// Faults: those of the step. `NoMemory` also comes where there is no memory for the entry or to
+    /// begin the next record, and no step is taken then; and where there is none for a copy of the
+    /// reply, and the step stands then.
+    pub(crate) fn call(&mut self, seat: &mut Seat<J>, event: Event<()>) -> Told
+        ensures called { Called seat.old event result seat.new }
         ensures asks { IfOk result (AnswersAsk event) }
-        ensures full { (result ≡ Err faults.ShiftFull) ↔ IsSpent self.old }
-        ensures refused { (result ≡ Err faults.ShiftFull) ⊎ (result ≡ Err faults.NoMemory) →
-            self.new ≡ self.old }
-        ensures posted { (told : Told) → told_of result ≡ Some told →
-            Posted (S.is_honest self.new.book.node.store) (S.may_find self.new.book.node.store)
-            (HaveRisen (S.failed self.old.book.node.store) (S.failed self.new.book.node.store))
-            self.old self.new seat.old.number event result }
     {
-        if self.is_spent() {
-            return Err(BookFault::ShiftFull);
+        if !self.whole.is_next(seat) {
+            return Err(StepFault::Closed);
         }
-        match room_for(self.alloc, &mut seat.made, event) {
-            Ok((event, listed)) => {
-                let place = self.places.draw();
-                let (answer, told) = post(self.alloc, &mut self.book, seat.number, place, event);
-                list(
-                    &mut self.calls,
-                    &mut seat.made,
-                    &mut seat.share,
-                    listed,
-                    told,
-                );
-                answer
+        if self.is_full() && self.end_record().is_err() {
+            return Err(StepFault::NoMemory);
+        }
+        self.enter(seat, event)
+    }
+
+    /// Whether the open record has no room for another entry.
+    fn is_full(&self) -> bool
+        ensures { IsFalse result → HasRoom self.now.octets self.now.steps }
+    {
+        match &self.steps {
+            Some(Steps::Recorded(book)) => {
+                MOST_OCTETS <= self.octets || MOST_ENTRIES <= book.entries().len()
             }
-            Err(_) => Err(BookFault::NoMemory),
+            Some(Steps::Alone(_)) | None => false,
         }
     }
 
-    /// Whether the book has 4,096 entries, or the count of calls is at its greatest.
-    fn is_spent(&self) -> bool
-        ensures { IsTrue result ↔ IsSpent self.now }
+    /// Takes the step of a call, and adds its entry to the history.
+    fn enter(&mut self, seat: &mut Seat<J>, event: Event<()>) -> Told
+        requires next { IsNext self.old.log seat.old }
+        requires room { HasRoom self.old.octets self.old.steps }
+        ensures called { Called seat.old event result seat.new }
+        ensures asks { IfOk result (AnswersAsk event) }
     {
-        let entries = self.book.entries().len();
-        MOST_ENTRIES <= entries || self.before >= u64::MAX - entries as u64
+        let place = self.places.draw();
+        match &mut self.steps {
+            Some(Steps::Recorded(book)) => {
+                book.is_replayed();
+                self.octets += octets_of(&event);
+                if let Some(told) = enter_recorded(book, &mut self.whole, seat, place, event) {
+                    return told;
+                }
+            }
+            Some(Steps::Alone(node)) => {
+                if let Some(told) = enter_alone(
+                    self.alloc,
+                    node,
+                    &mut self.whole,
+                    seat,
+                    place,
+                    event,
+                ) {
+                    return told;
+                }
+            }
+            None => {}
+        }
+        self.steps = None;
+        self.records.clear();
+        Err(StepFault::Closed)
+    }
+
+    /// Ends the open record and begins the next one; or, where the record would not be kept, drops
+    /// all records and keeps none from then on. Where there is no memory for that, nothing changes.
+    fn end_record(&mut self) -> Result<(), AllocError>
+        ensures ended { OnOk result (HasRoom self.new.octets self.new.steps
+            × (self.new.log ≡ self.old.log)) }
+        ensures same { OnErr result (self.new ≡ self.old) }
+    {
+        if !is_kept(self.retention, self.records.len()) {
+            self.forget();
+            return Ok(());
+        }
+        end_book(&mut self.steps, &mut self.records)?;
+        self.octets = 0;
+        Ok(())
+    }
+
+    /// Drops all records, and keeps none from then on.
+    fn forget(&mut self)
+        ensures room { HasRoom self.new.octets self.new.steps }
+        ensures same { self.new.log ≡ self.old.log }
+    {
+        self.steps = without_book(self.steps.take());
+        self.records.clear();
+        self.retention = Retention::Dropped;
+        self.octets = 0;
+    }
+
+    /// Ends the open record, begins the next one, and takes out the records that are kept, oldest
+    /// first; or none, where none is kept. Where there is no memory for that, nothing changes.
+    pub(crate) fn take_records(&mut self) -> Result<Option<Vec<Record>>, AllocError>
+        ensures { IfOk result (λ taken. IfSome taken (λ records. ArePart J.beginning records.items)) }
+    {
+        self.end_record()?;
+        match self.retention {
+            Retention::UpTo(_) => Ok(Some(replace(&mut self.records, Vec::new(self.alloc)))),
+            Retention::Dropped => Ok(None),
+        }
     }
 }
 
-/// Makes room in the list for one call more, and a copy of its event.
-fn room_for(
+/// A node before its first step, with a book if its steps are recorded.
+fn new_steps<S: FloorStore + Drop>(
     alloc: Global,
-    made: &mut Vec<Made>,
-    event: Event<()>,
-) -> Result<(Event<()>, Event<()>), AllocError>
-    ensures copy { IfOk result (λ events. (events.0 ≡ event) × (events.1 ≡ event)) }
-    ensures room { IfOk result (λ _. vec_len made.new < vec_capacity made.new) }
-    ensures same { made.new.items ≡ made.old.items }
+    node: Node<(), S>,
+    retention: Retention,
+) -> Result<Steps<S>, AllocError>
+    ensures { IfOk result (AreNewSteps node) }
 {
-    made.reserve(1)?;
-    let listed = copy_of_event(alloc, &event)?;
-    Ok((event, listed))
-}
-
-/// Applies an event for a seat. Returns what the caller is given, and what the seat lists of it.
-fn post<S: FloorStore>(
-    alloc: Global,
-    book: &mut NodeBook<S>,
-    seat: u8,
-    place: u64,
-    event: Event<()>,
-) -> (Result<Reply<()>, BookFault>, Option<Told>)
-    ensures told { result.1 ≡ told_of result.0 }
-    ensures asks { IfOk result.0 (AnswersAsk event) }
-    ensures refused { result.1 ≡ None → book.new ≡ book.old }
-    ensures full { result.0 ≡ Err faults.ShiftFull → 4096 ≤ length book.old.entries }
-    ensures posted { (told : Told) → result.1 ≡ Some told → (answer : _) × IsGiven answer result.0
-        × IsApplied (S.is_honest book.new.node.store) (S.may_find book.new.node.store)
-        (HaveRisen (S.failed book.old.node.store) (S.failed book.new.node.store))
-        book.old book.new seat place event answer }
-{
-    let answer = book.apply(seat, place, event);
-    given(alloc, answer)
-}
-
-/// What a caller is given of the book's answer, and what its seat lists of it.
-fn given(
-    alloc: Global,
-    answer: Result<Reply<()>, BookFault>,
-) -> (Result<Reply<()>, BookFault>, Option<Told>)
-    ensures given { IsGiven answer result.0 }
-    ensures told { result.1 ≡ told_of result.0 }
-{
-    match answer {
-        Ok(reply) => given_reply(alloc, reply),
-        Err(BookFault::Step(fault)) => (Err(BookFault::Step(fault)), Some(Told::Known(Err(fault)))),
-        Err(BookFault::ReplyLost) => (Err(BookFault::ReplyLost), Some(Told::Unknown)),
-        Err(fault) => (Err(fault), None),
+    match retention {
+        Retention::Dropped => Ok(Steps::Alone(node)),
+        Retention::UpTo(_) => match NodeBook::open(alloc, node) {
+            Ok(book) => Ok(Steps::Recorded(book)),
+            Err(_) => Err(AllocError),
+        },
     }
 }
 
-/// A reply, and a copy of it for the list. Where there is no memory for the copy, the reply is
-/// lost.
-fn given_reply(alloc: Global, reply: Reply<()>) -> (Result<Reply<()>, BookFault>, Option<Told>)
-    ensures given { IsGiven (Ok reply) result.0 }
-    ensures told { result.1 ≡ told_of result.0 }
+/// Ends the record of an open book, and puts it behind the others. Where there is no memory for
+/// that, nothing changes.
+fn end_book<S: FloorStore>(
+    steps: &mut Option<Steps<S>>,
+    records: &mut Vec<Record>,
+) -> Result<(), AllocError>
+    ensures ended { OnOk result (IsEndedIn steps.old records.old.items steps.new records.new.items) }
+    ensures same { OnErr result ((steps.new ≡ steps.old)
+        × (records.new.items ≡ records.old.items)) }
 {
-    match copy_of_reply(alloc, &reply) {
-        Ok(copy) => (Ok(reply), Some(Told::Known(Ok(copy)))),
-        Err(_) => (Err(BookFault::ReplyLost), Some(Told::Unknown)),
+    records.reserve(1)?;
+    match steps {
+        Some(Steps::Recorded(book)) => {
+            records.push_reserved(book.end_record()?);
+            Ok(())
+        }
+        Some(Steps::Alone(_)) | None => Ok(()),
     }
 }
 
-/// Lists and counts a call of which something is told; the list has room for it.
-fn list<L: Calls>(
-    calls: &mut Book<L>,
-    made: &mut Vec<Made>,
-    share: &mut Share<L>,
-    event: Event<()>,
-    told: Option<Told>,
-)
-    requires room { vec_len made.old < vec_capacity made.old }
-    requires part { 0 < share.old.parts }
-    ensures made { made.new.items ≡ listed made.old.items event told }
-    ensures calls { calls.new.total ≡ calls.old.total + counted told }
-    ensures parts { share.new.parts ≡ share.old.parts }
-    ensures amount { share.new.amount ≡ share.old.amount + counted told }
+/// The node without its book, if it has one.
+fn without_book<S: FloorStore>(steps: Option<Steps<S>>) -> Option<Steps<S>>
+    ensures { IsWithoutBook steps result }
 {
-    if let Some(told) = told {
-        made.push_reserved(Made { event, told });
-        calls.add(share, 1);
+    match steps {
+        Some(Steps::Recorded(book)) => Some(Steps::Alone(book.into_node())),
+        other => other,
+    }
+}
+
+/// Whether one record more is kept beside this many.
+fn is_kept(retention: Retention, kept: usize) -> bool
+    ensures { result ≡ keeps retention kept }
+{
+    match retention {
+        Retention::UpTo(most) => (kept as u64) < u64::from(most),
+        Retention::Dropped => false,
     }
 }

@@ -1,39 +1,49 @@
-//! A node that threads share: each thread has a seat, and lists what it called and what it was
-//! told.
+//! A node that threads share: each thread has a seat, and what it is told stands in one history.
 //!
-//! [`SharedNode`] is a node with its book (the log of its steps) under a lock. A thread calls it by
-//! a [`Seat`]: the seat comes back with the answer, and with the call in its list. A shift is the
-//! life of one book. When it ends all seats come back, and [`close`] compares their lists with the
-//! book. It gives a [`Shift`], of which a contract knows: the entries of its record lead from its
-//! opening to its closing state, and each seat's calls are the entries with its number, once, in
-//! its order and with the answers that it was told. [`Shift::next`] opens the shift after it, at
-//! the closing state. [`Places`] is the counter from which each call draws its place; all nodes of
-//! a run share it.
+//! [`SharedNode`] is a node under one lock. A thread calls it by a [`Seat`], which it owns; a call
+//! holds the lock for one step. The node's history is the list of all its steps, which only grows
+//! and which only proofs see (`node_history`). A seat knows a beginning of it. After a call the last
+//! entry that the seat knows is that call with its outcome; it comes after all that the seat knew
+//! before, and is the seat's only new one. So no reply is invented, no call is made twice, and what
+//! two threads were told are places of one history that the rules allow. [`AtSeat`] takes a node's
+//! steps that way, as a [`Stepper`](node_bytes::Stepper).
 //!
-//! A contract sees no value under a lock. So what a call does to the book is said of the desk
-//! inside the lock (`Desk::call`), and what all seats know together is said where they come back.
-//! The number of calls is counted under the lock; each seat has a share of that count
-//! (`std::sync::ledger`), and all shares together are the count.
+//! For a check of the run the steps are recorded as well ([`Retention`]): a record has space for
+//! 4,096 steps, and until their events have brought 4 MiB along ([`octets_of`]). Where it has no
+//! more space, the next record begins within a call. So callers need to know nothing of records, and
+//! no fetch and no client waits for one. [`SharedNode::hold`] holds the node while its records are
+//! taken. Where none is kept, no step is kept and no state of the node is copied.
+//! [`Places`] is the counter from which each call draws its place; all nodes of a run share it.
 //!
-//! Order of reading: `specs/Seats.antt` (what a call changes), `specs/Shifts.antt` (what a closed
-//! shift is); `src/seat.rt`, `src/shared.rt` (the call), `src/desk.rt` (the call inside the lock),
-//! `src/shift.rt` (close and next), `src/agree.rt` (the comparison), `src/places.rt`;
+//! Order of reading: `specs/Beginning.antt` and `specs/Seats.antt` (what a call does to its seat),
+//! `specs/Records.antt` (what the records are), `specs/Desks.antt`, `specs/Weight.antt` (what an
+//! event brings along); `src/seat.rt`, `src/shared.rt` (the call), `src/desk.rt` (the call inside
+//! the lock), `src/entering.rt` (the step and its entry), `src/whole.rt` (the history),
+//! `src/at_seat.rt`, `src/retention.rt`, `src/steps.rt`, `src/weight.rt`, `src/places.rt`;
 //! `proofs/Lib.antt`.
 //!
 //! The crate waits at its own lock. It touches no socket, clock or thread; files are touched by the
 //! node's store of floors, which is passed in with the node.
 //!
-//! What it does not promise: which places are drawn (the check of a run tests them).
+//! What it does not promise: which places are drawn (the check of a run tests them); that memory
+//! suffices. A call of a seat may answer `Closed` at once, since the node is under the lock: tests
+//! show that calls take steps.
 #![tactic(auto)]
 
-mod agree;
+mod at_seat;
 mod desk;
+mod entering;
 mod places;
+mod retention;
 mod seat;
 mod shared;
-mod shift;
+mod steps;
+mod weight;
+mod whole;
 
+pub use at_seat::AtSeat;
 pub use places::Places;
-pub use seat::{Calls, Made, Seat, Told};
-pub use shared::SharedNode;
-pub use shift::{CloseFault, Opened, Refused, Shift, close};
+pub use retention::Retention;
+pub use seat::{Origin, Seat};
+pub use shared::{Held, SharedNode};
+pub use weight::octets_of;

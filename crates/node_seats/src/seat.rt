@@ -1,71 +1,46 @@
-//! A seat: one thread's right to call a node, with a list of the calls made by it.
-ghost use Rattle.std.specs.Prelude.{◌≡◌, ℕ, length};
+//! A seat: one thread's right to call a node, with what the thread knows of the node's history.
+ghost use Rattle.std.specs.Prelude.{◌≡◌};
 
-use node_rules::{Event, Reply, StepFault};
+use node_history::{Front, Run};
 use std::marker::{Brand, Model};
-use std::sync::ledger::{Ledger, Share};
 
-/// The type that names the ledger of one node, in which its calls are counted.
-pub trait Calls: Ledger {
-    /// All its parts, which the seats share.
-    ghost all: { ℕ };
+/// Which run of which node it is, and how its history begins.
+pub trait Origin: Run {
+    ghost use Rattle.std.specs.Prelude.{Option};
+    ghost use Rattle.node_seats.specs.Beginning.{Beginning};
+
+    ghost beginning: { Option Beginning };
 }
 
-impl Calls for Brand {
-    ghost all = { 0 };
+impl Origin for Brand {
+    ghost use Rattle.std.specs.Prelude.{None};
+
+    ghost beginning = { None };
 }
 
-/// What a seat was told of a step.
-#[derive(Drop)]
-pub enum Told {
-    /// The outcome of the step.
-    Known(Result<Reply<()>, StepFault>),
-    /// The step stands, but there was no memory for a copy of its reply, so the reply was lost.
-    Unknown,
-}
-
-/// One call that a seat made.
-#[derive(Drop)]
-pub struct Made {
-    /// The event.
-    pub event: Event<()>,
-    /// What the seat was told of it.
-    pub told: Told,
-}
-
-/// The right of one thread to call a node, and the list of the calls made by it. Each seat has one
-/// part of the ledger, and seat 0 has all other parts.
+/// The right of one thread to call a node. The thread owns it, and no other thread can use it.
 ///
-/// A contract sees its number, how many seats there are, the calls made by it in their order, and
-/// its share of the count.
+/// A contract sees its number, and the node's history as far as the thread knows it. That history
+/// is a beginning of the one history of the node, and its entries are steps by the rules, from the
+/// node's beginning on. In memory a seat is three numbers.
 #[derive(Drop)]
-pub struct Seat<L: Calls> {
+pub struct Seat<J: Origin> {
     /// Its number, from 0.
     pub(crate) number: u8,
-    /// How many seats the node has.
-    pub(crate) seats: u8,
-    /// The calls made by it in this shift.
-    pub(crate) made: Vec<Made>,
-    /// Its share of the count of calls.
-    pub(crate) share: Share<L>,
+    /// How many calls were made by it.
+    pub(crate) calls: u64,
+    /// What it knows of the history.
+    pub(crate) front: Front<J>,
 }
 
-impl<L: Calls> Model for Seat<L> {
-    ghost use Rattle.std.specs.Prelude.{◌≡◌, ◌<◌, ◌≤◌};
-    ghost use Rattle.node_seats.specs.Seats.{SeatView, parts_of};
+impl<J: Origin> Model for Seat<J> {
+    ghost use Rattle.std.specs.Prelude.{◌≡◌, length};
+    ghost use Rattle.node_seats.specs.Beginning.{IsHistory};
+    ghost use Rattle.node_seats.specs.Seats.{SeatView, entries_of};
 
     ghost Value = { SeatView };
 
-    ghost view = { λ seat. record { number = seat.number; seats = seat.seats; made = seat.made.items; parts = seat.share.parts; amount = seat.share.amount } };
+    ghost view = { λ seat. record { number = seat.number; seen = seat.front } };
 
-    ghost invariant = { λ seat. (seat.number < seat.seats) × (seat.seats ≤ L.all) × (seat.share.parts ≡ parts_of L.all seat.seats seat.number) };
-}
-
-impl<L: Calls> Seat<L> {
-    /// How many calls were made by it in this shift.
-    pub fn calls(&self) -> usize
-        ensures { result ≡ length self.now.made }
-    {
-        self.made.len()
-    }
+    ghost invariant = { λ seat. (seat.calls ≡ length (entries_of seat.number seat.front)) × IsHistory J.beginning seat.front };
 }

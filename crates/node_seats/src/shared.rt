@@ -1,127 +1,108 @@
 //! The node that threads share.
-ghost use Rattle.std.specs.Prelude.{◌≡◌, ◌≤◌, ◌<◌, [], length, vec_capacity, MatchResult, IfOk};
+ghost use Rattle.std.specs.Prelude.{◌≡◌, [], Some, IfOk, IfSome};
 ghost use Rattle.node_bytes.specs.Stepping.{AnswersAsk};
-ghost use Rattle.node_seats.specs.Seats.{Called, IsRightlyTold, parts_of, told_of};
-ghost use Rattle.node_seats.specs.Shifts.{IsFirstOf};
+ghost use Rattle.node_seats.specs.Beginning.{beginning_of};
+ghost use Rattle.node_seats.specs.Desks.{AreNewSeats};
+ghost use Rattle.node_seats.specs.Records.{ArePart};
+ghost use Rattle.node_seats.specs.Seats.{Called};
 
 use crate::desk::Desk;
 use crate::places::Places;
-use crate::seat::{Calls, Seat};
+use crate::retention::Retention;
+use crate::seat::{Origin, Seat};
+use crate::whole::Whole;
 use floor_rules::FloorStore;
-use node_book::{BookFault, NodeBook};
-use node_rules::{Event, Reply};
+use node_book::Record;
+use node_core::Node;
+use node_history::{Front, Head};
+use node_rules::{Event, Reply, StepFault};
 use std::alloc::{AllocError, Global};
-use std::sync::ledger::{Blank, Share};
-use std::sync::{Mutex, Wait};
+use std::sync::{Mutex, MutexGuard, Wait};
 
-/// A node's book under its lock, and the number of its seats.
+/// A node that threads share, under one lock.
 #[derive(Drop)]
-pub struct SharedNode<S: FloorStore, L: Calls> {
-    /// The book, under the lock.
-    pub(crate) desk: Mutex<Desk<S, L>>,
-    /// How many seats it has.
-    pub(crate) seats: u8,
-    pub(crate) ghost some_seat: { 0 < seats },
-    pub(crate) ghost enough_parts: { seats ≤ L.all },
+pub struct SharedNode<S: FloorStore, J: Origin> {
+    desk: Mutex<Desk<S, J>>,
 }
 
-impl<S: FloorStore, L: Calls> SharedNode<S, L> {
-    /// Shares a book without entries among this many seats. Where there is no memory for the seats,
-    /// everything is given back.
+impl<S: FloorStore + Drop, J: Origin> SharedNode<S, J> {
+    /// Shares a node among this many seats, which come back by their numbers from 0. `head` and
+    /// `front` are those of a new history. Where there is no memory, the node is dropped.
     pub fn open(
         alloc: Global,
-        book: NodeBook<S>,
+        node: Node<(), S>,
         seats: u8,
-        blank: Blank,
+        retention: Retention,
+        head: Head<J>,
+        front: Front<J>,
         places: Places,
-    ) -> Result<(SharedNode<S, L>, Vec<Seat<L>>), (NodeBook<S>, Blank, Places, AllocError)>
-        requires fresh { book.entries ≡ [] }
-        requires name { blank.name ≡ L.name }
-        requires parts { (blank.parts ≡ L.parts) × (L.all ≡ L.parts) }
-        requires seats { (0 < seats) × (seats ≤ L.all) }
-        ensures { MatchResult result (λ opened. (length opened.1.items ≡ seats)
-            × IsFirstOf 0 opened.1.items) (λ refused. refused.0 ≡ book) }
+    ) -> Result<(SharedNode<S, J>, Vec<Seat<J>>), AllocError>
+        requires none { front ≡ [] }
+        requires beginning { J.beginning ≡ Some (beginning_of node) }
+        ensures { IfOk result (λ opened. AreNewSeats seats opened.1.items) }
     {
-        let mut row = Vec::new(alloc);
-        if row.reserve(usize::from(seats)).is_err() {
-            return Err((book, blank, places, AllocError));
-        }
-        let (calls, share) = blank.open::<L>();
-        let row = seated(alloc, row, seats, share);
-        let desk = Mutex::new(Desk {
-            alloc,
-            book,
-            before: 0,
-            calls,
-            places,
-        });
-        Ok((SharedNode { desk, seats }, row))
+        let whole = Whole::new(alloc, head, front, seats)?;
+        let row = new_seats(alloc, &whole, seats)?;
+        let desk = Mutex::new(Desk::new(alloc, node, whole, places, retention)?);
+        Ok((SharedNode { desk }, row))
     }
 
-    /// Makes one call by a seat. The seat comes back with the call in its list, or unchanged where
-    /// no step was taken. A request that is answered is served at once, and nothing else is done
-    /// then; or it waits for what begins with it.
+    /// Makes one call by a seat. The entry of the call is then the last one that the seat knows of
+    /// the history. Where no step was taken, the seat stays as it was. A request that is answered is
+    /// served at once, and nothing else is done then; or it waits for what begins with it.
     ///
-    /// Faults: `ShiftFull` where the book has 4,096 entries or the count of calls is at its
-    /// greatest, and else `NoMemory` where there is no room for the call; both change nothing.
-    /// `Step` with the fault of the step. `ReplyLost` where the step stands but there was no memory
-    /// for a copy of its reply.
+    /// Faults: those of the step. `NoMemory` also comes where there is no memory for the entry or to
+    /// begin the next record, and no step is taken then; and where there is none for a copy of the
+    /// reply, and the step stands then.
     pub fn call<R: Wait>(
         &self,
         rt: &R,
-        mut seat: Seat<L>,
+        seat: &mut Seat<J>,
         event: Event<()>,
-    ) -> (Seat<L>, Result<Reply<()>, BookFault>)
-        ensures called { Called seat event result.1 result.0 }
-        ensures right { IsRightlyTold event (told_of result.1) }
-        ensures asks { IfOk result.1 (AnswersAsk event) }
+    ) -> Result<Reply<()>, StepFault>
+        ensures called { Called seat.old event result seat.new }
+        ensures asks { IfOk result (AnswersAsk event) }
     {
-        let answer = self.desk.lock(rt).call(&mut seat, event);
-        (seat, answer)
+        self.desk.lock(rt).call(seat, event)
+    }
+
+    /// Holds the node: no call is made until what is returned is dropped.
+    pub fn hold<R: Wait>(&self, rt: &R) -> Held<'_, S, J> {
+        Held {
+            desk: self.desk.lock(rt),
+        }
     }
 }
 
-/// Makes seats of a share of all parts: the first gets its amount, and the others an amount of 0.
-pub(crate) fn seated<L: Calls>(
+/// The seats of a node, by their numbers from 0.
+fn new_seats<J: Origin>(
     alloc: Global,
-    mut row: Vec<Seat<L>>,
+    whole: &Whole<J>,
     seats: u8,
-    mut share: Share<L>,
-) -> Vec<Seat<L>>
-    requires empty { row.items ≡ [] }
-    requires room { seats ≤ vec_capacity row }
-    requires seats { (0 < seats) × (seats ≤ L.all) }
-    requires parts { share.parts ≡ L.all }
-    ensures count { length result.items ≡ seats }
-    ensures first { IsFirstOf share.amount result.items }
+) -> Result<Vec<Seat<J>>, AllocError>
+    requires { whole.now ≡ [] }
+    ensures { IfOk result (λ row. AreNewSeats seats row.items) }
 {
-    for number in 1..seats {
-        let other = share.split_off(1, 0);
-        row.push_reserved(new_seat(alloc, number, seats, other));
+    let mut row = Vec::new(alloc);
+    for number in 0..seats {
+        row.push(whole.new_seat(number))?;
     }
-    match row.insert(0, new_seat(alloc, 0, seats, share)) {
-        Ok(()) => row,
-        Err(_) => unreachable!(),
-    }
+    Ok(row)
 }
 
-/// A seat by which no call was made.
-fn new_seat<L: Calls>(alloc: Global, number: u8, seats: u8, share: Share<L>) -> Seat<L>
-    requires number { (number < seats) × (seats ≤ L.all) }
-    requires parts { share.parts ≡ parts_of L.all seats number }
-    ensures { result ≡ record {
-      number = number;
-      seats = seats;
-      made = [];
-      parts =
-          share.parts;
-      amount = share.amount;
-    } }
-{
-    Seat {
-        number,
-        seats,
-        made: Vec::new(alloc),
-        share,
+/// A node that is held.
+#[derive(Drop)]
+pub struct Held<'n, S: FloorStore, J: Origin> {
+    desk: MutexGuard<'n, Desk<S, J>>,
+}
+
+impl<S: FloorStore + Drop, J: Origin> Held<'_, S, J> {
+    /// Ends the open record, begins the next one, and takes out the records that are kept, oldest
+    /// first; or none, where none is kept. The records are a part of the node's history. Where there
+    /// is no memory for that, nothing changes.
+    pub fn take_records(&mut self) -> Result<Option<Vec<Record>>, AllocError>
+        ensures { IfOk result (λ taken. IfSome taken (λ records. ArePart J.beginning records.items)) }
+    {
+        self.desk.take_records()
     }
 }

@@ -2,8 +2,6 @@
 use Rattle.std.specs.Prelude.{ℕ, List, codes}
 use Rattle.node_core.specs.Names.{open_fault_name}
 use Rattle.cluster_sockets.specs.Names.{loop_fault_name}
-use Rattle.node_seats.specs.declared.shift.CloseFault.{CloseFault}
-use Rattle.node_seats.specs.declared.shift.CloseFault.TheVariants as close
 use Rattle.node_workers.specs.declared.fault.StartFault.{StartFault}
 use Rattle.node_workers.specs.declared.fault.StartFault.TheVariants as start
 use Rattle.node_workers.specs.declared.fault.Unready.{Unready}
@@ -26,12 +24,5 @@ start_fault_of unready.NoMemory = start.NoMemory
 
 -- the name of a fault of a stop: that of its variant
 abbrev pub stop_fault_name : StopFault → List ℕ
-stop_fault_name stop.SeatMissing = codes "SeatMissing"
-stop_fault_name stop.Mismatch = codes "Mismatch"
+stop_fault_name stop.Ended = codes "Ended"
 stop_fault_name stop.NoMemory = codes "NoMemory"
-
--- the fault of a stop by why a shift was not closed, or the next not opened
-abbrev pub stop_fault_of : CloseFault → StopFault
-stop_fault_of close.SeatMissing = stop.SeatMissing
-stop_fault_of close.Mismatch = stop.Mismatch
-stop_fault_of close.NoMemory = stop.NoMemory

@@ -4,7 +4,6 @@ ghost use Rattle.node_workers.specs.Names.{start_fault_name, stop_fault_name};
 
 use cluster_sockets::LoopFault;
 use node_core::OpenFault;
-use node_seats::CloseFault;
 use std::alloc::AllocError;
 use thiserror::Error;
 
@@ -39,13 +38,10 @@ pub(crate) enum Unready {
 /// Why the records of a node are not given.
 #[derive(Clone, Copy, Debug, PartialEq, Eq, Error)]
 pub enum StopFault {
-    /// The seats that came back are not all seats of the node; or its thread has ended.
-    #[error("a seat is missing")]
-    SeatMissing,
-    /// A seat's own list of calls and answers differs from the book.
-    #[error("a seat's list differs from the book")]
-    Mismatch,
-    /// There was no memory to close a shift or to open the next.
+    /// The node's thread has ended.
+    #[error("the node has ended")]
+    Ended,
+    /// There was no memory to end a record or to begin the next.
     #[error("there was no memory")]
     NoMemory,
 }
@@ -70,8 +66,7 @@ impl StopFault {
         ensures { result.now ≡ stop_fault_name self }
     {
         match self {
-            StopFault::SeatMissing => "SeatMissing",
-            StopFault::Mismatch => "Mismatch",
+            StopFault::Ended => "Ended",
             StopFault::NoMemory => "NoMemory",
         }
     }
@@ -133,20 +128,5 @@ impl From<AllocError> for StopFault {
 
     fn from(_: AllocError) -> StopFault {
         StopFault::NoMemory
-    }
-}
-
-impl From<CloseFault> for StopFault {
-    ghost use Rattle.std.specs.Prelude.{◌≡◌};
-    ghost use Rattle.node_workers.specs.Names.{stop_fault_of};
-
-    ghost from_gives = { λ fault stop. stop ≡ stop_fault_of fault };
-
-    fn from(fault: CloseFault) -> StopFault {
-        match fault {
-            CloseFault::SeatMissing => StopFault::SeatMissing,
-            CloseFault::Mismatch => StopFault::Mismatch,
-            CloseFault::NoMemory => StopFault::NoMemory,
-        }
     }
 }

@@ -85,7 +85,7 @@ impl Halt {
             .wait_while(rt, stand, |stand| matches!(*stand, Stand::Wanted));
     }
 
-    /// Asks for the records of a node that is held, and waits for them. `SeatMissing` comes where
+    /// Asks for the records of a node that is held, and waits for them. `Ended` comes where
     /// its thread has ended.
     pub(crate) fn ask<R: Wait>(&self, rt: &R) -> Taken {
         let mut stand = self.stand.lock(rt);
@@ -97,11 +97,11 @@ impl Halt {
             .has_moved
             .wait_while(rt, stand, |stand| matches!(*stand, Stand::Asked));
         if !matches!(*stand, Stand::Given(_)) {
-            return Err(StopFault::SeatMissing);
+            return Err(StopFault::Ended);
         }
         match replace(&mut *stand, Stand::Held) {
             Stand::Given(taken) => taken,
-            _ => Err(StopFault::SeatMissing),
+            _ => Err(StopFault::Ended),
         }
     }
 

@@ -1,4 +1,4 @@
-//! A node that runs: its sockets, its threads and its shifts.
+//! A node that runs: its sockets and its threads.
 //!
 //! [`Workers::start`] opens a node's sockets and starts the node's thread. That thread starts 2 to
 //! 8 workers and as many fetchers. It then polls the [`NodeLoop`](cluster_sockets::NodeLoop) until the
@@ -9,9 +9,10 @@
 //! begins nothing, so a worker answers it, and two siblings that fetch from each other do not wait
 //! for each other's fetches.
 //!
-//! The node's lock is held for one step, and no lock is held while a socket is waited for. Shifts
-//! end and begin under that lock (`node_shifts`), so fetches and waiting clients outlive them.
-//! [`Workers::stop`] closes the last shift, and answers 503 to those who wait.
+//! Each thread owns a seat of the node (`node_seats`) and takes its steps by it. The node's lock is
+//! held for one step, and no lock is held while a socket is waited for. A record that is full ends
+//! within a step, and nobody waits for it. [`Workers::stop`] ends the threads, and answers 503 to
+//! those who wait.
 //!
 //! To read the records of a running node, hold it first ([`Workers::hold`]): its thread takes the
 //! node's lock and keeps it, so no step is taken until [`Workers::resume`]. Meanwhile

@@ -1,4 +1,5 @@
 //! The threads of a node: its workers, its fetchers, and its event loop.
+ghost use Rattle.std.specs.Prelude.{◌≡◌, ◌<◌};
 ghost use Rattle.std.specs.Thread.{IsSend};
 
 use crate::fault::{StopFault, Unready};
@@ -10,46 +11,19 @@ use cluster_sockets::NodeLoop;
 use cluster_streams::StreamPolls;
 use floor_rules::FloorStore;
 use node_bytes::Stepper;
-use node_seats::Calls;
-use node_shifts::{AtSeat, Shifts};
+use node_seats::{AtSeat, Held, Origin, Seat, SharedNode};
 use std::net::{Net, TcpListener, TcpStream};
-use std::sync::{Mutex, Wait};
+use std::sync::Wait;
 use std::thread::{self, Scope, Threads};
 use std::time::Clock;
+use std::vec::IntoIter;
 
 /// How many timers are queued before one poll of the loop at most.
 const MOST_TIMERS: u32 = 256;
 
-/// What one worker has of its own.
-#[derive(Drop)]
-pub(crate) struct Kit<Q: QueueName> {
-    /// The number of its seat.
-    pub(crate) number: u8,
-    /// Its pass to the job queue.
-    pub(crate) pass: Pass<Q>,
-    /// What it polls its streams with.
-    pub(crate) polls: StreamPolls,
-}
-
-/// What one fetcher has of its own.
-#[derive(Drop)]
-pub(crate) struct FetchKit {
-    /// The number of its seat.
-    pub(crate) number: u8,
-    /// What it polls its streams with.
-    pub(crate) polls: StreamPolls,
-}
-
-/// What the workers have, and what the fetchers have.
-#[derive(Drop)]
-pub(crate) struct Kits<Q: QueueName> {
-    pub(crate) workers: Vec<Kit<Q>>,
-    pub(crate) fetchers: Vec<FetchKit>,
-}
-
 /// What the threads of a node share.
 #[derive(Drop)]
-pub(crate) struct Shared<'a, Q: QueueName, S: FloorStore + Drop, L: Calls, G: Gate + Drop, R> {
+pub(crate) struct Shared<'a, Q: QueueName, S: FloorStore + Drop, J: Origin, G: Gate + Drop, R> {
     /// The clock, the network and the locks of the system.
     pub(crate) rt: &'a R,
     /// What is shared beside the node.
@@ -58,20 +32,24 @@ pub(crate) struct Shared<'a, Q: QueueName, S: FloorStore + Drop, L: Calls, G: Ga
     pub(crate) signals: &'a Signals,
     /// The job queue.
     pub(crate) jobs: &'a Jobs<Q>,
-    /// The node in its shifts, under its lock.
-    pub(crate) node: &'a Mutex<Shifts<S, L>>,
+    /// The node, under its lock.
+    pub(crate) node: &'a SharedNode<S, J>,
 }
 
-/// What takes the steps of a node by the seat of this number.
-fn seated<'a, Q: QueueName, S: FloorStore + Drop, L: Calls, G: Gate + Drop, R: Wait>(
-    shared: &Shared<'a, Q, S, L, G, R>,
-    number: u8,
+/// What takes the steps of a node by this seat, for the thread that owns it.
+fn seated<'a, Q: QueueName, S: FloorStore + Drop, J: Origin, G: Gate + Drop, R: Wait>(
+    shared: &Shared<'a, Q, S, J, G, R>,
+    seat: Seat<J>,
     polls: StreamPolls,
-) -> Seated<'a, AtSeat<'a, S, L, R>, G, R> {
+) -> Seated<'a, AtSeat<'a, S, J, R>, G, R> {
     Seated {
         rt: shared.rt,
         station: shared.station,
-        node: AtSeat::new(shared.rt, shared.node, number),
+        node: AtSeat {
+            rt: shared.rt,
+            node: shared.node,
+            seat,
+        },
         polls,
     }
 }
@@ -97,18 +75,15 @@ fn do_jobs<N: Stepper + Drop, Q: QueueName, G: Gate + Drop, R: Wait + Clock>(
     }
 }
 
-/// Runs a worker's thread.
-fn work<Q: QueueName, S: FloorStore + Drop, L: Calls, G: Gate + Drop, R: Wait + Clock>(
-    shared: &Shared<'_, Q, S, L, G, R>,
-    kit: Kit<Q>,
+/// Runs the thread of a worker, which owns this seat.
+fn work<Q: QueueName, S: FloorStore + Drop, J: Origin, G: Gate + Drop, R: Wait + Clock>(
+    shared: &Shared<'_, Q, S, J, G, R>,
+    seat: Seat<J>,
+    pass: Pass<Q>,
+    polls: StreamPolls,
 ) {
-    let Kit {
-        number,
-        pass,
-        polls,
-    } = kit;
     let mut worker = Worker {
-        seated: seated(shared, number, polls),
+        seated: seated(shared, seat, polls),
     };
     do_jobs(&mut worker, shared.jobs, pass);
 }
@@ -126,48 +101,73 @@ fn do_errands<N: Stepper + Drop, G: Gate + Drop, R: Net + Wait + Clock>(
     }
 }
 
-/// Runs a fetcher's thread.
-fn fetch<Q: QueueName, S: FloorStore + Drop, L: Calls, G: Gate + Drop, R: Net + Wait + Clock>(
-    shared: &Shared<'_, Q, S, L, G, R>,
-    kit: FetchKit,
+/// Runs the thread of a fetcher, which owns this seat.
+fn fetch<Q: QueueName, S: FloorStore + Drop, J: Origin, G: Gate + Drop, R: Net + Wait + Clock>(
+    shared: &Shared<'_, Q, S, J, G, R>,
+    seat: Seat<J>,
+    polls: StreamPolls,
 ) {
     let mut fetcher = Fetcher {
-        seated: seated(shared, kit.number, kit.polls),
+        seated: seated(shared, seat, polls),
     };
     do_errands(&mut fetcher);
 }
 
-/// Starts the workers. Returns whether all were started.
+/// Starts this many workers, each with a seat and a pass of its own. `working` is what they poll
+/// their streams with. Returns the pass that is left, and whether all were started.
 fn start_workers<
     's,
     E,
     Q: QueueName + Send + Sync,
     S: FloorStore + Drop + Send,
-    L: Calls + Send + Sync,
+    J: Origin + Send + Sync,
     G: Gate + Drop + Send + Sync,
     R: Threads + Wait + Clock + Net<Listener = TcpListener, Stream = TcpStream> + Sync,
->(scope: &Scope<'s, E>, shared: &'s Shared<'s, Q, S, L, G, R>, kits: Vec<Kit<Q>>) -> bool {
+>(
+    scope: &Scope<'s, E>,
+    shared: &'s Shared<'s, Q, S, J, G, R>,
+    count: u8,
+    mut working: Vec<StreamPolls>,
+    seats: &mut IntoIter<Seat<J>>,
+    mut pass: Pass<Q>,
+) -> (Pass<Q>, bool)
+    requires { pass.parts ≡ 1024 }
+{
     let mut are_all = true;
-    for kit in kits {
-        let started = scope.spawn(move || work(shared, kit));
+    for _number in 0..count {
+        let (Some(polls), Some(seat)) = (working.pop(), seats.next()) else {
+            return (pass, false);
+        };
+        let (kept, own) = shared.jobs.split(shared.rt, pass);
+        pass = kept;
+        let started = scope.spawn(move || work(shared, seat, own, polls));
         are_all = are_all && started.is_ok();
     }
-    are_all
+    (pass, are_all)
 }
 
-/// Starts the fetchers. Returns whether all were started.
+/// Starts a fetcher with a seat of its own for each of these, which it polls its streams with.
+/// Returns whether all were started.
 fn start_fetchers<
     's,
     E,
     Q: QueueName + Send + Sync,
     S: FloorStore + Drop + Send,
-    L: Calls + Send + Sync,
+    J: Origin + Send + Sync,
     G: Gate + Drop + Send + Sync,
     R: Threads + Wait + Clock + Net<Listener = TcpListener, Stream = TcpStream> + Sync,
->(scope: &Scope<'s, E>, shared: &'s Shared<'s, Q, S, L, G, R>, kits: Vec<FetchKit>) -> bool {
+>(
+    scope: &Scope<'s, E>,
+    shared: &'s Shared<'s, Q, S, J, G, R>,
+    fetching: Vec<StreamPolls>,
+    seats: &mut IntoIter<Seat<J>>,
+) -> bool {
     let mut are_all = true;
-    for kit in kits {
-        let started = scope.spawn(move || fetch(shared, kit));
+    for polls in fetching {
+        let Some(seat) = seats.next() else {
+            return false;
+        };
+        let started = scope.spawn(move || fetch(shared, seat, polls));
         are_all = are_all && started.is_ok();
     }
     are_all
@@ -199,23 +199,23 @@ fn put_due<Q: QueueName, G: Drop, R: Wait + Clock>(
     (pass, is_due)
 }
 
-/// Ends the node's shift, and takes its records out.
-fn records_of<S: FloorStore + Drop, L: Calls>(shifts: &mut Shifts<S, L>) -> Taken {
-    match shifts.take_records() {
+/// Takes out the records of a node that is held.
+fn records_of<S: FloorStore + Drop, J: Origin>(held: &mut Held<'_, S, J>) -> Taken {
+    match held.take_records() {
         Ok(records) => Ok(records),
-        Err(fault) => Err(StopFault::from(fault)),
+        Err(_) => Err(StopFault::NoMemory),
     }
 }
 
 /// Holds the node under its lock until it is to go on, and gives its records whenever they are
 /// asked for.
-fn hold<S: FloorStore + Drop, L: Calls, R: Wait>(rt: &R, halt: &Halt, node: &Mutex<Shifts<S, L>>) {
-    let mut shifts = node.lock(rt);
+fn hold<S: FloorStore + Drop, J: Origin, R: Wait>(rt: &R, halt: &Halt, node: &SharedNode<S, J>) {
+    let mut held = node.hold(rt);
     for _ in rt.forever() {
         if !halt.stand_by(rt) {
             break;
         }
-        halt.give(rt, records_of(&mut shifts));
+        halt.give(rt, records_of(&mut held));
     }
 }
 
@@ -223,14 +223,14 @@ fn hold<S: FloorStore + Drop, L: Calls, R: Wait>(rt: &R, halt: &Halt, node: &Mut
 fn poll_until_stopped<
     Q: QueueName,
     S: FloorStore + Drop,
-    L: Calls,
+    J: Origin,
     G: Gate + Drop,
     R: Wait + Clock,
->(shared: &Shared<'_, Q, S, L, G, R>, poller: &mut NodeLoop, mut pass: Pass<Q>) {
+>(shared: &Shared<'_, Q, S, J, G, R>, seat: Seat<J>, poller: &mut NodeLoop, mut pass: Pass<Q>) {
     let (rt, station, jobs) = (shared.rt, shared.station, shared.jobs);
     let halt = &shared.signals.halt;
-    // (the last seat belongs to no worker and no fetcher)
-    let mut questions = Questions::new(station, AtSeat::new(rt, shared.node, u8::MAX));
+    let node = shared.node;
+    let mut questions = Questions::new(station, AtSeat { rt, node, seat });
     let mut owed = None;
     for _ in rt.forever() {
         if station.is_stopped() {
@@ -253,28 +253,46 @@ fn poll_until_stopped<
 }
 
 /// Runs the workers, the fetchers and the event loop until the node is to stop. First tells whether
-/// all threads were started; where one was not, the others end at once.
+/// all threads were started; where one was not, the others end at once. `count` is the number of
+/// workers; `working` and `fetching` are what workers and fetchers poll their streams with. Each
+/// thread owns one of the seats: the first are the workers', then come the fetchers', and the last
+/// is the event loop's.
 pub(crate) fn run_threads<
     Q: QueueName + Send + Sync,
     S: FloorStore + Drop + Send,
-    L: Calls + Send + Sync,
+    J: Origin + Send + Sync,
     G: Gate + Drop + Send + Sync,
     R: Threads + Wait + Clock + Net<Listener = TcpListener, Stream = TcpStream> + Sync,
->(shared: &Shared<'_, Q, S, L, G, R>, kits: Kits<Q>, poller: &mut NodeLoop, pass: Pass<Q>) {
+>(
+    shared: &Shared<'_, Q, S, J, G, R>,
+    count: u8,
+    working: Vec<StreamPolls>,
+    fetching: Vec<StreamPolls>,
+    seats: Vec<Seat<J>>,
+    poller: &mut NodeLoop,
+    pass: Pass<Q>,
+)
+    requires { pass.parts ≡ 1024 }
+{
     let (rt, station) = (shared.rt, shared.station);
     let report = &shared.signals.report;
+    let mut seats = seats.into_iter();
     thread::scope(
         thread::scope_env(),
         rt,
         move |scope|
-            requires { IsSend Q.row × IsSend S.row × IsSend L.row × IsSend G.row }
+            requires { (pass.parts ≡ 1024) × IsSend Q.row × IsSend S.row × IsSend J.row × IsSend G.row }
         {
-            let Kits { workers, fetchers } = kits;
-            if start_workers(scope, shared, workers) && start_fetchers(scope, shared, fetchers) {
-                report.tell(rt, Ok(()));
-                poll_until_stopped(shared, poller, pass);
-            } else {
-                report.tell(rt, Err(Unready::NoThread));
+            let (pass, are_working) = start_workers(
+                scope, shared, count, working, &mut seats, pass,
+            );
+            let are_all = are_working && start_fetchers(scope, shared, fetching, &mut seats);
+            match seats.next() {
+                Some(seat) if are_all => {
+                    report.tell(rt, Ok(()));
+                    poll_until_stopped(shared, seat, poller, pass);
+                }
+                _ => report.tell(rt, Err(Unready::NoThread)),
             }
             station.bell.end(rt);
             station.errands.end(rt);

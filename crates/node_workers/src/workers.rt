@@ -1,5 +1,5 @@
 //! A running node, from outside.
-ghost use Rattle.std.specs.Prelude.{◌≡◌, ◌≢◌, ◌≤◌, ◌<◌, [], true, false, OnOk, IfErr};
+ghost use Rattle.std.specs.Prelude.{◌≡◌, ◌≢◌, ◌≤◌, ◌<◌, true, false, OnOk, IfErr};
 ghost use Rattle.roster.specs.Lookups.{is_member};
 ghost use Rattle.floor_rules.specs.declared.fault.FloorFault.TheVariants as storing;
 ghost use Rattle.node_core.specs.declared.opening.OpenFault.TheVariants as opening;
@@ -7,16 +7,15 @@ ghost use Rattle.node_workers.specs.declared.fault.StartFault.TheVariants as sta
 
 use crate::fault::{StartFault, StopFault, Unready};
 use crate::halt::Halt;
-use crate::node::{Edge, Prepared, Start, run_node};
+use crate::node::{Edge, Start, run_node};
 use crate::signals::Signals;
 use cluster_service::{Gate, Station};
 use cluster_sockets::{LoopFault, NodeLoop, Senders};
 use cluster_streams::StreamPolls;
 use floor_rules::FloorStore;
-use node_book::{NodeBook, Record};
+use node_book::Record;
 use node_core::{Node, OpenFault};
-use node_seats::Places;
-use node_shifts::History;
+use node_seats::{Places, Retention};
 use roster::Roster;
 use std::alloc::Global;
 use std::hash::RandomState;
@@ -37,8 +36,8 @@ pub struct Ground<S: FloorStore> {
     pub floors: S,
     /// The counter of places, which all nodes of a run share.
     pub places: Places,
-    /// What becomes of the records of its shifts.
-    pub history: History,
+    /// What becomes of its records.
+    pub retention: Retention,
     /// Random hash keys, which nobody outside knows, so that nobody can choose URLs whose look-ups
     /// are slow. All nodes of a run may share them.
     pub keys: RandomState,
@@ -52,20 +51,14 @@ pub struct Workers {
     halt: Arc<Halt, Global>,
 }
 
-/// A book without entries.
-struct Fresh<S: FloorStore> {
-    book: NodeBook<S>,
-    ghost fresh: { book.entries ≡ [] },
-}
-
-/// Opens a node, and a book for it.
-fn fresh_book<S: FloorStore + Drop>(
+/// Opens a node.
+fn open_node<S: FloorStore + Drop>(
     alloc: Global,
     roster: &Roster,
     id: u8,
     floors: S,
     keys: RandomState,
-) -> Result<Fresh<S>, StartFault>
+) -> Result<Node<(), S>, StartFault>
     ensures such { is_member roster.now id ≡ true →
         IfErr result (λ fault. fault ≢ starting.Open opening.NoSuchNode) }
     ensures cause { IfErr result (λ fault.
@@ -76,13 +69,9 @@ fn fresh_book<S: FloorStore + Drop>(
         × (fault ≢ starting.Open (opening.Floors storing.BadTable))) }
 {
     let roster = roster.copy(alloc)?;
-    let node = match Node::open_with_random_keys(alloc, roster, id, floors, keys) {
-        Ok(node) => node,
-        Err(fault) => return Err(StartFault::Open(fault)),
-    };
-    match NodeBook::open(alloc, node) {
-        Ok(book) => Ok(Fresh { book }),
-        Err(_) => Err(StartFault::NoMemory),
+    match Node::open_with_random_keys(alloc, roster, id, floors, keys) {
+        Ok(node) => Ok(node),
+        Err(fault) => Err(StartFault::Open(fault)),
     }
 }
 
@@ -141,29 +130,22 @@ fn station<G: Gate + Drop>(
     }
 }
 
-/// What the threads of a node poll their streams with.
-#[derive(Drop)]
-struct PollsOfAll {
-    working: Vec<StreamPolls>,
-    fetching: Vec<StreamPolls>,
-    last: StreamPolls,
-}
-
 /// What this many workers, as many fetchers and the node's thread poll their streams with.
-fn polls_for<N: Net>(net: &N, alloc: Global, count: u8) -> Result<PollsOfAll, Unready> {
+fn polls_for<N: Net>(
+    net: &N,
+    alloc: Global,
+    count: u8,
+) -> Result<(Vec<StreamPolls>, Vec<StreamPolls>, StreamPolls), Unready> {
     let working = all_polls(net, alloc, count)?;
     let fetching = all_polls(net, alloc, count)?;
     match polls(net, alloc) {
-        Ok(last) => Ok(PollsOfAll {
-            working,
-            fetching,
-            last,
-        }),
+        Ok(last) => Ok((working, fetching, last)),
         Err(fault) => Err(fault),
     }
 }
 
-/// What the threads of a node work with, beside the node.
+/// Opens what the threads of a node work with, beside the node, and the signals that they share with
+/// the thread that starts them.
 fn edge_of<G: Gate + Drop, R: Net + Clock>(
     rt: &R,
     alloc: Global,
@@ -171,67 +153,25 @@ fn edge_of<G: Gate + Drop, R: Net + Clock>(
     id: u8,
     count: u8,
     gate: Arc<G, Global>,
-    signals: Signals,
-) -> Result<Edge<G>, Unready>
-    requires { is_member roster.now id ≡ true }
-{
-    let (poller, senders) = sockets(rt, alloc, roster, id)?;
-    let station = station(alloc, roster, id, senders, gate, &signals)?;
-    match polls_for(rt, alloc, count) {
-        Ok(
-            PollsOfAll {
-                working,
-                fetching,
-                last,
-            },
-        ) => Ok(Edge {
-            station,
-            signals,
-            poller,
-            working,
-            fetching,
-            last,
-        }),
-        Err(fault) => Err(fault),
-    }
-}
-
-/// Opens the sockets of a node that is opened, and starts its thread.
-fn start_prepared<
-    S: FloorStore + Drop + Send + 'static,
-    G: Gate + Drop + Send + Sync + 'static,
-    R: Threads
-        + Wait
-        + Clock
-        + Net<Listener = TcpListener, Stream = TcpStream>
-        + Copy
-        + Drop
-        + Send
-        + Sync
-        + 'static,
->(
-    rt: R,
-    alloc: Global,
-    roster: &Roster,
-    id: u8,
-    prepared: Prepared<S>,
-    gate: Arc<G, Global>,
-) -> Result<Workers, Unready>
+) -> Result<(Edge<G>, Signals), Unready>
     requires { is_member roster.now id ≡ true }
 {
     let signals = Signals::new(alloc)?;
     let told = signals.try_clone()?;
-    let count = prepared.count;
-    match edge_of(&rt, alloc, roster, id, count, gate, told) {
-        Ok(edge) => begin(
-            rt,
-            Start {
-                alloc,
-                edge,
-                prepared,
-            },
-            signals,
-        ),
+    let (poller, senders) = sockets(rt, alloc, roster, id)?;
+    let station = station(alloc, roster, id, senders, gate, &signals)?;
+    match polls_for(rt, alloc, count) {
+        Ok((working, fetching, last)) => {
+            let edge = Edge {
+                station,
+                signals: told,
+                poller,
+                working,
+                fetching,
+                last,
+            };
+            Ok((edge, signals))
+        }
         Err(fault) => Err(fault),
     }
 }
@@ -330,17 +270,20 @@ impl Workers {
         let Ground {
             floors,
             places,
-            history,
+            retention,
             keys,
         } = ground;
-        let Fresh { book } = fresh_book(alloc, roster, id, floors, keys)?;
-        let prepared = Prepared {
-            book,
+        let node = open_node(alloc, roster, id, floors, keys)?;
+        let (edge, signals) = edge_of(&rt, alloc, roster, id, count, gate)?;
+        let start = Start {
+            alloc,
+            node,
             places,
             count,
-            history,
+            retention,
+            edge,
         };
-        Ok(start_prepared(rt, alloc, roster, id, prepared, gate)?)
+        Ok(begin(rt, start, signals)?)
     }
 
     /// Holds the node, and waits until it is held: until [`Workers::resume`] no step is taken, and
@@ -350,14 +293,14 @@ impl Workers {
         self.halt.hold(rt);
     }
 
-    /// Ends the shift of the node, opens the next, and hands out the records that are kept and were
-    /// not handed out before, oldest first; or none, where the history is dropped, from the start
-    /// or since there were more records than are kept. A node that was not held is held first, and
+    /// Ends the open record of the node, begins the next, and hands out the records that are kept and
+    /// were not handed out before, oldest first; or none, where none is kept, from the start or
+    /// since there were more records than are kept. A node that was not held is held first, and
     /// stays held.
     ///
-    /// Faults: those of a shift that is not closed, and `NoMemory` where the next one is not
-    /// opened. The node stays held, its records stay with it, and they may be asked for again.
-    /// `SeatMissing` also comes where the node's thread has ended.
+    /// Faults: `NoMemory` where there is no memory to begin the next record; the node stays held, its
+    /// records stay with it, and they may be asked for again. `Ended` where the node's thread has
+    /// ended.
     pub fn records<R: Wait>(&self, rt: &R) -> Result<Option<Vec<Record>>, StopFault> {
         self.halt.hold(rt);
         self.halt.ask(rt)
@@ -377,13 +320,11 @@ impl Workers {
     }
 
     /// Stops the node, also one that is held, and waits for its end. Its workers end the jobs that
-    /// they have, and its fetchers the fetches that are under way. Its last shift is closed, those
-    /// who wait get 503, and its sockets are closed. Returns the records that are kept, oldest
-    /// first.
+    /// they have, and its fetchers the fetches that are under way. Those who wait get 503, and its
+    /// sockets are closed. Returns the records that are kept, oldest first.
     ///
-    /// Faults: those of a shift that is not closed, and `NoMemory` where the next one is not
-    /// opened; the records are lost then. They concern the last shift alone: where such a fault
-    /// comes while the node runs, the step is refused, and the node goes on.
+    /// Fault: `NoMemory` where there is no memory to end the last record, or for the seats at the
+    /// start; the records are lost then.
     pub fn stop<R: Threads + Wait>(self, rt: &R) -> Result<Vec<Record>, StopFault> {
         self.begin_stop(rt);
         self.node.join(rt)

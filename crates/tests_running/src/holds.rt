@@ -158,7 +158,7 @@ fn records_are_refused_once_it_ends(rt: HostRuntime) -> Result<(), Fail> {
         held == Ok(Some(1)),
         "a node is held where its records are asked for"
     );
-    assert!(rt; ended == Err(StopFault::SeatMissing), "they are refused");
+    assert!(rt; ended == Err(StopFault::Ended), "they are refused");
     assert!(rt; last == Ok(1), "the last step");
     Ok(())
 }

@@ -98,7 +98,7 @@ impl Held {
     /// Polls for so many milliseconds. How many entries there are since they were last taken, and in how many of these the two members are listed as due.
     fn entered<R: Wait + Clock>(&mut self, rt: &R, most: u64) -> Result<(usize, usize), Fail> {
         self.poll_for(rt, most)?;
-        let entries = self.master.take_entries(rt);
+        let entries = self.master.hold(rt).take_entries();
         let due = entries.iter().filter(|entry| lists_both(entry)).count();
         Ok((entries.len(), due))
     }

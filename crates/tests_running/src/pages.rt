@@ -65,7 +65,7 @@ fn taken<R: Wait>(
 ) -> Result<(bool, Vec<MasterEntry>), Fail> {
     let master = shared(alloc, &roster_at(alloc, 21400)?, to_keep)?;
     let told = filled(rt, alloc, &master, 4096)?;
-    Ok((told, master.take_entries(rt)))
+    Ok((told, master.hold(rt).take_entries()))
 }
 
 #[test]

@@ -40,8 +40,7 @@ fn faults_have_names(rt: HostRuntime) -> Result<(), Fail> {
         StartFault::Loop(LoopFault::Io).name(),
         StartFault::NoThread.name(),
         StartFault::NoMemory.name(),
-        StopFault::SeatMissing.name(),
-        StopFault::Mismatch.name(),
+        StopFault::Ended.name(),
         StopFault::NoMemory.name(),
     ];
     assert!(rt;
@@ -51,8 +50,7 @@ fn faults_have_names(rt: HostRuntime) -> Result<(), Fail> {
                 "Io",
                 "NoThread",
                 "NoMemory",
-                "SeatMissing",
-                "Mismatch",
+                "Ended",
                 "NoMemory",
             ]
     );

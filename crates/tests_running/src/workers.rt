@@ -1,8 +1,7 @@
 //! Nodes that begin and end.
 use floor_rules::{FloorStore, MemoryFloors};
 use node_book::Record;
-use node_seats::Places;
-use node_shifts::History;
+use node_seats::{Places, Retention};
 use node_workers::{Gate, Ground, StartFault, StopFault, Workers};
 use std::alloc::Global;
 use std::hash::RandomState;
@@ -23,7 +22,7 @@ fn ground<S: FloorStore + Drop, R: RandomSource>(
     Ok(Ground {
         floors,
         places: Places::new(alloc)?,
-        history: History::UpTo(16),
+        retention: Retention::UpTo(16),
         keys: RandomState::new(rt)?,
     })
 }

@@ -1,22 +1,21 @@
 //! Verdicts on the records of a node that threads share.
-ghost use Rattle.std.specs.Prelude.{◌≡◌, ◌≤◌};
+ghost use Rattle.std.specs.Prelude.{◌≡◌, Some};
+ghost use Rattle.node_seats.specs.Beginning.{beginning_of};
 
-use crate::nodes::{WITH_AN_ORIGIN, roster_of};
-use crate::seats::{Held, NextShift, called, closed, is_answered, shared, turned};
-use floor_rules::FloorStore;
+use crate::nodes::{Start, asked, call, share, start_of, take, verdict_on};
 use node_book::{NodeEntry, Record};
 use node_copies::{copy_of_event, copy_of_reply};
+use node_history::NewHistory;
 use node_rules::{Event, Reply, StepFault};
-use node_seats::{Calls, Shift};
-use roster::{Listed, Roster};
-use run_check::{Cause, Verdict, check_run};
+use node_seats::{Origin, Retention};
+use roster::Listed;
+use run_check::{Cause, Verdict};
 use std::alloc::{AllocError, Global};
 use std::hash::RandomState;
 use std::marker::Brand;
 use std::sync::Wait;
-use std::sync::ledger::Blank;
 use std::test::Fail;
-use std::thread::Threads;
+use tests_kit::ONE;
 
 /// The read fails that the first ask has begun: that is the first fetch of block 1.
 const READ_FAILS: Event<()> = Event::FetchFailed {
@@ -24,75 +23,46 @@ const READ_FAILS: Event<()> = Event::FetchFailed {
     now: 10,
 };
 
-/// Puts the record of a shift behind the others, and opens the next shift.
-fn next_of<S: FloorStore + Drop, L: Calls>(
-    shift: Shift<S, L>,
-    records: &mut Vec<Record>,
-) -> Option<Held<S, L>>
-    requires { 2 ≤ L.all }
-{
-    let NextShift { record, held } = turned(shift)?;
-    match records.push(record) {
-        Ok(()) => Some(held),
-        Err(_) => None,
-    }
-}
+/// A fetch fails that there was not.
+const FAILS: Event<()> = Event::FetchFailed { serial: 34, now: 9 };
 
-/// Ends a shift, and does the same with it.
-fn ended<S: FloorStore + Drop, L: Calls>(
-    held: Held<S, L>,
-    records: &mut Vec<Record>,
-) -> Option<Held<S, L>>
-    requires parts { (L.all ≡ L.parts) × (2 ≤ L.all) }
-{
-    match closed(held) {
-        Ok(shift) => next_of(shift, records),
-        Err(_) => None,
-    }
-}
-
-/// A shift with one call, which ends the ask that waits. Whether the call is answered, and the shift
-/// ends.
-fn is_ended<S: FloorStore + Drop, L: Calls, R: Wait>(
+/// Puts two records of a new node behind these. In the first record each of two seats makes a call:
+/// one asks, and waits for the origin. The one call of the second record ends that ask. Whether all
+/// that was done.
+fn two_records<J: Origin, R: Wait>(
     rt: &R,
-    mut held: Held<S, L>,
-    records: &mut Vec<Record>,
-) -> bool
-    requires parts { (L.all ≡ L.parts) × (2 ≤ L.all) }
-{
-    let answered = is_answered(rt, &held.node, &mut held.seats, READ_FAILS);
-    ended(held, records).is_some() && answered
-}
-
-/// Puts the records of two shifts behind these. In the first shift two threads make a call each: one
-/// asks, and waits for the origin. The one call of the second shift ends that ask. Whether all that
-/// was done.
-fn two_shifts<L: Calls + Send + Sync, R: Threads + Wait + Sync>(
-    rt: &R,
+    start: Start,
+    new: NewHistory,
+    ask: Event<()>,
     alloc: Global,
-    blank: Blank,
-    records: &mut Vec<Record>,
+    kept: &mut Vec<Record>,
 ) -> bool
-    requires name { blank.name ≡ L.name }
-    requires parts { (blank.parts ≡ L.parts) × (L.all ≡ L.parts) × (2 ≤ L.all) }
+    requires book { new.seen.book ≡ J.book }
+    requires beginning { J.beginning ≡ Some (beginning_of start.node) }
 {
-    let Some(mut held) = shared::<L>(alloc, blank) else {
+    let Some(mut shared) = share::<J>(alloc, start, new, Retention::UpTo(1), 2) else {
         return false;
     };
-    let is_called = called(rt, alloc, &mut held, false).is_some();
-    match ended(held, records) {
-        Some(held) => is_ended(rt, held, records) && is_called,
-        None => false,
-    }
+    let is_asked = call(rt, &mut shared, 0, ask).is_ok();
+    let is_refused = call(rt, &mut shared, 1, FAILS).is_err();
+    let first = take(rt, &shared.node, kept);
+    let is_ended = call(rt, &mut shared, 1, READ_FAILS).is_ok();
+    let second = take(rt, &shared.node, kept);
+    is_asked && is_refused && is_ended && first == Some(1) && second == Some(1)
 }
 
-/// How many asks wait where each of two records closes.
-fn waiting(records: &[Record]) -> Option<[usize; 2]> {
+/// How many asks wait where a record opens and where it closes.
+pub(crate) fn waiting(record: &Record) -> [usize; 2] {
+    [
+        record.opening.pending.as_slice().len(),
+        record.closing.pending.as_slice().len(),
+    ]
+}
+
+/// The same of two records.
+fn waiting_in_both(records: &[Record]) -> Option<[[usize; 2]; 2]> {
     match records {
-        [first, second] => Some([
-            first.closing.pending.as_slice().len(),
-            second.closing.pending.as_slice().len(),
-        ]),
+        [first, second] => Some([waiting(first), waiting(second)]),
         _ => None,
     }
 }
@@ -227,73 +197,51 @@ fn wanted(alloc: Global, records: &mut [Record], trial: &Trial) -> Option<Verdic
     Some(Verdict::No { place, cause })
 }
 
-/// The verdict on the first so many of the records.
-fn verdict(
-    alloc: Global,
-    keys: RandomState,
-    roster: &Roster,
-    records: &[Record],
-    count: usize,
-) -> Option<Verdict> {
-    check_run(alloc, keys, roster, records.get(..count)?, &[]).ok()
-}
-
 /// Whether a trial has the verdict that is wanted.
-fn is_right(
-    alloc: Global,
-    keys: RandomState,
-    roster: &Roster,
-    records: &mut [Record],
-    trial: &Trial,
-) -> bool {
-    match wanted(alloc, records, trial) {
-        Some(wanted) => verdict(alloc, keys, roster, records, trial.count) == Some(wanted),
+fn is_right(alloc: Global, keys: RandomState, records: &mut [Record], trial: &Trial) -> bool {
+    let Some(wanted) = wanted(alloc, records, trial) else {
+        return false;
+    };
+    match records.get(..trial.count) {
+        Some(first) => verdict_on(alloc, keys, ONE, first) == Some(wanted),
         None => false,
     }
 }
 
 /// The first trial that has another verdict, if one has.
-fn wrong_trial(
-    alloc: Global,
-    keys: RandomState,
-    roster: &Roster,
-    records: &mut [Record],
-) -> Option<usize> {
+fn wrong_trial(alloc: Global, keys: RandomState, records: &mut [Record]) -> Option<usize> {
     for (place, trial) in TRIALS.iter().enumerate() {
-        if !is_right(alloc, keys, roster, records, trial) {
+        if !is_right(alloc, keys, records, trial) {
             return Some(place);
         }
     }
     None
 }
 
-/// How many asks wait where each of two records closes, and the first trial that has another
-/// verdict.
-type Seen = ([usize; 2], Option<usize>);
+/// How many asks wait where each of two records opens and closes, and the first trial that has
+/// another verdict.
+type Seen = ([[usize; 2]; 2], Option<usize>);
 
 /// What is seen of these records.
 fn seen_of(alloc: Global, keys: RandomState, records: &mut [Record]) -> Option<Seen> {
-    let waiting = waiting(records)?;
-    let roster = roster_of(alloc, WITH_AN_ORIGIN)?;
-    Some((waiting, wrong_trial(alloc, keys, &roster, records)))
+    let waiting = waiting_in_both(records)?;
+    Some((waiting, wrong_trial(alloc, keys, records)))
 }
 
-/// What is seen of the records of two shifts.
-fn seen_of_two_shifts<R: Threads + Wait + Sync>(
-    rt: &R,
-    alloc: Global,
-    keys: RandomState,
-) -> Option<Seen> {
-    let mut records = Vec::new(alloc);
-    let done = two_shifts::<Brand, R>(rt, alloc, Blank::new(2), &mut records);
-    let seen = seen_of(alloc, keys, records.as_mut_slice());
+/// What is seen of two records of a new node.
+fn seen_of_two_records<R: Wait>(rt: &R, alloc: Global, keys: RandomState) -> Option<Seen> {
+    let ask = asked(alloc, false)?;
+    let start = start_of(alloc, ONE)?;
+    let mut kept = Vec::new(alloc);
+    let done = two_records::<Brand, R>(rt, start, NewHistory::new(), ask, alloc, &mut kept);
+    let seen = seen_of(alloc, keys, kept.as_mut_slice());
     if done { seen } else { None }
 }
 
 #[test]
-fn records_of_shifts_are_judged(rt: HostRuntime) -> Result<(), Fail> {
+fn records_are_judged(rt: HostRuntime) -> Result<(), Fail> {
     let keys = RandomState::new(&rt)?;
-    let seen = seen_of_two_shifts(&rt, rt.alloc(), keys);
-    assert!(rt; seen == Some(([1, 0], None)));
+    let seen = seen_of_two_records(&rt, rt.alloc(), keys);
+    assert!(rt; seen == Some(([[0, 1], [1, 0]], None)));
     Ok(())
 }

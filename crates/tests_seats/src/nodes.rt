@@ -1,147 +1,171 @@
-//! New nodes, and what they are asked.
-ghost use Rattle.std.specs.Prelude.{◌≡◌, [], IfSome};
+//! New nodes that threads share, what they are asked, and what is kept of them.
+ghost use Rattle.std.specs.Prelude.{◌≡◌, Some};
+ghost use Rattle.node_seats.specs.Beginning.{beginning_of};
 
-use floor_rules::{FloorStore, MemoryFloors};
-use http_messages::Ask;
-use node_book::NodeBook;
+use floor_rules::MemoryFloors;
+use http_messages::{Answer, Ask, Body, Fields};
+use node_book::Record;
 use node_core::Node;
-use node_rules::Event;
-use node_seats::Places;
+use node_history::NewHistory;
+use node_rules::{Event, Reply, StepFault};
+use node_seats::{Origin, Places, Retention, Seat, SharedNode};
 use roster::Roster;
+use run_check::{Verdict, check_run};
 use std::alloc::Global;
+use std::hash::RandomState;
+use std::sync::Wait;
 use url_key::Key;
-
-/// One member.
-pub(crate) const ONE: &str = concat!(
-    "default_lifetime = 60\n",
-    "copies = 1000\n",
-    "bytes = 1048576\n",
-    "query_wait = 2000\n",
-    "[master]\n",
-    "address = \"127.0.0.1\"\n",
-    "htcp = 4800\n",
-    "[[node]]\n",
-    "id = 1\n",
-    "name = \"n1\"\n",
-    "address = \"127.0.0.1\"\n",
-    "http = 8101\n",
-    "icp = 3101\n",
-    "htcp = 4101\n",
-);
-
-/// One member and an origin.
-pub(crate) const WITH_AN_ORIGIN: &str = concat!(
-    "default_lifetime = 60\n",
-    "copies = 1000\n",
-    "bytes = 1048576\n",
-    "query_wait = 2000\n",
-    "[master]\n",
-    "address = \"127.0.0.1\"\n",
-    "htcp = 4800\n",
-    "[[node]]\n",
-    "id = 1\n",
-    "name = \"n1\"\n",
-    "address = \"127.0.0.1\"\n",
-    "http = 8101\n",
-    "icp = 3101\n",
-    "htcp = 4101\n",
-    "[[origin]]\n",
-    "host = \"o\"\n",
-    "port = 80\n",
-    "address = \"127.0.0.1\"\n",
-    "connect = 8080\n",
-);
 
 /// A page of the origin.
 pub(crate) const PAGE: &[u8] = b"http://o/a";
 
-/// A fetch fails that there was not.
-pub(crate) const FAILS: Event<()> = Event::FetchFailed { serial: 34, now: 9 };
+/// What a call was told.
+pub(crate) type Told = Result<Reply<()>, StepFault>;
 
-/// The book of a new node, and the counter of its places.
+/// A new node, and the counter of its places.
 #[derive(Drop)]
-pub(crate) struct Start<S: FloorStore> {
-    pub(crate) book: NodeBook<S>,
+pub(crate) struct Start {
+    pub(crate) node: Node<(), MemoryFloors>,
     pub(crate) places: Places,
 }
 
 /// The roster that a text says.
-pub(crate) fn roster_of(alloc: Global, text: &str) -> Option<Roster> {
+fn roster_of(alloc: Global, text: &str) -> Option<Roster> {
     match Roster::read(alloc, text) {
         Ok(roster) => Some(roster),
         Err(_) => None,
     }
 }
 
-/// The node with the first number of the roster, over a store of floors.
-fn node_over<S: FloorStore + Drop>(alloc: Global, roster: Roster, store: S) -> Option<Node<(), S>> {
-    match Node::open(alloc, roster, 1, store) {
+/// A new node with this number in a roster.
+fn node_of(alloc: Global, roster: Roster, id: u8) -> Option<Node<(), MemoryFloors>> {
+    match Node::open(alloc, roster, id, MemoryFloors::new(alloc)) {
         Ok(node) => Some(node),
         Err(_) => None,
     }
 }
 
-/// The book of a node.
-fn book_over<S: FloorStore + Drop>(alloc: Global, node: Node<(), S>) -> Option<NodeBook<S>>
-    ensures { IfSome result (λ book. book.entries ≡ []) }
-{
-    match NodeBook::open(alloc, node) {
-        Ok(book) => Some(book),
-        Err(_) => None,
-    }
-}
-
-/// A book with a new counter of places.
-fn start_with<S: FloorStore + Drop>(alloc: Global, book: NodeBook<S>) -> Option<Start<S>>
-    requires { book.entries ≡ [] }
-    ensures { IfSome result (λ start. start.book.entries ≡ []) }
-{
-    match Places::new(alloc) {
-        Ok(places) => Some(Start { book, places }),
-        Err(_) => None,
-    }
-}
-
-/// What a node of this roster starts with, over a store of floors.
-fn start_over<S: FloorStore + Drop>(alloc: Global, roster: Roster, store: S) -> Option<Start<S>>
-    ensures { IfSome result (λ start. start.book.entries ≡ []) }
-{
-    let node = node_over(alloc, roster, store)?;
-    let book = book_over(alloc, node)?;
-    start_with(alloc, book)
-}
-
-/// What a new node of the roster in this text starts with.
-pub(crate) fn start_of(alloc: Global, text: &str) -> Option<Start<MemoryFloors>>
-    ensures { IfSome result (λ start. start.book.entries ≡ []) }
-{
+/// What the node with this number starts with, in the roster that a text says.
+pub(crate) fn start_at(alloc: Global, text: &str, id: u8, places: Places) -> Option<Start> {
     let roster = roster_of(alloc, text)?;
-    start_over(alloc, roster, MemoryFloors::new(alloc))
+    match node_of(alloc, roster, id) {
+        Some(node) => Some(Start { node, places }),
+        None => None,
+    }
 }
 
-/// The key of a URL.
-pub(crate) fn key_of(alloc: Global, url: &[u8]) -> Option<Key> {
-    match Key::read(alloc, url) {
+/// What the first node starts with, in the roster that a text says.
+pub(crate) fn start_of(alloc: Global, text: &str) -> Option<Start> {
+    match Places::new(alloc) {
+        Ok(places) => start_at(alloc, text, 1, places),
+        Err(_) => None,
+    }
+}
+
+/// A node that threads share, and its seats.
+#[derive(Drop)]
+pub(crate) struct Shared<J: Origin> {
+    pub(crate) node: SharedNode<MemoryFloors, J>,
+    pub(crate) seats: Vec<Seat<J>>,
+}
+
+/// Shares a new node by so many seats.
+pub(crate) fn share<J: Origin>(
+    alloc: Global,
+    start: Start,
+    new: NewHistory,
+    retention: Retention,
+    seats: u8,
+) -> Option<Shared<J>>
+    requires book { new.seen.book ≡ J.book }
+    requires beginning { J.beginning ≡ Some (beginning_of start.node) }
+{
+    let Start { node, places } = start;
+    let (head, front) = new.named::<J>();
+    match SharedNode::open(alloc, node, seats, retention, head, front, places) {
+        Ok((node, seats)) => Some(Shared { node, seats }),
+        Err(_) => None,
+    }
+}
+
+/// Makes a call by the seat of this number.
+pub(crate) fn call<J: Origin, R: Wait>(
+    rt: &R,
+    shared: &mut Shared<J>,
+    number: usize,
+    event: Event<()>,
+) -> Told {
+    match shared.seats.get_mut(number) {
+        Some(seat) => shared.node.call(rt, seat, event),
+        None => Err(StepFault::Busy),
+    }
+}
+
+/// Holds a node, and puts its records behind these. Returns how many there were; None where none is
+/// kept.
+pub(crate) fn take<J: Origin, R: Wait>(
+    rt: &R,
+    node: &SharedNode<MemoryFloors, J>,
+    kept: &mut Vec<Record>,
+) -> Option<usize> {
+    let taken = node.hold(rt).take_records();
+    match taken {
+        Ok(Some(mut records)) => {
+            let count = records.len();
+            match kept.append(&mut records) {
+                Ok(()) => Some(count),
+                Err(_) => None,
+            }
+        }
+        Ok(None) | Err(_) => None,
+    }
+}
+
+/// The key of the page.
+fn key_of(alloc: Global) -> Option<Key> {
+    match Key::read(alloc, PAGE) {
         Ok(key) => Some(key),
         Err(_) => None,
     }
 }
 
-/// A client asks for a page.
-fn client(key: Key, only_if_cached: bool) -> Event<()> {
+/// A client asks for the page, of which there is no copy: for what is held alone, or else for one of
+/// the origin's.
+pub(crate) fn asked(alloc: Global, only_if_cached: bool) -> Option<Event<()>> {
     let ask = Ask {
-        key,
+        key: key_of(alloc)?,
         only_if_cached,
         no_cache: false,
         member: None,
     };
-    Event::Client { ask, now: 9 }
+    Some(Event::Client { ask, now: 9 })
 }
 
-/// A client asks for a page of which there is no copy: for what is held alone, or else for one of the origin's.
-pub(crate) fn asked(alloc: Global, only_if_cached: bool) -> Option<Event<()>> {
-    match key_of(alloc, PAGE) {
-        Some(key) => Some(client(key, only_if_cached)),
-        None => None,
-    }
+/// An answer of so many octets.
+fn answer_of(alloc: Global, octets: usize) -> Option<Answer> {
+    let fields = Fields::new(alloc, Vec::new(alloc)).ok()?;
+    let body = Body::from_vec(vec![in alloc; 120; octets].ok()?).ok()?;
+    Answer::new(200, fields, None, None, body)
+}
+
+/// The origin answers the first read of block 1, with so many octets.
+pub(crate) fn origin_answer(alloc: Global, octets: usize) -> Option<Event<()>> {
+    let answer = answer_of(alloc, octets)?;
+    Some(Event::OriginAnswer {
+        serial: 33,
+        key: key_of(alloc)?,
+        answer,
+        now: 9,
+    })
+}
+
+/// The verdict on records of the roster that a text says.
+pub(crate) fn verdict_on(
+    alloc: Global,
+    keys: RandomState,
+    text: &str,
+    records: &[Record],
+) -> Option<Verdict> {
+    let roster = roster_of(alloc, text)?;
+    check_run(alloc, keys, &roster, records, &[]).ok()
 }

@@ -1,329 +1,259 @@
-//! Seats, the calls made by them, and shifts.
-ghost use Rattle.std.specs.Prelude.{◌≡◌, ◌≤◌, []};
+//! Calls by the seats of several threads.
+ghost use Rattle.std.specs.Prelude.{◌≡◌, Some};
+ghost use Rattle.node_seats.specs.Beginning.{beginning_of};
 
-use crate::nodes::{FAILS, Start, WITH_AN_ORIGIN, asked, start_of};
-use floor_rules::{FloorStore, MemoryFloors};
-use node_book::{BookFault, Record};
-use node_rules::{Event, Reply, StepFault};
-use node_seats::{Calls, CloseFault, Places, Seat, SharedNode, Shift, close};
+use crate::nodes::{Shared, Start, Told, asked, share, start_of, take, verdict_on};
+use floor_rules::MemoryFloors;
+use node_book::{NodeEntry, Record};
+use node_history::NewHistory;
+use node_rules::{Event, Served, StepFault};
+use node_seats::{Origin, Places, Retention, Seat, SharedNode};
+use run_check::Verdict;
 use std::alloc::Global;
+use std::hash::RandomState;
 use std::marker::Brand;
 use std::sync::Wait;
-use std::sync::ledger::Blank;
+use std::sync::atomic::{AtomicU64, Ordering};
 use std::test::Fail;
 use std::thread::{self, Threads};
+use tests_kit::ONE;
 
-/// What a call was told: that it was answered, or its fault.
-type Told = Result<(), BookFault>;
+/// How many calls each of eight seats makes.
+const EACH: u64 = 100;
 
-/// A node and its seats.
-#[derive(Drop)]
-pub(crate) struct Held<S: FloorStore, L: Calls> {
-    pub(crate) node: SharedNode<S, L>,
-    pub(crate) seats: Vec<Seat<L>>,
+/// The fetch of serial 34 fails, which there is not.
+fn fails(now: u64) -> Event<()> {
+    Event::FetchFailed { serial: 34, now }
 }
 
-/// Shares the book by two seats.
-fn seated<S: FloorStore + Drop, L: Calls>(
-    alloc: Global,
-    start: Start<S>,
-    blank: Blank,
-) -> Option<Held<S, L>>
-    requires fresh { start.book.entries ≡ [] }
-    requires name { blank.name ≡ L.name }
-    requires parts { (blank.parts ≡ L.parts) × (L.all ≡ L.parts) × (2 ≤ L.all) }
-{
-    let Start { book, places } = start;
-    match SharedNode::open(alloc, book, 2, blank, places) {
-        Ok((node, seats)) => Some(Held { node, seats }),
-        Err(_) => None,
+/// Whether a call was told that no fetch has its serial.
+pub(crate) fn is_unknown(told: &Told) -> bool {
+    matches!(told, Err(StepFault::UnknownSerial))
+}
+
+/// Whether a call was told that there is no copy (RFC 9110, section 15.6.5).
+fn is_without_copy(told: &Told) -> bool {
+    match told {
+        Ok(reply) => match &reply.serve {
+            Some(serve) => matches!(serve.served, Served::Status(504)),
+            None => false,
+        },
+        Err(_) => false,
     }
 }
 
-/// A new node with an origin, which two seats share.
-pub(crate) fn shared<L: Calls>(alloc: Global, blank: Blank) -> Option<Held<MemoryFloors, L>>
-    requires name { blank.name ≡ L.name }
-    requires parts { (blank.parts ≡ L.parts) × (L.all ≡ L.parts) × (2 ≤ L.all) }
-{
-    let start = start_of(alloc, WITH_AN_ORIGIN)?;
-    seated(alloc, start, blank)
-}
-
-/// What an answer tells of its call.
-fn told_by(answer: Result<Reply<()>, BookFault>) -> Told {
-    match answer {
-        Ok(_) => Ok(()),
-        Err(fault) => Err(fault),
-    }
-}
-
-/// Puts a seat behind the others, where there is memory for it.
-fn put_back<L: Calls>(seats: &mut Vec<Seat<L>>, seat: Seat<L>) -> bool {
-    seats.push(seat).is_ok()
-}
-
-/// Makes a call by the last of these seats, and says what it was told.
-fn call_last<S: FloorStore, L: Calls, R: Wait>(
+/// Makes a call that fails by the last of these seats. Whether it was told so.
+fn is_failed<J: Origin, R: Wait>(
     rt: &R,
-    node: &SharedNode<S, L>,
-    seats: &mut Vec<Seat<L>>,
-    event: Event<()>,
-) -> Option<Told> {
-    let seat = seats.pop()?;
-    let (seat, answer) = node.call(rt, seat, event);
-    let told = told_by(answer);
-    if put_back(seats, seat) {
-        Some(told)
-    } else {
-        None
+    node: &SharedNode<MemoryFloors, J>,
+    seats: &mut Vec<Seat<J>>,
+) -> bool {
+    match seats.last_mut() {
+        Some(seat) => is_unknown(&node.call(rt, seat, fails(9))),
+        None => false,
     }
 }
 
-/// Makes a call by the last of these seats, and says whether it was answered.
-pub(crate) fn is_answered<S: FloorStore, L: Calls, R: Wait>(
+/// Makes a call by the last of these seats. Whether it was told that there is no copy.
+fn is_asked_in_vain<J: Origin, R: Wait>(
     rt: &R,
-    node: &SharedNode<S, L>,
-    seats: &mut Vec<Seat<L>>,
+    node: &SharedNode<MemoryFloors, J>,
+    seats: &mut Vec<Seat<J>>,
     event: Event<()>,
 ) -> bool {
-    matches!(call_last(rt, node, seats, event), Some(Ok(())))
-}
-
-/// Takes the last of these seats into a row of its own.
-fn last_alone<L: Calls>(alloc: Global, seats: &mut Vec<Seat<L>>) -> Vec<Seat<L>> {
-    let mut alone = Vec::new(alloc);
-    if let Some(seat) = seats.pop() {
-        put_back(&mut alone, seat);
+    match seats.last_mut() {
+        Some(seat) => is_without_copy(&node.call(rt, seat, event)),
+        None => false,
     }
-    alone
 }
 
-/// Two threads make a call each, by these seats: whether each was answered.
-fn called_beside<S: FloorStore + Drop + Send, L: Calls + Send + Sync, R: Threads + Wait + Sync>(
+/// Two threads make a call each: the first asks for a copy, and the second tells of a fetch that
+/// there was not. Whether each was told what it is to be.
+fn called_beside<J: Origin + Send + Sync, R: Threads + Wait + Sync>(
     rt: &R,
-    node: &SharedNode<S, L>,
-    first: &mut Vec<Seat<L>>,
-    second: &mut Vec<Seat<L>>,
+    node: &SharedNode<MemoryFloors, J>,
+    first: &mut Vec<Seat<J>>,
+    second: &mut Vec<Seat<J>>,
     event: Event<()>,
 ) -> (bool, bool) {
     thread::join(
         rt,
-        move || is_answered(rt, node, first, event),
-        move || is_answered(rt, node, second, FAILS),
+        move || is_asked_in_vain(rt, node, first, event),
+        move || is_failed(rt, node, second),
     )
 }
 
-/// Seat 0 makes this call in one thread. Seat 1 tells in another of a fetch that there was not.
-/// Whether each was answered.
-fn called_by_two<S: FloorStore + Drop + Send, L: Calls + Send + Sync, R: Threads + Wait + Sync>(
+/// The same by the two seats of a node.
+fn called_by_two<J: Origin + Send + Sync, R: Threads + Wait + Sync>(
     rt: &R,
     alloc: Global,
-    held: &mut Held<S, L>,
-    event: Event<()>,
+    shared: &mut Shared<J>,
 ) -> Option<(bool, bool)> {
-    let mut second = last_alone(alloc, &mut held.seats);
-    let answered = called_beside(rt, &held.node, &mut held.seats, &mut second, event);
-    match held.seats.append(&mut second) {
-        Ok(()) => Some(answered),
-        Err(_) => None,
-    }
+    let event = asked(alloc, true)?;
+    let mut second = Vec::new(alloc);
+    second.reserve(1).ok()?;
+    second.push_reserved(shared.seats.pop()?);
+    Some(called_beside(rt, &shared.node, &mut shared.seats, &mut second, event))
 }
 
-/// The same, where the call of seat 0 asks for a page of which there is no copy.
-pub(crate) fn called<S: FloorStore + Drop + Send, L: Calls + Send + Sync, R: Threads + Wait + Sync>(
+/// The same of a new node. Its records are put behind these.
+fn two_calls<J: Origin + Send + Sync, R: Threads + Wait + Sync>(
     rt: &R,
     alloc: Global,
-    held: &mut Held<S, L>,
-    only_if_cached: bool,
-) -> Option<(bool, bool)> {
-    let event = asked(alloc, only_if_cached)?;
-    called_by_two(rt, alloc, held, event)
-}
-
-/// What a shift is closed to.
-pub(crate) fn closed<S: FloorStore + Drop, L: Calls>(
-    held: Held<S, L>,
-) -> Result<Shift<S, L>, CloseFault>
-    requires parts { L.all ≡ L.parts }
+    start: Start,
+    new: NewHistory,
+    kept: &mut Vec<Record>,
+) -> Option<(bool, bool)>
+    requires book { new.seen.book ≡ J.book }
+    requires beginning { J.beginning ≡ Some (beginning_of start.node) }
 {
-    let Held { node, seats } = held;
-    match close(node, seats) {
-        Ok(shift) => Ok(shift),
-        Err((_, _, fault)) => Err(fault),
-    }
-}
-
-/// The record of a shift that ended, and the shift after it.
-#[derive(Drop)]
-pub(crate) struct NextShift<S: FloorStore, L: Calls> {
-    pub(crate) record: Record,
-    pub(crate) held: Held<S, L>,
-}
-
-/// Opens the next shift by two seats.
-pub(crate) fn turned<S: FloorStore + Drop, L: Calls>(shift: Shift<S, L>) -> Option<NextShift<S, L>>
-    requires { 2 ≤ L.all }
-{
-    match shift.next(2) {
-        Ok((record, node, seats)) => Some(NextShift {
-            record,
-            held: Held { node, seats },
-        }),
-        Err(_) => None,
-    }
-}
-
-/// How many seats the next shift has.
-fn next_seats<S: FloorStore + Drop, L: Calls>(shift: Shift<S, L>) -> usize
-    requires { 2 ≤ L.all }
-{
-    match turned(shift) {
-        Some(turned) => turned.held.seats.len(),
-        None => 0,
-    }
+    let mut shared = share::<J>(alloc, start, new, Retention::UpTo(1), 2)?;
+    let told = called_by_two(rt, alloc, &mut shared);
+    take(rt, &shared.node, kept);
+    told
 }
 
 /// Whether seat 0 has asked in vain, and seat 1 told of a fetch that there was not.
-fn are_entered(record: &Record) -> bool {
+fn are_entered(records: &[Record]) -> bool {
+    let [record] = records else {
+        return false;
+    };
     match record.entries.as_slice() {
-        [one, two] if one.seat == 0 => one.outcome.is_ok() && two.seat == 1 && two.outcome.is_err(),
-        [two, one] => one.seat == 0 && one.outcome.is_ok() && two.seat == 1 && two.outcome.is_err(),
+        [one, two] if one.seat == 0 => are_of_both(one, two),
+        [two, one] => are_of_both(one, two),
         _ => false,
     }
 }
 
-/// Whether the record has the calls of both, and how many seats the next shift has.
-fn seen_at_the_end<S: FloorStore + Drop, L: Calls>(shift: Shift<S, L>) -> (bool, usize)
-    requires { 2 ≤ L.all }
-{
-    let entered = are_entered(shift.record());
-    (entered, next_seats(shift))
+/// Whether these are the entries of both calls.
+fn are_of_both(one: &NodeEntry, two: &NodeEntry) -> bool {
+    one.seat == 0 && is_without_copy(&one.outcome) && two.seat == 1 && is_unknown(&two.outcome)
 }
 
-/// Two threads make a call each, and the shift ends. Whether each was answered; whether the record
-/// has both, and how many seats the next shift has.
-fn two_calls<L: Calls + Send + Sync, R: Threads + Wait + Sync>(
-    rt: &R,
-    alloc: Global,
-    blank: Blank,
-) -> Option<((bool, bool), (bool, usize))>
-    requires name { blank.name ≡ L.name }
-    requires parts { (blank.parts ≡ L.parts) × (L.all ≡ L.parts) × (2 ≤ L.all) }
-{
-    let mut held = shared::<L>(alloc, blank)?;
-    let answered = called(rt, alloc, &mut held, true);
-    let seen = match closed(held) {
-        Ok(shift) => seen_at_the_end(shift),
-        Err(_) => return None,
-    };
-    Some((answered?, seen))
+/// What two threads were told, and whether the record has both calls.
+fn seen_of_two<R: Threads + Wait + Sync>(rt: &R, alloc: Global) -> Option<((bool, bool), bool)> {
+    let start = start_of(alloc, ONE)?;
+    let mut kept = Vec::new(alloc);
+    let told = two_calls::<Brand, R>(rt, alloc, start, NewHistory::new(), &mut kept);
+    Some((told?, are_entered(kept.as_slice())))
 }
 
 #[test]
 fn two_seats_make_a_call_each(rt: HostRuntime) -> Result<(), Fail> {
-    let done = two_calls::<Brand, HostRuntime>(&rt, rt.alloc(), Blank::new(2));
-    assert!(rt; done == Some(((true, false), (true, 2))));
+    assert!(rt; seen_of_two(&rt, rt.alloc()) == Some(((true, true), true)));
     Ok(())
 }
 
-/// Lets the last of these seats go, if there is one.
-fn lose_last<L: Calls>(seats: &mut Vec<Seat<L>>) -> bool {
-    seats.pop().is_some()
-}
-
-/// Why a node is not closed, if it is not.
-fn fault_of<S: FloorStore + Drop, L: Calls>(held: Held<S, L>) -> Option<CloseFault>
-    requires parts { L.all ≡ L.parts }
-{
-    match closed(held) {
-        Ok(_) => None,
-        Err(fault) => Some(fault),
-    }
-}
-
-/// Why a node is not closed by one of its two seats.
-fn one_of_two<L: Calls>(alloc: Global, blank: Blank) -> Option<CloseFault>
-    requires name { blank.name ≡ L.name }
-    requires parts { (blank.parts ≡ L.parts) × (L.all ≡ L.parts) × (2 ≤ L.all) }
-{
-    let mut held = shared::<L>(alloc, blank)?;
-    let is_lost = lose_last(&mut held.seats);
-    let fault = fault_of(held);
-    if is_lost { fault } else { None }
-}
-
-#[test]
-fn a_missing_seat_is_told(rt: HostRuntime) -> Result<(), Fail> {
-    let fault = one_of_two::<Brand>(rt.alloc(), Blank::new(2));
-    assert!(rt; fault == Some(CloseFault::SeatMissing));
-    Ok(())
-}
-
-/// Makes a call by the last of these seats, and says whether it was told the step's fault.
-fn is_unknown<S: FloorStore, L: Calls, R: Wait>(
+/// Makes a hundred calls by a seat, with the moments from 0 to 99, and counts those that were told
+/// their fault.
+fn make_hundred<J: Origin, R: Wait>(
     rt: &R,
-    node: &SharedNode<S, L>,
-    seats: &mut Vec<Seat<L>>,
-) -> bool {
-    let told = call_last(rt, node, seats, FAILS);
-    matches!(told, Some(Err(BookFault::Step(StepFault::UnknownSerial))))
-}
-
-/// Makes so many calls by the last of these seats: how many were told the step's fault.
-fn fill<S: FloorStore, L: Calls, R: Wait>(
-    rt: &R,
-    node: &SharedNode<S, L>,
-    seats: &mut Vec<Seat<L>>,
-    count: u32,
-) -> u32 {
-    let mut unknown = 0u32;
-    for _ in 0..count {
-        if is_unknown(rt, node, seats) {
-            unknown = unknown.saturating_add(1);
+    node: &SharedNode<MemoryFloors, J>,
+    mut seat: Seat<J>,
+    count: &AtomicU64,
+) {
+    for now in 0..EACH {
+        if is_unknown(&node.call(rt, &mut seat, fails(now))) {
+            count.fetch_add(1, Ordering::SeqCst);
         }
     }
-    unknown
 }
 
-/// A shift has room for 4,096 calls: how many of them were told the step's fault, and whether the
-/// one after them is told that the shift is full.
-fn filled<S: FloorStore, L: Calls, R: Wait>(
+/// Has a thread of its own for each seat make a hundred calls, and counts those that were told their
+/// fault.
+fn make_hundreds<J: Origin + Send + Sync, R: Threads + Wait + Sync>(
     rt: &R,
-    node: &SharedNode<S, L>,
-    seats: &mut Vec<Seat<L>>,
-) -> (u32, bool) {
-    let unknown = fill(rt, node, seats, 4096);
-    let told = call_last(rt, node, seats, FAILS);
-    (unknown, matches!(told, Some(Err(BookFault::ShiftFull))))
+    node: &SharedNode<MemoryFloors, J>,
+    seats: Vec<Seat<J>>,
+    count: &AtomicU64,
+) {
+    thread::scope(thread::scope_env(), rt, move |scope| {
+        for seat in seats {
+            let _ = scope
+                .spawn(move || make_hundred(rt, node, seat, count))
+                .is_ok();
+        }
+    });
 }
 
-/// How many entries the record has of the shift that ends.
-fn entries_of<S: FloorStore + Drop, L: Calls>(held: Held<S, L>) -> Option<usize>
-    requires parts { L.all ≡ L.parts }
+/// The same by the eight seats of a new node. Its records are put behind these.
+fn eight_hundred_calls<J: Origin + Send + Sync, R: Threads + Wait + Sync>(
+    rt: &R,
+    alloc: Global,
+    start: Start,
+    new: NewHistory,
+    kept: &mut Vec<Record>,
+) -> Option<u64>
+    requires book { new.seen.book ≡ J.book }
+    requires beginning { J.beginning ≡ Some (beginning_of start.node) }
 {
-    match closed(held) {
-        Ok(shift) => Some(shift.record().entries.as_slice().len()),
-        Err(_) => None,
+    let Shared { node, seats } = share::<J>(alloc, start, new, Retention::UpTo(1), 8)?;
+    let count = AtomicU64::new(0);
+    make_hundreds(rt, &node, seats, &count);
+    take(rt, &node, kept);
+    Some(count.load(Ordering::SeqCst))
+}
+
+/// The moment of a call that fails.
+fn moment_of(event: &Event<()>) -> Option<u64> {
+    match event {
+        Event::FetchFailed { serial: 34, now } => Some(*now),
+        _ => None,
     }
 }
 
-/// The same of a new node, and how many entries its record has.
-fn full_shift<L: Calls, R: Wait>(rt: &R, alloc: Global, blank: Blank) -> Option<(u32, bool, usize)>
-    requires name { blank.name ≡ L.name }
-    requires parts { (blank.parts ≡ L.parts) × (L.all ≡ L.parts) × (2 ≤ L.all) }
-{
-    let mut held = shared::<L>(alloc, blank)?;
-    let (unknown, is_full) = filled(rt, &held.node, &mut held.seats);
-    match entries_of(held) {
-        Some(entries) => Some((unknown, is_full, entries)),
-        None => None,
+/// Whether the entries of a seat have the moments from 0 to 99 in their order, and the fault.
+fn is_in_order(entries: &[NodeEntry], seat: u8) -> bool {
+    let mut next = 0u64;
+    for entry in entries {
+        if entry.seat == seat {
+            if moment_of(&entry.event) != Some(next) || !is_unknown(&entry.outcome) {
+                return false;
+            }
+            next = next.saturating_add(1);
+        }
     }
+    next == EACH
+}
+
+/// How many entries the first record has, and how many of eight seats have their hundred in order.
+fn hundreds_of(records: &[Record]) -> Option<(usize, usize)> {
+    let entries = records.first()?.entries.as_slice();
+    let mut seats = 0usize;
+    for seat in 0..8 {
+        if is_in_order(entries, seat) {
+            seats = seats.saturating_add(1);
+        }
+    }
+    Some((entries.len(), seats))
+}
+
+/// How many of the calls of eight threads were told their fault; how many entries there are, and how
+/// many seats have theirs in order; and the verdict on the record.
+type Hundreds = (u64, (usize, usize), Verdict);
+
+/// What is seen of the calls of eight threads.
+fn seen_of_eight<R: Threads + Wait + Sync>(
+    rt: &R,
+    alloc: Global,
+    keys: RandomState,
+) -> Option<Hundreds> {
+    let start = start_of(alloc, ONE)?;
+    let mut kept = Vec::new(alloc);
+    let told = eight_hundred_calls::<Brand, R>(rt, alloc, start, NewHistory::new(), &mut kept)?;
+    let hundreds = hundreds_of(kept.as_slice())?;
+    Some((
+        told,
+        hundreds,
+        verdict_on(alloc, keys, ONE, kept.as_slice())?,
+    ))
 }
 
 #[test]
-fn a_shift_has_4096_calls(rt: HostRuntime) -> Result<(), Fail> {
-    let done = full_shift::<Brand, HostRuntime>(&rt, rt.alloc(), Blank::new(2));
-    assert!(rt; done == Some((4096, true, 4096)));
+fn eight_seats_make_a_hundred_calls_each(rt: HostRuntime) -> Result<(), Fail> {
+    let keys = RandomState::new(&rt)?;
+    let seen = seen_of_eight(&rt, rt.alloc(), keys);
+    assert!(rt; seen == Some((800, (800, 8), Verdict::Yes)));
     Ok(())
 }
 

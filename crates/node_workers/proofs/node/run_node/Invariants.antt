@@ -1,10 +1,12 @@
+use Rattle.std.proofs.Common.{Some}
+use Rattle.node_seats.specs.Beginning.{beginning_of}
 use Rattle.node_workers.proofs.node.run_node.Given as goal
 
 abbrev pub ghosts-run_named-Q-QueueName : goal.ghosts-run_named-Q-QueueName
 ghosts-run_named-Q-QueueName g a = record { table = a.new }
 
-abbrev pub ghosts-run_named-L-Ledger : goal.ghosts-run_named-L-Ledger
-ghosts-run_named-L-Ledger g a = record { name = a.blank.name; parts = a.blank.parts }
+abbrev pub ghosts-run_named-J-Run : goal.ghosts-run_named-J-Run
+ghosts-run_named-J-Run g a = record { book = a.history.seen.book }
 
-abbrev pub ghosts-run_named-L-Calls : goal.ghosts-run_named-L-Calls
-ghosts-run_named-L-Calls g a = record { all = a.blank.parts }
+abbrev pub ghosts-run_named-J-Origin : goal.ghosts-run_named-J-Origin
+ghosts-run_named-J-Origin g a = record { beginning = Some (beginning_of a.start.node) }

@@ -1,0 +1,10 @@
+use Rattle.std.proofs.Common.{subst}
+use Rattle.node_seats.specs.Desks.{IsWithoutBook}
+use Rattle.node_seats.proofs.Recording.{stands_alone}
+use Rattle.node_seats.proofs.desk.Desk.forget.Goals as goal
+
+pub invariant_of-self : goal.invariant_of-self
+invariant_of-self g c =
+    rw (c.clear.ensures.items)
+    (stands_alone g.J.Origin.beginning c.self.inside.whole c.self.inside.records.items c.self.inside.steps c.without_book.result c.self.invariant
+    (subst (λ s. IsWithoutBook s c.without_book.result) c.take.ensures.value c.without_book.ensures))

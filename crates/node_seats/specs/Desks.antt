@@ -1,0 +1,77 @@
+-- What contracts see of a node under its lock.
+use Rattle.std.specs.Prelude.{◌≡◌, ◌<◌, ℕ, List, [], ◌∷◌, ◌++◌, length, slice_index_or, Option, Some, None, Result}
+use Rattle.node_core.specs.View.{IsSameMember, NodeText}
+use Rattle.node_book.specs.Book.{BookView, IsReplayed}
+use Rattle.node_book.specs.Closed.{IsRecorded}
+use Rattle.node_book.specs.declared.book.NodeEntry.{NodeEntry}
+use Rattle.node_book.specs.declared.record.Record.{Record}
+use Rattle.node_seats.specs.declared.steps.Steps.{Steps}
+use Rattle.node_seats.specs.declared.steps.Steps.TheVariants.{Recorded, Alone}
+use Rattle.floor_rules.specs.Floors.{FloorMap}
+use Rattle.node_bytes.specs.Nodes.{TakesStep}
+use Rattle.node_rules.specs.declared.event.Event.{Event}
+use Rattle.node_rules.specs.declared.reply.Reply.{Reply}
+use Rattle.node_rules.specs.declared.reply.StepFault.{StepFault}
+use Rattle.node_seats.specs.Seats.{IsEntryOf, IsToldOf, SeatView}
+
+-- The history, the node with its book if its steps are recorded, the records that are kept, and how many octets the
+-- events of the open record have brought along.
+pub record DeskView (S : Type 0) : Type 0 where
+  pub log : List NodeEntry
+  pub steps : Option (Steps S)
+  pub records : List Record
+  pub octets : ℕ
+
+-- Another step can be entered.
+abbrev pub HasRoom : {S : Type 0} → ℕ → Option (Steps S) → Type 0
+HasRoom octets (Some (Recorded book)) = (octets < 4194304) × (length book.entries < 4096)
+HasRoom octets (Some (Alone node)) = Unit {0}
+HasRoom octets None = Unit {0}
+
+-- The book and the history are longer by the same entries: one, or none.
+pub record IsEnteredIn {S : Type 0} (before after : BookView S) (old new : List NodeEntry) : Type 0 where
+  pub more : List NodeEntry
+  pub entries : after.entries ≡ before.entries ++ more
+  pub log : new ≡ old ++ more
+  pub opening : after.opening ≡ before.opening
+  pub same : IsSameMember before.node after.node
+
+-- The seat with this number, which knows nothing yet.
+abbrev pub new_seat : ℕ → SeatView
+new_seat number = record { number = number; seen = [] }
+
+-- These are the seats of a node before its first step, by their numbers from 0.
+abbrev pub AreNewSeats : ℕ → List SeatView → Type 0
+AreNewSeats count seats = (length seats ≡ count)
+    × ((k : ℕ) (d : SeatView) → k < length seats → slice_index_or seats k d ≡ new_seat k)
+
+-- The open book has ended its record, which is behind the others now. Without a book nothing changes.
+abbrev pub IsEndedIn : {S : Type 0} → Option (Steps S) → List Record → Option (Steps S) → List Record → Type 0
+IsEndedIn (Some (Recorded book)) records new after = (done : Record) × IsRecorded book done
+    × (new ≡ Some (Recorded (record { node = book.node; opening = book.node.state; entries = [] })))
+    × (after ≡ records ++ done ∷ [])
+IsEndedIn (Some (Alone node)) records new after = (new ≡ Some (Alone node)) × (after ≡ records)
+IsEndedIn None records new after = (new ≡ None) × (after ≡ records)
+
+-- The node is without its book, whose entries had led to the node's state.
+abbrev pub IsWithoutBook : {S : Type 0} → Option (Steps S) → Option (Steps S) → Type 0
+IsWithoutBook (Some (Recorded book)) new = (new ≡ Some (Alone book.node)) × IsReplayed book
+IsWithoutBook (Some (Alone node)) new = new ≡ Some (Alone node)
+IsWithoutBook None new = new ≡ None
+
+-- The node before its first step, with or without a book.
+abbrev pub AreNewSteps : {S : Type 0} → NodeText (Unit {0}) S → Steps S → Type 0
+AreNewSteps node (Recorded book) = book ≡ record { node = node; opening = node.state; entries = [] }
+AreNewSteps node (Alone alone) = alone ≡ node
+
+-- The node has taken the step of a call, which is entered in the book behind the others, and its outcome is what is
+-- told.
+pub record IsTakenIn {S : Type 0} (honest : Type 0) (may_find : FloorMap → Type 0) (have_risen : Type 0)
+    (before after : BookView S) (seat : ℕ) (event : Event (Unit {0})) (told : Result (Reply (Unit {0})) StepFault) :
+    Type 0 where
+  pub entry : NodeEntry
+  pub of_call : IsEntryOf seat event entry
+  pub entries : after.entries ≡ before.entries ++ entry ∷ []
+  pub opening : after.opening ≡ before.opening
+  pub told_of : IsToldOf entry.outcome told
+  pub step : TakesStep honest may_find have_risen before.node event entry.outcome after.node

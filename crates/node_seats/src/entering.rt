@@ -1,0 +1,104 @@
+//! A step of a node, with its entry in the history.
+ghost use Rattle.std.specs.Prelude.{◌≡◌, ◌<◌, length, IfOk, IfSome, IfNone};
+ghost use Rattle.floor_rules.specs.Store.{HaveRisen};
+ghost use Rattle.node_bytes.specs.Stepping.{AnswersAsk};
+ghost use Rattle.node_seats.specs.Beginning.{LeadsToNode};
+ghost use Rattle.node_seats.specs.Seats.{Called, IsNext};
+ghost use Rattle.node_seats.specs.Desks.{IsEnteredIn, IsTakenIn};
+
+use crate::seat::{Origin, Seat};
+use crate::whole::Whole;
+use floor_rules::FloorStore;
+use node_book::{BookFault, NodeBook, NodeEntry};
+use node_bytes::Stepper;
+use node_copies::copy_of_event;
+use node_core::Node;
+use node_rules::{Event, Reply, StepFault};
+use std::alloc::Global;
+
+/// What a seat is told of a step.
+pub(crate) type Told = Result<Reply<()>, StepFault>;
+
+/// Takes a step and enters it in the book. Returns what the seat is told; None where there is no
+/// memory for the entry, and no step is taken then.
+fn apply<S: FloorStore>(
+    book: &mut NodeBook<S>,
+    seat: u8,
+    place: u64,
+    event: Event<()>,
+) -> Option<Told>
+    requires room { length book.old.entries < 4096 }
+    ensures taken { IfSome result (IsTakenIn (S.is_honest book.new.node.store)
+        (S.may_find book.new.node.store)
+        (HaveRisen (S.failed book.old.node.store) (S.failed book.new.node.store))
+        book.old book.new seat event) }
+    ensures asks { IfSome result (λ told. IfOk told (AnswersAsk event)) }
+    ensures none { IfNone result (book.new ≡ book.old) }
+{
+    match book.apply(seat, place, event) {
+        Ok(reply) => Some(Ok(reply)),
+        Err(BookFault::Step(fault)) => Some(Err(fault)),
+        Err(BookFault::ReplyLost) => Some(Err(StepFault::NoMemory)),
+        Err(BookFault::NoMemory) | Err(BookFault::ShiftFull) => None,
+    }
+}
+
+/// Takes a step that is entered in the book and in the history. Returns what the seat is told; None
+/// where the entry could not be added to the history, which never happens.
+pub(crate) fn enter_recorded<S: FloorStore, J: Origin>(
+    book: &mut NodeBook<S>,
+    whole: &mut Whole<J>,
+    seat: &mut Seat<J>,
+    place: u64,
+    event: Event<()>,
+) -> Option<Told>
+    requires next { IsNext whole.old seat.old }
+    requires leads { LeadsToNode J.beginning whole.old book.old.node }
+    requires room { length book.old.entries < 4096 }
+    ensures called { IfSome result (λ told. Called seat.old event told seat.new) }
+    ensures asks { IfSome result (λ told. IfOk told (AnswersAsk event)) }
+    ensures entered { IfSome result (λ _. IsEnteredIn book.old book.new whole.old whole.new) }
+    ensures lost { IfNone result (seat.new ≡ seat.old) }
+{
+    let entered = book.entries().len();
+    let Some(told) = apply(book, seat.number, place, event) else {
+        return Some(Err(StepFault::NoMemory));
+    };
+    if !whole.add(seat, &book.entries()[entered]) {
+        return None;
+    }
+    Some(told)
+}
+
+/// Takes a step that is entered in the history alone, so that nothing of it is kept. Returns what
+/// the seat is told; None where the entry could not be added, which never happens.
+pub(crate) fn enter_alone<S: FloorStore, J: Origin>(
+    alloc: Global,
+    node: &mut Node<(), S>,
+    whole: &mut Whole<J>,
+    seat: &mut Seat<J>,
+    place: u64,
+    event: Event<()>,
+) -> Option<Told>
+    requires next { IsNext whole.old seat.old }
+    requires leads { LeadsToNode J.beginning whole.old node.old }
+    ensures called { IfSome result (λ told. Called seat.old event told seat.new) }
+    ensures asks { IfSome result (λ told. IfOk told (AnswersAsk event)) }
+    ensures leads { IfSome result (λ _. LeadsToNode J.beginning whole.new node.new) }
+    ensures lost { IfNone result (seat.new ≡ seat.old) }
+{
+    let Ok(entered) = copy_of_event(alloc, &event) else {
+        return Some(Err(StepFault::NoMemory));
+    };
+    let outcome = Stepper::step(node, event);
+    let entry = NodeEntry {
+        seat: seat.number,
+        place,
+        event: entered,
+        outcome,
+    };
+    if !whole.add(seat, &entry) {
+        return None;
+    }
+    Some(entry.outcome)
+}
