@@ -73,7 +73,7 @@ fn cluster_command<'a>(alloc: Global) -> Result<Command<'a>, AllocError> {
         .value_name("N")
         .value_parser(value_parser!(u32).range(0..=65536))
         .default_value("16")
-        .help("How many records of 4096 steps each member keeps in memory for check; 0 keeps none");
+        .help("How many pages of 4096 steps each member keeps in memory for check; 0 keeps none");
     Command::new(alloc, "cluster")
         .about(
             "Runs the roster's members and its master in this process, and answers each line of standard input",

@@ -23,8 +23,8 @@ const FEWEST_WORKERS: u8 = 2;
 /// How many workers a member has at most.
 const MOST_WORKERS: u8 = 8;
 
-/// How many records of each member are kept for `check` where the command line does not say.
-const SHIFTS: u32 = 16;
+/// How many pages of each member are kept for `check` where the command line does not say.
+const PAGES: u32 = 16;
 
 /// A script between standard input and standard output.
 #[derive(Drop)]
@@ -118,7 +118,7 @@ fn cluster_of(alloc: Global, matches: &ArgMatches<'_>) -> Result<Task, Error>
         file: word_of(alloc, matches, "FILE")?,
         dir: word_of(alloc, matches, "data")?,
         workers: workers_of(asked),
-        history: matches.get_one("history").unwrap_or(SHIFTS),
+        history: matches.get_one("history").unwrap_or(PAGES),
     })
 }
 

@@ -19,11 +19,11 @@ with_record records next = if tells_nothing records next then records else recor
 abbrev pub gathered_in : Option Kept → Option Gathered
 gathered_in kept = option_map (λ k. record { records = k.records.items; entries = k.entries.items }) kept
 
--- what is gathered before anything was done, where this many records of each member are kept
+-- what is gathered before anything was done, where this many pages of each member are kept
 abbrev pub gathered_at_first : ℕ → Option Gathered
-gathered_at_first records = if records == 0 then None else Some (record { records = []; entries = [] })
+gathered_at_first pages = if pages == 0 then None else Some (record { records = []; entries = [] })
 
 -- the lines were answered while the run was gathered, and what is kept at the end goes on from that
 abbrev pub HasRun : Tables → ℕ → Option (List ℕ) → Option (List ℕ) → Option (List ℕ) → Option Kept → Type 0
-HasRun roster records input old new kept = (gathered : Option Gathered)
-    × HasAnswered roster (gathered_at_first records) input old new (Ok tt) gathered × GoesOn gathered (gathered_in kept)
+HasRun roster pages input old new kept = (gathered : Option Gathered)
+    × HasAnswered roster (gathered_at_first pages) input old new (Ok tt) gathered × GoesOn gathered (gathered_in kept)

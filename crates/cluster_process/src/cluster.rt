@@ -58,13 +58,13 @@ struct Common<'a> {
 /// or that of the master; `status P` prints `pending C`, `done P` or `unknown`, or the fault of the
 /// master; `get N URL` asks member N over HTTP, as a client, and prints the status and the body in
 /// hex (`-` where it is empty), or the name of the fault; `check` has all that the members and the
-/// master did so far judged, and prints `yes`, `no PLACE CAUSE`, `forgotten`, or why the records of
-/// a member are not given; `quit` prints nothing. Any other line, also one that names no member,
+/// master did so far judged, and prints `yes`, `no PLACE CAUSE`, `forgotten`, or why the record of a
+/// member is not given; `quit` prints nothing. Any other line, also one that names no member,
 /// prints `bad line`.
 ///
-/// For `check`, what the members and the master did is kept in memory: `history` records of each
-/// member, and as many pages of the master, of 4,096 steps or calls each. A record is shorter where
-/// its events have brought 4 MiB along. All that is kept may not be more than so many steps and
+/// For `check`, what the members and the master did is kept in memory: `history` pages of each member
+/// and of the master, of 4,096 steps or calls each. A member's page is shorter where its events have
+/// brought 4 MiB along. All that is kept may not be more than so many steps and
 /// calls; four floors, copies or pending requests in the opening or closing state of a record count
 /// as one, and so do 1,024 octets that its events brought along. Where there would be more, all of
 /// it is dropped, and `check` prints `forgotten` from then on. With 0 nothing is kept.
@@ -187,7 +187,7 @@ fn start_nodes<
     Ok(())
 }
 
-/// What becomes of the records of a member of which this many are kept.
+/// What becomes of the steps of a member of which this many pages are kept.
 fn retention_of(most: u32) -> Retention {
     if most == 0 {
         Retention::Dropped

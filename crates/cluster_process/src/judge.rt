@@ -29,13 +29,13 @@ pub(crate) struct Judge<'a, S: PurgeStore> {
 }
 
 impl<S: PurgeStore> Judge<'_, S> {
-    /// Adds the records of a member to what was gathered.
+    /// Adds the record of a member to what was gathered.
     #[tactic(auto, using(crate::proofs::Gathering::kept_as_it_was, crate::proofs::Gathering::dropped))]
-    fn take_records<R: Wait>(&mut self, rt: &R, node: &Running) -> Result<(), StopFault>
+    fn take_record<R: Wait>(&mut self, rt: &R, node: &Running) -> Result<(), StopFault>
         ensures { GoesOn (gathered_in self.old.memory.kept) (gathered_in self.new.memory.kept) }
     {
-        match node.workers.records(rt)? {
-            Some(records) => self.memory.put_records(records)?,
+        match node.workers.record(rt)? {
+            Some(record) => self.memory.put_record(record)?,
             None => self.memory.forget(),
         }
         Ok(())
@@ -62,7 +62,7 @@ impl<S: PurgeStore> Judge<'_, S> {
         ensures { GoesOn (gathered_in self.old.memory.kept) (gathered_in self.new.memory.kept) }
     {
         for node in self.nodes {
-            self.take_records(rt, node)?;
+            self.take_record(rt, node)?;
         }
         self.take_entries(master)?;
         self.memory.limit();
@@ -72,7 +72,7 @@ impl<S: PurgeStore> Judge<'_, S> {
     /// Holds all members and the master, gathers what they did since the last time, and lets them go
     /// on. So nothing is done between the first record that is taken and the last entry.
     ///
-    /// Faults: those of [`Workers::records`](node_workers::Workers::records). What was gathered
+    /// Faults: those of [`Workers::record`](node_workers::Workers::record). What was gathered
     /// before such a fault stays, and the rest is gathered the next time. Where there is no memory
     /// for what is gathered, all of it is dropped.
     pub(crate) fn gather<R: Wait>(&mut self, rt: &R) -> Result<(), StopFault>

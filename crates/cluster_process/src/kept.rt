@@ -32,10 +32,10 @@ const ROWS_OF_AN_ENTRY: u64 = 4;
 /// This many octets that a record's events brought along count as one entry.
 const OCTETS_OF_AN_ENTRY: u64 = 1_024;
 
-/// How many entries are kept at most of this many members and a master, with this many records of
+/// How many entries are kept at most of this many members and a master, with this many pages of
 /// each.
-fn most_entries(members: usize, records: u32) -> u64 {
-    let each = u64::from(records).saturating_mul(MOST_ENTRIES as u64);
+fn most_entries(members: usize, pages: u32) -> u64 {
+    let each = u64::from(pages).saturating_mul(MOST_ENTRIES as u64);
     each.saturating_mul((members as u64).saturating_add(1))
 }
 
@@ -116,18 +116,18 @@ impl Kept {
 }
 
 impl Memory {
-    /// Nothing was done so far. Of each of this many members, and of the master, this many records
+    /// Nothing was done so far. Of each of this many members, and of the master, this many pages
     /// are kept; nothing, where that is 0.
-    pub(crate) fn new(alloc: Global, members: usize, records: u32) -> Memory
-        ensures { gathered_in result.kept ≡ gathered_at_first records }
+    pub(crate) fn new(alloc: Global, members: usize, pages: u32) -> Memory
+        ensures { gathered_in result.kept ≡ gathered_at_first pages }
     {
         let kept = Kept {
             records: Vec::new(alloc),
             entries: Vec::new(alloc),
         };
         Memory {
-            most: most_entries(members, records),
-            kept: if records == 0 { None } else { Some(kept) },
+            most: most_entries(members, pages),
+            kept: if pages == 0 { None } else { Some(kept) },
         }
     }
 
@@ -167,7 +167,7 @@ impl Memory {
     /// Puts the next record of a member behind those that are kept. Where there is no memory for
     /// that, everything is dropped.
     #[tactic(auto, using(crate::proofs::Gathering::kept_as_it_was, crate::proofs::Gathering::dropped, crate::proofs::Gathering::record_put))]
-    fn put_record(&mut self, next: Record) -> Result<(), AllocError>
+    pub(crate) fn put_record(&mut self, next: Record) -> Result<(), AllocError>
         ensures { GoesOn (gathered_in self.old.kept) (gathered_in self.new.kept) }
     {
         let Some(kept) = &mut self.kept else {
@@ -178,18 +178,6 @@ impl Memory {
             self.forget();
         }
         put
-    }
-
-    /// Puts the next records of a member behind those that are kept. Where there is no memory for
-    /// that, everything is dropped.
-    #[tactic(auto, using(crate::proofs::Gathering::kept_as_it_was, crate::proofs::Gathering::kept_twice))]
-    pub(crate) fn put_records(&mut self, records: Vec<Record>) -> Result<(), AllocError>
-        ensures { GoesOn (gathered_in self.old.kept) (gathered_in self.new.kept) }
-    {
-        for next in records {
-            self.put_record(next)?;
-        }
-        Ok(())
     }
 
     /// Puts the next calls of the master behind those that are kept. Where there is no memory for

@@ -1,5 +1,5 @@
 -- The book of a node's steps.
-use Rattle.std.specs.Prelude.{◌≡◌, ◌⊎◌, ℕ, ◌≤◌, List, [], ◌∷◌, ◌++◌, length, Result, Ok, Err}
+use Rattle.std.specs.Prelude.{◌≡◌, ◌⊎◌, ℕ, ◌+◌, ◌≤◌, List, [], ◌∷◌, ◌++◌, length, Result, Ok, Err}
 use Rattle.floor_rules.specs.Floors.{FloorMap}
 use Rattle.values_tables.specs.declared.plain.Tables.{Tables}
 use Rattle.node_rules.specs.declared.event.Event.{Event}
@@ -14,12 +14,13 @@ use Rattle.node_book.specs.declared.book.NodeEntry.{NodeEntry}
 use Rattle.node_book.specs.declared.book.BookFault.{BookFault}
 use Rattle.node_book.specs.declared.book.BookFault.TheVariants as faults
 
--- What contracts see of a book: the node, its state when the book was opened, and the entries so
--- far.
+-- What contracts see of a book: the node, its state when the book was opened, the entries so far, and
+-- how many of them are on pages that were filed.
 pub record BookView (S : Type 0) : Type 0 where
   pub node : NodeText (Unit {0}) S
   pub opening : NodeState (Unit {0})
   pub entries : List NodeEntry
+  pub filed : ℕ
 
 -- From the first state the entries are steps of the node, one after another, each with its own
 -- outcome, and they lead to the second.
@@ -32,10 +33,11 @@ Replays g old (e ∷ es) new = (middle : NodeState (Unit {0})) × Steps g old e.
 abbrev pub IsReplayed : {S : Type 0} → BookView S → Type 0
 IsReplayed book = Replays (setting book.node.roster book.node.id) book.opening book.entries book.node.state
 
--- The entries lead from the opening state to the node's state, and are at most 4,096.
-pub record IsBook (roster : Tables) (id : ℕ) (state opening : NodeState (Unit {0})) (entries : List NodeEntry) :
+-- The entries lead from the opening state to the node's state, and at most 4,096 are on the open page.
+pub record IsBook (roster : Tables) (id : ℕ) (state opening : NodeState (Unit {0})) (entries : List NodeEntry) (filed : ℕ) :
     Type 0 where
-  pub most : length entries ≤ 4096
+  pub begun : filed ≤ length entries
+  pub most : length entries ≤ filed + 4096
   pub replay : Replays (setting roster id) opening entries state
 
 -- What the caller is told of an outcome: the same reply, unless it could not be copied, or the same
@@ -53,5 +55,6 @@ pub record IsApplied {S : Type 0} (honest : Type 0) (may_find : FloorMap → Typ
   pub entries : after.entries ≡ before.entries ++ record { seat = seat; place = place; event = e; outcome = outcome }
       ∷ []
   pub opening : after.opening ≡ before.opening
+  pub filed : after.filed ≡ before.filed
   pub told_of : IsToldOf outcome told
   pub step : TakesStep honest may_find have_risen before.node e outcome after.node

@@ -1,4 +1,4 @@
-ghost use Rattle.std.specs.Prelude.{◌≡◌, ◌⊎◌, ◌<◌, ◌≤◌, [], length, IfOk, IfErr, Ok, Err};
+ghost use Rattle.std.specs.Prelude.{◌≡◌, ◌⊎◌, ◌<◌, ◌≤◌, ◌+◌, [], length, IsTrue, IsFalse, IfOk, IfErr, Ok, Err};
 ghost use Rattle.std.specs.Vec.{vec_len, vec_capacity};
 ghost use Rattle.floor_rules.specs.Store.{HaveRisen};
 ghost use Rattle.node_book.specs.Book.{IsApplied, IsReplayed, IsToldOf};
@@ -18,7 +18,7 @@ use std::marker::Model;
 use std::mem::replace;
 use thiserror::Error;
 
-/// The most entries of a book.
+/// The most entries of a page.
 pub const MOST_ENTRIES: usize = 4096;
 
 /// A step of a node, with its outcome.
@@ -37,8 +37,8 @@ pub struct NodeEntry {
 /// Why an event was not applied, or its reply was not returned.
 #[derive(Clone, Copy, Debug, PartialEq, Eq, Hash, Error)]
 pub enum BookFault {
-    /// The book has 4,096 entries. Nothing is entered, and nothing changes.
-    #[error("the book is full")]
+    /// The open page has 4,096 entries. Nothing is entered, and nothing changes.
+    #[error("the page is full")]
     ShiftFull,
     /// The step was refused. It is entered with its fault.
     #[error("the step was refused")]
@@ -54,13 +54,17 @@ pub enum BookFault {
 
 /// A node with a book of its steps.
 ///
-/// A contract sees the node, its state when the book was opened, and the entries, at most 4,096.
+/// The entries stand on pages of 4,096 at most. Filing a page takes neither time nor memory.
+///
+/// A contract sees the node, its state when the book was opened, the entries, and how many of them
+/// are on pages that were filed.
 #[derive(Drop)]
 pub struct NodeBook<S: FloorStore> {
     alloc: Global,
     node: Node<(), S>,
     opening: NodeState<()>,
     entries: Vec<NodeEntry>,
+    filed: usize,
 }
 
 impl<S: FloorStore> Model for NodeBook<S> {
@@ -74,9 +78,14 @@ impl<S: FloorStore> Model for NodeBook<S> {
 
     ghost coded = { Prim.hlevel (codes, map_code {R = slice_cmp nat_cmp} (coded_list coded_ℕ) coded_ℕ) };
 
-    ghost view = { λ b. record { node = b.node; opening = b.opening; entries = b.entries.items } };
+    ghost view = { λ b. record {
+      node = b.node;
+      opening = b.opening;
+      entries = b.entries.items;
+      filed = b.filed;
+    } };
 
-    ghost invariant = { λ b. IsBook b.node.roster b.node.id b.node.state b.opening b.entries.items };
+    ghost invariant = { λ b. IsBook b.node.roster b.node.id b.node.state b.opening b.entries.items b.filed };
 }
 
 impl<S: FloorStore> NodeBook<S> {
@@ -84,7 +93,7 @@ impl<S: FloorStore> NodeBook<S> {
     /// copy, the node comes back.
     pub fn open(alloc: Global, node: Node<(), S>) -> Result<NodeBook<S>, (Node<(), S>, AllocError)>
         ensures opened { IfOk result (λ book.
-            book ≡ record { node = node; opening = node.state; entries = [] }) }
+            book ≡ record { node = node; opening = node.state; entries = []; filed = 0 }) }
         ensures given_back { IfErr result (λ refused. refused.0 ≡ node) }
     {
         match node.state() {
@@ -93,6 +102,7 @@ impl<S: FloorStore> NodeBook<S> {
                 node,
                 opening,
                 entries: Vec::new(alloc),
+                filed: 0,
             }),
             Err(fault) => Err((node, fault)),
         }
@@ -104,20 +114,21 @@ impl<S: FloorStore> NodeBook<S> {
     /// A request is served at once, and the step does nothing else; or it waits for what the step
     /// begins.
     ///
-    /// Faults that enter nothing and change nothing: `ShiftFull` if there are 4,096 entries, tested
+    /// Faults that enter nothing and change nothing: `ShiftFull` if the open page is full, tested
     /// first; `NoMemory` if there is no memory for an entry. Faults that are entered: `Step` with
     /// the fault of the step; `ReplyLost` if the reply could not be copied.
     pub fn apply(&mut self, seat: u8, place: u64, event: Event<()>) -> Result<Reply<()>, BookFault>
-        ensures full { 4096 ≤ length self.old.entries → (result ≡ Err faults.ShiftFull)
-            × (self.new ≡ self.old) }
-        ensures applied { length self.old.entries < 4096 → (result ≡ Err faults.NoMemory)
+        ensures full { self.old.filed + 4096 ≤ length self.old.entries →
+            (result ≡ Err faults.ShiftFull) × (self.new ≡ self.old) }
+        ensures applied { length self.old.entries < self.old.filed + 4096 →
+            (result ≡ Err faults.NoMemory)
             × (self.new ≡ self.old)
             ⊎ IsApplied (S.is_honest self.new.node.store) (S.may_find self.new.node.store)
             (HaveRisen (S.failed self.old.node.store) (S.failed self.new.node.store))
             self.old self.new seat place event result }
         ensures asks { IfOk result (AnswersAsk event) }
     {
-        match room_for(self.alloc, &mut self.entries, &event) {
+        match room_for(self.alloc, &mut self.entries, self.filed, &event) {
             Ok(entered) => {
                 let (entry, told) = stepped(
                     self.alloc,
@@ -134,10 +145,25 @@ impl<S: FloorStore> NodeBook<S> {
         }
     }
 
-    /// The entries since the book was opened.
+    /// Whether the open page has 4,096 entries, so that no step can be entered until it is filed.
+    pub fn is_full(&self) -> bool
+        ensures full { IsTrue result → self.now.filed + 4096 ≤ length self.now.entries }
+        ensures room { IsFalse result → length self.now.entries < self.now.filed + 4096 }
+    {
+        has_full_page(self.entries.as_slice(), self.filed)
+    }
+
+    /// Files the open page. The next one has no entries.
+    pub fn file_page(&mut self)
+        ensures { self.new ≡ record self.old { filed = length self.old.entries } }
+    {
+        self.filed = self.entries.len();
+    }
+
+    /// The entries since the book was opened, those of all pages.
     pub fn entries(&self) -> &[NodeEntry]
         ensures value { result.now ≡ self.now.entries }
-        ensures most { length self.now.entries ≤ 4096 }
+        ensures most { length self.now.entries ≤ self.now.filed + 4096 }
     {
         self.entries.as_slice()
     }
@@ -155,6 +181,7 @@ impl<S: FloorStore> NodeBook<S> {
                     node,
                     opening,
                     entries,
+                    filed: _,
                 } = self;
                 let record = Record {
                     node: node.id(),
@@ -176,12 +203,14 @@ impl<S: FloorStore> NodeBook<S> {
               node = self.old.node;
               opening = self.old.node.state;
               entries = [];
+              filed = 0;
             })) }
         ensures same { IfErr result (λ _. self.new ≡ self.old) }
     {
         let closing = self.node.state()?;
         let next = self.node.state()?;
         let entries = replace(&mut self.entries, Vec::new(self.alloc));
+        self.filed = 0;
         Ok(Record {
             node: self.node.id(),
             opening: replace(&mut self.opening, next),
@@ -215,20 +244,33 @@ impl<S: FloorStore> NodeBook<S> {
     }
 }
 
-/// Makes room for one more entry, and copies the event for it.
+/// Whether the page behind so many filed entries has 4,096 entries.
+fn has_full_page(entries: &[NodeEntry], filed: usize) -> bool
+    requires { filed ≤ length entries.now }
+    ensures full { IsTrue result → filed + 4096 ≤ length entries.now }
+    ensures room { IsFalse result → length entries.now < filed + 4096 }
+{
+    MOST_ENTRIES <= entries.len() - filed
+}
+
+/// Makes room for one more entry on the page behind so many filed entries, and copies the event for
+/// it.
 fn room_for(
     alloc: Global,
     entries: &mut Vec<NodeEntry>,
+    filed: usize,
     event: &Event<()>,
 ) -> Result<Event<()>, BookFault>
-    ensures full { 4096 ≤ vec_len entries.old → result ≡ Err faults.ShiftFull }
-    ensures few { vec_len entries.old < 4096 → IfErr result (λ fault. fault ≡ faults.NoMemory) }
+    requires { filed ≤ vec_len entries.old }
+    ensures full { filed + 4096 ≤ vec_len entries.old → result ≡ Err faults.ShiftFull }
+    ensures few { vec_len entries.old < filed + 4096 →
+        IfErr result (λ fault. fault ≡ faults.NoMemory) }
     ensures copy { IfOk result (λ copy. copy ≡ event.now) }
-    ensures room { IfOk result (λ _. (vec_len entries.old < 4096)
+    ensures room { IfOk result (λ _. (vec_len entries.old < filed + 4096)
         × (vec_len entries.new < vec_capacity entries.new)) }
     ensures same { entries.new.items ≡ entries.old.items }
 {
-    if entries.len() >= MOST_ENTRIES {
+    if has_full_page(entries.as_slice(), filed) {
         return Err(BookFault::ShiftFull);
     }
     if entries.reserve(1).is_err() {

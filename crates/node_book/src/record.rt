@@ -1,4 +1,4 @@
-//! What is kept of a book that was closed.
+//! What is kept of a book.
 use crate::NodeEntry;
 use node_rules::NodeState;
 use roster::Listed;

@@ -1,5 +1,5 @@
 -- What contracts see of a node under its lock.
-use Rattle.std.specs.Prelude.{◌≡◌, ◌<◌, ℕ, List, [], ◌∷◌, ◌++◌, length, slice_index_or, Option, Some, None, Result}
+use Rattle.std.specs.Prelude.{◌≡◌, ◌<◌, ◌+◌, ℕ, List, [], ◌∷◌, ◌++◌, length, slice_index_or, Option, Some, None, Result}
 use Rattle.node_core.specs.View.{IsSameMember, NodeText}
 use Rattle.node_book.specs.Book.{BookView, IsReplayed}
 use Rattle.node_book.specs.Closed.{IsRecorded}
@@ -14,17 +14,17 @@ use Rattle.node_rules.specs.declared.reply.Reply.{Reply}
 use Rattle.node_rules.specs.declared.reply.StepFault.{StepFault}
 use Rattle.node_seats.specs.Seats.{IsEntryOf, IsToldOf, SeatView}
 
--- The history, the node with its book if its steps are recorded, the records that are kept, and how many octets the
--- events of the open record have brought along.
+-- The history, the node with its book if its steps are recorded, how many pages of the book are full, and how many
+-- octets the events of the open page have brought along.
 pub record DeskView (S : Type 0) : Type 0 where
   pub log : List NodeEntry
   pub steps : Option (Steps S)
-  pub records : List Record
+  pub pages : ℕ
   pub octets : ℕ
 
 -- Another step can be entered.
 abbrev pub HasRoom : {S : Type 0} → ℕ → Option (Steps S) → Type 0
-HasRoom octets (Some (Recorded book)) = (octets < 4194304) × (length book.entries < 4096)
+HasRoom octets (Some (Recorded book)) = (octets < 4194304) × (length book.entries < book.filed + 4096)
 HasRoom octets (Some (Alone node)) = Unit {0}
 HasRoom octets None = Unit {0}
 
@@ -45,13 +45,18 @@ abbrev pub AreNewSeats : ℕ → List SeatView → Type 0
 AreNewSeats count seats = (length seats ≡ count)
     × ((k : ℕ) (d : SeatView) → k < length seats → slice_index_or seats k d ≡ new_seat k)
 
--- The open book has ended its record, which is behind the others now. Without a book nothing changes.
-abbrev pub IsEndedIn : {S : Type 0} → Option (Steps S) → List Record → Option (Steps S) → List Record → Type 0
-IsEndedIn (Some (Recorded book)) records new after = (done : Record) × IsRecorded book done
-    × (new ≡ Some (Recorded (record { node = book.node; opening = book.node.state; entries = [] })))
-    × (after ≡ records ++ done ∷ [])
-IsEndedIn (Some (Alone node)) records new after = (new ≡ Some (Alone node)) × (after ≡ records)
-IsEndedIn None records new after = (new ≡ None) × (after ≡ records)
+-- The open page is filed, if the steps are recorded. Nothing else changes.
+abbrev pub with_page_filed : {S : Type 0} → Option (Steps S) → Option (Steps S)
+with_page_filed (Some (Recorded book)) = Some (Recorded (record book { filed = length book.entries }))
+with_page_filed (Some (Alone node)) = Some (Alone node)
+with_page_filed None = None
+
+-- The book has ended its record, which is taken out. Without a book there is none, and nothing changes.
+abbrev pub IsEndedIn : {S : Type 0} → Option (Steps S) → Option Record → Option (Steps S) → Type 0
+IsEndedIn (Some (Recorded book)) taken new = (done : Record) × IsRecorded book done × (taken ≡ Some done)
+    × (new ≡ Some (Recorded (record { node = book.node; opening = book.node.state; entries = []; filed = 0 })))
+IsEndedIn (Some (Alone node)) taken new = (taken ≡ None) × (new ≡ Some (Alone node))
+IsEndedIn None taken new = (taken ≡ None) × (new ≡ None)
 
 -- The node is without its book, whose entries had led to the node's state.
 abbrev pub IsWithoutBook : {S : Type 0} → Option (Steps S) → Option (Steps S) → Type 0
@@ -61,7 +66,7 @@ IsWithoutBook None new = new ≡ None
 
 -- The node before its first step, with or without a book.
 abbrev pub AreNewSteps : {S : Type 0} → NodeText (Unit {0}) S → Steps S → Type 0
-AreNewSteps node (Recorded book) = book ≡ record { node = node; opening = node.state; entries = [] }
+AreNewSteps node (Recorded book) = book ≡ record { node = node; opening = node.state; entries = []; filed = 0 }
 AreNewSteps node (Alone alone) = alone ≡ node
 
 -- The node has taken the step of a call, which is entered in the book behind the others, and its outcome is what is

@@ -2,8 +2,8 @@
 ghost use Rattle.std.specs.Prelude.{◌≡◌, [], Some, IfOk, IfSome, IsFalse, OnOk, OnErr};
 ghost use Rattle.node_bytes.specs.Stepping.{AnswersAsk};
 ghost use Rattle.node_seats.specs.Beginning.{beginning_of};
-ghost use Rattle.node_seats.specs.Desks.{AreNewSteps, HasRoom, IsEndedIn, IsWithoutBook};
-ghost use Rattle.node_seats.specs.Records.{ArePart, keeps};
+ghost use Rattle.node_seats.specs.Desks.{AreNewSteps, HasRoom, IsEndedIn, IsWithoutBook, with_page_filed};
+ghost use Rattle.node_seats.specs.Records.{IsPart, keeps};
 ghost use Rattle.node_seats.specs.Seats.{Called, IsNext};
 
 use crate::entering::{Told, enter_alone, enter_recorded};
@@ -14,36 +14,35 @@ use crate::steps::Steps;
 use crate::weight::octets_of;
 use crate::whole::Whole;
 use floor_rules::FloorStore;
-use node_book::{MOST_ENTRIES, NodeBook, Record};
+use node_book::{NodeBook, Record};
 use node_core::Node;
 use node_rules::{Event, StepFault};
 use std::alloc::{AllocError, Global};
 use std::marker::Model;
-use std::mem::replace;
 
-/// Once the events of a record have brought this many octets along, the next record begins. This
-/// bounds what its entries keep in memory.
+/// Once the events of a page have brought this many octets along, the page is full. This bounds what
+/// its entries keep in memory.
 const MOST_OCTETS: u64 = 4_194_304;
 
-/// A node with its history, and with the records that are kept for a check.
+/// A node with its history, and with the record that is kept for a check.
 ///
-/// A contract sees the history, and the records.
+/// A contract sees the history, and the book.
 #[derive(Drop)]
 pub(crate) struct Desk<S: FloorStore, J: Origin> {
     pub(crate) alloc: Global,
-    /// The node, and the book of its open record. None once an entry could not be added to the
-    /// history, which never happens.
+    /// The node, and its book if its steps are recorded. None once an entry could not be added to
+    /// the history, which never happens.
     pub(crate) steps: Option<Steps<S>>,
     /// The whole history.
     pub(crate) whole: Whole<J>,
     /// Where each call draws its place.
     pub(crate) places: Places,
-    /// How many octets the events of the open record have brought along.
+    /// How many octets the events of the open page have brought along.
     pub(crate) octets: u64,
-    /// What becomes of the records.
+    /// What becomes of the record.
     pub(crate) retention: Retention,
-    /// The records that ended and are kept.
-    pub(crate) records: Vec<Record>,
+    /// How many pages of the book are full.
+    pub(crate) pages: u32,
 }
 
 impl<S: FloorStore, J: Origin> Model for Desk<S, J> {
@@ -58,13 +57,13 @@ impl<S: FloorStore, J: Origin> Model for Desk<S, J> {
 
     ghost coded = { Prim.hlevel (codes, map_code {R = slice_cmp nat_cmp} (coded_list coded_ℕ) coded_ℕ) };
 
-    ghost view = { λ desk. record { log = desk.whole; steps = desk.steps; records = desk.records.items; octets = desk.octets } };
+    ghost view = { λ desk. record { log = desk.whole; steps = desk.steps; pages = desk.pages; octets = desk.octets } };
 
-    ghost invariant = { λ desk. Stands J.beginning desk.whole desk.records.items desk.steps };
+    ghost invariant = { λ desk. Stands J.beginning desk.whole desk.steps };
 }
 
 impl<S: FloorStore + Drop, J: Origin> Desk<S, J> {
-    /// A node under a desk without records, before its first step.
+    /// A node under a desk, before its first step.
     pub(crate) fn new(
         alloc: Global,
         node: Node<(), S>,
@@ -83,16 +82,15 @@ impl<S: FloorStore + Drop, J: Origin> Desk<S, J> {
             places,
             octets: 0,
             retention,
-            records: Vec::new(alloc),
+            pages: 0,
         })
     }
 
-    /// Makes one call by a seat: takes a step, and adds its entry to the history. Where the open
-    /// record has no room, the next record begins before the call.
+    /// Makes one call by a seat: takes a step, and adds its entry to the history. Where the open page
+    /// is full, the next page begins before the call.
     ///
-    /// Faults: those of the step. `NoMemory` also comes where there is no memory for the entry or to
-    /// begin the next record, and no step is taken then; and where there is none for a copy of the
-    /// reply, and the step stands then.
+    /// Faults: those of the step. `NoMemory` also comes where there is no memory for the entry, and no
+    /// step is taken then; and where there is none for a copy of the reply, and the step stands then.
     pub(crate) fn call(&mut self, seat: &mut Seat<J>, event: Event<()>) -> Told
         ensures called { Called seat.old event result seat.new }
         ensures asks { IfOk result (AnswersAsk event) }
@@ -100,20 +98,18 @@ impl<S: FloorStore + Drop, J: Origin> Desk<S, J> {
         if !self.whole.is_next(seat) {
             return Err(StepFault::Closed);
         }
-        if self.is_full() && self.end_record().is_err() {
-            return Err(StepFault::NoMemory);
+        if self.is_full() {
+            self.end_page();
         }
         self.enter(seat, event)
     }
 
-    /// Whether the open record has no room for another entry.
+    /// Whether the open page has no room for another entry.
     fn is_full(&self) -> bool
         ensures { IsFalse result → HasRoom self.now.octets self.now.steps }
     {
         match &self.steps {
-            Some(Steps::Recorded(book)) => {
-                MOST_OCTETS <= self.octets || MOST_ENTRIES <= book.entries().len()
-            }
+            Some(Steps::Recorded(book)) => MOST_OCTETS <= self.octets || book.is_full(),
             Some(Steps::Alone(_)) | None => false,
         }
     }
@@ -149,47 +145,46 @@ impl<S: FloorStore + Drop, J: Origin> Desk<S, J> {
             None => {}
         }
         self.steps = None;
-        self.records.clear();
         Err(StepFault::Closed)
     }
 
-    /// Ends the open record and begins the next one; or, where the record would not be kept, drops
-    /// all records and keeps none from then on. Where there is no memory for that, nothing changes.
-    fn end_record(&mut self) -> Result<(), AllocError>
-        ensures ended { OnOk result (HasRoom self.new.octets self.new.steps
-            × (self.new.log ≡ self.old.log)) }
-        ensures same { OnErr result (self.new ≡ self.old) }
+    /// Ends the open page and begins the next one; or, where it would not be kept, drops all pages
+    /// and keeps none from then on.
+    fn end_page(&mut self)
+        ensures room { HasRoom self.new.octets self.new.steps }
+        ensures same { self.new.log ≡ self.old.log }
     {
-        if !is_kept(self.retention, self.records.len()) {
+        if !is_kept(self.retention, self.pages) {
             self.forget();
-            return Ok(());
+            return;
         }
-        end_book(&mut self.steps, &mut self.records)?;
+        file_page(&mut self.steps);
+        self.pages += 1;
         self.octets = 0;
-        Ok(())
     }
 
-    /// Drops all records, and keeps none from then on.
+    /// Drops all pages, and keeps none from then on.
     fn forget(&mut self)
         ensures room { HasRoom self.new.octets self.new.steps }
         ensures same { self.new.log ≡ self.old.log }
     {
         self.steps = without_book(self.steps.take());
-        self.records.clear();
         self.retention = Retention::Dropped;
         self.octets = 0;
     }
 
-    /// Ends the open record, begins the next one, and takes out the records that are kept, oldest
-    /// first; or none, where none is kept. Where there is no memory for that, nothing changes.
-    pub(crate) fn take_records(&mut self) -> Result<Option<Vec<Record>>, AllocError>
-        ensures { IfOk result (λ taken. IfSome taken (λ records. ArePart J.beginning records.items)) }
+    /// Takes out the record of all pages, and begins the next one; or takes none, where none is kept.
+    /// It copies the node's state twice. Where there is no memory for that, nothing changes.
+    pub(crate) fn take_record(&mut self) -> Result<Option<Record>, AllocError>
+        ensures { IfOk result (λ taken. IfSome taken (IsPart J.beginning)) }
     {
-        self.end_record()?;
-        match self.retention {
-            Retention::UpTo(_) => Ok(Some(replace(&mut self.records, Vec::new(self.alloc)))),
-            Retention::Dropped => Ok(None),
+        if !is_kept(self.retention, self.pages) {
+            self.forget();
         }
+        let taken = end_record(&mut self.steps)?;
+        self.pages = 0;
+        self.octets = 0;
+        Ok(taken)
     }
 }
 
@@ -210,23 +205,24 @@ fn new_steps<S: FloorStore + Drop>(
     }
 }
 
-/// Ends the record of an open book, and puts it behind the others. Where there is no memory for
-/// that, nothing changes.
-fn end_book<S: FloorStore>(
-    steps: &mut Option<Steps<S>>,
-    records: &mut Vec<Record>,
-) -> Result<(), AllocError>
-    ensures ended { OnOk result (IsEndedIn steps.old records.old.items steps.new records.new.items) }
-    ensures same { OnErr result ((steps.new ≡ steps.old)
-        × (records.new.items ≡ records.old.items)) }
+/// Files the open page, if there is a book.
+fn file_page<S: FloorStore>(steps: &mut Option<Steps<S>>)
+    ensures { steps.new ≡ with_page_filed steps.old }
 {
-    records.reserve(1)?;
+    if let Some(Steps::Recorded(book)) = steps {
+        book.file_page();
+    }
+}
+
+/// Takes out the record of the book, if there is one. Where there is no memory for that, nothing
+/// changes.
+fn end_record<S: FloorStore>(steps: &mut Option<Steps<S>>) -> Result<Option<Record>, AllocError>
+    ensures ended { IfOk result (λ taken. IsEndedIn steps.old taken steps.new) }
+    ensures same { OnErr result (steps.new ≡ steps.old) }
+{
     match steps {
-        Some(Steps::Recorded(book)) => {
-            records.push_reserved(book.end_record()?);
-            Ok(())
-        }
-        Some(Steps::Alone(_)) | None => Ok(()),
+        Some(Steps::Recorded(book)) => Ok(Some(book.end_record()?)),
+        Some(Steps::Alone(_)) | None => Ok(None),
     }
 }
 
@@ -240,12 +236,12 @@ fn without_book<S: FloorStore>(steps: Option<Steps<S>>) -> Option<Steps<S>>
     }
 }
 
-/// Whether one record more is kept beside this many.
-fn is_kept(retention: Retention, kept: usize) -> bool
+/// Whether one page more is kept beside this many.
+fn is_kept(retention: Retention, kept: u32) -> bool
     ensures { result ≡ keeps retention kept }
 {
     match retention {
-        Retention::UpTo(most) => (kept as u64) < u64::from(most),
+        Retention::UpTo(most) => kept < most,
         Retention::Dropped => false,
     }
 }

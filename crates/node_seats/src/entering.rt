@@ -1,5 +1,5 @@
 //! A step of a node, with its entry in the history.
-ghost use Rattle.std.specs.Prelude.{◌≡◌, ◌<◌, length, IfOk, IfSome, IfNone};
+ghost use Rattle.std.specs.Prelude.{◌≡◌, ◌<◌, ◌+◌, length, IfOk, IfSome, IfNone};
 ghost use Rattle.floor_rules.specs.Store.{HaveRisen};
 ghost use Rattle.node_bytes.specs.Stepping.{AnswersAsk};
 ghost use Rattle.node_seats.specs.Beginning.{LeadsToNode};
@@ -27,7 +27,7 @@ fn apply<S: FloorStore>(
     place: u64,
     event: Event<()>,
 ) -> Option<Told>
-    requires room { length book.old.entries < 4096 }
+    requires room { length book.old.entries < book.old.filed + 4096 }
     ensures taken { IfSome result (IsTakenIn (S.is_honest book.new.node.store)
         (S.may_find book.new.node.store)
         (HaveRisen (S.failed book.old.node.store) (S.failed book.new.node.store))
@@ -54,7 +54,7 @@ pub(crate) fn enter_recorded<S: FloorStore, J: Origin>(
 ) -> Option<Told>
     requires next { IsNext whole.old seat.old }
     requires leads { LeadsToNode J.beginning whole.old book.old.node }
-    requires room { length book.old.entries < 4096 }
+    requires room { length book.old.entries < book.old.filed + 4096 }
     ensures called { IfSome result (λ told. Called seat.old event told seat.new) }
     ensures asks { IfSome result (λ told. IfOk told (AnswersAsk event)) }
     ensures entered { IfSome result (λ _. IsEnteredIn book.old book.new whole.old whole.new) }

@@ -8,15 +8,15 @@
 //! two threads were told are places of one history that the rules allow. [`AtSeat`] takes a node's
 //! steps that way, as a [`Stepper`](node_bytes::Stepper).
 //!
-//! For a check of the run the steps are recorded as well ([`Retention`]): a record has space for
-//! 4,096 steps, and until their events have brought 4 MiB along ([`octets_of`]). Where it has no
-//! more space, the next record begins within a call. So callers need to know nothing of records, and
-//! no fetch and no client waits for one. [`SharedNode::hold`] holds the node while its records are
-//! taken. Where none is kept, no step is kept and no state of the node is copied.
-//! [`Places`] is the counter from which each call draws its place; all nodes of a run share it.
+//! For a check of the run the steps are recorded as well ([`Retention`]), on pages: a page has space
+//! for 4,096 steps, and until their events have brought 4 MiB along ([`octets_of`]). A full page ends
+//! within a call, which copies nothing and takes no longer for it. [`SharedNode::hold`] holds the node
+//! while its record, that of all pages, is taken. Where none is kept, no step is kept and no state of
+//! the node is copied. [`Places`] is the counter from which each call draws its place; all nodes of a
+//! run share it.
 //!
 //! Order of reading: `specs/Beginning.antt` and `specs/Seats.antt` (what a call does to its seat),
-//! `specs/Records.antt` (what the records are), `specs/Desks.antt`, `specs/Weight.antt` (what an
+//! `specs/Records.antt` (what a record is), `specs/Desks.antt`, `specs/Weight.antt` (what an
 //! event brings along); `src/seat.rt`, `src/shared.rt` (the call), `src/desk.rt` (the call inside
 //! the lock), `src/entering.rt` (the step and its entry), `src/whole.rt` (the history),
 //! `src/at_seat.rt`, `src/retention.rt`, `src/steps.rt`, `src/weight.rt`, `src/places.rt`;

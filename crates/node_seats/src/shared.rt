@@ -3,7 +3,7 @@ ghost use Rattle.std.specs.Prelude.{◌≡◌, [], Some, IfOk, IfSome};
 ghost use Rattle.node_bytes.specs.Stepping.{AnswersAsk};
 ghost use Rattle.node_seats.specs.Beginning.{beginning_of};
 ghost use Rattle.node_seats.specs.Desks.{AreNewSeats};
-ghost use Rattle.node_seats.specs.Records.{ArePart};
+ghost use Rattle.node_seats.specs.Records.{IsPart};
 ghost use Rattle.node_seats.specs.Seats.{Called};
 
 use crate::desk::Desk;
@@ -51,9 +51,8 @@ impl<S: FloorStore + Drop, J: Origin> SharedNode<S, J> {
     /// the history. Where no step was taken, the seat stays as it was. A request that is answered is
     /// served at once, and nothing else is done then; or it waits for what begins with it.
     ///
-    /// Faults: those of the step. `NoMemory` also comes where there is no memory for the entry or to
-    /// begin the next record, and no step is taken then; and where there is none for a copy of the
-    /// reply, and the step stands then.
+    /// Faults: those of the step. `NoMemory` also comes where there is no memory for the entry, and no
+    /// step is taken then; and where there is none for a copy of the reply, and the step stands then.
     pub fn call<R: Wait>(
         &self,
         rt: &R,
@@ -97,12 +96,12 @@ pub struct Held<'n, S: FloorStore, J: Origin> {
 }
 
 impl<S: FloorStore + Drop, J: Origin> Held<'_, S, J> {
-    /// Ends the open record, begins the next one, and takes out the records that are kept, oldest
-    /// first; or none, where none is kept. The records are a part of the node's history. Where there
-    /// is no memory for that, nothing changes.
-    pub fn take_records(&mut self) -> Result<Option<Vec<Record>>, AllocError>
-        ensures { IfOk result (λ taken. IfSome taken (λ records. ArePart J.beginning records.items)) }
+    /// Takes out the record of the steps since the last time, and begins the next one; or takes none,
+    /// where none is kept. The record is a part of the node's history. Where there is no memory for
+    /// that, nothing changes.
+    pub fn take_record(&mut self) -> Result<Option<Record>, AllocError>
+        ensures { IfOk result (λ taken. IfSome taken (IsPart J.beginning)) }
     {
-        self.desk.take_records()
+        self.desk.take_record()
     }
 }

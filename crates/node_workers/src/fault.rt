@@ -1,4 +1,4 @@
-//! Why a node does not start, or does not give its records.
+//! Why a node does not start, or does not give its record.
 ghost use Rattle.std.specs.Prelude.{◌≡◌};
 ghost use Rattle.node_workers.specs.Names.{start_fault_name, stop_fault_name};
 
@@ -35,7 +35,7 @@ pub(crate) enum Unready {
     NoMemory,
 }
 
-/// Why the records of a node are not given.
+/// Why the record of a node is not given.
 #[derive(Clone, Copy, Debug, PartialEq, Eq, Error)]
 pub enum StopFault {
     /// The node's thread has ended.

@@ -1,11 +1,11 @@
-//! How a node is held while its records are taken.
+//! How a node is held while its record is taken.
 use crate::fault::StopFault;
 use node_book::Record;
 use std::mem::replace;
 use std::sync::{Condvar, Mutex, Wait};
 
-/// What became of records that were asked for: the records, if a history is kept.
-pub(crate) type Taken = Result<Option<Vec<Record>>, StopFault>;
+/// What became of a record that was asked for: the record, if one is kept.
+pub(crate) type Taken = Result<Option<Record>, StopFault>;
 
 /// Where the node's thread and the thread that holds the node stand.
 #[derive(Drop)]
@@ -16,9 +16,9 @@ enum Stand {
     Wanted,
     /// It is held: no step is taken.
     Held,
-    /// It is held, and its records are asked for.
+    /// It is held, and its record is asked for.
     Asked,
-    /// It is held, and these are its records.
+    /// It is held, and this is its record.
     Given(Taken),
     /// Its thread has ended.
     Ended,
@@ -45,8 +45,8 @@ impl Halt {
         matches!(*self.stand.lock(rt), Stand::Wanted)
     }
 
-    /// The node's thread says that it holds the node, and waits until its records are asked for or
-    /// it is to go on. Returns whether they are asked for.
+    /// The node's thread says that it holds the node, and waits until its record is asked for or it
+    /// is to go on. Returns whether it is asked for.
     pub(crate) fn stand_by<R: Wait>(&self, rt: &R) -> bool {
         let mut stand = self.stand.lock(rt);
         if matches!(*stand, Stand::Wanted) {
@@ -59,7 +59,7 @@ impl Halt {
         matches!(*stand, Stand::Asked)
     }
 
-    /// The node's thread gives the records that were asked for.
+    /// The node's thread gives the record that was asked for.
     pub(crate) fn give<R: Wait>(&self, rt: &R, taken: Taken) {
         let mut stand = self.stand.lock(rt);
         if matches!(*stand, Stand::Asked) {
@@ -85,8 +85,8 @@ impl Halt {
             .wait_while(rt, stand, |stand| matches!(*stand, Stand::Wanted));
     }
 
-    /// Asks for the records of a node that is held, and waits for them. `Ended` comes where
-    /// its thread has ended.
+    /// Asks for the record of a node that is held, and waits for it. `Ended` comes where its
+    /// thread has ended.
     pub(crate) fn ask<R: Wait>(&self, rt: &R) -> Taken {
         let mut stand = self.stand.lock(rt);
         if matches!(*stand, Stand::Held) {

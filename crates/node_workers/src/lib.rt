@@ -10,14 +10,14 @@
 //! for each other's fetches.
 //!
 //! Each thread owns a seat of the node (`node_seats`) and takes its steps by it. The node's lock is
-//! held for one step, and no lock is held while a socket is waited for. A record that is full ends
-//! within a step, and nobody waits for it. [`Workers::stop`] ends the threads, and answers 503 to
+//! held for one step, and no lock is held while a socket is waited for. A page of its record that is
+//! full ends within a step, and nobody waits for it. [`Workers::stop`] ends the threads, and answers 503 to
 //! those who wait.
 //!
-//! To read the records of a running node, hold it first ([`Workers::hold`]): its thread takes the
+//! To read the record of a running node, hold it first ([`Workers::hold`]): its thread takes the
 //! node's lock and keeps it, so no step is taken until [`Workers::resume`]. Meanwhile
-//! [`Workers::records`] hands out the records. Where several nodes are held before the first gives
-//! its records, the records are of one moment.
+//! [`Workers::record`] hands out the record. Where several nodes are held before the first gives its
+//! record, the records end at one moment.
 //!
 //! Order of reading: `src/workers.rt` (the calls, and the start); `src/threads.rt` (what each
 //! thread does); `src/node.rt` (the node's thread from start to end); `src/signals.rt` with

@@ -31,7 +31,7 @@ pub(crate) struct Start<S: FloorStore, G: Drop> {
     pub(crate) places: Places,
     /// How many workers, and how many fetchers.
     pub(crate) count: u8,
-    /// What becomes of its records.
+    /// What becomes of its record.
     pub(crate) retention: Retention,
     /// What its threads share beside the node.
     pub(crate) edge: Edge<G>,
@@ -85,15 +85,13 @@ fn run_edge<
     refuse_all(rt, &station, &mut last);
 }
 
-/// The records of a node that is stopped, with the last one.
-fn records_of<S: FloorStore + Drop, J: Origin, R: Wait>(
+/// The record of a node that is stopped.
+fn record_of<S: FloorStore + Drop, J: Origin, R: Wait>(
     rt: &R,
-    alloc: Global,
     node: &SharedNode<S, J>,
-) -> Result<Vec<Record>, StopFault> {
-    match node.hold(rt).take_records() {
-        Ok(Some(records)) => Ok(records),
-        Ok(None) => Ok(Vec::new(alloc)),
+) -> Result<Option<Record>, StopFault> {
+    match node.hold(rt).take_record() {
+        Ok(record) => Ok(record),
         Err(_) => Err(StopFault::NoMemory),
     }
 }
@@ -105,7 +103,12 @@ fn run_named<
     S: FloorStore + Drop + Send,
     G: Gate + Drop + Send + Sync,
     R: Threads + Wait + Clock + Net<Listener = TcpListener, Stream = TcpStream> + Sync,
->(rt: &R, start: Start<S, G>, new: NewJobs, history: NewHistory) -> Result<Vec<Record>, StopFault>
+>(
+    rt: &R,
+    start: Start<S, G>,
+    new: NewJobs,
+    history: NewHistory,
+) -> Result<Option<Record>, StopFault>
     requires table { new ≡ Q.table }
     requires book { history.seen.book ≡ J.book }
     requires beginning { J.beginning ≡ Some (beginning_of start.node) }
@@ -124,19 +127,19 @@ fn run_named<
     match SharedNode::<S, J>::open(alloc, node, seats, retention, head, front, places) {
         Ok((node, seats)) => {
             run_edge::<Q, J, S, G, R>(rt, count, edge, &node, seats, new);
-            records_of(rt, alloc, &node)
+            record_of(rt, &node)
         }
         Err(_) => Err(StopFault::NoMemory),
     }
 }
 
-/// Runs a node until it is stopped, and gives the records that are kept. Those who still wait get
+/// Runs a node until it is stopped, and gives its record, if one is kept. Those who still wait get
 /// 503.
 pub(crate) fn run_node<
     S: FloorStore + Drop + Send,
     G: Gate + Drop + Send + Sync,
     R: Threads + Wait + Clock + Net<Listener = TcpListener, Stream = TcpStream> + Sync,
->(rt: &R, start: Start<S, G>) -> Result<Vec<Record>, StopFault> {
+>(rt: &R, start: Start<S, G>) -> Result<Option<Record>, StopFault> {
     match NewJobs::new(start.alloc) {
         Ok(new) => run_named::<Brand, Brand, S, G, R>(rt, start, new, NewHistory::new()),
         Err(_) => Err(StopFault::NoMemory),

@@ -199,23 +199,23 @@ fn put_due<Q: QueueName, G: Drop, R: Wait + Clock>(
     (pass, is_due)
 }
 
-/// Takes out the records of a node that is held.
-fn records_of<S: FloorStore + Drop, J: Origin>(held: &mut Held<'_, S, J>) -> Taken {
-    match held.take_records() {
-        Ok(records) => Ok(records),
+/// Takes out the record of a node that is held.
+fn record_of<S: FloorStore + Drop, J: Origin>(held: &mut Held<'_, S, J>) -> Taken {
+    match held.take_record() {
+        Ok(record) => Ok(record),
         Err(_) => Err(StopFault::NoMemory),
     }
 }
 
-/// Holds the node under its lock until it is to go on, and gives its records whenever they are
-/// asked for.
+/// Holds the node under its lock until it is to go on, and gives its record whenever it is asked
+/// for.
 fn hold<S: FloorStore + Drop, J: Origin, R: Wait>(rt: &R, halt: &Halt, node: &SharedNode<S, J>) {
     let mut held = node.hold(rt);
     for _ in rt.forever() {
         if !halt.stand_by(rt) {
             break;
         }
-        halt.give(rt, records_of(&mut held));
+        halt.give(rt, record_of(&mut held));
     }
 }
 

@@ -36,7 +36,7 @@ pub struct Ground<S: FloorStore> {
     pub floors: S,
     /// The counter of places, which all nodes of a run share.
     pub places: Places,
-    /// What becomes of its records.
+    /// What becomes of its record.
     pub retention: Retention,
     /// Random hash keys, which nobody outside knows, so that nobody can choose URLs whose look-ups
     /// are slow. All nodes of a run may share them.
@@ -46,7 +46,7 @@ pub struct Ground<S: FloorStore> {
 /// A running node: its thread, its sockets, its workers and its fetchers.
 #[derive(Drop)]
 pub struct Workers {
-    node: JoinHandle<Result<Vec<Record>, StopFault>>,
+    node: JoinHandle<Result<Option<Record>, StopFault>>,
     is_stopped: Arc<AtomicBool, Global>,
     halt: Arc<Halt, Global>,
 }
@@ -217,7 +217,7 @@ fn run_and_tell<
     S: FloorStore + Drop + Send,
     G: Gate + Drop + Send + Sync,
     R: Threads + Wait + Clock + Net<Listener = TcpListener, Stream = TcpStream> + Sync,
->(rt: &R, start: Start<S, G>, signals: &Signals) -> Result<Vec<Record>, StopFault> {
+>(rt: &R, start: Start<S, G>, signals: &Signals) -> Result<Option<Record>, StopFault> {
     let ended = run_node(rt, start);
     signals.end(rt);
     ended
@@ -293,15 +293,13 @@ impl Workers {
         self.halt.hold(rt);
     }
 
-    /// Ends the open record of the node, begins the next, and hands out the records that are kept and
-    /// were not handed out before, oldest first; or none, where none is kept, from the start or
-    /// since there were more records than are kept. A node that was not held is held first, and
-    /// stays held.
+    /// Hands out the record of the steps since the last time, and begins the next one; or none, where
+    /// none is kept, from the start or since there were more pages than are kept. A node that was not
+    /// held is held first, and stays held.
     ///
     /// Faults: `NoMemory` where there is no memory to begin the next record; the node stays held, its
-    /// records stay with it, and they may be asked for again. `Ended` where the node's thread has
-    /// ended.
-    pub fn records<R: Wait>(&self, rt: &R) -> Result<Option<Vec<Record>>, StopFault> {
+    /// record stays with it, and may be asked for again. `Ended` where the node's thread has ended.
+    pub fn record<R: Wait>(&self, rt: &R) -> Result<Option<Record>, StopFault> {
         self.halt.hold(rt);
         self.halt.ask(rt)
     }
@@ -321,11 +319,11 @@ impl Workers {
 
     /// Stops the node, also one that is held, and waits for its end. Its workers end the jobs that
     /// they have, and its fetchers the fetches that are under way. Those who wait get 503, and its
-    /// sockets are closed. Returns the records that are kept, oldest first.
+    /// sockets are closed. Returns the record of the steps since the last one, if it is kept.
     ///
-    /// Fault: `NoMemory` where there is no memory to end the last record, or for the seats at the
-    /// start; the records are lost then.
-    pub fn stop<R: Threads + Wait>(self, rt: &R) -> Result<Vec<Record>, StopFault> {
+    /// Fault: `NoMemory` where there is no memory to end the record, or for the seats at the start;
+    /// the record is lost then.
+    pub fn stop<R: Threads + Wait>(self, rt: &R) -> Result<Option<Record>, StopFault> {
         self.begin_stop(rt);
         self.node.join(rt)
     }

@@ -29,12 +29,9 @@ struct Seen {
     is_answered: bool,
 }
 
-/// How many steps the records have that are handed out.
+/// How many steps the record has that is handed out.
 fn steps_out<W: Wait>(wait: &W, workers: &Workers) -> Steps {
-    match workers.records(wait)? {
-        Some(records) => Ok(Some(steps_in(records.as_slice()))),
-        None => Ok(None),
-    }
+    Ok(steps_in(workers.record(wait)?.as_ref()))
 }
 
 /// A stranger asks a node that is held, and that goes on then.
@@ -80,7 +77,7 @@ fn no_step_is_taken_while_held(rt: HostRuntime) -> Result<(), Fail> {
     );
     assert!(rt; seen.is_silent, "nothing is answered before it goes on");
     assert!(rt; seen.is_answered, "it goes on");
-    assert!(rt; last == Ok(1), "the last step");
+    assert!(rt; last == Ok(Some(1)), "the last step");
     Ok(())
 }
 
@@ -126,7 +123,7 @@ fn a_read_ends_after_the_hold(rt: HostRuntime) -> Result<(), Fail> {
         "an ask and a round's end, and then nothing until it goes on"
     );
     assert!(rt; seen.is_answered, "502");
-    assert!(rt; last == Ok(1), "the last step");
+    assert!(rt; last == Ok(Some(1)), "the last step");
     Ok(())
 }
 
@@ -159,6 +156,6 @@ fn records_are_refused_once_it_ends(rt: HostRuntime) -> Result<(), Fail> {
         "a node is held where its records are asked for"
     );
     assert!(rt; ended == Err(StopFault::Ended), "they are refused");
-    assert!(rt; last == Ok(1), "the last step");
+    assert!(rt; last == Ok(Some(1)), "the last step");
     Ok(())
 }

@@ -96,15 +96,15 @@ fn are_taken_by(record: &Record, takers: &[Taker]) -> bool {
     entries.len() == takers.len()
 }
 
-/// Stops a node: whether the steps of its first record were taken from seats of these threads, in this order.
+/// Stops a node: whether the steps of its record were taken from seats of these threads, in this order.
 fn stopped_by<R: Threads + Wait>(
     rt: &R,
     workers: Workers,
     takers: &[Taker],
 ) -> Result<bool, StopFault> {
-    Ok(match workers.stop(rt)?.as_slice() {
-        [record, ..] => are_taken_by(record, takers),
-        [] => false,
+    Ok(match workers.stop(rt)? {
+        Some(record) => are_taken_by(&record, takers),
+        None => false,
     })
 }
 

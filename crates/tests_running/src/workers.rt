@@ -97,16 +97,18 @@ pub(crate) fn running<
     }
 }
 
-/// How many steps the records have.
-pub(crate) fn steps_in(records: &[Record]) -> usize {
-    let mut steps: usize = 0;
-    for record in records {
-        steps = steps.saturating_add(record.entries.as_slice().len());
+/// How many steps a record has; none, where none is kept.
+pub(crate) fn steps_in(record: Option<&Record>) -> Option<usize> {
+    match record {
+        Some(record) => Some(record.entries.as_slice().len()),
+        None => None,
     }
-    steps
 }
 
-/// Stops a node: how many steps its records have.
-pub(crate) fn stopped<R: Threads + Wait>(rt: &R, workers: Workers) -> Result<usize, StopFault> {
-    Ok(steps_in(workers.stop(rt)?.as_slice()))
+/// Stops a node: how many steps its record has.
+pub(crate) fn stopped<R: Threads + Wait>(
+    rt: &R,
+    workers: Workers,
+) -> Result<Option<usize>, StopFault> {
+    Ok(steps_in(workers.stop(rt)?.as_ref()))
 }

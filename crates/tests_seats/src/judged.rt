@@ -48,7 +48,7 @@ fn two_records<J: Origin, R: Wait>(
     let first = take(rt, &shared.node, kept);
     let is_ended = call(rt, &mut shared, 1, READ_FAILS).is_ok();
     let second = take(rt, &shared.node, kept);
-    is_asked && is_refused && is_ended && first == Some(1) && second == Some(1)
+    is_asked && is_refused && is_ended && first == Some(2) && second == Some(1)
 }
 
 /// How many asks wait where a record opens and where it closes.

@@ -101,18 +101,18 @@ pub(crate) fn call<J: Origin, R: Wait>(
     }
 }
 
-/// Holds a node, and puts its records behind these. Returns how many there were; None where none is
-/// kept.
+/// Holds a node, and puts its record behind these. Returns how many entries it has; None where none
+/// is kept.
 pub(crate) fn take<J: Origin, R: Wait>(
     rt: &R,
     node: &SharedNode<MemoryFloors, J>,
     kept: &mut Vec<Record>,
 ) -> Option<usize> {
-    let taken = node.hold(rt).take_records();
+    let taken = node.hold(rt).take_record();
     match taken {
-        Ok(Some(mut records)) => {
-            let count = records.len();
-            match kept.append(&mut records) {
+        Ok(Some(record)) => {
+            let count = record.entries.as_slice().len();
+            match kept.push(record) {
                 Ok(()) => Some(count),
                 Err(_) => None,
             }

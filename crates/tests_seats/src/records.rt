@@ -25,11 +25,11 @@ enum Move {
     Steps(usize, u32),
     /// The first seat takes so many such steps, each with an answer of 65,536 octets.
     Heavy(u32),
-    /// The node is held, and its records are taken. They have so many entries each; or none is kept.
-    Take(Option<&'static [usize]>),
+    /// The node is held, and its record is taken. It has so many entries; or none is kept.
+    Take(Option<usize>),
 }
 
-/// What becomes of the records of a new node with two seats, and what is done with it.
+/// What becomes of the record of a new node with two seats, and what is done with it.
 #[derive(Clone, Copy)]
 struct Trial {
     what: &'static str,
@@ -37,14 +37,14 @@ struct Trial {
     moves: &'static [Move],
 }
 
-const TRIALS: [Trial; 7] = [
+const TRIALS: [Trial; 8] = [
     Trial {
-        what: "a record that is full goes over into the next within a call",
+        what: "a page that is full goes over into the next within a call",
         retention: Retention::UpTo(3),
         moves: &[
             Move::Steps(0, 4000),
             Move::Steps(1, 100),
-            Move::Take(Some(&[4096, 4])),
+            Move::Take(Some(4100)),
         ],
     },
     Trial {
@@ -52,19 +52,29 @@ const TRIALS: [Trial; 7] = [
         retention: Retention::UpTo(1),
         moves: &[
             Move::Steps(0, 1),
-            Move::Take(Some(&[1])),
+            Move::Take(Some(1)),
             Move::Steps(1, 2),
-            Move::Take(Some(&[2])),
-            Move::Take(Some(&[0])),
+            Move::Take(Some(2)),
+            Move::Take(Some(0)),
         ],
     },
     Trial {
-        what: "heavy events end a record",
+        what: "heavy events fill two pages, and a third is kept",
         retention: Retention::UpTo(3),
-        moves: &[Move::Heavy(130), Move::Take(Some(&[64, 64, 2]))],
+        moves: &[Move::Heavy(130), Move::Take(Some(130))],
     },
     Trial {
-        what: "a call ends more records than are kept",
+        what: "heavy events fill two pages, and a third is not kept",
+        retention: Retention::UpTo(2),
+        moves: &[
+            Move::Heavy(128),
+            Move::Take(Some(128)),
+            Move::Heavy(129),
+            Move::Take(None),
+        ],
+    },
+    Trial {
+        what: "a call ends more pages than are kept",
         retention: Retention::UpTo(1),
         moves: &[
             Move::Heavy(130),
@@ -74,7 +84,7 @@ const TRIALS: [Trial; 7] = [
         ],
     },
     Trial {
-        what: "more records than are kept are to be taken",
+        what: "more pages than are kept are to be taken",
         retention: Retention::UpTo(1),
         moves: &[
             Move::Steps(0, 4097),
@@ -84,7 +94,7 @@ const TRIALS: [Trial; 7] = [
         ],
     },
     Trial {
-        what: "no record is kept of any number",
+        what: "no page is kept",
         retention: Retention::UpTo(0),
         moves: &[Move::Steps(0, 1), Move::Take(None), Move::Steps(1, 1)],
     },
@@ -126,28 +136,6 @@ fn are_heavy_unknown<N: Stepper>(node: &mut N, alloc: Global, count: u32) -> boo
     true
 }
 
-/// Whether the records have so many entries each.
-fn have_entries(records: &[Record], wanted: &[usize]) -> bool {
-    let counts = records.iter().map(|record| record.entries.as_slice().len());
-    counts.eq(wanted.iter().copied())
-}
-
-/// Takes the records, and puts them behind these. Whether they are those that are wanted.
-fn are_taken<J: Origin, R: Wait>(
-    rt: &R,
-    node: &SharedNode<MemoryFloors, J>,
-    kept: &mut Vec<Record>,
-    wanted: Option<&[usize]>,
-) -> bool {
-    let before = kept.len();
-    let taken = take(rt, node, kept);
-    match (wanted, kept.get(before..)) {
-        (Some(wanted), Some(records)) => taken.is_some() && have_entries(records, wanted),
-        (None, _) => taken.is_none(),
-        _ => false,
-    }
-}
-
 /// The steps of a node by one of its seats.
 type Seated<'n, J, R> = AtSeat<'n, MemoryFloors, J, R>;
 
@@ -183,7 +171,7 @@ fn is_made<J: Origin, R: Wait>(
             Some(seated) => are_heavy_unknown(seated, alloc, count),
             None => false,
         },
-        Move::Take(wanted) => are_taken(rt, node, kept, wanted),
+        Move::Take(wanted) => take(rt, node, kept) == wanted,
     }
 }
 

@@ -96,7 +96,7 @@ fn called_by_two<J: Origin + Send + Sync, R: Threads + Wait + Sync>(
     Some(called_beside(rt, &shared.node, &mut shared.seats, &mut second, event))
 }
 
-/// The same of a new node. Its records are put behind these.
+/// The same of a new node. Its record is put behind these.
 fn two_calls<J: Origin + Send + Sync, R: Threads + Wait + Sync>(
     rt: &R,
     alloc: Global,
@@ -176,7 +176,7 @@ fn make_hundreds<J: Origin + Send + Sync, R: Threads + Wait + Sync>(
     });
 }
 
-/// The same by the eight seats of a new node. Its records are put behind these.
+/// The same by the eight seats of a new node. Its record is put behind these.
 fn eight_hundred_calls<J: Origin + Send + Sync, R: Threads + Wait + Sync>(
     rt: &R,
     alloc: Global,

@@ -6,19 +6,19 @@ use Rattle.node_seats.proofs.desk.Desk.enter.Goals.{in-Some-1, in-Some-Recorded+
 
 pub enter_recorded-requires-clause-leads : goal.enter_recorded-requires-clause-leads
 enter_recorded-requires-clause-leads g c =
-    stands_leads g.J.Origin.beginning c.self.inside.whole c.self.inside.records.items c.in-Some-Recorded.book c.is_replayed.ensures
-    (subst (λ s. Stands g.J.Origin.beginning c.self.inside.whole c.self.inside.records.items s) (c.in-Some-Recorded.is ∙ ap Some c.in-Some-Recorded.field-0-is) c.self.invariant)
+    stands_leads g.J.Origin.beginning c.self.inside.whole c.in-Some-Recorded.book c.is_replayed.ensures
+    (subst (λ s. Stands g.J.Origin.beginning c.self.inside.whole s) (c.in-Some-Recorded.is ∙ ap Some c.in-Some-Recorded.field-0-is) c.self.invariant)
 
 pub invariant_of-self : goal.invariant_of-self
 invariant_of-self g c =
-    stands_entered g.J.Origin.beginning c.self.inside.whole c.enter_recorded.new.whole c.self.inside.records.items c.in-Some-Recorded.book c.enter_recorded.new.book
-    (subst (λ s. Stands g.J.Origin.beginning c.self.inside.whole c.self.inside.records.items s) (c.in-Some-Recorded.is ∙ ap Some c.in-Some-Recorded.field-0-is) c.self.invariant)
+    stands_entered g.J.Origin.beginning c.self.inside.whole c.enter_recorded.new.whole c.in-Some-Recorded.book c.enter_recorded.new.book
+    (subst (λ s. Stands g.J.Origin.beginning c.self.inside.whole s) (c.in-Some-Recorded.is ∙ ap Some c.in-Some-Recorded.field-0-is) c.self.invariant)
     c.in-Some.ensures.entered
 
 pub invariant_of-self-2 : goal.invariant_of-self-2
 invariant_of-self-2 g c =
-    stands_lost g.J.Origin.beginning c.self.inside.whole c.match-self.self-inside.whole c.self.inside.records.items c.clear.new.self.items c.self.inside.steps
-    c.self.invariant c.clear.ensures.items
+    stands_lost g.J.Origin.beginning c.self.inside.whole c.match-self.self-inside.whole c.self.inside.steps
+    c.self.invariant
 
 pub returns-clause-called : goal.returns-clause-called
 returns-clause-called g c =

@@ -1,0 +1,7 @@
+use Rattle.node_seats.proofs.Recording.{stands_ended}
+use Rattle.node_seats.proofs.desk.Desk.take_record.Goals as goal
+
+pub invariant_of-self-2 : goal.invariant_of-self-2
+invariant_of-self-2 g c =
+    stands_ended g.J.Origin.beginning c.self-2.inside.whole c.self-2.inside.steps c.end_record.new.steps c.in_ok-taken.taken c.self-2.invariant
+    c.in_ok-taken.ensures.ended
