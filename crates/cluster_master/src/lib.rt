@@ -7,15 +7,15 @@
 //!
 //! A [`MasterLoop`] has the master's UDP socket. [`MasterLoop::poll_once`] polls for 100
 //! milliseconds at most, makes the calls that datagrams ask for (responses to a CLR; RFC 2756,
-//! "CLR"), and once a second sends again the CLR of each pending purge to each member that has not
-//! acknowledged it. Where nothing can be due, no call is made and none is entered. A
+//! "CLR"), and sends again the CLR of each pending purge to each member that has not acknowledged it:
+//! after 20 milliseconds, and then after about twice the time, up to a second. Where nothing can be due, no call is made and none is entered. A
 //! [`MasterSender`] issues a purge and sends its CLR to each member, from any thread, on the same
 //! socket. No lock is held while a socket is waited for or written.
 //!
 //! Order of reading: `specs/LockedBook.antt` (what a call does to the book), `specs/Answers.antt`
 //! (what a caller knows of an answer); `src/shared.rt` (the calls), `src/locked_book.rt` (the calls
-//! inside the lock), `src/master_loop.rt` (the loop), `src/sending.rt` (the CLRs), `src/fault.rt`,
-//! `specs/Names.antt`; `proofs/Clears.antt`.
+//! inside the lock), `src/master_loop.rt` (the loop), `src/sending.rt` (the CLRs), `src/schedule.rt`
+//! (when they are sent again), `src/fault.rt`, `specs/Names.antt`; `proofs/Clears.antt`.
 //!
 //! The crate opens one socket, polls it, reads the clock, and waits at its lock. It starts no
 //! thread: the caller runs [`MasterLoop::run_until`] on one. Files are touched by the store of
@@ -25,7 +25,7 @@
 //! does is said of the book inside the lock, and what is sent under a number, and where a member
 //! is, is said where it is made. That a datagram that came is read and its call made, that CLRs are
 //! sent, and that a second is a second, is tested. A CLR that the system does not take is lost, as
-//! any datagram may be; it is sent again about a second later.
+//! any datagram may be; it is sent again.
 //!
 //! What it does not promise: `SharedMaster::call` and `MasterSender::issue` may answer `Closed` at
 //! once, `issue` may answer any number, and `message` may answer that no purge of the number is
@@ -36,6 +36,7 @@
 mod fault;
 mod locked_book;
 mod master_loop;
+mod schedule;
 mod sending;
 mod shared;
 

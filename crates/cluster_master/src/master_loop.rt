@@ -3,10 +3,11 @@ ghost use Rattle.std.specs.Prelude.{IfErr};
 ghost use Rattle.cluster_master.specs.Names.{IsAtPort};
 
 use crate::fault::MasterStartFault;
-use crate::sending::MasterSender;
+use crate::schedule::Schedule;
+use crate::sending::{Line, MasterSender, moment};
 use crate::shared::SharedMaster;
 use mio::net::UdpSocket;
-use mio::{Events, Interest, Poll, Token};
+use mio::{Events, Interest, Poll, Token, Waker};
 use node_bytes::master_call_of;
 use purge_rules::PurgeStore;
 use roster::{Address, Roster};
@@ -14,12 +15,15 @@ use std::alloc::{AllocError, Global};
 use std::io::{self, ErrorKind};
 use std::net::Net;
 use std::sync::atomic::{AtomicBool, Ordering};
-use std::sync::{Arc, Wait};
+use std::sync::{Arc, Mutex, Wait};
 use std::thread;
-use std::time::{Clock, Duration, Instant};
+use std::time::{Clock, Duration};
 
 /// The poll token of the master's socket.
 const SOCKET: Token = Token(0);
+
+/// The poll token of what ends a poll once a purge was issued.
+const WAKER: Token = Token(1);
 
 /// How many events one poll tells at most.
 const MOST_EVENTS: usize = 16;
@@ -33,9 +37,6 @@ const MOST_DATAGRAMS: usize = 256;
 /// How many milliseconds a poll waits at most, and how long the loop pauses after a poll that
 /// failed.
 const WAIT: u64 = 100;
-
-/// How many seconds pass between one sending of what is due and the next.
-const PAUSE: u64 = 1;
 
 /// A socket at the master's address.
 fn bound<N: Net>(net: &N, address: Address) -> Result<UdpSocket, MasterStartFault>
@@ -61,7 +62,6 @@ pub struct MasterLoop {
     sender: MasterSender,
     buffer: Vec<u8>,
     is_ready: bool,
-    sent: Instant,
 }
 
 impl MasterLoop {
@@ -81,18 +81,22 @@ impl MasterLoop {
         let poll = Poll::new(rt)?;
         poll.registry()
             .register(&mut socket, SOCKET, Interest::READABLE)?;
-        let socket = match Arc::new(alloc, socket) {
-            Ok(socket) => socket,
+        let line = Line {
+            socket,
+            waker: Waker::new(poll.registry(), WAKER)?,
+            schedule: Mutex::new(Schedule::new(alloc)),
+        };
+        let line = match Arc::new(alloc, line) {
+            Ok(line) => line,
             Err(_) => return Err(MasterStartFault::NoMemory),
         };
         Ok(MasterLoop {
             alloc,
             poll,
             events: Events::with_capacity(alloc, MOST_EVENTS)?,
-            sender: MasterSender::of(alloc, socket),
+            sender: MasterSender::of(alloc, line),
             buffer: vec![in alloc; 0; LONGEST_DATAGRAM]?,
             is_ready: true,
-            sent: Instant::now(rt)?,
         })
     }
 
@@ -102,13 +106,21 @@ impl MasterLoop {
         self.sender.try_clone()
     }
 
-    /// Polls until the socket is ready, for 100 milliseconds at most.
-    fn wait_for_datagrams(&mut self) -> io::Result<()> {
-        let most = if self.is_ready {
-            Duration::ZERO
-        } else {
-            Duration::from_millis(WAIT)
-        };
+    /// How many milliseconds a poll waits at most: until something is to be sent again.
+    fn most_wait<R: Wait + Clock>(&self, rt: &R) -> u64 {
+        if self.is_ready {
+            return 0;
+        }
+        match moment(rt) {
+            Ok(now) => self.sender.earliest(rt).saturating_sub(now).min(WAIT),
+            Err(_) => WAIT,
+        }
+    }
+
+    /// Polls until the socket is ready, a purge was issued, or something is to be sent again, for
+    /// 100 milliseconds at most.
+    fn wait_for_datagrams<R: Wait + Clock>(&mut self, rt: &R) -> io::Result<()> {
+        let most = Duration::from_millis(self.most_wait(rt));
         self.poll.poll(&mut self.events, Some(most))?;
         self.is_ready = self.is_ready || !self.events.is_empty();
         Ok(())
@@ -141,25 +153,25 @@ impl MasterLoop {
         Ok(())
     }
 
-    /// Sends what is due, if the last time was a second ago or more.
-    fn send_each_second<S: PurgeStore, R: Wait + Clock>(
+    /// Sends what is to be sent again by now.
+    fn send_again<S: PurgeStore, R: Wait + Clock>(
         &mut self,
         rt: &R,
         roster: &Roster,
         master: &SharedMaster<S>,
     ) -> io::Result<()> {
-        let now = Instant::now(rt)?;
-        if now.saturating_duration_since(self.sent).as_secs() >= PAUSE {
-            self.sent = now;
-            self.sender.send_due(rt, roster, master);
+        let now = moment(rt)?;
+        if self.sender.earliest(rt) <= now {
+            self.sender.send_due(rt, roster, master, now);
         }
         Ok(())
     }
 
-    /// Polls until the socket is ready, for 100 milliseconds at most. Then makes the calls of the
-    /// datagrams that are there, 256 at most; the rest is for the next poll. Then, if the last time
-    /// was a second ago or more, sends what is due: the CLR of each pending purge to each member
-    /// that has not acknowledged it.
+    /// Polls until the socket is ready, a purge was issued, or something is to be sent again, for 100
+    /// milliseconds at most. Then makes the calls of the datagrams that are there, 256 at most; the
+    /// rest is for the next poll. Then sends the CLR of a pending purge again to each member that has
+    /// not acknowledged it: 20 milliseconds after it was issued, and from then on after about twice
+    /// the time, up to a second; about 256 CLRs each 10 milliseconds at most.
     ///
     /// An error is the system's refusal of a poll, a read or the clock. What can be done all the
     /// same is done, and a later poll goes on. Where there is no memory for a call, it is lost, as
@@ -170,9 +182,9 @@ impl MasterLoop {
         roster: &Roster,
         master: &SharedMaster<S>,
     ) -> io::Result<()> {
-        let waited = self.wait_for_datagrams();
+        let waited = self.wait_for_datagrams(rt);
         let taken = self.take_datagrams(rt, roster, master);
-        let sent = self.send_each_second(rt, roster, master);
+        let sent = self.send_again(rt, roster, master);
         waited.and(taken).and(sent)
     }
 

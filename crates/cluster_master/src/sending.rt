@@ -3,13 +3,20 @@ ghost use Rattle.std.specs.Prelude.{◌≡◌, ◌≢◌, IfErr, IfSome};
 ghost use Rattle.purge_rules.specs.declared.fault.MasterFault.TheVariants as faults;
 ghost use Rattle.cluster_master.specs.Answers.{AreClearOf, htcp_of as htcp_of_member};
 
+use crate::schedule::Schedule;
 use crate::shared::SharedMaster;
+use mio::Waker;
 use mio::net::UdpSocket;
 use purge_rules::{MasterAnswer, MasterCall, MasterFault, PurgeStore};
 use roster::{Address, LAST_MEMBER, Roster};
 use std::alloc::{AllocError, Global};
-use std::sync::{Arc, Wait};
+use std::io;
+use std::sync::{Arc, Mutex, Wait};
+use std::time::Clock;
 use url_key::Key;
+
+/// How many CLRs are sent again at once at most, beside those of the last purge among them.
+const MOST_AGAIN: u32 = 256;
 
 /// Where the member of an id is told of purges: its HTCP address.
 fn htcp_of(roster: &Roster, id: u8) -> Option<Address>
@@ -37,36 +44,67 @@ fn clear_of<S: PurgeStore, R: Wait>(
     }
 }
 
+/// The moment, in milliseconds of a clock that never goes back. The error is the clock's.
+pub(crate) fn moment<C: Clock>(clock: &C) -> io::Result<u64> {
+    let since = clock.monotonic()?;
+    Ok(u64::try_from(since.as_millis()).unwrap_or(u64::MAX))
+}
+
+/// What the master's loop and its senders share.
+#[derive(Drop)]
+pub(crate) struct Line {
+    /// The master's socket.
+    pub(crate) socket: UdpSocket,
+    /// What ends a poll of the loop.
+    pub(crate) waker: Waker,
+    /// When CLRs are sent again.
+    pub(crate) schedule: Mutex<Schedule>,
+}
+
 /// Issues purges and tells the members of them on the master's socket, from any thread.
 #[derive(Drop)]
 pub struct MasterSender {
     alloc: Global,
-    socket: Arc<UdpSocket, Global>,
+    line: Arc<Line, Global>,
 }
 
 impl MasterSender {
-    /// A sender on this socket.
-    pub(crate) fn of(alloc: Global, socket: Arc<UdpSocket, Global>) -> MasterSender {
-        MasterSender { alloc, socket }
+    /// A sender on this line.
+    pub(crate) fn of(alloc: Global, line: Arc<Line, Global>) -> MasterSender {
+        MasterSender { alloc, line }
     }
 
     /// The socket that it sends on.
     pub(crate) fn socket(&self) -> &UdpSocket {
-        &self.socket
+        &self.line.socket
+    }
+
+    /// The moment at which something is to be sent again, or the master to be asked.
+    pub(crate) fn earliest<R: Wait>(&self, rt: &R) -> u64 {
+        self.line.schedule.lock(rt).earliest()
     }
 
     /// The same sender for another thread. `AllocError` comes where one more owner cannot be
     /// counted.
     pub fn try_clone(&self) -> Result<MasterSender, AllocError> {
-        Ok(MasterSender::of(self.alloc, Arc::try_clone(&self.socket)?))
+        Ok(MasterSender::of(self.alloc, Arc::try_clone(&self.line)?))
     }
 
     /// Sends octets to a member, without waiting. What the system does not take is lost.
     fn send(&self, roster: &Roster, member: u8, octets: &[u8]) {
         if let Some(address) = htcp_of(roster, member) {
-            // (a CLR that is lost is sent again about a second later)
-            let _ = self.socket.send_to(octets, address.socket());
+            // (a CLR that is lost is sent again)
+            let _ = self.line.socket.send_to(octets, address.socket());
         }
+    }
+
+    /// Enters a purge whose CLRs were sent, so that they are sent again, and has the loop look.
+    fn enter<R: Wait + Clock>(&self, rt: &R, number: u32) {
+        // (without a clock the CLRs are sent again at once)
+        let now = moment(rt).unwrap_or(0);
+        self.line.schedule.lock(rt).add(number, now);
+        // (a loop that is not woken looks within 100 milliseconds)
+        let _ = self.line.waker.wake();
     }
 
     /// Issues a purge of a URL, and sends its CLR to each member, by ascending id (RFC 2756,
@@ -74,8 +112,8 @@ impl MasterSender {
     ///
     /// Faults: those of `Master::issue`, and `NoMemory` where there is no memory for the call;
     /// nothing is sent then. A CLR for which there is no memory, or that the system does not take,
-    /// is lost: the purge stands, and its CLR is sent again about a second later.
-    pub fn issue<S: PurgeStore, R: Wait>(
+    /// is lost: the purge stands, and its CLR is sent again 20 milliseconds later.
+    pub fn issue<S: PurgeStore, R: Wait + Clock>(
         &self,
         rt: &R,
         roster: &Roster,
@@ -91,6 +129,7 @@ impl MasterSender {
                         self.send(roster, id, octets.as_slice());
                     }
                 }
+                self.enter(rt, number);
                 Ok(number)
             }
             Ok(_) => unreachable!(),
@@ -98,31 +137,70 @@ impl MasterSender {
         }
     }
 
-    /// Sends what is due: the CLR of each pending purge to each member that has not acknowledged
-    /// it, by number and then by id. Nothing is sent where the master does not answer. Where
-    /// nothing can be due no call is made, so an idle master makes no entries.
+    /// The CLR of a pending purge, if it is to be sent again now.
+    fn clear_again<S: PurgeStore, R: Wait>(
+        &self,
+        rt: &R,
+        master: &SharedMaster<S>,
+        number: u32,
+        now: u64,
+    ) -> Option<Vec<u8>>
+        ensures { IfSome result (λ octets. AreClearOf number octets.items) }
+    {
+        if !self.line.schedule.lock(rt).takes(number, now) {
+            return None;
+        }
+        clear_of(rt, self.alloc, master, number)
+    }
+
+    /// Sends the CLRs of these pending purges to these members, where they are to be sent again now:
+    /// of the first 256, and of the other members of the last purge among them.
+    fn send_pairs<S: PurgeStore, R: Wait>(
+        &self,
+        rt: &R,
+        roster: &Roster,
+        master: &SharedMaster<S>,
+        pairs: &[(u32, u8)],
+        now: u64,
+    ) {
+        let mut left = MOST_AGAIN;
+        let mut known = 0;
+        let mut clear = None;
+        for (number, member) in pairs {
+            if *number != known {
+                if left == 0 {
+                    break;
+                }
+                known = *number;
+                clear = self.clear_again(rt, master, *number, now);
+            }
+            if let Some(octets) = &clear {
+                self.send(roster, *member, octets.as_slice());
+                left = left.saturating_sub(1);
+            }
+        }
+    }
+
+    /// Sends what is due again: the CLR of a pending purge to each member that has not acknowledged
+    /// it, by number and then by id. Nothing is sent where the master does not answer. Where nothing
+    /// can be due no call is made, so an idle master makes no entries.
     pub(crate) fn send_due<S: PurgeStore, R: Wait>(
         &self,
         rt: &R,
         roster: &Roster,
         master: &SharedMaster<S>,
+        now: u64,
     ) {
+        let last = self.line.schedule.lock(rt).last();
+        self.line.schedule.lock(rt).begin(now);
         if !master.may_be_due(rt) {
+            self.line.schedule.lock(rt).keep(last, &[]);
             return;
         }
         let Ok(MasterAnswer::Due(pairs)) = master.call(rt, MasterCall::Due) else {
             return;
         };
-        let mut known = 0;
-        let mut clear = None;
-        for (number, member) in pairs.as_slice() {
-            if *number != known {
-                known = *number;
-                clear = clear_of(rt, self.alloc, master, *number);
-            }
-            if let Some(octets) = &clear {
-                self.send(roster, *member, octets.as_slice());
-            }
-        }
+        self.line.schedule.lock(rt).keep(last, pairs.as_slice());
+        self.send_pairs(rt, roster, master, pairs.as_slice(), now);
     }
 }

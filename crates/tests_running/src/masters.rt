@@ -79,7 +79,7 @@ fn held_at<R: Net + Clock>(rt: &R, alloc: Global, port: u16) -> Result<Held, Fai
 
 impl Held {
     /// Issues the purge of `http://o/a`.
-    fn issue<R: Wait>(&self, rt: &R, key: Key) -> Result<u32, MasterFault> {
+    fn issue<R: Wait + Clock>(&self, rt: &R, key: Key) -> Result<u32, MasterFault> {
         self.sender.issue(rt, &self.roster, &self.master, key)
     }
 
@@ -144,7 +144,7 @@ fn entered<R: Net + Wait + Clock>(rt: &R, alloc: Global, port: u16) -> Result<Co
     })
 }
 
-/// Where nothing is pending, that is found once and not each second; a purge that is pending is listed each second.
+/// Where nothing is pending, that is found once and not again; a purge that is pending is listed again and again.
 #[test]
 fn what_is_due_is_listed_while_something_may_be(rt: HostRuntime) -> Result<(), Fail> {
     let Counts {

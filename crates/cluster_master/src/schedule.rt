@@ -1,0 +1,148 @@
+//! When the CLRs of pending purges are sent again.
+ghost use Rattle.std.specs.Prelude.{◌≡◌, ◌≤◌, ◌*◌, length, min, IfErr};
+
+use std::alloc::Global;
+
+/// How many milliseconds after a purge was issued its CLR is sent again.
+const FIRST_WAIT: u64 = 20;
+
+/// How many milliseconds at most pass from one CLR of a purge to the next.
+const LONGEST_WAIT: u64 = 1_000;
+
+/// How many milliseconds pass at least from one sending of what is due to the next, which bounds how
+/// many datagrams are sent again in all.
+const PACE: u64 = 10;
+
+/// When the CLR of a pending purge is sent again.
+#[derive(Clone, Copy, Drop)]
+struct Again {
+    /// The number of the purge.
+    number: u32,
+    /// The moment.
+    at: u64,
+    /// How many milliseconds pass until the time after that.
+    wait: u64,
+}
+
+impl Again {
+    /// A purge whose CLR was sent for the first time now.
+    fn first(number: u32, now: u64) -> Again {
+        Again {
+            number,
+            at: now.saturating_add(FIRST_WAIT),
+            wait: longer(FIRST_WAIT),
+        }
+    }
+
+    /// Whether the CLR is sent again now. If so, the next time is set.
+    fn takes(&mut self, now: u64) -> bool {
+        if now < self.at {
+            return false;
+        }
+        self.at = now.saturating_add(spread(self.number, self.wait));
+        self.wait = longer(self.wait);
+        true
+    }
+}
+
+/// Twice the wait, but a second at most.
+fn longer(wait: u64) -> u64
+    ensures { result ≡ min (2 * wait) 1000 }
+{
+    wait.saturating_mul(2).min(LONGEST_WAIT)
+}
+
+/// The wait, or up to a quarter less by the number, so that purges that were issued together are not
+/// all sent again together.
+fn spread(number: u32, wait: u64) -> u64
+    ensures most { result ≤ wait }
+    ensures least { wait ≤ 2 * result }
+{
+    wait - u64::from(number.wrapping_mul(2_654_435_761)) % (wait / 4 + 1)
+}
+
+/// When the CLR of each pending purge is sent again. Moments are milliseconds of a clock that never
+/// goes back.
+#[derive(Drop)]
+pub(crate) struct Schedule {
+    /// By ascending numbers.
+    row: Vec<Again>,
+    /// When the master is asked what is due, at the latest.
+    look: u64,
+    /// When something is sent again, at the earliest.
+    paced: u64,
+}
+
+impl Schedule {
+    /// A schedule of no purges. The master is asked at once what is due.
+    pub(crate) fn new(alloc: Global) -> Schedule {
+        Schedule {
+            row: Vec::new(alloc),
+            look: 0,
+            paced: 0,
+        }
+    }
+
+    /// Enters a purge whose CLR was sent for the first time now. Where there is no memory, it is
+    /// sent again within a second.
+    pub(crate) fn add(&mut self, number: u32, now: u64) {
+        if let Err(place) = place_of(self.row.as_slice(), number) {
+            let _ = self.row.insert(place, Again::first(number, now));
+        }
+    }
+
+    /// The greatest number that is entered; 0 where there is none.
+    pub(crate) fn last(&self) -> u32 {
+        match self.row.last() {
+            Some(again) => again.number,
+            None => 0,
+        }
+    }
+
+    /// When something is to be sent again, or the master to be asked.
+    pub(crate) fn earliest(&self) -> u64 {
+        self.row
+            .iter()
+            .map(|again| again.at)
+            .fold(self.look, |least, at| least.min(at))
+            .max(self.paced)
+    }
+
+    /// Drops the purges up to this number that are not among the pending ones.
+    pub(crate) fn keep(&mut self, last: u32, pending: &[(u32, u8)]) {
+        self.row.retain(|again| last < again.number || is_pending(pending, again.number));
+    }
+
+    /// Begins to send what is due now. The master is asked again within a second.
+    pub(crate) fn begin(&mut self, now: u64) {
+        self.look = now.saturating_add(LONGEST_WAIT);
+        self.paced = now.saturating_add(PACE);
+    }
+
+    /// Whether the CLR of this pending purge is sent again now. If so, the next time is set. A purge
+    /// that is not entered is sent, and entered.
+    pub(crate) fn takes(&mut self, number: u32, now: u64) -> bool {
+        match place_of(self.row.as_slice(), number) {
+            Ok(place) => match self.row.get_mut(place) {
+                Some(again) => again.takes(now),
+                None => false,
+            },
+            Err(_) => {
+                self.add(number, now);
+                true
+            }
+        }
+    }
+}
+
+/// Where the purge of this number is, or where it would be.
+fn place_of(row: &[Again], number: u32) -> Result<usize, usize>
+    ensures { IfErr result (λ place. place ≤ length row.now) }
+{
+    row.binary_search_by_key(&number, |again| again.number)
+}
+
+/// Whether the purge of this number is among the pending ones, which ascend.
+fn is_pending(pending: &[(u32, u8)], number: u32) -> bool {
+    pending.binary_search_by_key(&number, |pair| pair.0).is_ok()
+}
