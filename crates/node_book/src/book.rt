@@ -114,12 +114,14 @@ impl<S: FloorStore> NodeBook<S> {
     /// A request is served at once, and the step does nothing else; or it waits for what the step
     /// begins.
     ///
-    /// Faults that enter nothing and change nothing: `ShiftFull` if the open page is full, tested
-    /// first; `NoMemory` if there is no memory for an entry. Faults that are entered: `Step` with
-    /// the fault of the step; `ReplyLost` if the reply could not be copied.
+    /// Faults that enter nothing and change nothing: `ShiftFull` exactly if the open page is full,
+    /// tested first; `NoMemory` if there is no memory for an entry. Faults that are entered: `Step`
+    /// with the fault of the step; `ReplyLost` if the reply could not be copied.
     pub fn apply(&mut self, seat: u8, place: u64, event: Event<()>) -> Result<Reply<()>, BookFault>
         ensures full { self.old.filed + 4096 ≤ length self.old.entries →
             (result ≡ Err faults.ShiftFull) × (self.new ≡ self.old) }
+        ensures full_only { result ≡ Err faults.ShiftFull →
+            length self.old.entries ≡ self.old.filed + 4096 }
         ensures applied { length self.old.entries < self.old.filed + 4096 →
             (result ≡ Err faults.NoMemory)
             × (self.new ≡ self.old)

@@ -154,7 +154,8 @@ impl<T: Copy + Drop, S: FloorStore> Node<T, S> {
     }
 
     /// Purges a key. In this order: the response is made, the floor rises in memory, the store
-    /// commits it, and an older copy goes. If the store fails, the node closes.
+    /// commits it, and an older copy goes. If the store fails, the node closes: no request is
+    /// pending then, and copies and next block stay as they were.
     #[tactic(auto, unfolding(node_rules::specs::Datagrams::purge))]
     fn purge(
         &mut self,

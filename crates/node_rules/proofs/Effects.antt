@@ -86,7 +86,7 @@ query_first : {P : Outgoing → Type 0} (o : Option Outgoing) (rest : List Outgo
 query_first None rest h all = all
 query_first (Some x) rest h all = (h x refl, all)
 
-raised_to : (rows : FloorMap) (key : List ℕ) (n m : ℕ) → n ≡ m → m ≤ floor (raised rows key n) key
+pub raised_to : (rows : FloorMap) (key : List ℕ) (n m : ℕ) → n ≡ m → m ≤ floor (raised rows key n) key
 raised_to rows key n m same =
     subst (λ k. m ≤ k) (sym (floor-raise rows key key n)) (subst (λ b. m ≤ cond b (max (floor rows key) n) (floor rows key)) (sym (text_same key key refl))
     (omega (arith, same)))

@@ -1,5 +1,5 @@
--- The relation never looks at tags either: the function does not, and the rule of closing speaks of
--- no copy and leaves no request.
+-- The relation never looks at tags either: the function does not, and the rule of closing keeps all
+-- copies and leaves no request.
 use Rattle.std.proofs.Common.{◌≡◌, ℕ, List, map, Option, Some, None, Result, Ok, Err, refl, sym, ◌∙◌, ap, subst, inl, inr}
 use Rattle.node_rules.specs.declared.state.NodeState.{NodeState}
 use Rattle.node_rules.specs.declared.event.Event.{Event}
@@ -9,7 +9,7 @@ use Rattle.node_rules.specs.declared.reply.StepFault.{StepFault}
 use Rattle.node_rules.specs.declared.reply.StepFault.TheVariants as fault
 use Rattle.node_rules.specs.State.{Setting}
 use Rattle.node_rules.specs.Relation.{Steps, Closes, ClosesOn, purge_in}
-use Rattle.node_rules.specs.Tags.{retag_pending, retag_state, retag_event, retag_outcome, retag_stepped}
+use Rattle.node_rules.specs.Tags.{retag_copy, retag_pending, retag_state, retag_event, retag_outcome, retag_stepped}
 use Rattle.node_rules.proofs.TagSteps.{step-retag}
 
 module _ {X Y : Type 0} (f : X → Y) (g : Setting) (s : NodeState X) where
@@ -19,7 +19,13 @@ module _ {X Y : Type 0} (f : X → Y) (g : Setting) (s : NodeState X) where
 
   closes_on-retag : (o : Option (List ℕ × ℕ)) (next : NodeState X) → ClosesOn s o next → ClosesOn (retag_state f s) o (retag_state f next)
   closes_on-retag None next h = h
-  closes_on-retag (Some x) next h = record { closed = h.closed; pending = ap (map (retag_pending f)) h.pending; floors = h.floors }
+  closes_on-retag (Some x) next h = record {
+    closed = h.closed;
+    pending = ap (map (retag_pending f)) h.pending;
+    copies = ap (map (retag_copy f)) h.copies;
+    block = h.block;
+    floors = h.floors;
+  }
 
   closes-retag : (e : Event X) (next : NodeState X) → Closes g s e next → Closes g (retag_state f s) (retag_event f e) (retag_state f next)
   closes-retag e next h = (

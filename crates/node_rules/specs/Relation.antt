@@ -47,11 +47,13 @@ abbrev pub purge_in : {X : Type 0} → Setting → Event X → Option (List ℕ 
 purge_in g (event.Datagram from message now) = purge_in_message g from message
 purge_in g _ = None
 
--- A node that a purge has closed: no request is pending, and the raise stands in the floors, if
--- they had room for it, or does not. [Refusal 4]
+-- A node that a purge has closed: no request is pending, copies and next block are as they were,
+-- and the raise stands in the floors, if they had room for it, or does not. [Refusal 4]
 pub record IsClosed {X : Type 0} (s : NodeState X) (key : List ℕ) (n : ℕ) (next : NodeState X) : Type 0 where
   pub closed : next.closed ≡ true
   pub pending : next.pending ≡ []
+  pub copies : next.copies ≡ s.copies
+  pub block : next.next ≡ s.next
   pub floors : IsBeforeOrAfter s.floors key n next.floors
 
 -- The node closes at this purge. Without a purge it does not.

@@ -19,14 +19,14 @@ use Rattle.run_check.specs.Boards.{opened_network}
 
 -- A record opens
 
-stands_by : (b : Bool) (floors : FloorMap) (state : NodeState (Unit {0})) → is_astray (cond b (Shut floors) (Open state)) ≡ false
+stands_by : (b : Bool) (s state : NodeState (Unit {0})) → is_astray (cond b (Shut s) (Open state)) ≡ false
 stands_by true floors state = refl
 stands_by false floors state = refl
 
 stands : (s : Standing) (state : NodeState (Unit {0})) → is_astray (standing_in s state) ≡ false
 stands New state = refl
 stands (Open t) state = refl
-stands (Shut floors) state = stands_by state.closed floors state
+stands (Shut s) state = stands_by state.closed s state
 stands Astray state = refl
 
 and_true : (b : Bool) → (b && true) ≡ b

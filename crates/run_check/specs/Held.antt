@@ -1,5 +1,5 @@
 -- How the checker holds nodes and the master, and what its calls make of them.
-use Rattle.std.specs.Prelude.{◌≡◌, ◌⊎◌, ℕ, Bool, true, false, ◌||◌, List, Result, Ok, Err}
+use Rattle.std.specs.Prelude.{◌≡◌, ◌⊎◌, ℕ, Bool, true, false, ◌||◌, List, [], Result, Ok, Err}
 use Rattle.floor_rules.specs.Floors.{FloorMap}
 use Rattle.values_tables.specs.declared.plain.Tables.{Tables}
 use Rattle.roster.specs.Lookups.{is_member}
@@ -14,17 +14,22 @@ use Rattle.purge_master.specs.declared.book.MasterEntry.{MasterEntry}
 use Rattle.run_rules.specs.declared.verdict.Cause.{Cause}
 use Rattle.run_rules.specs.Board.{Standing, New, Open, Shut, Astray}
 use Rattle.run_rules.specs.Judging.{OpensAs, standing_in, left_wanting, CallsBy}
+use Rattle.run_check.specs.declared.standing.ClosedNode.{ClosedNode}
 use Rattle.run_check.specs.declared.standing.Standing.{Standing as Held}
 use Rattle.run_check.specs.declared.standing.Standing.TheVariants as held
 use Rattle.run_check.specs.declared.ledger.Ledger.{Ledger}
 
 -- Nodes
 
+-- the state of a closed node, with the floors that are stored
+abbrev pub closed_state : ClosedNode → NodeState (Unit {0})
+closed_state n = record { floors = n.floors; copies = n.copies; pending = []; next = n.next; closed = true }
+
 -- a node's standing, as run_rules has it
 abbrev pub standing_of : Held → Standing
 standing_of held.New = New
 standing_of (held.Open node) = Open node.state
-standing_of (held.Shut floors) = Shut floors
+standing_of (held.Shut node) = Shut (closed_state node)
 standing_of held.Astray = Astray
 
 -- the node is this member's, is open, and its store has its floors

@@ -4,10 +4,11 @@ ghost use Rattle.roster.specs.Lookups.{is_member as is_member_of};
 ghost use Rattle.run_rules.specs.Board.{Open, Shut};
 ghost use Rattle.run_rules.specs.Judging.{ClosesAs};
 ghost use Rattle.run_check.specs.declared.standing.Standing.TheVariants as held;
-ghost use Rattle.run_check.specs.Held.{standing_of, IsSound, IsOpened, IsOpening, IsRestart};
+ghost use Rattle.run_check.specs.Held.{closed_state, standing_of, IsSound};
+ghost use Rattle.run_check.specs.Held.{IsOpened, IsOpening, IsRestart};
 
-use crate::standing::{Standing, opened_with};
-use crate::states::{is_opened, is_shut, same_state};
+use crate::standing::{ClosedNode, Standing, opened_with};
+use crate::states::{is_opened, is_shut_as, same_state};
 use floor_rules::{FloorStore, MemoryFloors};
 use node_core::Node;
 use node_rules::NodeState;
@@ -66,18 +67,18 @@ fn shut_goes_on(
     keys: RandomState,
     roster: &Roster,
     id: u8,
-    floors: MemoryFloors,
+    node: ClosedNode,
     state: &NodeState<()>,
 ) -> Result<Standing, AllocError>
     requires { is_member_of roster.now id ≡ true }
     ensures standing { IfOk result (λ standing.
-        IsOpening (Shut floors) state.now (standing_of standing)) }
+        IsOpening (Shut (closed_state node)) state.now (standing_of standing)) }
     ensures sound { IfOk result (IsSound roster.now id) }
 {
-    if is_shut(state) {
-        Ok(Standing::Shut(floors))
+    if is_shut_as(state, &node) {
+        Ok(Standing::Shut(node))
     } else {
-        restarted(alloc, keys, roster, id, floors, state)
+        restarted(alloc, keys, roster, id, node.floors, state)
     }
 }
 
@@ -99,7 +100,7 @@ fn goes_on(
     match standing {
         Standing::New => restarted(alloc, keys, roster, id, MemoryFloors::new(alloc), state),
         Standing::Open(node) => open_goes_on(alloc, keys, roster, id, node, state),
-        Standing::Shut(floors) => shut_goes_on(alloc, keys, roster, id, floors, state),
+        Standing::Shut(node) => shut_goes_on(alloc, keys, roster, id, node, state),
         Standing::Astray => Ok(Standing::Astray),
     }
 }
@@ -133,6 +134,6 @@ pub(crate) fn may_close(standing: &Standing, state: &NodeState<()>) -> Result<bo
     match standing {
         Standing::New | Standing::Astray => Ok(false),
         Standing::Open(node) => Ok(same_state(state, &node.state()?)),
-        Standing::Shut(_) => Ok(is_shut(state)),
+        Standing::Shut(node) => Ok(is_shut_as(state, node)),
     }
 }

@@ -7,9 +7,21 @@ ghost use Rattle.run_check.specs.Held.{standing_of, IsSound};
 
 use floor_rules::MemoryFloors;
 use node_core::Node;
-use roster::Roster;
+use object_store::WebCopy;
+use roster::{Listed, Roster};
 use std::alloc::{AllocError, Global};
 use std::hash::RandomState;
+
+/// A closed node. Nothing is pending at it.
+#[derive(Drop)]
+pub(crate) struct ClosedNode {
+    /// The floors that are stored, which may not be those in its memory.
+    pub(crate) floors: MemoryFloors,
+    /// The copies that it held as it closed, the most recent first.
+    pub(crate) copies: Listed<WebCopy<()>>,
+    /// The next block, as it closed.
+    pub(crate) next: u32,
+}
 
 /// The standing of a node.
 #[derive(Drop)]
@@ -18,8 +30,8 @@ pub(crate) enum Standing {
     New,
     /// It is open.
     Open(Node<(), MemoryFloors>),
-    /// It is closed, and these floors are stored.
-    Shut(MemoryFloors),
+    /// It is closed.
+    Shut(ClosedNode),
     /// Its record opened in a state that the run does not allow; nothing is known of it.
     Astray,
 }

@@ -1,7 +1,10 @@
 //! Whether two states of a node are the same, field by field and octet by octet.
 ghost use Rattle.std.specs.Prelude.{◌≡◌, ◌↔◌, true, [], IsTrue};
 ghost use Rattle.node_rules.specs.State.{opened};
+ghost use Rattle.run_rules.specs.Judging.{IsShutAs};
+ghost use Rattle.run_check.specs.Held.{closed_state};
 
+use crate::standing::ClosedNode;
 use floor_rules::Floors;
 use node_copies::{same_ask, same_copy};
 use node_rules::{Fetch, NodeState, Pending};
@@ -132,9 +135,13 @@ pub(crate) fn is_opened(state: &NodeState<()>, floors: &Floors) -> bool
         && state.floors.same(floors)
 }
 
-/// Whether a state is that of a closed node, with nothing pending.
-pub(crate) fn is_shut(state: &NodeState<()>) -> bool
-    ensures { IsTrue result ↔ ((state.now.closed ≡ true) × (state.now.pending ≡ [])) }
+/// Whether a closed node may be recorded in a state: it has the node's copies and its next block,
+/// and nothing is pending. Its floors may be any.
+pub(crate) fn is_shut_as(state: &NodeState<()>, node: &ClosedNode) -> bool
+    ensures { IsTrue result ↔ IsShutAs (closed_state node.now) state.now }
 {
-    state.closed && state.pending.as_slice().is_empty()
+    state.closed
+        && state.next == node.next
+        && state.pending.as_slice().is_empty()
+        && same_copies(state.copies.as_slice(), node.copies.as_slice())
 }

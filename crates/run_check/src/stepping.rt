@@ -4,12 +4,14 @@ ghost use Rattle.node_rules.specs.declared.reply.StepFault.TheVariants as fault;
 ghost use Rattle.node_rules.specs.Relation.{purge_in as purge_of_event};
 ghost use Rattle.node_rules.specs.State.{setting};
 ghost use Rattle.run_rules.specs.Board.{Shut};
-ghost use Rattle.run_rules.specs.Judging.{StepsSo, StepsBy, OpenStepsBy, wanting, failing, shut_by, stored_by};
-ghost use Rattle.run_check.specs.Held.{standing_of, stepped_of, IsSound, IsMemberNode, AreSound};
+ghost use Rattle.run_rules.specs.Judging.{StepsSo, StepsBy, OpenStepsBy};
+ghost use Rattle.run_rules.specs.Judging.{wanting, failing, shut_by, left_by};
+ghost use Rattle.run_check.specs.Held.{closed_state, standing_of, stepped_of};
+ghost use Rattle.run_check.specs.Held.{IsSound, IsMemberNode, AreSound};
 
 use crate::purging::{purge_in, stored};
 use crate::reaching::reaches;
-use crate::standing::Standing;
+use crate::standing::{ClosedNode, Standing};
 use floor_rules::{Floors, MemoryFloors};
 use node_book::NodeEntry;
 use node_copies::{copy_of_event, same_outcome};
@@ -65,10 +67,14 @@ fn closed_by(
     requires { 1 ≤ purge.now.1 }
     ensures { IsMemberNode roster.now id node →
         IfOk result (λ standing. standing_of standing
-        ≡ Shut (stored_by node.state.floors purge.now.0 purge.now.1 kept.now)) }
+        ≡ Shut (left_by node.state purge.now kept.now)) }
 {
-    let floors = stored(alloc, node.into_floors(), &purge.0, purge.1, kept)?;
-    Ok(Standing::Shut(floors))
+    let state = node.state()?;
+    Ok(Standing::Shut(ClosedNode {
+        floors: stored(alloc, node.into_floors(), &purge.0, purge.1, kept)?,
+        copies: state.copies,
+        next: state.next,
+    }))
 }
 
 /// An open node's step lacked memory: nothing changes, but at a purge the node may have closed
@@ -148,15 +154,12 @@ fn open_steps(
     }
 }
 
-/// A closed node has an entry: its outcome must be `Closed`.
-fn shut_steps(
-    floors: MemoryFloors,
-    outcome: &Result<Reply<()>, StepFault>,
-) -> Result<Standing, Cause>
-    ensures { stepped_of result ≡ shut_by floors outcome.now }
+/// A closed node has an entry: its outcome must be `Closed`, and the node stays as it is.
+fn shut_steps(node: ClosedNode, outcome: &Result<Reply<()>, StepFault>) -> Result<Standing, Cause>
+    ensures { stepped_of result ≡ shut_by (closed_state node) outcome.now }
 {
     match outcome {
-        Err(StepFault::Closed) => Ok(Standing::Shut(floors)),
+        Err(StepFault::Closed) => Ok(Standing::Shut(node)),
         _ => Err(Cause::OtherReply),
     }
 }
@@ -181,7 +184,7 @@ pub(crate) fn steps(
     match standing {
         Standing::New => Ok(Err(Cause::OtherReply)),
         Standing::Open(node) => open_steps(alloc, roster, id, node, entry, is_closed, kept),
-        Standing::Shut(floors) => Ok(shut_steps(floors, &entry.outcome)),
+        Standing::Shut(node) => Ok(shut_steps(node, &entry.outcome)),
         Standing::Astray => Ok(Ok(Standing::Astray)),
     }
 }

@@ -1,6 +1,8 @@
 -- Each step with other tags comes of a step with the node's own. The function gives the same with
--- other tags; and of a closed state the relation says only what has no tags in it.
-use Rattle.std.proofs.Common.{◌≡◌, ℕ, true, List, [], Option, Some, None, Result, Ok, Err, refl, sym, ◌∙◌, ap, subst, inl, inr}
+-- other tags; and a step that closes the node keeps its copies.
+use Rattle.std.proofs.Common.{◌≡◌, ℕ, Bool, true, List, [], Option, Some, None, Result, Ok, Err, refl, sym, ◌∙◌, ap, subst, inl, inr}
+use Rattle.object_store.specs.declared.copy.WebCopy.{WebCopy}
+use Rattle.node_rules.specs.declared.state.Pending.{Pending}
 use Rattle.node_rules.specs.declared.state.NodeState.{NodeState}
 use Rattle.node_rules.specs.declared.event.Event.{Event}
 use Rattle.node_rules.specs.declared.event.Event.TheVariants as event
@@ -11,13 +13,16 @@ use Rattle.node_rules.specs.State.{Setting, Stepped}
 use Rattle.node_rules.specs.Step.{step}
 use Rattle.node_rules.specs.Relation.{Steps, Closes, ClosesOn, purge_in}
 use Rattle.node_rules.specs.Tags.{retag_state, retag_event}
-use Rattle.node_rules.proofs.Cases.{true_not_false}
 use Rattle.node_rules.proofs.Lawful.{step_steps}
 use Rattle.node_rules.proofs.TagSteps.{step-retag}
-use Rattle.run_laws.specs.Tagged.{IsAlike, ComesOfStep}
+use Rattle.run_laws.specs.Tagged.{ComesOfStep}
 
-alike_same : {Y : Type 0} (a b : NodeState Y) → a ≡ b → IsAlike a b
-alike_same a b same = record { closed = ap (λ s. s.closed) same; floors = ap (λ s. s.floors) same; pending = ap (λ s. s.pending) same; whole = λ _. same }
+-- a state that has these parts
+has_parts : {Y : Type 0} (s : NodeState Y) (copies : List (WebCopy Y)) (pending : List (Pending Y)) (next : ℕ) (closed : Bool) → s.copies ≡ copies →
+    s.pending ≡ pending → s.next ≡ next → s.closed ≡ closed →
+    record { floors = s.floors; copies = copies; pending = pending; next = next; closed = closed } ≡ s
+has_parts s copies pending next closed of_copies of_pending of_next of_closed =
+    rw (← of_copies, ← of_pending, ← of_next, ← of_closed) refl
 
 module _ {X Y : Type 0} (f : X → Y) (g : Setting) (s : NodeState X) (e : Event X) (mark : X) where
   purge_in-retag : (e : Event X) → purge_in g (retag_event f e) ≡ purge_in g e
@@ -29,14 +34,14 @@ module _ {X Y : Type 0} (f : X → Y) (g : Setting) (s : NodeState X) (e : Event
   shut next = record { floors = next.floors; copies = s.copies; pending = []; next = s.next; closed = true }
 
   shut_on : (o : Option (List ℕ × ℕ)) (next : NodeState Y) → ClosesOn (retag_state f s) o next → ClosesOn s o (shut next)
-      × IsAlike (retag_state f (shut next)) next
+      × (retag_state f (shut next) ≡ next)
   shut_on None next h = absurd h
   shut_on (Some x) next h = (
-    record { closed = refl; pending = refl; floors = h.floors },
-    record { closed = sym h.closed; floors = refl; pending = sym h.pending; whole = λ is_open. absurd (true_not_false (sym h.closed ∙ is_open)) },
+    record { closed = refl; pending = refl; copies = refl; block = refl; floors = h.floors },
+    has_parts next _ _ _ _ h.copies h.pending h.block h.closed,
   )
 
-  closes : (next : NodeState Y) → Closes g (retag_state f s) (retag_event f e) next → Closes g s e (shut next) × IsAlike (retag_state f (shut next)) next
+  closes : (next : NodeState Y) → Closes g (retag_state f s) (retag_event f e) next → Closes g s e (shut next) × (retag_state f (shut next) ≡ next)
   closes next h =
       let done = shut_on (purge_in g e) next (subst (λ o. ClosesOn (retag_state f s) o next) (purge_in-retag e) h.1)
       in ((h.0, done.0), done.1)
@@ -49,8 +54,7 @@ module _ {X Y : Type 0} (f : X → Y) (g : Setting) (s : NodeState X) (e : Event
         own_next = (step g s e mark).state;
         steps = step_steps g s e mark;
         same_outcome = refl;
-        alike =
-            alike_same _ _ refl;
+        same_next = refl;
       }
 
   comes : {outcome : Result (Reply Y) StepFault} {next : NodeState Y} → step g (retag_state f s) (retag_event f e) (f mark) ≡ record
@@ -65,10 +69,10 @@ module _ {X Y : Type 0} (f : X → Y) (g : Setting) (s : NodeState X) (e : Event
   comes_of_step (Err fault.Busy) next is = comes is
   comes_of_step (Err fault.StoreFault) next is =
       let done = closes next is
-      in record { own_outcome = Err fault.StoreFault; own_next = shut next; steps = done.0; same_outcome = refl; alike = done.1 }
+      in record { own_outcome = Err fault.StoreFault; own_next = shut next; steps = done.0; same_outcome = refl; same_next = done.1 }
   comes_of_step (Err fault.NoMemory) next is = elim is [
-    | inl h ↦ record { own_outcome = Err fault.NoMemory; own_next = s; steps = inl (h.0, refl); same_outcome = refl; alike = alike_same _ _ (sym h.1) }
+    | inl h ↦ record { own_outcome = Err fault.NoMemory; own_next = s; steps = inl (h.0, refl); same_outcome = refl; same_next = sym h.1 }
     | inr h ↦
         let done = closes next h
-        in record { own_outcome = Err fault.NoMemory; own_next = shut next; steps = inr done.0; same_outcome = refl; alike = done.1 }
+        in record { own_outcome = Err fault.NoMemory; own_next = shut next; steps = inr done.0; same_outcome = refl; same_next = done.1 }
   ]

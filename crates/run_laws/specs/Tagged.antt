@@ -1,5 +1,5 @@
 -- A step with other tags, and the step with a node's own tags that it comes of.
-use Rattle.std.specs.Prelude.{◌≡◌, false, Result}
+use Rattle.std.specs.Prelude.{◌≡◌, Result}
 use Rattle.node_rules.specs.declared.state.NodeState.{NodeState}
 use Rattle.node_rules.specs.declared.event.Event.{Event}
 use Rattle.node_rules.specs.declared.reply.Reply.{Reply}
@@ -7,14 +7,6 @@ use Rattle.node_rules.specs.declared.reply.StepFault.{StepFault}
 use Rattle.node_rules.specs.State.{Setting}
 use Rattle.node_rules.specs.Relation.{Steps}
 use Rattle.node_rules.specs.Tags.{retag_state, retag_outcome}
-
--- The same state, if it is open. A closed one only has the same floors and the same pending
--- requests.
-pub record IsAlike {Y : Type 0} (a b : NodeState Y) : Type 0 where
-  pub closed : a.closed ≡ b.closed
-  pub floors : a.floors ≡ b.floors
-  pub pending : a.pending ≡ b.pending
-  pub whole : b.closed ≡ false → a ≡ b
 
 -- The node's own step that this one comes of: it has this outcome and leads to this state, but for
 -- the tags.
@@ -24,4 +16,4 @@ pub record ComesOfStep {X Y : Type 0} (f : X → Y) (g : Setting) (s : NodeState
   pub own_next : NodeState X
   pub steps : Steps g s e mark own_outcome own_next
   pub same_outcome : retag_outcome f own_outcome ≡ outcome
-  pub alike : IsAlike (retag_state f own_next) next
+  pub same_next : retag_state f own_next ≡ next

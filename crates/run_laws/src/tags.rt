@@ -11,9 +11,6 @@ ghost use Rattle.run_laws.specs.Tagged.{ComesOfStep};
 
 /// A step that a node takes with other tags is one that it takes with its own: the outcome and the
 /// next state are the same, but for the tags.
-///
-/// Of a closed next state, only this is the same: that it is closed, its floors, and that no
-/// request is pending.
 pub fn steps_of_other_tags_are_steps<T, U>()
     ensures { (f : T → U) (g : Setting) (s : NodeState T) (e : Event T) (mark : T)
         (outcome : Result (Reply U) StepFault) (next : NodeState U) →

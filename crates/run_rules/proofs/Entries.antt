@@ -1,7 +1,7 @@
 -- An entry of a node that may follow stands for events of the world: the clock is set, and some
 -- event brings the node what it received (Meeting). An entry that was refused stands for no event.
 -- One that closed the node stands for a fault, after the step or without it.
-use Rattle.std.proofs.Common.{◌≡◌, ℕ, ◌+◌, Bool, true, false, cond, not, ◌&&◌, List, [], ◌∷◌, ◌++◌, Option, Some, None, Result, Ok, Err, refl, sym, ◌∙◌, ap, inl, inr, nat_le, subst, arith}
+use Rattle.std.proofs.Common.{◌≡◌, ℕ, ◌+◌, ◌≤◌, Bool, true, false, cond, not, ◌&&◌, List, [], ◌∷◌, ◌++◌, map, Option, Some, None, Result, Ok, Err, refl, sym, ◌∙◌, ap, inl, inr, nat_le, subst, arith}
 use Rattle.std.proofs.lemmas.List.Elements.{Contains-append_left}
 use Rattle.floor_rules.specs.Floors.{FloorMap, HasRoom, floor, raised}
 use Rattle.floor_rules.specs.Store.{IsBeforeOrAfter}
@@ -19,10 +19,12 @@ use Rattle.node_rules.specs.Datagrams.{is_full}
 use Rattle.node_rules.specs.Step.{step}
 use Rattle.node_rules.specs.Relation.{ClosesOn, Closes, purge_in}
 use Rattle.node_rules.specs.Relation.{Steps as NodeStepsBy}
-use Rattle.node_rules.specs.Tags.{retag_reply, retag_stepped}
+use Rattle.node_rules.specs.Tags.{retag_copy, retag_reply, retag_stepped}
+use Rattle.node_rules.proofs.TagLists.{without_below-retag}
 use Rattle.node_rules.proofs.TagSteps.{step-retag}
 use Rattle.node_rules.proofs.Lawful.{step_steps}
 use Rattle.node_rules.proofs.Stepping.{the_function_closes_no_node}
+use Rattle.node_rules.proofs.Effects.{raised_to}
 use Rattle.node_rules.proofs.FloorLaws.{room_for}
 use Rattle.node_rules.proofs.Cases.{true_not_false}
 use Rattle.node_book.specs.declared.book.NodeEntry.{NodeEntry}
@@ -36,8 +38,8 @@ use Rattle.run_rules.specs.Sent.{Network, with_reply, without_waiting, IsSent}
 use Rattle.run_rules.specs.Board.{Standing, New, Open, Shut, Astray, Board, standing_at, with_node, with_network}
 use Rattle.run_rules.specs.declared.verdict.Cause.{Cause}
 use Rattle.run_rules.specs.declared.verdict.Cause.TheVariants.{NotSent, OtherReply}
-use Rattle.run_rules.specs.Judging.{Fine, Flawed, Reaches, IsStep, StepsBy, OpenStepsBy, StepsSo, after_entry, wanting, failing, stored_by, shut_by, is_astray, judged, JudgesEntry}
-use Rattle.run_rules.specs.Recorded.{Progress, Goes, IsTaken, ChangesNothing, event_step, unmarked, unmarked_event, unmarked_outcome, node_in}
+use Rattle.run_rules.specs.Judging.{Fine, Flawed, Reaches, IsStep, StepsBy, OpenStepsBy, StepsSo, after_entry, wanting, failing, stored_by, left_by, shut_by, is_astray, judged, JudgesEntry}
+use Rattle.run_rules.specs.Recorded.{Progress, Goes, IsTaken, ChangesNothing, event_step, unmarked, unmarked_event, unmarked_outcome, node_in, IsShut}
 use Rattle.run_rules.specs.Recorded.{Stands}
 use Rattle.run_rules.specs.Notes.{Note, Steps}
 use Rattle.world_rules.proofs.MemberStates.{node_at-same, node_at-other}
@@ -291,13 +293,13 @@ module _ (t : Tables) (b : Board) (p : Progress) (m : Matches t b p) (id : ℕ) 
     }
 
     -- a closed node refuses so
-    shut : node.closed ≡ true → (floors : FloorMap) → node.floors ≡ floors → entry.outcome ≡ Err fault.Closed →
-        Follows t p note (after_entry t b id entry (Shut floors))
-    shut is_shut floors has is_err = record {
+    shut : (s : NodeState (Unit {0})) → node.floors ≡ s.floors → IsShut (unmarked node) s → entry.outcome ≡ Err fault.Closed →
+        Follows t p note (after_entry t b id entry (Shut s))
+    shut s has is_shut is_err = record {
       steps = [];
       to = p;
-      stands = inr (inl (unchanged fault.Closed is_err (closed_refuses g (unmarked node) tt entry.event is_shut)));
-      matches = still (Shut floors) _ (member, is_shut, has)
+      stands = inr (inl (unchanged fault.Closed is_err (closed_refuses g (unmarked node) tt entry.event is_shut.shut)));
+      matches = still (Shut s) _ (member, has, is_shut)
           (record {
             datagrams = m.network.datagrams;
             asks = m.network.asks;
@@ -314,22 +316,19 @@ module _ (t : Tables) (b : Board) (p : Progress) (m : Matches t b p) (id : ℕ) 
       abbrev flag : Bool
       flag = nat_le n (floor kept key) && not (is_full node.floors key)
 
-      abbrev left : FloorMap
-      left = stored_by (unmarked node).floors key n kept
-
-      abbrev closed : NodeState (Unit {0})
-      closed = record { floors = left; copies = (unmarked node).copies; pending = []; next = node.next; closed = true }
+      abbrev left : NodeState (Unit {0})
+      left = left_by (unmarked node) (key, n) kept
 
       made_with_room : flag ≡ true → HasRoom node.floors key
       made_with_room made = room_for node.floors key (not_both_true (nat_le n (floor kept key)) (is_full node.floors key) made)
 
-      closes : NodeStepsBy g (unmarked node) entry.event tt entry.outcome closed
+      closes : NodeStepsBy g (unmarked node) entry.event tt entry.outcome left
       closes =
-          subst (λ (o : Result (Reply (Unit {0})) StepFault). NodeStepsBy g (unmarked node) entry.event tt o closed) (sym is_err)
-          (closing_steps g (unmarked node) entry.event f closed closing (
+          subst (λ (o : Result (Reply (Unit {0})) StepFault). NodeStepsBy g (unmarked node) entry.event tt o left) (sym is_err)
+          (closing_steps g (unmarked node) entry.event f left closing (
             is_open,
-            subst (λ (o : Option (List ℕ × ℕ)). ClosesOn (unmarked node) o closed) (sym purges) record
-                { closed = refl; pending = refl; floors = kept_or_raised flag node.floors key n made_with_room },
+            subst (λ (o : Option (List ℕ × ℕ)). ClosesOn (unmarked node) o left) (sym purges) record
+                { closed = refl; pending = refl; copies = refl; block = refl; floors = kept_or_raised flag node.floors key n made_with_room },
           ))
 
       abbrev fault_step : Step
@@ -354,6 +353,10 @@ module _ (t : Tables) (b : Board) (p : Progress) (m : Matches t b p) (id : ℕ) 
         purges = purges_same;
       }
 
+      -- it keeps its copies
+      keeps_all : IsShut (unmarked (closed_node node)) left
+      keeps_all = record { shut = refl; closed = refl; pending = refl; block = refl; copies = inl refl }
+
       -- it did not make the purge
       without : flag ≡ false → Follows t p note (after_entry t b id entry (Shut left))
       without not_made =
@@ -361,18 +364,34 @@ module _ (t : Tables) (b : Board) (p : Progress) (m : Matches t b p) (id : ℕ) 
           record {
             steps = fault_step ∷ [];
             to = faulted p;
-            stands = inr (inr (closed, refl, closes, inl (refl, goes)));
+            stands = inr (inr (left, refl, closes, inl (refl, goes)));
             matches = record {
               past = m.past ++ fault_step ∷ [];
               at = place_goes t b p (fault_step ∷ []) (p.place + 1) m refl;
               after = after_goes t b p (faulted p) (fault_step ∷ []) m goes.run;
               nodes = each_place t b.posts p.world.states id (Shut left) (closed_node node)
-                  (member, refl, sym (ap (λ c. cond c (raised node.floors key n) node.floors) not_made)) (λ i _. m.nodes i);
+                  (member, sym (ap (λ c. cond c (raised node.floors key n) node.floors) not_made), keeps_all) (λ i _. m.nodes i);
               master = m.master;
               purges = m.purges;
               network = network_closed b.network p.world id (closed_node node) m.network;
             };
           }
+
+      -- it keeps a copy that the purge drops
+      keeps_but_one : (made : Stepped ℕ) → HasPurged node key n made → IsShut (unmarked (closed_node made.state)) left
+      keeps_but_one made purged = record {
+        shut = refl;
+        closed = refl;
+        pending = refl;
+        block = sym purged.block;
+        copies =
+            inr (
+              key,
+              n,
+              subst (λ (floors : FloorMap). n ≤ floor floors key) (sym purged.floors) (raised_to node.floors key n n refl),
+              ap (map (retag_copy (λ _. tt))) purged.copies ∙ sym (without_below-retag (λ _. tt) key n node.copies),
+            );
+      }
 
       -- it made the purge
       with_purge : flag ≡ true → Follows t p note (after_entry t b id entry (Shut left))
@@ -389,19 +408,21 @@ module _ (t : Tables) (b : Board) (p : Progress) (m : Matches t b p) (id : ℕ) 
           let all : Run t p.place p.world (these is_open entry.event how ++ fault_step ∷ []) (faulted (q is_open entry.event how)).world =
           runs_join t p.place (p.place + 2) p.world (q is_open entry.event how).world (faulted (q is_open entry.event how)).world
           (these is_open entry.event how) (fault_step ∷ []) refl (runs is_open entry.event how) goes.run in
-          let floors : (node_in (q is_open entry.event how) id).floors ≡ left =
-          ap (λ (x : NodeState ℕ). x.floors) (node_at-same p.world.states id (r is_open entry.event how).state) ∙ purged.floors
+          let same : node_in (q is_open entry.event how) id ≡ (r is_open entry.event how).state = node_at-same p.world.states id _ in
+          let floors : (node_in (q is_open entry.event how) id).floors ≡ left.floors = ap (λ (x : NodeState ℕ). x.floors) same ∙ purged.floors
           ∙ sym (ap (λ c. cond c (raised node.floors key n) node.floors) made) in
+          let shut : IsShut (unmarked (closed_node (node_in (q is_open entry.event how) id))) left =
+          subst (λ (x : NodeState ℕ). IsShut (unmarked (closed_node x)) left) (sym same) (keeps_but_one (r is_open entry.event how) purged) in
           record {
             steps = these is_open entry.event how ++ fault_step ∷ [];
             to = faulted (q is_open entry.event how);
-            stands = inr (inr (closed, refl, closes, inr (these is_open entry.event how, q is_open entry.event how, purged.reply, taken, refl, goes)));
+            stands = inr (inr (left, refl, closes, inr (these is_open entry.event how, q is_open entry.event how, purged.reply, taken, refl, goes)));
             matches = record {
               past = m.past ++ (these is_open entry.event how ++ fault_step ∷ []);
               at = place_goes t b p (these is_open entry.event how ++ fault_step ∷ []) (p.place + 2 + 1) m (omega arith);
               after = after_goes t b p (faulted (q is_open entry.event how)) (these is_open entry.event how ++ fault_step ∷ []) m all;
               nodes = each_place t b.posts (q is_open entry.event how).world.states id (Shut left) (closed_node (node_in (q is_open entry.event how) id))
-                  (member, refl, floors) (λ i ne. subst (StandsIn t i (standing_at b.posts i))
+                  (member, floors, shut) (λ i ne. subst (StandsIn t i (standing_at b.posts i))
                   (sym (node_at-other p.world.states id i (r is_open entry.event how).state ne)) (m.nodes i));
               master = m.master;
               purges = m.purges;
@@ -457,15 +478,15 @@ module _ (t : Tables) (b : Board) (p : Progress) (m : Matches t b p) (id : ℕ) 
       open_by (Err fault.Busy) is_err st result fine steps = refused_by fault.Busy is_err tt st result fine steps
 
     -- what an entry of a closed node stands for
-    shut_by_outcome : node.closed ≡ true → (floors : FloorMap) → node.floors ≡ floors → (o : Result (Reply (Unit {0})) StepFault) → entry.outcome ≡ o →
-        (st : Standing) → Ok st ≡ shut_by floors o → Follows t p note (after_entry t b id entry st)
-    shut_by_outcome is_shut floors has (Err fault.Closed) is_err st is =
-        subst (λ (s : Standing). Follows t p note (after_entry t b id entry s)) (ok_same (Shut floors) st _ refl (sym is)) (shut is_shut floors has is_err)
-    shut_by_outcome is_shut floors has (Ok reply) is_ok st is = absurd (no_fault st OtherReply is)
-    shut_by_outcome is_shut floors has (Err fault.NoMemory) is_err st is = absurd (no_fault st OtherReply is)
-    shut_by_outcome is_shut floors has (Err fault.StoreFault) is_err st is = absurd (no_fault st OtherReply is)
-    shut_by_outcome is_shut floors has (Err fault.UnknownSerial) is_err st is = absurd (no_fault st OtherReply is)
-    shut_by_outcome is_shut floors has (Err fault.Busy) is_err st is = absurd (no_fault st OtherReply is)
+    shut_by_outcome : (s : NodeState (Unit {0})) → node.floors ≡ s.floors → IsShut (unmarked node) s → (o : Result (Reply (Unit {0})) StepFault) →
+        entry.outcome ≡ o → (st : Standing) → Ok st ≡ shut_by s o → Follows t p note (after_entry t b id entry st)
+    shut_by_outcome s has is_shut (Err fault.Closed) is_err st is =
+        subst (λ (s : Standing). Follows t p note (after_entry t b id entry s)) (ok_same (Shut s) st _ refl (sym is)) (shut s has is_shut is_err)
+    shut_by_outcome s has is_shut (Ok reply) is_ok st is = absurd (no_fault st OtherReply is)
+    shut_by_outcome s has is_shut (Err fault.NoMemory) is_err st is = absurd (no_fault st OtherReply is)
+    shut_by_outcome s has is_shut (Err fault.StoreFault) is_err st is = absurd (no_fault st OtherReply is)
+    shut_by_outcome s has is_shut (Err fault.UnknownSerial) is_err st is = absurd (no_fault st OtherReply is)
+    shut_by_outcome s has is_shut (Err fault.Busy) is_err st is = absurd (no_fault st OtherReply is)
 
 module _ (t : Tables) (proper : IsRoster t) (b : Board) (p : Progress) (m : Matches t b p) (id : ℕ) (entry : NodeEntry) (is_closed : Bool) (kept : FloorMap)
   where
@@ -478,7 +499,7 @@ module _ (t : Tables) (proper : IsRoster t) (b : Board) (p : Progress) (m : Matc
     stands_by (Open s) so (member, is_open, same) heard st result fine steps =
         open_by t b p m id member entry is_closed kept proper (heard refl) is_open entry.outcome refl st result fine
         (subst (λ (x : NodeState (Unit {0})). OpenStepsBy (setting t id) x entry is_closed kept entry.outcome result) (sym same) steps)
-    stands_by (Shut floors) so (member, is_shut, has) heard st result fine is = shut_by_outcome t b p m id member entry is_closed kept is_shut floors has
+    stands_by (Shut s) so (member, has, is_shut) heard st result fine is = shut_by_outcome t b p m id member entry is_closed kept s has is_shut
         entry.outcome refl st (sym fine ∙ is)
 
     fine_by : (r : Result Standing Cause) (next : Board) → Fine next ≡ judged t b id entry r → (st : Standing) × (r ≡ Ok st)

@@ -15,11 +15,17 @@ use Rattle.run_rules.specs.declared.verdict.Cause.TheVariants.{OtherState}
 use Rattle.run_rules.specs.Notes.{Opens, Closes}
 use Rattle.run_rules.specs.Sent.{Network, without_waiting}
 use Rattle.run_rules.specs.Board.{Standing, New, Open, Shut, Astray, Board, standing_at, with_node, with_network}
-use Rattle.run_rules.specs.Judging.{Fine, OpensAs, CanOpen, standing_in, opened_board, ClosesAs, JudgesClosing}
-use Rattle.run_rules.specs.Recorded.{Progress, Goes, event_step, unmarked, node_in, IsKept}
+use Rattle.run_rules.specs.Judging.{Fine, IsShutAs, OpensAs, CanOpen, standing_in, opened_board, ClosesAs, JudgesClosing}
+use Rattle.run_rules.specs.Recorded.{Progress, Goes, event_step, unmarked, node_in, IsKept, IsShut}
 use Rattle.run_rules.proofs.Matching.{NetworkMatches, waits_dropped_here}
 use Rattle.run_rules.proofs.Following.{StandsIn, Matches, each_place, each_post, after_goes, place_goes}
 use Rattle.run_rules.proofs.Entries.{Follows, network_closed, same_board, not_flawed}
+
+-- a state in which a closed node may be recorded is recorded so
+shut_as : (node s state : NodeState (Unit {0})) → IsShut node s → IsShutAs s state → IsShut node state
+shut_as node s state shut is =
+    let found : IsShut node (record state { floors = s.floors }) = subst (IsShut node) (sym is) shut in
+    record { shut = found.shut; closed = found.closed; pending = found.pending; block = found.block; copies = found.copies }
 
 -- what waits at a node is dropped, or not
 opened_network : (n : Network) (w : World) (id : ℕ) (c : Bool) → NetworkMatches n w → NetworkMatches (cond c (without_waiting n id) n) w
@@ -106,12 +112,13 @@ module _ (t : Tables) (b : Board) (p : Progress) (m : Matches t b p) (id : ℕ) 
       goes_on (Open state) (member, ap (λ (x : NodeState ℕ). x.closed) stands, kept) (inl (sym kept))
   opens_by (Open s) (mine, is_open, same) (inl is) = goes_on (Open state) (member, is_open, same ∙ sym is) (inl (is ∙ sym same))
   opens_by (Open s) (mine, is_open, same) (inr is) = starts_again s.floors (ap (λ (x : NodeState (Unit {0})). x.floors) same) is
-  opens_by (Shut floors) (mine, is_shut, has) (inl (closed, none)) =
-      subst (λ (c : Bool). Follows t p (Opens id state) (after (cond c (Shut floors) (Open state)))) (sym closed)
-      (goes_on (Shut floors) (member, is_shut, has) (inr (is_shut, closed, none)))
-  opens_by (Shut floors) (mine, is_shut, has) (inr is) =
-      subst (λ (c : Bool). Follows t p (Opens id state) (after (cond c (Shut floors) (Open state)))) (sym (ap (λ (x : NodeState (Unit {0})). x.closed) is))
-      (starts_again floors has is)
+  opens_by (Shut s) (mine, has, shut) (inl is) =
+      let recorded : IsShut (unmarked node) state = shut_as (unmarked node) s state shut is in
+      subst (λ (c : Bool). Follows t p (Opens id state) (after (cond c (Shut s) (Open state)))) (sym recorded.closed)
+      (goes_on (Shut s) (member, has, shut) (inr recorded))
+  opens_by (Shut s) (mine, has, shut) (inr is) =
+      subst (λ (c : Bool). Follows t p (Opens id state) (after (cond c (Shut s) (Open state)))) (sym (ap (λ (x : NodeState (Unit {0})). x.closed) is))
+      (starts_again s.floors has is)
   opens_by Astray stands is = absurd stands
 
 -- a record of a member that may open so
@@ -124,7 +131,7 @@ closes_by : (t : Tables) (id : ℕ) (its : NodeState ℕ) (state : NodeState (Un
     IsKept (unmarked its) state
 closes_by t id its state New stands closes = absurd closes
 closes_by t id its state (Open s) (mine, is_open, same) is = inl (is ∙ sym same)
-closes_by t id its state (Shut floors) (mine, is_shut, has) (closed, none) = inr (is_shut, closed, none)
+closes_by t id its state (Shut s) (mine, has, shut) is = inr (shut_as (unmarked its) s state shut is)
 closes_by t id its state Astray stands closes = absurd closes
 
 pub closing_follows : (t : Tables) (b : Board) (p : Progress) → Matches t b p → (id place : ℕ) (state : NodeState (Unit {0})) (next : Board) →

@@ -7,6 +7,7 @@ use Rattle.htcp_wire.specs.declared.fault.HtcpFault.{HtcpFault}
 use Rattle.htcp_wire.specs.declared.numbers.HeaderKind.TheVariants.{PurgeNumber}
 use Rattle.htcp_wire.specs.Numbers.{number_in_text}
 use Rattle.floor_rules.specs.Floors.{raised}
+use Rattle.object_store.specs.Listed.{without_below}
 use Rattle.values_plain.specs.declared.address.Address.{Address}
 use Rattle.node_rules.specs.declared.message.Message.{Message}
 use Rattle.node_rules.specs.declared.message.Message.TheVariants as message
@@ -20,11 +21,13 @@ use Rattle.node_rules.specs.Relation.{purge_in, purge_in_message, purge_in_conte
 use Rattle.node_rules.specs.Step.{open_step, step_if, step}
 use Rattle.node_rules.proofs.Cases.{branches, true_not_false}
 
--- the purge is made, and the step has a reply
+-- the purge is made, an older copy has gone, and the step has a reply
 pub record HasPurged {X : Type 0} (s : NodeState X) (key : List ℕ) (n : ℕ) (r : Stepped X) : Type 0 where
   pub reply : Reply X
   pub outcome : r.outcome ≡ Ok reply
   pub floors : r.state.floors ≡ raised s.floors key n
+  pub copies : r.state.copies ≡ without_below key n s.copies
+  pub block : r.state.next ≡ s.next
 
 pub same_pair : {A : Type 0} (x y : A) → Some x ≡ Some y → x ≡ y
 same_pair x y e = cc
@@ -34,8 +37,8 @@ module _ {X : Type 0} (g : Setting) (s : NodeState X) (mark : X) where
   IsPurged key n r = HasPurged s key n r
 
   desired_purges : (key : List ℕ) (n : ℕ) (desired : Bool) (from : Address) (m : Message) → IsPurged key n (if_desired (purged s key n) desired from m)
-  desired_purges key n true from m = record { reply = _; outcome = refl; floors = refl }
-  desired_purges key n false from m = record { reply = _; outcome = refl; floors = refl }
+  desired_purges key n true from m = record { reply = _; outcome = refl; floors = refl; copies = refl; block = refl }
+  desired_purges key n false from m = record { reply = _; outcome = refl; floors = refl; copies = refl; block = refl }
 
   purge_purges : (from : Address) (trans : ℕ) (desired : Bool) (key : List ℕ) (n : ℕ) → is_full s.floors key ≡ false →
       IsPurged key n (purge s from trans desired key n)

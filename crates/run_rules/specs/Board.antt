@@ -1,7 +1,6 @@
 -- The state of a run after some of its notes: a board has each node's standing, the master's state
 -- and the network.
 use Rattle.std.specs.Prelude.{ℕ, ◌==◌, List, [], ◌∷◌, if◌then◌else◌}
-use Rattle.floor_rules.specs.Floors.{FloorMap}
 use Rattle.node_rules.specs.declared.state.NodeState.{NodeState}
 use Rattle.purge_rules.specs.Purges.{no_purges}
 use Rattle.purge_rules.specs.Calls.{MasterState}
@@ -14,8 +13,8 @@ pub data Standing : Type 0 where
   New : Standing
   -- it is open, in this state
   Open : (state : NodeState (Unit {0})) → Standing
-  -- it is closed, and these floors are stored
-  Shut : (floors : FloorMap) → Standing
+  -- it is closed, in this state, whose floors are those that are stored
+  Shut : (state : NodeState (Unit {0})) → Standing
   -- its record opened in a state that the run does not allow; nothing is known of it
   Astray : Standing
 

@@ -15,7 +15,7 @@ use Rattle.node_rules.specs.declared.event.Event.TheVariants as event
 use Rattle.node_rules.specs.declared.reply.Reply.{Reply}
 use Rattle.node_rules.specs.declared.reply.StepFault.{StepFault}
 use Rattle.node_rules.specs.declared.reply.StepFault.TheVariants as fault
-use Rattle.node_rules.specs.State.{Setting, opened, fetch_serial, setting}
+use Rattle.node_rules.specs.State.{Setting, opened, closed_node, fetch_serial, setting}
 use Rattle.node_rules.specs.Relation.{purge_in}
 use Rattle.node_rules.specs.Datagrams.{is_full}
 use Rattle.node_rules.specs.Step.{step}
@@ -43,17 +43,21 @@ pub data Judgement : Type 0 where
 
 -- A record opens
 
--- A record may open in the node's present state, or in that of a restart with its floors. The state
--- of a closed node counts only as closed, with nothing pending. [Record 11]
+-- A closed node may be recorded in this state: it is the first one but for its floors, since those
+-- in memory may not be the stored ones. [Record 10]
+abbrev pub IsShutAs : NodeState (Unit {0}) → NodeState (Unit {0}) → Type 0
+IsShutAs s state = record state { floors = s.floors } ≡ s
+
+-- A record may open in the node's present state, or in that of a restart with its floors. [Record 11]
 abbrev pub OpensAs : Standing → NodeState (Unit {0}) → Type 0
 OpensAs New state = state ≡ opened empty
 OpensAs (Open s) state = (state ≡ s) ⊎ (state ≡ opened s.floors)
-OpensAs (Shut floors) state = ((state.closed ≡ true) × (state.pending ≡ [])) ⊎ (state ≡ opened floors)
+OpensAs (Shut s) state = IsShutAs s state ⊎ (state ≡ opened s.floors)
 OpensAs Astray state = ⊥
 
 -- the node's standing after it has opened in this state
 abbrev pub standing_in : Standing → NodeState (Unit {0}) → Standing
-standing_in (Shut floors) state = if state.closed then Shut floors else Open state
+standing_in (Shut s) state = if state.closed then Shut s else Open state
 standing_in standing state = Open state
 
 -- The board after the opening. A node that has taken no block of serials, such as one that has
@@ -79,7 +83,7 @@ JudgesOpening roster b id state j =
 abbrev pub ClosesAs : Standing → NodeState (Unit {0}) → Type 0
 ClosesAs New state = ⊥
 ClosesAs (Open s) state = state ≡ s
-ClosesAs (Shut floors) state = (state.closed ≡ true) × (state.pending ≡ [])
+ClosesAs (Shut s) state = IsShutAs s state
 ClosesAs Astray state = ⊥
 
 -- a record that may not close so has the flaw OtherState
@@ -97,16 +101,20 @@ abbrev pub stored_by : FloorMap → List ℕ → ℕ → FloorMap → FloorMap
 stored_by floors key number kept = if nat_le number (floor kept key) && not (is_full floors key)
     then raised floors key number else floors
 
+-- The state of a node that closed at this purge, with the floors that are stored.
+abbrev pub left_by : NodeState (Unit {0}) → List ℕ × ℕ → FloorMap → NodeState (Unit {0})
+left_by s x kept = record (closed_node s) { floors = stored_by s.floors x.0 x.1 kept }
+
 -- The standing after a step that lacked memory: it changes nothing, but at a purge it may have
 -- closed the node. [Record 7]
 abbrev pub wanting : NodeState (Unit {0}) → Option (List ℕ × ℕ) → Bool → FloorMap → Standing
-wanting s (Some x) true kept = Shut (stored_by s.floors x.0 x.1 kept)
+wanting s (Some x) true kept = Shut (left_by s x kept)
 wanting s _ _ kept = Open s
 
 -- The standing after a step whose floor store failed: that comes only at a purge, and closes the
 -- node.
 abbrev pub failing : NodeState (Unit {0}) → Option (List ℕ × ℕ) → FloorMap → Result Standing Cause
-failing s (Some x) kept = Ok (Shut (stored_by s.floors x.0 x.1 kept))
+failing s (Some x) kept = Ok (Shut (left_by s x kept))
 failing s None kept = Err OtherReply
 
 -- whether a fetch is an origin read
@@ -150,20 +158,20 @@ OpenStepsBy g s e is_closed kept (Ok reply) r = (Reaches s e.event × StepsBy g 
     ⊎ ((Reaches s e.event → ⊥) × (r ≡ Err OtherReply))
 
 -- a closed node refuses each step with Closed
-abbrev pub shut_by : FloorMap → Result (Reply (Unit {0})) StepFault → Result Standing Cause
-shut_by floors (Err fault.Closed) = Ok (Shut floors)
-shut_by floors _ = Err OtherReply
+abbrev pub shut_by : NodeState (Unit {0}) → Result (Reply (Unit {0})) StepFault → Result Standing Cause
+shut_by s (Err fault.Closed) = Ok (Shut s)
+shut_by s _ = Err OtherReply
 
 -- a node's entry, by its standing; of a node astray each entry passes
 abbrev pub StepsSo : Setting → Standing → NodeEntry → Bool → FloorMap → Result Standing Cause → Type 0
 StepsSo g New e is_closed kept r = r ≡ Err OtherReply
 StepsSo g (Open s) e is_closed kept r = OpenStepsBy g s e is_closed kept e.outcome r
-StepsSo g (Shut floors) e is_closed kept r = r ≡ shut_by floors e.outcome
+StepsSo g (Shut s) e is_closed kept r = r ≡ shut_by s e.outcome
 StepsSo g Astray e is_closed kept r = r ≡ Ok Astray
 
 -- the network after an entry; at a node that is closed nothing waits
 abbrev pub network_after : Tables → Network → ℕ → NodeEntry → Standing → Network
-network_after roster n id e (Shut floors) = without_waiting n id
+network_after roster n id e (Shut s) = without_waiting n id
 network_after roster n id e standing = with_reply roster n id e.event (reply_in e.outcome)
 
 -- the board after an entry

@@ -1,7 +1,10 @@
 -- What it means that records and entries are a run of the model: all notes, in one order of rising
 -- places, stand for events of the world. IsRecordedRun is the last definition.
-use Rattle.std.specs.Prelude.{◌≡◌, ◌⊎◌, ℕ, ◌+◌, ◌<◌, Bool, true, false, ◌==◌, List, [], ◌∷◌, ◌++◌, filter, length, Some, Result, Ok, Err}
+use Rattle.std.specs.Prelude.{◌≡◌, ◌⊎◌, ℕ, ◌+◌, ◌<◌, ◌≤◌, Bool, true, false, ◌==◌, List, [], ◌∷◌, ◌++◌, filter, length, Some, Result, Ok, Err}
 use Rattle.std.specs.List.{filter_map}
+use Rattle.object_store.specs.declared.copy.WebCopy.{WebCopy}
+use Rattle.object_store.specs.Listed.{without_below}
+use Rattle.floor_rules.specs.Floors.{FloorMap, floor}
 use Rattle.values_tables.specs.declared.plain.Tables.{Tables}
 use Rattle.roster.specs.Lookups.{is_member}
 use Rattle.node_rules.specs.declared.state.NodeState.{NodeState}
@@ -68,9 +71,24 @@ pub record Goes (roster : Tables) (p : Progress) (steps : List Step) (m : Master
 abbrev pub node_in : Progress → ℕ → NodeState ℕ
 node_in p id = node_at p.world.states id
 
--- the recorded state is the node's; of a closed node only that it is closed, with nothing pending
+-- The first list is the second, or lacks a copy that is below its key's floor: a node that closed
+-- at a purge kept it, and the purge is stored.
+abbrev pub AreKept : FloorMap → List (WebCopy (Unit {0})) → List (WebCopy (Unit {0})) → Type 0
+AreKept floors copies recorded = (copies ≡ recorded)
+    ⊎ ((key : List ℕ) × (number : ℕ) × (number ≤ floor floors key) × (copies ≡ without_below key number recorded))
+
+-- The recorded state is that of a closed node: nothing is pending, and it has the node's next block
+-- and copies. Its floors are those in memory, and the node has the stored ones.
+pub record IsShut (s state : NodeState (Unit {0})) : Type 0 where
+  pub shut : s.closed ≡ true
+  pub closed : state.closed ≡ true
+  pub pending : state.pending ≡ []
+  pub block : state.next ≡ s.next
+  pub copies : AreKept s.floors s.copies state.copies
+
+-- the recorded state is the node's, but for what a closed one may keep in memory
 abbrev pub IsKept : NodeState (Unit {0}) → NodeState (Unit {0}) → Type 0
-IsKept s state = (state ≡ s) ⊎ ((s.closed ≡ true) × (state.closed ≡ true) × (state.pending ≡ []))
+IsKept s state = (state ≡ s) ⊎ IsShut s state
 
 -- an event with what it visibly did
 abbrev pub event_step : WorldEvent → Seen → Step

@@ -1,9 +1,9 @@
--- A purge that the store refused. The floor in memory had room and was raised, so the node that
--- closes has the raise in its floors; a crash leaves the store with the floors before the raise or
--- after it.
+-- A purge that the store refused. Copies and next block were not touched. The floor in memory had
+-- room and was raised, so the node that closes has the raise in its floors; a crash leaves the
+-- store with the floors before the raise or after it.
 use Rattle.std.proofs.Common.{◌≡◌, ◌⊎◌, inr, refl, Err, ap, subst, sym, ◌∙◌}
 use Rattle.floor_rules.specs.Floors.{FloorMap, HasRoom}
-use Rattle.floor_rules.specs.Store.{HaveRisen}
+use Rattle.floor_rules.specs.Store.{HaveRisen, IsBeforeOrAfter}
 use Rattle.node_core.specs.Closing.{FailsWithCause}
 use Rattle.node_core.specs.View.{NodeText}
 use Rattle.node_core.proofs.Outcomes.{found_either, keeps_by, not_full, caused, fails_by, IsStoreFault}
@@ -17,21 +17,32 @@ had_room : (g : Over) (c : goal.Joined-reply-9 g) → HasRoom c.args.self.now.st
 had_room g c = subst (λ (f : FloorMap). HasRoom f c.args.key.now) (ap (λ (v : NodeText _ _). v.state.floors) c.self.view_is)
     (c.has_room.ensures.yes c.if-not-has_room.false)
 
+-- copies and next block are those from before
+held_copies : (g : Over) (c : goal.Joined-reply-9 g) → c.self.inside.copies.copies ≡ c.args.self.now.state.copies
+held_copies g c = ap (λ (v : NodeText _ _). v.state.copies) c.self.view_is
+
+held_block : (g : Over) (c : goal.Joined-reply-9 g) → c.self.inside.next ≡ c.args.self.now.state.next
+held_block g c = ap (λ (v : NodeText _ _). v.state.next) c.self.view_is
+
+-- the floors are raised
+raised_then : (g : Over) (c : goal.Joined-reply-9 g) → IsBeforeOrAfter c.args.self.now.state.floors c.args.key.now c.args.number c.raise.new.self
+raised_then g c = inr (had_room g c, rw (← c.self.view_is) c.in_ok-raise.ensures.ok)
+
 pub returns-in-Err-clause-leads : goal.returns-in-Err-clause-leads
 returns-in-Err-clause-leads g c =
     elim c.match-reply-9.branch [
       | in-Some+in-Peer-2 w ↦ rw (c.step_fault_of.ensures, w.self-is)
           (closes _ c.args.self.now.state _ c.args.key.now c.args.number c.in-Err.fault record
-          { closed = refl; pending = c.new.ensures; floors = inr (had_room g c, rw (← c.self.view_is) c.in_ok-raise.ensures.ok) })
+          { closed = refl; pending = c.new.ensures; copies = held_copies g c; block = held_block g c; floors = raised_then g c })
       | in-Some+in-Read-2 w ↦ rw (c.step_fault_of.ensures, w.self-is)
           (closes _ c.args.self.now.state _ c.args.key.now c.args.number c.in-Err.fault record
-          { closed = refl; pending = c.new.ensures; floors = inr (had_room g c, rw (← c.self.view_is) c.in_ok-raise.ensures.ok) })
+          { closed = refl; pending = c.new.ensures; copies = held_copies g c; block = held_block g c; floors = raised_then g c })
       | in-Some+in-Round-2 w ↦ rw (c.step_fault_of.ensures, w.self-is)
           (closes _ c.args.self.now.state _ c.args.key.now c.args.number c.in-Err.fault record
-          { closed = refl; pending = c.new.ensures; floors = inr (had_room g c, rw (← c.self.view_is) c.in_ok-raise.ensures.ok) })
+          { closed = refl; pending = c.new.ensures; copies = held_copies g c; block = held_block g c; floors = raised_then g c })
       | in-None-4 w ↦ rw (c.step_fault_of.ensures, w.self-is)
           (closes _ c.args.self.now.state _ c.args.key.now c.args.number c.in-Err.fault record
-          { closed = refl; pending = c.new.ensures; floors = inr (had_room g c, rw (← c.self.view_is) c.in_ok-raise.ensures.ok) })
+          { closed = refl; pending = c.new.ensures; copies = held_copies g c; block = held_block g c; floors = raised_then g c })
     ]
 
 -- what a crash leaves where the store refused the raise
