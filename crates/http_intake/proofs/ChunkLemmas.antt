@@ -153,19 +153,19 @@ holds_grown octets grown piece start end body is holds = record {
 }
 
 -- a fault of the reader comes while a chunk is not whole
-pub read_stops : (reader : Option (List ℕ)) (octets rest : List ℕ) (body_len : ℕ) (fault : FetchFault) → IsTrue (is_read_fault fault) →
+pub read_stops : (reader : Option (List ℕ)) (calls : ℕ) (rest : List ℕ) (body_len : ℕ) (fault : FetchFault) → IsTrue (is_read_fault fault) →
     IsOpenChunk rest body_len
-    → (fault ≡ EndOfInput → IsAtEnd reader) → (fault ≡ TooManyTurns → 70000 ≤ length octets) → StopsAtChunk reader octets rest body_len fault
-read_stops reader octets rest body_len Io kind opened ended spent = opened
-read_stops reader octets rest body_len EndOfInput kind opened ended spent = (opened, ended refl)
-read_stops reader octets rest body_len TooManyTurns kind opened ended spent = (opened, spent refl)
-read_stops reader octets rest body_len NoMemory kind opened ended spent = tt
-read_stops reader octets rest body_len fault kind opened ended spent = absurd (false≢true kind)
+    → (fault ≡ EndOfInput → IsAtEnd reader) → (fault ≡ TooManyTurns → calls ≡ 70000) → StopsAtChunk reader calls rest body_len fault
+read_stops reader calls rest body_len Io kind opened ended spent = opened
+read_stops reader calls rest body_len EndOfInput kind opened ended spent = (opened, ended refl)
+read_stops reader calls rest body_len TooManyTurns kind opened ended spent = (opened, spent refl)
+read_stops reader calls rest body_len NoMemory kind opened ended spent = tt
+read_stops reader calls rest body_len fault kind opened ended spent = absurd (false≢true kind)
 
 -- a refused step stops reading
-pub refused_stops : (reader : Option (List ℕ)) (octets rest : List ℕ) (body_len : ℕ) (fault : FetchFault) → RefusesStep rest body_len fault
-    → StopsAtChunk reader octets rest body_len fault
-refused_stops reader octets rest body_len Io refused = absurd refused
-refused_stops reader octets rest body_len EndOfInput refused = absurd refused
-refused_stops reader octets rest body_len TooManyTurns refused = absurd refused
-refused_stops reader octets rest body_len fault refused = refused
+pub refused_stops : (reader : Option (List ℕ)) (calls : ℕ) (rest : List ℕ) (body_len : ℕ) (fault : FetchFault) → RefusesStep rest body_len fault
+    → StopsAtChunk reader calls rest body_len fault
+refused_stops reader calls rest body_len Io refused = absurd refused
+refused_stops reader calls rest body_len EndOfInput refused = absurd refused
+refused_stops reader calls rest body_len TooManyTurns refused = absurd refused
+refused_stops reader calls rest body_len fault refused = refused

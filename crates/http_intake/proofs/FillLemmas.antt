@@ -6,8 +6,8 @@ use Rattle.std.proofs.lemmas.Slice.{take-put_mid_below}
 use Rattle.std.specs.Io.KnownBytes.{Consumes, Keeps}
 use Rattle.std.proofs.KnownBytes.{Consumes-kept}
 use borrow.Rule.Slice.PartMut.{put_mid, post_of}
-use Rattle.http_intake.specs.Reading.{Takes}
-use Rattle.http_intake.proofs.ReadingLemmas.{takes_then}
+use Rattle.http_intake.specs.Reading.{Grows}
+use Rattle.http_intake.proofs.ReadingLemmas.{grows_then}
 
 -- the front of a list that goes past its first part
 pub take-append-add : (xs ys : List ℕ) (m n : ℕ) → m ≡ length xs + n → take m (xs ++ ys) ≡ xs ++ take n ys
@@ -24,15 +24,15 @@ take-filled buffer written at room count next within few is =
     ∙ ap (λ t. take at buffer ++ t) (take-append-le count written (post_of at room buffer) few)
 
 -- a call that gave octets
-pub fills_more : (a b c : Option (List ℕ)) (front buffer written : List ℕ) (at room count next : ℕ) → Takes a b front (take at buffer)
+pub fills_more : (a b c : Option (List ℕ)) (front buffer written : List ℕ) (at room count next : ℕ) → Grows a b front (take at buffer)
     → Consumes b c (take count written) → at ≤ length buffer → count ≤ length written → next ≡ at + count →
-    Takes a c front (take next (put_mid at room buffer written))
+    Grows a c front (take next (put_mid at room buffer written))
 fills_more a b c front buffer written at room count next taken consumed within few is =
-    takes_then a b c front (take at buffer) (take next (put_mid at room buffer written)) taken
+    grows_then a b c front (take at buffer) (take next (put_mid at room buffer written)) taken
     (take count written, take-filled buffer written at room count next within few is, consumed)
 
 -- a call that gave none
-pub fills_none : (a b c : Option (List ℕ)) (front buffer written : List ℕ) (at room : ℕ) → Takes a b front (take at buffer)
-    → Keeps b c → at ≤ length buffer → Takes a c front (take at (put_mid at room buffer written))
+pub fills_none : (a b c : Option (List ℕ)) (front buffer written : List ℕ) (at room : ℕ) → Grows a b front (take at buffer)
+    → Keeps b c → at ≤ length buffer → Grows a c front (take at (put_mid at room buffer written))
 fills_none a b c front buffer written at room (piece, is, consumed) kept within =
     (piece, take-put_mid_below at room buffer written at (omega arith) within ∙ is, Consumes-kept a b c piece consumed kept)

@@ -10,7 +10,7 @@ use Rattle.http_messages.specs.declared.fault.FetchFault.TheVariants.{Io, EndOfI
 use Rattle.http_messages.specs.Answer.{longest_body}
 use Rattle.http_intake.specs.declared.chunks.ChunkStep.{ChunkStep}
 use Rattle.http_intake.specs.declared.chunks.ChunkStep.TheVariants.{More, Chunk, Last}
-use Rattle.http_intake.specs.Reading.{most_turns}
+use Rattle.http_intake.specs.Reading.{Held, most_turns}
 
 -- the most octets that a chunk's line has
 abbrev pub longest_line : ℕ
@@ -112,17 +112,18 @@ pub record HoldsChunks (octets : List ℕ) (start end : ℕ) (body : List ℕ) :
   pub chunks : ChunksUpTo octets start at body
   pub last : IsLastLine octets at end
 
--- why reading stopped at a chunk: it was not whole when the reader failed, or it was refused
-abbrev pub StopsAtChunk : Option (List ℕ) → List ℕ → List ℕ → ℕ → FetchFault → Type 0
-StopsAtChunk reader octets rest body_len Io = IsOpenChunk rest body_len
-StopsAtChunk reader octets rest body_len EndOfInput = IsOpenChunk rest body_len × IsAtEnd reader
-StopsAtChunk reader octets rest body_len TooManyTurns = IsOpenChunk rest body_len × (most_turns ≤ length octets)
-StopsAtChunk reader octets rest body_len fault = RefusesStep rest body_len fault
+-- why reading stopped at a chunk after so many calls: it was not whole when the reader failed, or
+-- when 70,000 calls had given octets, or it was refused
+abbrev pub StopsAtChunk : Option (List ℕ) → ℕ → List ℕ → ℕ → FetchFault → Type 0
+StopsAtChunk reader calls rest body_len Io = IsOpenChunk rest body_len
+StopsAtChunk reader calls rest body_len EndOfInput = IsOpenChunk rest body_len × IsAtEnd reader
+StopsAtChunk reader calls rest body_len TooManyTurns = IsOpenChunk rest body_len × (calls ≡ most_turns)
+StopsAtChunk reader calls rest body_len fault = RefusesStep rest body_len fault
 
 -- the octets from `start` on are chunks up to a place where reading stopped
-pub record StopsInChunks (reader : Option (List ℕ)) (octets : List ℕ) (start : ℕ) (fault : FetchFault) : Type 0 where
+pub record StopsInChunks (reader : Option (List ℕ)) (held : Held) (start : ℕ) (fault : FetchFault) : Type 0 where
   pub at : ℕ
   pub body : List ℕ
-  pub chunks : ChunksUpTo octets start at body
+  pub chunks : ChunksUpTo held.octets start at body
   pub short : length body ≤ longest_body
-  pub why : StopsAtChunk reader octets (drop at octets) (length body) fault
+  pub why : StopsAtChunk reader held.calls (drop at held.octets) (length body) fault

@@ -1,12 +1,12 @@
 -- The trailer after the last chunk, and a whole chunked body (RFC 9112, sections 7.1 and 7.1.2).
-use Rattle.std.specs.Prelude.{ℕ, ◌+◌, ◌<◌, ◌≤◌, ◌⊎◌, List, length, drop, Option}
+use Rattle.std.specs.Prelude.{◌≡◌, ℕ, ◌+◌, ◌<◌, ◌≤◌, ◌⊎◌, List, length, drop, Option}
 use Rattle.std.specs.Io.KnownBytes.{IsAtEnd}
 use Rattle.httparse.specs.Grammar.{Field, LineEnd, ReadsSection, HasNoSection, NeverHasSection, MayBecomeSection}
 use Rattle.httparse.specs.Spans.{SectionExceeds}
 use Rattle.http_messages.specs.declared.fault.FetchFault.{FetchFault}
 use Rattle.http_messages.specs.declared.fault.FetchFault.TheVariants.{Io, EndOfInput, HeadTooLong, BadBody, TooManyTurns, NoMemory}
 use Rattle.http_messages.specs.Answer.{longest_body}
-use Rattle.http_intake.specs.Reading.{most_turns}
+use Rattle.http_intake.specs.Reading.{Held, most_turns}
 use Rattle.http_intake.specs.Heads.{longest_head, most_fields, head_window}
 use Rattle.http_intake.specs.Chunks.{HoldsChunks, StopsInChunks}
 
@@ -38,13 +38,13 @@ RefusesTrailer window HeadTooLong = IsLongTrailer window
 RefusesTrailer window fault = ⊥
 
 -- why reading stopped in the trailer that begins at `start`: it was not whole when the reader
--- failed, or it was refused
-abbrev pub StopsInTrailer : Option (List ℕ) → List ℕ → ℕ → FetchFault → Type 0
-StopsInTrailer reader octets start Io = IsOpenTrailer (drop start octets)
-StopsInTrailer reader octets start NoMemory = IsOpenTrailer (drop start octets)
-StopsInTrailer reader octets start EndOfInput = IsOpenTrailer (drop start octets) × IsAtEnd reader
-StopsInTrailer reader octets start TooManyTurns = IsOpenTrailer (drop start octets) × (most_turns ≤ length octets)
-StopsInTrailer reader octets start fault = RefusesTrailer (head_window start octets) fault
+-- failed, or when 70,000 calls had given octets, or it was refused
+abbrev pub StopsInTrailer : Option (List ℕ) → Held → ℕ → FetchFault → Type 0
+StopsInTrailer reader held start Io = IsOpenTrailer (drop start held.octets)
+StopsInTrailer reader held start NoMemory = IsOpenTrailer (drop start held.octets)
+StopsInTrailer reader held start EndOfInput = IsOpenTrailer (drop start held.octets) × IsAtEnd reader
+StopsInTrailer reader held start TooManyTurns = IsOpenTrailer (drop start held.octets) × (held.calls ≡ most_turns)
+StopsInTrailer reader held start fault = RefusesTrailer (head_window start held.octets) fault
 
 -- the octets from `start` to `end` are chunks, the line of the last one and a trailer
 pub record HoldsChunkedBody (octets : List ℕ) (start end : ℕ) (body : List ℕ) : Type 0 where
@@ -53,8 +53,8 @@ pub record HoldsChunkedBody (octets : List ℕ) (start end : ℕ) (body : List �
   pub section : HoldsTrailer octets trailer end
 
 -- why reading stopped in a chunked body: at a chunk, or in the trailer
-abbrev pub StopsInChunkedBody : Option (List ℕ) → List ℕ → ℕ → FetchFault → Type 0
-StopsInChunkedBody reader octets start fault =
-    StopsInChunks reader octets start fault
-    ⊎ ((trailer : ℕ) × (body : List ℕ) × HoldsChunks octets start trailer body × (length body ≤ longest_body)
-    × StopsInTrailer reader octets trailer fault)
+abbrev pub StopsInChunkedBody : Option (List ℕ) → Held → ℕ → FetchFault → Type 0
+StopsInChunkedBody reader held start fault =
+    StopsInChunks reader held start fault
+    ⊎ ((trailer : ℕ) × (body : List ℕ) × HoldsChunks held.octets start trailer body × (length body ≤ longest_body)
+    × StopsInTrailer reader held trailer fault)

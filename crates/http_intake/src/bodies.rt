@@ -26,7 +26,7 @@ impl Intake {
         start: usize,
         len: u64,
     ) -> Result<Vec<u8>, FetchFault>
-        requires { start ≤ length self }
+        requires { start ≤ length self.octets }
         ensures body { IfOk result (λ body.
             ReadsBodyOf (R.remaining reader.old) (R.remaining reader.new)
             self start len body.items) }
@@ -37,14 +37,14 @@ impl Intake {
         if len > LONGEST_BODY as u64 {
             return Err(FetchFault::BodyTooLong);
         }
-        let (octets, turns) = self.into_parts();
+        let (octets, mut turns) = self.into_parts();
         let (_, behind) = octets.as_slice().split_at(start);
         let came = behind.len().min(len as usize);
         let mut body = match begin_body(alloc, &behind[..came], len as usize) {
             Ok(body) => body,
             Err(_) => return Err(FetchFault::NoMemory),
         };
-        match fill(&mut body, came, turns, reader) {
+        match fill(&mut body, came, &mut turns, reader) {
             Ok(()) => Ok(body),
             Err(fault) => Err(fault),
         }
@@ -63,7 +63,7 @@ impl Intake {
         reader: &mut R,
         start: usize,
     ) -> Result<Vec<u8>, FetchFault>
-        requires { start ≤ length self }
+        requires { start ≤ length self.octets }
         ensures body { IfOk result (λ body.
             ReadsToEnd (R.remaining reader.old) (R.remaining reader.new)
             self start body.items) }

@@ -1,7 +1,7 @@
 //! The chunks of a chunked body (RFC 9112, section 7.1).
 ghost use Rattle.std.specs.Prelude.{◌≡◌, ◌≤◌, length, drop, vec_len, OnErr, IfOk, IfErr};
 ghost use Rattle.httparse.specs.Outcome.{IfComplete, OnPartial};
-ghost use Rattle.http_intake.specs.Reading.{Takes};
+ghost use Rattle.http_intake.specs.Reading.{Takes, most_turns, calls_made};
 ghost use Rattle.http_messages.specs.Answer.{longest_body};
 ghost use Rattle.http_intake.specs.Chunks.{longest_line, HasLine, HasBadLine, IsOpenLine, IsStep, RefusesStep, HoldsChunks, StopsInChunks};
 
@@ -34,9 +34,12 @@ impl Intake {
         reader: &mut R,
         start: usize,
     ) -> Result<(Vec<u8>, usize), FetchFault>
-        requires { start ≤ length self.old }
+        requires { start ≤ length self.old.octets }
         ensures taken { Takes (R.remaining reader.old) (R.remaining reader.new) self.old self.new }
-        ensures chunks { IfOk result (λ found. HoldsChunks self.new start found.1 found.0.items) }
+        ensures few { self.new.calls ≤ most_turns }
+        ensures last { IfErr result (λ fault. calls_made fault self.new.calls ≤ most_turns) }
+        ensures chunks { IfOk result (λ found.
+            HoldsChunks self.new.octets start found.1 found.0.items) }
         ensures short { IfOk result (λ found. vec_len found.0 ≤ longest_body) }
         ensures stopped { IfErr result (StopsInChunks (R.remaining reader.new) self.new start) }
     {

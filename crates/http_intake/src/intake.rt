@@ -1,9 +1,9 @@
 //! The octets read so far of one message, and the search for heads in them.
-ghost use Rattle.std.specs.Prelude.{◌≡◌, ◌+◌, ◌*◌, ◌<◌, ◌≤◌, List, ℕ, [], length, drop, vec_len, max, OnOk, OnErr, IfOk, IfErr, IsErrOf};
+ghost use Rattle.std.specs.Prelude.{◌≡◌, ◌+◌, ◌*◌, ◌<◌, ◌≤◌, length, drop, vec_len, max, OnOk, OnErr, IfOk, IfErr, IsErrOf};
 ghost use Rattle.std.specs.Io.KnownBytes.{IsAtEnd};
 ghost use Rattle.httparse.specs.Grammar.{NeverHasRequest, NeverHasResponse};
 ghost use Rattle.httparse.specs.Spans.{IsRequestOf, IsRequestWithin, IsResponseOf, IsResponseWithin};
-ghost use Rattle.http_intake.specs.Reading.{Takes, most_turns, IsReadFault};
+ghost use Rattle.http_intake.specs.Reading.{Held, nothing_held, Takes, most_turns, calls_made, IsReadFault};
 ghost use Rattle.http_intake.specs.Heads.{head_window, longest_head, longest_read, most_fields, IsLongRequest, IsLongResponse, IsOpenRequest, IsOpenResponse, IsHeadFault};
 
 use crate::head_end::LONGEST_HEAD;
@@ -17,10 +17,8 @@ use std::alloc::Global;
 use std::io::Read;
 use std::marker::Model;
 
-/// The octets read so far of one message. A contract sees it as the list of these octets.
-///
-/// It also counts the calls of the reader that gave them: at most 70,000, each of 1 to 4,096
-/// octets.
+/// The octets read so far of one message, and the number of calls of the reader that gave them: at
+/// most 70,000, each of 1 to 4,096 octets. A contract sees both (`Held`).
 #[derive(Drop)]
 pub struct Intake {
     octets: Vec<u8>,
@@ -28,9 +26,9 @@ pub struct Intake {
 }
 
 impl Model for Intake {
-    ghost Value = { List ℕ };
+    ghost Value = { Held };
 
-    ghost view = { λ i. i.octets.items };
+    ghost view = { λ i. record { octets = i.octets.items; calls = i.turns } };
 
     ghost invariant = { λ i. (i.turns ≤ 70000) × (i.turns ≤ vec_len i.octets) × (vec_len i.octets ≤ 4096 * i.turns) };
 }
@@ -38,7 +36,7 @@ impl Model for Intake {
 impl Intake {
     /// An intake for a message of which nothing was read. It does not allocate.
     pub fn new(alloc: Global) -> Intake
-        ensures { result ≡ [] }
+        ensures { result ≡ nothing_held }
     {
         Intake {
             octets: Vec::new(alloc),
@@ -48,31 +46,46 @@ impl Intake {
 
     /// The octets read so far, at most 4,096 per call of the reader.
     pub fn octets(&self) -> &[u8]
-        ensures value { result.now ≡ self.now }
+        ensures value { result.now ≡ self.now.octets }
 
         // 70,000 calls of at most 4,096 octets.
         ensures short { length result.now ≤ 286720000 }
+        ensures few { self.now.calls ≤ most_turns }
+        ensures each { self.now.calls ≤ length self.now.octets }
     {
         self.octets.as_slice()
     }
 
+    /// The number of calls of the reader that gave octets, 1 to 4,096 each.
+    pub fn calls(&self) -> u32
+        ensures value { result ≡ self.now.calls }
+        ensures few { result ≤ most_turns }
+        ensures each { result ≤ length self.now.octets }
+        ensures short { length self.now.octets ≤ 4096 * result }
+    {
+        self.turns
+    }
+
     /// The octets, and the number of calls of the reader that gave them.
     pub(crate) fn into_parts(self) -> (Vec<u8>, u32)
-        ensures octets { result.0.items ≡ self }
-        ensures len { vec_len result.0 ≡ length self }
-        ensures turns { result.1 ≤ 70000 }
-        ensures counted { result.1 ≤ length self }
+        ensures octets { result.0.items ≡ self.octets }
+        ensures len { vec_len result.0 ≡ length self.octets }
+        ensures calls { result.1 ≡ self.calls }
+        ensures few { result.1 ≤ most_turns }
+        ensures each { result.1 ≤ length self.octets }
     {
         (self.octets, self.turns)
     }
 
     /// The octets from `start` on, at most 16,384: where a head may stand.
     pub fn window(&self, start: usize) -> &[u8]
-        requires { start ≤ length self.now }
-        ensures value { result.now ≡ head_window start self.now }
+        requires { start ≤ length self.now.octets }
+        ensures value { result.now ≡ head_window start self.now.octets }
         ensures short { length result.now ≤ longest_head }
-        ensures inside { start + length result.now ≤ length self.now }
-        ensures room { length self.now ≤ 286720000 }
+        ensures inside { start + length result.now ≤ length self.now.octets }
+        ensures room { length self.now.octets ≤ 286720000 }
+        ensures few { self.now.calls ≤ most_turns }
+        ensures each { self.now.calls ≤ length self.now.octets }
     {
         let (_, rest) = self.octets().split_at(start);
         if rest.len() <= LONGEST_HEAD {
@@ -86,10 +99,14 @@ impl Intake {
     pub(crate) fn read_more<R: Read>(&mut self, reader: &mut R) -> Result<(), FetchFault>
         ensures taken { Takes (R.remaining reader.old) (R.remaining reader.new) self.old self.new }
         ensures kept { OnErr result (self.new ≡ self.old) }
-        ensures grown { OnOk result (length self.old < length self.new) }
-        ensures piece { length self.new ≤ length self.old + 4096 }
-        ensures short { length self.new ≤ 286720000 }
-        ensures spent { IsErrOf result FetchFault.TooManyTurns → most_turns ≤ length self.new }
+        ensures turn { OnOk result (self.new.calls ≡ self.old.calls + 1) }
+        ensures grown { OnOk result (length self.old.octets < length self.new.octets) }
+        ensures piece { length self.new.octets ≤ length self.old.octets + 4096 }
+        ensures short { length self.new.octets ≤ 286720000 }
+        ensures few { self.new.calls ≤ most_turns }
+        ensures each { self.new.calls ≤ length self.new.octets }
+        ensures last { IfErr result (λ fault. calls_made fault self.new.calls ≤ most_turns) }
+        ensures spent { IsErrOf result FetchFault.TooManyTurns → self.new.calls ≡ most_turns }
         ensures ended { IsErrOf result FetchFault.EndOfInput → IsAtEnd (R.remaining reader.new) }
         ensures faults { IfErr result IsReadFault }
     {
@@ -103,12 +120,16 @@ impl Intake {
         start: usize,
         watch: &mut HeadWatch,
     ) -> Result<(), FetchFault>
-        requires { start ≤ length self.old }
+        requires { start ≤ length self.old.octets }
         ensures taken { Takes (R.remaining reader.old) (R.remaining reader.new) self.old self.new }
-        ensures grown { OnOk result (length self.old < length self.new) }
-        ensures no_more { length self.new ≤ max (length self.old) (start + longest_head) + 4096 }
-        ensures short { length self.new ≤ 286720000 }
-        ensures spent { IsErrOf result FetchFault.TooManyTurns → most_turns ≤ length self.new }
+        ensures grown { OnOk result (length self.old.octets < length self.new.octets) }
+        ensures no_more { length self.new.octets
+            ≤ max (length self.old.octets) (start + longest_head) + 4096 }
+        ensures short { length self.new.octets ≤ 286720000 }
+        ensures few { self.new.calls ≤ most_turns }
+        ensures each { self.new.calls ≤ length self.new.octets }
+        ensures last { IfErr result (λ fault. calls_made fault self.new.calls ≤ most_turns) }
+        ensures spent { IsErrOf result FetchFault.TooManyTurns → self.new.calls ≡ most_turns }
         ensures ended { IsErrOf result FetchFault.EndOfInput → IsAtEnd (R.remaining reader.new) }
         ensures faults { IfErr result IsReadFault }
     {
@@ -142,22 +163,27 @@ impl Intake {
         start: usize,
         headers: &mut [HeaderSpan],
     ) -> Result<RequestSpans, FetchFault>
-        requires start { start ≤ length self.old }
+        requires start { start ≤ length self.old.octets }
         requires room { length headers.old ≡ most_fields }
         ensures taken { Takes (R.remaining reader.old) (R.remaining reader.new) self.old self.new }
-        ensures short { length self.new ≤ 286720000 }
-        ensures no_more { length self.new ≤ max (length self.old) (start + longest_read) }
-        ensures head { IfOk result (IsRequestOf (head_window start self.new) headers.new) }
-        ensures within { IfOk result (IsRequestWithin (head_window start self.new) headers.new) }
-        ensures inside { IfOk result (λ head. start + head.len ≤ length self.new) }
+        ensures short { length self.new.octets ≤ 286720000 }
+        ensures no_more { length self.new.octets
+            ≤ max (length self.old.octets) (start + longest_read) }
+        ensures head { IfOk result (IsRequestOf (head_window start self.new.octets) headers.new) }
+        ensures within { IfOk result
+            (IsRequestWithin (head_window start self.new.octets) headers.new) }
+        ensures inside { IfOk result (λ head. start + head.len ≤ length self.new.octets) }
         ensures bad { IsErrOf result FetchFault.BadHead
-            → NeverHasRequest (head_window start self.new) }
+            → NeverHasRequest (head_window start self.new.octets) }
         ensures long { IsErrOf result FetchFault.HeadTooLong
-            → IsLongRequest (head_window start self.new) }
+            → IsLongRequest (head_window start self.new.octets) }
         ensures open { IfErr result (λ fault. IsReadFault fault →
-            IsOpenRequest (drop start self.new)) }
+            IsOpenRequest (drop start self.new.octets)) }
         ensures ended { IsErrOf result FetchFault.EndOfInput → IsAtEnd (R.remaining reader.new) }
-        ensures spent { IsErrOf result FetchFault.TooManyTurns → most_turns ≤ length self.new }
+        ensures few { self.new.calls ≤ most_turns }
+        ensures each { self.new.calls ≤ length self.new.octets }
+        ensures last { IfErr result (λ fault. calls_made fault self.new.calls ≤ most_turns) }
+        ensures spent { IsErrOf result FetchFault.TooManyTurns → self.new.calls ≡ most_turns }
         ensures faults { IfErr result IsHeadFault }
     {
         let mut watch = HeadWatch::new(self.window(start).len(), true);
@@ -182,18 +208,19 @@ impl Intake {
         headers: &mut [HeaderSpan],
         fault: FetchFault,
     ) -> Result<RequestSpans, FetchFault>
-        requires start { start ≤ length self.now }
+        requires start { start ≤ length self.now.octets }
         requires room { length headers.old ≡ most_fields }
         requires fault { IsReadFault fault }
-        ensures head { IfOk result (IsRequestOf (head_window start self.now) headers.new) }
-        ensures within { IfOk result (IsRequestWithin (head_window start self.now) headers.new) }
-        ensures inside { IfOk result (λ head. start + head.len ≤ length self.now) }
+        ensures head { IfOk result (IsRequestOf (head_window start self.now.octets) headers.new) }
+        ensures within { IfOk result
+            (IsRequestWithin (head_window start self.now.octets) headers.new) }
+        ensures inside { IfOk result (λ head. start + head.len ≤ length self.now.octets) }
         ensures bad { IsErrOf result FetchFault.BadHead
-            → NeverHasRequest (head_window start self.now) }
+            → NeverHasRequest (head_window start self.now.octets) }
         ensures long { IsErrOf result FetchFault.HeadTooLong
-            → IsLongRequest (head_window start self.now) }
+            → IsLongRequest (head_window start self.now.octets) }
         ensures cut { IfErr result (λ e. IsReadFault e → (e ≡ fault)
-            × IsOpenRequest (drop start self.now)) }
+            × IsOpenRequest (drop start self.now.octets)) }
         ensures faults { IfErr result IsHeadFault }
     {
         match judge_request(self.window(start), headers) {
@@ -221,22 +248,27 @@ impl Intake {
         start: usize,
         headers: &mut [HeaderSpan],
     ) -> Result<ResponseSpans, FetchFault>
-        requires start { start ≤ length self.old }
+        requires start { start ≤ length self.old.octets }
         requires room { length headers.old ≡ most_fields }
         ensures taken { Takes (R.remaining reader.old) (R.remaining reader.new) self.old self.new }
-        ensures short { length self.new ≤ 286720000 }
-        ensures no_more { length self.new ≤ max (length self.old) (start + longest_read) }
-        ensures head { IfOk result (IsResponseOf (head_window start self.new) headers.new) }
-        ensures within { IfOk result (IsResponseWithin (head_window start self.new) headers.new) }
-        ensures inside { IfOk result (λ head. start + head.len ≤ length self.new) }
+        ensures short { length self.new.octets ≤ 286720000 }
+        ensures no_more { length self.new.octets
+            ≤ max (length self.old.octets) (start + longest_read) }
+        ensures head { IfOk result (IsResponseOf (head_window start self.new.octets) headers.new) }
+        ensures within { IfOk result
+            (IsResponseWithin (head_window start self.new.octets) headers.new) }
+        ensures inside { IfOk result (λ head. start + head.len ≤ length self.new.octets) }
         ensures bad { IsErrOf result FetchFault.BadHead
-            → NeverHasResponse (head_window start self.new) }
+            → NeverHasResponse (head_window start self.new.octets) }
         ensures long { IsErrOf result FetchFault.HeadTooLong
-            → IsLongResponse (head_window start self.new) }
+            → IsLongResponse (head_window start self.new.octets) }
         ensures open { IfErr result (λ fault. IsReadFault fault →
-            IsOpenResponse (drop start self.new)) }
+            IsOpenResponse (drop start self.new.octets)) }
         ensures ended { IsErrOf result FetchFault.EndOfInput → IsAtEnd (R.remaining reader.new) }
-        ensures spent { IsErrOf result FetchFault.TooManyTurns → most_turns ≤ length self.new }
+        ensures few { self.new.calls ≤ most_turns }
+        ensures each { self.new.calls ≤ length self.new.octets }
+        ensures last { IfErr result (λ fault. calls_made fault self.new.calls ≤ most_turns) }
+        ensures spent { IsErrOf result FetchFault.TooManyTurns → self.new.calls ≡ most_turns }
         ensures faults { IfErr result IsHeadFault }
     {
         let mut watch = HeadWatch::new(self.window(start).len(), true);
@@ -261,18 +293,19 @@ impl Intake {
         headers: &mut [HeaderSpan],
         fault: FetchFault,
     ) -> Result<ResponseSpans, FetchFault>
-        requires start { start ≤ length self.now }
+        requires start { start ≤ length self.now.octets }
         requires room { length headers.old ≡ most_fields }
         requires fault { IsReadFault fault }
-        ensures head { IfOk result (IsResponseOf (head_window start self.now) headers.new) }
-        ensures within { IfOk result (IsResponseWithin (head_window start self.now) headers.new) }
-        ensures inside { IfOk result (λ head. start + head.len ≤ length self.now) }
+        ensures head { IfOk result (IsResponseOf (head_window start self.now.octets) headers.new) }
+        ensures within { IfOk result
+            (IsResponseWithin (head_window start self.now.octets) headers.new) }
+        ensures inside { IfOk result (λ head. start + head.len ≤ length self.now.octets) }
         ensures bad { IsErrOf result FetchFault.BadHead
-            → NeverHasResponse (head_window start self.now) }
+            → NeverHasResponse (head_window start self.now.octets) }
         ensures long { IsErrOf result FetchFault.HeadTooLong
-            → IsLongResponse (head_window start self.now) }
+            → IsLongResponse (head_window start self.now.octets) }
         ensures cut { IfErr result (λ e. IsReadFault e → (e ≡ fault)
-            × IsOpenResponse (drop start self.now)) }
+            × IsOpenResponse (drop start self.now.octets)) }
         ensures faults { IfErr result IsHeadFault }
     {
         match judge_response(self.window(start), headers) {

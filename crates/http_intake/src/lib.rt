@@ -16,14 +16,17 @@
 //! [`HeadEnd`] finds the empty line that ends a head which comes in pieces. [`HeadWatch`] says when
 //! the octets of such a head are parsed again, so that a slow head is not parsed at each read.
 //!
-//! Contracts see an `Intake` as the list of the octets read. Each call says what it took from the
-//! reader (`Takes` of `specs/Reading`), what it found, and for each fault what held of the octets.
-//! Of a reader whose octets contracts do not know, they say only what was kept.
+//! Contracts see an `Intake` as the octets read and the number of calls that gave them (`Held` of
+//! `specs/Reading`). Each call says what it took from the reader and by how many calls (`Takes`
+//! there), what it found, and for each fault what held of the octets: `TooManyTurns` comes only
+//! after 70,000 calls that gave octets. Of a reader whose octets contracts do not know, they say
+//! only what was kept.
 //!
 //! Not promised: the trait of reading counts no calls and no failures. So a body that always
-//! returned `Io` would meet each contract, and so would one more call of a reader into memory.
-//! Tests show that `Io` comes only where a call failed, that 70,000 calls are made and no more,
-//! and what a slow head costs.
+//! returned `Io` would meet each contract, and that a call which is counted is one call of the
+//! reader is seen in `src/piece.rt`, where the only function stands that calls one. Tests show that
+//! `Io` comes only where a call failed, that 70,000 calls are made and no more, and what a slow
+//! head costs.
 //!
 //! Read first `specs/Reading` and `specs/Heads`, then `src/intake.rt` (`src/heads.rt`: the verdict
 //! of the parser; `src/head_end.rt` and `src/head_watch.rt`: when it is asked; `src/piece.rt`: one

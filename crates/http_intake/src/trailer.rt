@@ -1,7 +1,7 @@
 //! The trailer after the last chunk, and a whole chunked body (RFC 9112, sections 7.1 and 7.1.2).
 ghost use Rattle.std.specs.Prelude.{◌≡◌, ◌+◌, ◌<◌, ◌≤◌, ◌⊎◌, length, drop, vec_len, IfOk, IfErr};
 ghost use Rattle.httparse.specs.Outcome.{IfComplete, OnPartial};
-ghost use Rattle.http_intake.specs.Reading.{Takes, IsReadFault};
+ghost use Rattle.http_intake.specs.Reading.{Takes, most_turns, calls_made, IsReadFault};
 ghost use Rattle.http_intake.specs.Heads.{longest_head, head_window};
 ghost use Rattle.http_messages.specs.Answer.{longest_body};
 ghost use Rattle.http_intake.specs.Trailer.{HoldsTrailer, IsOpenTrailer, RefusesTrailer, StopsInTrailer, HoldsChunkedBody, StopsInChunkedBody};
@@ -39,10 +39,12 @@ impl Intake {
         reader: &mut R,
         start: usize,
     ) -> Result<(Vec<u8>, usize), FetchFault>
-        requires { start ≤ length self.old }
+        requires { start ≤ length self.old.octets }
         ensures taken { Takes (R.remaining reader.old) (R.remaining reader.new) self.old self.new }
+        ensures few { self.new.calls ≤ most_turns }
+        ensures last { IfErr result (λ fault. calls_made fault self.new.calls ≤ most_turns) }
         ensures body { IfOk result (λ found.
-            HoldsChunkedBody self.new start found.1 found.0.items) }
+            HoldsChunkedBody self.new.octets start found.1 found.0.items) }
         ensures short { IfOk result (λ found. vec_len found.0 ≤ longest_body) }
         ensures stopped { IfErr result
             (StopsInChunkedBody (R.remaining reader.new) self.new start) }
@@ -59,9 +61,11 @@ impl Intake {
 
     /// Reads until the trailer that begins at `start` is whole. Gives the place where it ends.
     fn read_trailer<R: Read>(&mut self, reader: &mut R, start: usize) -> Result<usize, FetchFault>
-        requires { start ≤ length self.old }
+        requires { start ≤ length self.old.octets }
         ensures taken { Takes (R.remaining reader.old) (R.remaining reader.new) self.old self.new }
-        ensures section { IfOk result (HoldsTrailer self.new start) }
+        ensures few { self.new.calls ≤ most_turns }
+        ensures last { IfErr result (λ fault. calls_made fault self.new.calls ≤ most_turns) }
+        ensures section { IfOk result (HoldsTrailer self.new.octets start) }
         ensures stopped { IfErr result (StopsInTrailer (R.remaining reader.new) self.new start) }
     {
         let mut watch = HeadWatch::new(self.window(start).len(), false);
@@ -81,11 +85,12 @@ impl Intake {
     /// The result for a trailer where reading failed with `fault`: its end if the octets hold one,
     /// a refusal of the parser, or `fault`.
     fn judge_cut_trailer(&self, start: usize, fault: FetchFault) -> Result<usize, FetchFault>
-        requires start { start ≤ length self.now }
+        requires start { start ≤ length self.now.octets }
         requires fault { IsReadFault fault }
-        ensures section { IfOk result (HoldsTrailer self.now start) }
-        ensures cut { IfErr result (λ other. RefusesTrailer (head_window start self.now) other
-            ⊎ ((other ≡ fault) × IsOpenTrailer (drop start self.now))) }
+        ensures section { IfOk result (HoldsTrailer self.now.octets start) }
+        ensures cut { IfErr result (λ other.
+            RefusesTrailer (head_window start self.now.octets) other
+            ⊎ ((other ≡ fault) × IsOpenTrailer (drop start self.now.octets))) }
     {
         match judge_trailer(self.window(start)) {
             Ok(Status::Complete(len)) => Ok(start + len),

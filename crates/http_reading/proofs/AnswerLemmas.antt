@@ -1,7 +1,7 @@
 -- From the places that the parser gave to the head that stands there, and from heads and body to a
 -- response. Octets that come later change nothing before them, so what a head says still holds
 -- once its body was read.
-use Rattle.std.proofs.Common.{◌≡◌, ℕ, ◌≤◌, ◌<◌, ◌+◌, ◌⊎◌, true, false, List, [], ◌∷◌, ◌++◌, length, take, drop, Option, Result, Ok, Err, refl, sym, ◌∙◌, ap, subst, inl, inr, arith, length-take, length-append, take-append-drop, drop-drop, append_assoc, append-nil}
+use Rattle.std.proofs.Common.{◌≡◌, ℕ, ◌≤◌, ◌<◌, ◌+◌, ◌⊎◌, Bool, true, false, not, nat_le, if◌then◌else◌, List, [], ◌∷◌, ◌++◌, length, take, drop, Option, Some, None, Result, Ok, Err, IfOk, IfErr, refl, sym, ◌∙◌, ap, subst, inl, inr, arith, length-take, length-append, take-append-drop, drop-drop, append_assoc, append-nil}
 use Rattle.std.proofs.KnownBytes.{Consumes-trans}
 use Rattle.std.proofs.lemmas.List.{length-map, take-append-le, drop-append-le, take_at, drop_at}
 use Rattle.std.specs.List.{AllByRecursion, flat_map}
@@ -9,15 +9,22 @@ use Rattle.httparse.specs.Grammar.{ResponseHead, print_response, print_blank, pr
 use Rattle.httparse.specs.declared.spans.HeaderSpan.{HeaderSpan}
 use Rattle.httparse.specs.declared.spans.ResponseSpans.{ResponseSpans}
 use Rattle.httparse.specs.Spans.{header_bytes, name_and_value, AreFieldsAt, IsResponseAt, IsResponseOf}
-use Rattle.http_messages.specs.Answer.{AnswerText}
+use Rattle.http_messages.specs.Answer.{AnswerText, has_no_body, longest_body}
+use Rattle.http_messages.specs.Field.{are_few_fields}
 use Rattle.http_messages.specs.declared.fault.FetchFault.{FetchFault}
 use Rattle.http_messages.specs.declared.fault.FetchFault.TheVariants.{Io, EndOfInput, BadHead, HeadTooLong, BadTarget, MethodNotServed, Credentials, BadBody, BodyTooLong, TooManyTurns, NoMemory}
 use Rattle.http_reading.specs.Fields.{fields_of}
 use Rattle.std.specs.Io.KnownBytes.{IsAtEnd}
-use Rattle.http_intake.specs.Reading.{Takes, IsReadFault}
+use Rattle.http_intake.specs.Reading.{Held, Takes, calls_made, IsReadFault}
 use Rattle.http_intake.specs.Heads.{longest_head, most_fields, head_window, IsLongResponse, IsOpenResponse, IsHeadFault}
-use Rattle.http_reading.specs.AnswerHead.{AnswerHead, ToldText, parts_of, head_at, is_interim, told}
-use Rattle.http_reading.specs.Answers.{IsShortHead, IsInterim, PassesInterim, HeadSays, StopsAtHead, ReadsRest, ReadsOn}
+use Rattle.http_reading.specs.AnswerHead.{AnswerHead, ToldText, parts_of, head_at, is_interim, is_final, some_framing, framing_by, framed, told}
+use Rattle.http_reading.specs.declared.framing.BadLength.{BadLength}
+use Rattle.http_reading.specs.declared.framing.BadCoding.{BadCoding}
+use Rattle.http_reading.specs.declared.framing.Framing.{Framing}
+use Rattle.http_reading.specs.declared.framing.Framing.TheVariants.{Length}
+use Rattle.http_reading.specs.Framing.{content_length, is_chunked, framing_told, framing}
+use Rattle.http_reading.specs.Kept.{kept}
+use Rattle.http_reading.specs.Answers.{IsShortHead, IsInterim, PassesInterim, HeadSays, SpellsBody, StopsAtHead, ReadsBody, ReadsRest, ReadsOn, answer_of}
 use Rattle.http_reading.proofs.BodyLemmas.{takes_none}
 
 -- a head of these parts
@@ -105,43 +112,106 @@ says_more octets more start end outcome says = record {
   says = says.says;
 }
 
-says_taken : (before after : Option (List ℕ)) (old new : List ℕ) (start end : ℕ) (outcome : Result ToldText FetchFault) → Takes before after old new →
-    HeadSays old start end outcome → HeadSays new start end outcome
+says_taken : (before after : Option (List ℕ)) (old new : Held) (start end : ℕ) (outcome : Result ToldText FetchFault) → Takes before after old new →
+    HeadSays old.octets start end outcome → HeadSays new.octets start end outcome
 says_taken before after old new start end outcome taken says =
-    subst (λ octets. HeadSays octets start end outcome) (sym taken.1) (says_more old taken.0 start end outcome says)
+    subst (λ octets. HeadSays octets start end outcome) (sym taken.1) (says_more old.octets taken.0 start end outcome says)
 
-pub passes_taken : (before after : Option (List ℕ)) (old new : List ℕ) (start : ℕ) → Takes before after old new → PassesInterim old start →
-    PassesInterim new start
+pub passes_taken : (before after : Option (List ℕ)) (old new : Held) (start : ℕ) → Takes before after old new → PassesInterim old.octets start →
+    PassesInterim new.octets start
 passes_taken before after old new start taken passes =
-    subst (λ octets. PassesInterim octets start) (sym taken.1) (passes_more old taken.0 start passes)
+    subst (λ octets. PassesInterim octets start) (sym taken.1) (passes_more old.octets taken.0 start passes)
 
 -- a head that is refused for what it says, and one after which the rest is read
 
+-- what is not told by a call: so many calls were made
+abbrev Plain : {A : Type 0} → Result A FetchFault → Type 0
+Plain result = IfErr result (λ fault. (calls : ℕ) → calls_made fault calls ≡ calls)
+
+plain_if : {A : Type 0} (b : Bool) (x y : Result A FetchFault) → Plain x → Plain y → Plain (if b then x else y)
+plain_if true x y first second = first
+plain_if false x y first second = second
+
+plain_framing : (coding : Result Bool BadCoding) (length : Result (Option ℕ) BadLength) → Plain (framing_told coding length)
+plain_framing (Err bad) length = λ calls. refl
+plain_framing (Ok chunked) (Err bad) = λ calls. refl
+plain_framing (Ok true) (Ok (Some n)) = λ calls. refl
+plain_framing (Ok true) (Ok None) = tt
+plain_framing (Ok false) (Ok (Some n)) = plain_if (nat_le n longest_body) (Ok (Length n)) (Err BodyTooLong) tt (λ calls. refl)
+plain_framing (Ok false) (Ok None) = tt
+
+plain_some : (framing : Result Framing FetchFault) → Plain framing → Plain (some_framing framing)
+plain_some (Err fault) plain = plain
+plain_some (Ok framing) plain = tt
+
+plain_framed : (h : AnswerHead) (framing : Result (Option Framing) FetchFault) → Plain framing → Plain (framed h framing)
+plain_framed h (Err fault) plain = plain
+plain_framed h (Ok framing) plain = tt
+
+-- what a head says is told without one more call
+plain_told : (h : AnswerHead) → Plain (told h)
+plain_told h =
+    plain_if (not (is_final h.status)) (Err BadHead) _ (λ calls. refl)
+    (plain_if (are_few_fields (kept h.fields)) _ (Err HeadTooLong)
+    (plain_framed h (framing_by h.status h.fields)
+    (plain_if (has_no_body h.status) (Ok None) _ tt
+    (plain_some (framing h.fields) (plain_framing (is_chunked h.fields) (content_length h.fields)))))
+    (λ calls. refl))
+
 -- a head that was refused for what it says
-pub refused : (reader : Option (List ℕ)) (octets : List ℕ) (start end : ℕ) (fault : FetchFault) → (fault ≡ NoMemory) ⊎ HeadSays octets start end (Err fault) →
-    ReadsOn reader reader octets (Err fault)
-refused reader octets start end fault why = record {
-  octets = octets;
-  taken = takes_none reader octets;
+pub refused : (reader : Option (List ℕ)) (held : Held) (start end : ℕ) (fault : FetchFault) → held.calls ≤ 70000
+    → (fault ≡ NoMemory) ⊎ HeadSays held.octets start end (Err fault) → ReadsOn reader reader held (Err fault)
+refused reader held start end fault few why = record {
+  held = held;
+  taken = takes_none reader held;
+  made = elim why [
+    | inl same ↦ subst (λ (f : FetchFault). calls_made f held.calls ≤ 70000) (sym same) few
+    | inr says ↦ let plain : Plain {A = ToldText} (Err fault) = subst Plain says.says (plain_told (parts_of says.head)) in omega (arith, plain held.calls, few)
+  ];
   outcome = elim why [
     | inl same ↦ inr (inr (inr same))
     | inr says ↦ inr (inl (start, end, says))
   ];
 }
 
+-- a body that was read, and what its head told, are the rest of a response
+pub told_read : (t : ToldText) (before after : Option (List ℕ)) (old : Held) (start : ℕ) (body : List ℕ) (result : Result AnswerText FetchFault)
+    → ReadsBody t.framing before after old start (Ok body) → IfOk result (λ answer. answer ≡ answer_of t body)
+    → IfErr result (λ fault. fault ≡ NoMemory) → ReadsRest t before after old start result
+told_read t before after old start body (Ok answer) reads ok err =
+    let same : answer.body ≡ body = ap (λ (a : AnswerText). a.body) ok in
+    record {
+      held = reads.held;
+      taken = reads.taken;
+      made = reads.made;
+      outcome = (
+        reads.outcome.0,
+        subst (SpellsBody t.framing reads.held.octets start reads.outcome.0) (sym same) reads.outcome.1,
+        reads.outcome.2,
+        ok ∙ ap (answer_of t) (sym same),
+      );
+    }
+told_read t before after old start body (Err fault) reads ok err = record {
+  held = reads.held;
+  taken = reads.taken;
+  made = subst (λ (f : FetchFault). calls_made f reads.held.calls ≤ 70000) (sym err) reads.made;
+  outcome = inl err;
+}
+
 -- a head, and the rest that was read after it
-pub rest_read : (before after : Option (List ℕ)) (old : List ℕ) (start end : ℕ) (t : ToldText) (result : Result AnswerText FetchFault) →
-    HeadSays old start end (Ok t) → ReadsRest t before after old end result → ReadsOn before after old result
+pub rest_read : (before after : Option (List ℕ)) (old : Held) (start end : ℕ) (t : ToldText) (result : Result AnswerText FetchFault) →
+    HeadSays old.octets start end (Ok t) → ReadsRest t before after old end result → ReadsOn before after old result
 rest_read before after old start end t (Ok answer) says rest = record {
-  octets = rest.octets;
+  held = rest.held;
   taken = rest.taken;
+  made = rest.made;
   outcome = (
     rest.outcome.0,
     record {
       start = start;
       body_start = end;
       told = t;
-      head = says_taken before after old rest.octets start end (Ok t) rest.taken says;
+      head = says_taken before after old rest.held start end (Ok t) rest.taken says;
       spelled = rest.outcome.1;
       answer_is = rest.outcome.3;
     },
@@ -149,11 +219,12 @@ rest_read before after old start end t (Ok answer) says rest = record {
   );
 }
 rest_read before after old start end t (Err fault) says rest = record {
-  octets = rest.octets;
+  held = rest.held;
   taken = rest.taken;
+  made = rest.made;
   outcome = elim rest.outcome [
     | inl same ↦ inr (inr (inr same))
-    | inr stops ↦ inr (inr (inl (start, end, t, says_taken before after old rest.octets start end (Ok t) rest.taken says, stops)))
+    | inr stops ↦ inr (inr (inl (start, end, t, says_taken before after old rest.held start end (Ok t) rest.taken says, stops)))
   ];
 }
 
@@ -216,21 +287,22 @@ some_octets octets headers r (h, is) =
 -- The reading of heads
 
 -- a fault while a head was read
-pub head_stops : (reader_old reader : Option (List ℕ)) (old octets : List ℕ) (start : ℕ) (fault : FetchFault) → Takes reader_old reader old octets →
-    PassesInterim octets start → IsHeadFault fault
-    → (fault ≡ BadHead → NeverHasResponse (head_window start octets)) → (fault ≡ HeadTooLong → IsLongResponse (head_window start octets))
-    → (IsReadFault fault → IsOpenResponse (drop start octets)) → (fault ≡ EndOfInput → IsAtEnd reader) → (fault ≡ TooManyTurns → 70000 ≤ length octets) →
+pub head_stops : (reader_old reader : Option (List ℕ)) (old held : Held) (start : ℕ) (fault : FetchFault) → Takes reader_old reader old held →
+    calls_made fault held.calls ≤ 70000 → PassesInterim held.octets start → IsHeadFault fault
+    → (fault ≡ BadHead → NeverHasResponse (head_window start held.octets)) → (fault ≡ HeadTooLong → IsLongResponse (head_window start held.octets))
+    → (IsReadFault fault → IsOpenResponse (drop start held.octets)) → (fault ≡ EndOfInput → IsAtEnd reader) → (fault ≡ TooManyTurns → held.calls ≡ 70000) →
     ReadsOn reader_old reader old (Err fault)
-head_stops reader_old reader old octets start fault taken passes kind bad long opened ended spent = record {
-  octets = octets;
+head_stops reader_old reader old held start fault taken made passes kind bad long opened ended spent = record {
+  held = held;
   taken = taken;
+  made = made;
   outcome = inl (start, passes, stops fault kind bad long opened ended spent);
 }
   where
-    stops : (fault : FetchFault) → IsHeadFault fault → (fault ≡ BadHead → NeverHasResponse (head_window start octets)) →
-        (fault ≡ HeadTooLong → IsLongResponse (head_window start octets))
-        → (IsReadFault fault → IsOpenResponse (drop start octets)) → (fault ≡ EndOfInput → IsAtEnd reader) → (fault ≡ TooManyTurns → 70000 ≤ length octets) →
-        StopsAtHead reader octets start fault
+    stops : (fault : FetchFault) → IsHeadFault fault → (fault ≡ BadHead → NeverHasResponse (head_window start held.octets)) →
+        (fault ≡ HeadTooLong → IsLongResponse (head_window start held.octets))
+        → (IsReadFault fault → IsOpenResponse (drop start held.octets)) → (fault ≡ EndOfInput → IsAtEnd reader) → (fault ≡ TooManyTurns → held.calls ≡ 70000) →
+        StopsAtHead reader held start fault
     stops Io kind bad long opened ended spent = opened refl
     stops EndOfInput kind bad long opened ended spent = (opened refl, ended refl)
     stops BadHead kind bad long opened ended spent = bad refl
@@ -244,19 +316,22 @@ head_stops reader_old reader old octets start fault taken passes kind bad long o
     stops NoMemory kind bad long opened ended spent = tt
 
 -- two takings in a row are one
-pub takes_then : (old middle new : List ℕ) (before between after : Option (List ℕ)) → Takes before between old middle → Takes between after middle new →
+pub takes_then : (old middle new : Held) (before between after : Option (List ℕ)) → Takes before between old middle → Takes between after middle new →
     Takes before after old new
-takes_then old middle new before between after (first, first_is, first_read) (second, second_is, second_read) = (
+takes_then old middle new before between after (first, is, read, each, most) (second, then_is, then_read, then_each, then_most) = (
   first ++ second,
-  second_is ∙ ap (λ t. t ++ second) first_is ∙ append_assoc old first second,
-  Consumes-trans before between after first second first_read second_read,
+  then_is ∙ ap (λ t. t ++ second) is ∙ append_assoc old.octets first second,
+  Consumes-trans before between after first second read then_read,
+  omega (arith, each, then_each, length-append first second),
+  omega (arith, most, then_most, length-append first second),
 )
 
 -- what was taken before is part of what was taken in all
-pub read_on : (before between after : Option (List ℕ)) (old middle : List ℕ) (result : Result AnswerText FetchFault) → Takes before between old middle →
+pub read_on : (before between after : Option (List ℕ)) (old middle : Held) (result : Result AnswerText FetchFault) → Takes before between old middle →
     ReadsOn between after middle result → ReadsOn before after old result
 read_on before between after old middle result taken reads = record {
-  octets = reads.octets;
-  taken = takes_then old middle reads.octets before between after taken reads.taken;
+  held = reads.held;
+  taken = takes_then old middle reads.held before between after taken reads.taken;
+  made = reads.made;
   outcome = reads.outcome;
 }

@@ -1,7 +1,7 @@
 -- From the places that the parser gave to the head that stands there, and from the faults of a
 -- head to those of a request. A head in the window is a front of the octets, so what holds of its
 -- parts holds of that front.
-use Rattle.std.proofs.Common.{◌≡◌, ℕ, ◌≤◌, ◌⊎◌, List, [], ◌++◌, length, take, drop, max, Option, Result, Ok, Err, IfErr, IsTrue, MatchResult, refl, sym, ◌∙◌, ap, subst, inl, inr, arith, ◌+◌, length-take, take-append-drop, append_assoc, append-nil, length-append}
+use Rattle.std.proofs.Common.{◌≡◌, ℕ, ◌≤◌, ◌⊎◌, List, ◌++◌, length, take, drop, max, Option, Result, Ok, Err, IfErr, IsTrue, MatchResult, refl, sym, ◌∙◌, ap, subst, inl, inr, arith, ◌+◌, length-take, take-append-drop, append_assoc, append-nil, length-append}
 use Rattle.std.proofs.lemmas.List.{length-map}
 use Rattle.httparse.specs.Grammar.{RequestHead, print_request, NeverHasRequest}
 use Rattle.httparse.specs.declared.spans.HeaderSpan.{HeaderSpan}
@@ -12,7 +12,7 @@ use Rattle.http_messages.specs.declared.fault.FetchFault.{FetchFault}
 use Rattle.http_messages.specs.declared.fault.FetchFault.TheVariants.{Io, EndOfInput, BadHead, HeadTooLong, BadTarget, MethodNotServed, Credentials, BadBody, BodyTooLong, TooManyTurns, NoMemory}
 use Rattle.http_reading.specs.Fields.{fields_of}
 use Rattle.std.specs.Io.KnownBytes.{IsAtEnd}
-use Rattle.http_intake.specs.Reading.{Takes, IsReadFault}
+use Rattle.http_intake.specs.Reading.{Held, nothing_held, Takes, calls_made, IsReadFault}
 use Rattle.http_intake.specs.Heads.{longest_head, longest_read, most_fields, head_window, IsLongRequest, IsOpenRequest, IsHeadFault}
 use Rattle.http_reading.specs.AskHead.{AskHead, parts_of, head_at, is_ask_fault, Says}
 use Rattle.http_reading.specs.Asks.{FrontSays, StopsInAsk, ReadsAsk}
@@ -64,60 +64,76 @@ front_says octets headers r outcome room (h, is) says =
     )
 
 -- the fault of reading a head, by its kind
-pub head_stops : (reader : Option (List ℕ)) (octets : List ℕ) (fault : FetchFault) → IsHeadFault fault
-    → (fault ≡ BadHead → NeverHasRequest (head_window 0 octets)) → (fault ≡ HeadTooLong → IsLongRequest (head_window 0 octets))
-    → (IsReadFault fault → IsOpenRequest octets) → (fault ≡ EndOfInput → IsAtEnd reader) → (fault ≡ TooManyTurns → 70000 ≤ length octets) →
-    StopsInAsk reader octets fault
-head_stops reader octets Io kind bad long opened ended spent = opened refl
-head_stops reader octets EndOfInput kind bad long opened ended spent = (opened refl, ended refl)
-head_stops reader octets BadHead kind bad long opened ended spent = inl (bad refl)
-head_stops reader octets HeadTooLong kind bad long opened ended spent = long refl
-head_stops reader octets (BadTarget f) kind bad long opened ended spent = absurd cc
-head_stops reader octets MethodNotServed kind bad long opened ended spent = absurd cc
-head_stops reader octets Credentials kind bad long opened ended spent = absurd cc
-head_stops reader octets BadBody kind bad long opened ended spent = absurd cc
-head_stops reader octets BodyTooLong kind bad long opened ended spent = absurd cc
-head_stops reader octets TooManyTurns kind bad long opened ended spent = (opened refl, spent refl)
-head_stops reader octets NoMemory kind bad long opened ended spent = tt
+pub head_stops : (reader : Option (List ℕ)) (held : Held) (fault : FetchFault) → IsHeadFault fault
+    → (fault ≡ BadHead → NeverHasRequest (head_window 0 held.octets)) → (fault ≡ HeadTooLong → IsLongRequest (head_window 0 held.octets))
+    → (IsReadFault fault → IsOpenRequest held.octets) → (fault ≡ EndOfInput → IsAtEnd reader) → (fault ≡ TooManyTurns → held.calls ≡ 70000) →
+    StopsInAsk reader held fault
+head_stops reader held Io kind bad long opened ended spent = opened refl
+head_stops reader held EndOfInput kind bad long opened ended spent = (opened refl, ended refl)
+head_stops reader held BadHead kind bad long opened ended spent = inl (bad refl)
+head_stops reader held HeadTooLong kind bad long opened ended spent = long refl
+head_stops reader held (BadTarget f) kind bad long opened ended spent = absurd cc
+head_stops reader held MethodNotServed kind bad long opened ended spent = absurd cc
+head_stops reader held Credentials kind bad long opened ended spent = absurd cc
+head_stops reader held BadBody kind bad long opened ended spent = absurd cc
+head_stops reader held BodyTooLong kind bad long opened ended spent = absurd cc
+head_stops reader held TooManyTurns kind bad long opened ended spent = (opened refl, spent refl)
+head_stops reader held NoMemory kind bad long opened ended spent = tt
 
 -- the fault that a whole head has
-says_stops : (reader : Option (List ℕ)) (octets : List ℕ) (fault : FetchFault) → IsTrue (is_ask_fault fault) → FrontSays octets (Err fault) →
-    StopsInAsk reader octets fault
-says_stops reader octets BadHead kind front = inr front
-says_stops reader octets (BadTarget f) kind front = front
-says_stops reader octets MethodNotServed kind front = front
-says_stops reader octets Credentials kind front = front
-says_stops reader octets BadBody kind front = front
-says_stops reader octets NoMemory kind front = tt
-says_stops reader octets Io kind front = absurd cc
-says_stops reader octets EndOfInput kind front = absurd cc
-says_stops reader octets HeadTooLong kind front = absurd cc
-says_stops reader octets BodyTooLong kind front = absurd cc
-says_stops reader octets TooManyTurns kind front = absurd cc
+says_stops : (reader : Option (List ℕ)) (held : Held) (fault : FetchFault) → IsTrue (is_ask_fault fault) → FrontSays held.octets (Err fault) →
+    StopsInAsk reader held fault
+says_stops reader held BadHead kind front = inr front
+says_stops reader held (BadTarget f) kind front = front
+says_stops reader held MethodNotServed kind front = front
+says_stops reader held Credentials kind front = front
+says_stops reader held BadBody kind front = front
+says_stops reader held NoMemory kind front = tt
+says_stops reader held Io kind front = absurd cc
+says_stops reader held EndOfInput kind front = absurd cc
+says_stops reader held HeadTooLong kind front = absurd cc
+says_stops reader held BodyTooLong kind front = absurd cc
+says_stops reader held TooManyTurns kind front = absurd cc
+
+-- the faults of a whole head are told without one more call
+says_made : (fault : FetchFault) (calls : ℕ) → IsTrue (is_ask_fault fault) → calls ≤ 70000 → calls_made fault calls ≤ 70000
+says_made BadHead calls kind few = few
+says_made (BadTarget f) calls kind few = few
+says_made MethodNotServed calls kind few = few
+says_made Credentials calls kind few = few
+says_made BadBody calls kind few = few
+says_made NoMemory calls kind few = few
+says_made Io calls kind few = absurd cc
+says_made EndOfInput calls kind few = absurd cc
+says_made HeadTooLong calls kind few = absurd cc
+says_made BodyTooLong calls kind few = absurd cc
+says_made TooManyTurns calls kind few = absurd cc
 
 -- at most 20,480 octets are read of a message of which nothing was read before
-pub few_read : (old new : List ℕ) → old ≡ [] → length new ≤ max (length old) (0 + longest_read) → length new ≤ longest_read
-few_read old new none few = let empty : length old ≡ 0 = ap length none in omega (arith, empty, few)
+pub few_read : (old new : Held) → old ≡ nothing_held → length new.octets ≤ max (length old.octets) (0 + longest_read) → length new.octets ≤ longest_read
+few_read old new none few = let empty : length old.octets ≡ 0 = ap (λ (held : Held). length held.octets) none in omega (arith, empty, few)
 
 -- what a whole head says is what reading returns
-pub head_read : (reader_old reader_new : Option (List ℕ)) (octets : List ℕ) (headers : List HeaderSpan) (r : RequestSpans) (result : Result Ask FetchFault) →
-    Takes reader_old reader_new [] octets
-    → length octets ≤ longest_read → length headers ≡ most_fields → IsRequestOf (head_window 0 octets) headers r
-    → MatchResult result (λ ask. Says (head_at (head_window 0 octets) headers r) (Ok ask))
-    (λ fault. (fault ≡ NoMemory) ⊎ Says (head_at (head_window 0 octets) headers r) (Err fault))
+pub head_read : (reader_old reader_new : Option (List ℕ)) (held : Held) (headers : List HeaderSpan) (r : RequestSpans) (result : Result Ask FetchFault) →
+    Takes reader_old reader_new nothing_held held → held.calls ≤ 70000
+    → length held.octets ≤ longest_read → length headers ≡ most_fields → IsRequestOf (head_window 0 held.octets) headers r
+    → MatchResult result (λ ask. Says (head_at (head_window 0 held.octets) headers r) (Ok ask))
+    (λ fault. (fault ≡ NoMemory) ⊎ Says (head_at (head_window 0 held.octets) headers r) (Err fault))
     → IfErr result (λ fault. IsTrue (is_ask_fault fault)) → ReadsAsk reader_old reader_new result
-head_read reader_old reader_new octets headers r (Ok ask) taken few room is says kind = record {
-  octets = octets;
+head_read reader_old reader_new held headers r (Ok ask) taken calls few room is says kind = record {
+  held = held;
   taken = taken;
   few = few;
-  outcome = front_says octets headers r (Ok ask) room is says;
+  made = calls;
+  outcome = front_says held.octets headers r (Ok ask) room is says;
 }
-head_read reader_old reader_new octets headers r (Err fault) taken few room is says kind = record {
-  octets = octets;
+head_read reader_old reader_new held headers r (Err fault) taken calls few room is says kind = record {
+  held = held;
   taken = taken;
   few = few;
+  made = says_made fault held.calls kind calls;
   outcome = elim says [
-    | inl same ↦ subst (StopsInAsk reader_new octets) (sym same) tt
-    | inr told ↦ says_stops reader_new octets fault kind (front_says octets headers r (Err fault) room is told)
+    | inl same ↦ subst (StopsInAsk reader_new held) (sym same) tt
+    | inr told ↦ says_stops reader_new held fault kind (front_says held.octets headers r (Err fault) room is told)
   ];
 }

@@ -7,7 +7,7 @@ use Rattle.std.specs.Io.KnownBytes.{Consumes}
 use Rattle.http_messages.specs.declared.fault.FetchFault.{FetchFault}
 use Rattle.http_messages.specs.declared.fault.FetchFault.TheVariants.{NoMemory}
 use Rattle.http_reading.specs.declared.framing.Framing.TheVariants.{Length, Chunked, ToEnd}
-use Rattle.http_intake.specs.Reading.{Takes}
+use Rattle.http_intake.specs.Reading.{Held, Takes, calls_made}
 use Rattle.http_intake.specs.Bodies.{ReadsBodyOf, CutsBodyOf, ReadsToEnd, CutsToEnd}
 use Rattle.http_intake.specs.Trailer.{HoldsChunkedBody, StopsInChunkedBody}
 use Rattle.http_reading.specs.Answers.{ReadsBody}
@@ -28,14 +28,16 @@ consumes_none : (reader : Option (List ℕ)) → Consumes reader reader []
 consumes_none None = tt
 consumes_none (Some xs) = refl
 
-pub takes_none : (reader : Option (List ℕ)) (old : List ℕ) → Takes reader reader old old
-takes_none reader old = ([], sym (append-nil old), consumes_none reader)
+pub takes_none : (reader : Option (List ℕ)) (old : Held) → Takes reader reader old old
+takes_none reader old = ([], sym (append-nil old.octets), consumes_none reader, omega arith, omega arith)
 
 -- a response without a body
-pub no_body : (reader : Option (List ℕ)) (old : List ℕ) (start : ℕ) (body : List ℕ) → body ≡ [] → ReadsBody None reader reader old start (Ok body)
-no_body reader old start body empty = record {
-  octets = old;
+pub no_body : (reader : Option (List ℕ)) (old : Held) (start : ℕ) (body : List ℕ) → old.calls ≤ 70000 → body ≡ []
+    → ReadsBody None reader reader old start (Ok body)
+no_body reader old start body few empty = record {
+  held = old;
   taken = takes_none reader old;
+  made = few;
   outcome = (start, (refl, empty), tt);
   short =
       subst (λ (b : List ℕ). length b ≤ 65536) (sym empty) (omega arith);
@@ -45,46 +47,75 @@ short_body : (octets : Octets) (body : List ℕ) → body ≡ octets.items → v
 short_body octets body held few = subst (λ (b : List ℕ). length b ≤ 65536) (sym held) (omega (arith, octets.ok.0, few))
 
 -- a body with a length
-pub length_read : (before after : Option (List ℕ)) (old : List ℕ) (start n : ℕ) (read : Result Octets FetchFault) (result : Result (List ℕ) FetchFault)
+pub length_read : (before after : Option (List ℕ)) (old : Held) (start n : ℕ) (read : Result Octets FetchFault) (result : Result (List ℕ) FetchFault)
     → IfOk read (λ body. ReadsBodyOf before after old start n body.items) → IfOk read (λ body. vec_len body ≤ 65536) →
     IfErr read (CutsBodyOf before after old start n) → IsHeld read result → ReadsBody (Some (Length n)) before after old start result
 length_read before after old start n (Ok octets) (Ok body) ok few err held =
-    record { octets = ok.octets; taken = ok.taken; outcome = (start + n, (refl, ok.whole, held ∙ ok.body_is), tt); short = short_body octets body held few }
-length_read before after old start n (Ok octets) (Err fault) ok few err held = record { octets = ok.octets; taken = ok.taken; outcome = inl held; short = tt }
+    record {
+      held = ok.held;
+      taken = ok.taken;
+      made = ok.few;
+      outcome = (start + n, (refl, ok.whole, held ∙ ok.body_is), tt);
+      short = short_body octets body held few;
+    }
+length_read before after old start n (Ok octets) (Err fault) ok few err held = record {
+  held = ok.held;
+  taken = ok.taken;
+  made = subst (λ (f : FetchFault). calls_made f ok.held.calls ≤ 70000) (sym held) ok.few;
+  outcome = inl held;
+  short = tt;
+}
 length_read before after old start n (Err fault) result ok few err held =
-    subst (ReadsBody (Some (Length n)) before after old start) (sym held) (record { octets = err.octets; taken = err.taken; outcome = inr err.why; short = tt })
+    subst (ReadsBody (Some (Length n)) before after old start) (sym held)
+    (record { held = err.held; taken = err.taken; made = err.few; outcome = inr err.why; short = tt })
 
 -- a body up to the end of the input
-pub end_read : (before after : Option (List ℕ)) (old : List ℕ) (start : ℕ) (read : Result Octets FetchFault) (result : Result (List ℕ) FetchFault)
+pub end_read : (before after : Option (List ℕ)) (old : Held) (start : ℕ) (read : Result Octets FetchFault) (result : Result (List ℕ) FetchFault)
     → IfOk read (λ body. ReadsToEnd before after old start body.items) → IfErr read (CutsToEnd before after old start) → IsHeld read result →
     ReadsBody (Some ToEnd) before after old start result
 end_read before after old start (Ok octets) (Ok body) ok err held =
     record {
-      octets = ok.octets;
+      held = ok.held;
       taken = ok.taken;
-      outcome = (length ok.octets, (refl, held ∙ ok.body_is), ok.ended);
+      made = omega (arith, ok.few);
+      outcome = (length ok.held.octets, (refl, held ∙ ok.body_is), (ok.ended, ok.few));
       short =
           subst (λ (b : List ℕ). length b ≤ 65536) (sym held) ok.short;
     }
-end_read before after old start (Ok octets) (Err fault) ok err held = record { octets = ok.octets; taken = ok.taken; outcome = inl held; short = tt }
+end_read before after old start (Ok octets) (Err fault) ok err held = record {
+  held = ok.held;
+  taken = ok.taken;
+  made = subst (λ (f : FetchFault). calls_made f ok.held.calls ≤ 70000) (sym held) (omega (arith, ok.few));
+  outcome = inl held;
+  short = tt;
+}
 end_read before after old start (Err fault) result ok err held =
-    subst (ReadsBody (Some ToEnd) before after old start) (sym held) (record { octets = err.octets; taken = err.taken; outcome = inr err.why; short = tt })
+    subst (ReadsBody (Some ToEnd) before after old start) (sym held)
+    (record { held = err.held; taken = err.taken; made = err.few; outcome = inr err.why; short = tt })
 
 -- a chunked body
-pub chunks_read : (before after : Option (List ℕ)) (old new : List ℕ) (start end : ℕ) (octets : Octets) (result : Result (List ℕ) FetchFault)
-    → Takes before after old new → HoldsChunkedBody new start end octets.items → vec_len octets ≤ 65536 → IsHeld (Ok octets) result →
-    ReadsBody (Some Chunked) before after old start result
-chunks_read before after old new start end octets (Ok body) taken holds few held =
+pub chunks_read : (before after : Option (List ℕ)) (old new : Held) (start end : ℕ) (octets : Octets) (result : Result (List ℕ) FetchFault)
+    → Takes before after old new → new.calls ≤ 70000 → HoldsChunkedBody new.octets start end octets.items → vec_len octets ≤ 65536
+    → IsHeld (Ok octets) result → ReadsBody (Some Chunked) before after old start result
+chunks_read before after old new start end octets (Ok body) taken calls holds few held =
     record {
-      octets = new;
+      held = new;
       taken = taken;
-      outcome = (end, subst (HoldsChunkedBody new start end) (sym held) holds, tt);
+      made = calls;
+      outcome = (end, subst (HoldsChunkedBody new.octets start end) (sym held) holds, tt);
       short =
           short_body octets body held few;
     }
-chunks_read before after old new start end octets (Err fault) taken holds few held = record { octets = new; taken = taken; outcome = inl held; short = tt }
+chunks_read before after old new start end octets (Err fault) taken calls holds few held = record {
+  held = new;
+  taken = taken;
+  made = subst (λ (f : FetchFault). calls_made f new.calls ≤ 70000) (sym held) calls;
+  outcome = inl held;
+  short = tt;
+}
 
 -- a chunked body that was cut
-pub chunks_stop : (before after : Option (List ℕ)) (old new : List ℕ) (start : ℕ) (fault : FetchFault) → Takes before after old new →
-    StopsInChunkedBody after new start fault → ReadsBody (Some Chunked) before after old start (Err fault)
-chunks_stop before after old new start fault taken stops = record { octets = new; taken = taken; outcome = inr stops; short = tt }
+pub chunks_stop : (before after : Option (List ℕ)) (old new : Held) (start : ℕ) (fault : FetchFault) → Takes before after old new
+    → calls_made fault new.calls ≤ 70000 → StopsInChunkedBody after new start fault → ReadsBody (Some Chunked) before after old start (Err fault)
+chunks_stop before after old new start fault taken calls stops =
+    record { held = new; taken = taken; made = calls; outcome = inr stops; short = tt }

@@ -1,5 +1,5 @@
 -- Which octets spell a response, and why reading stops (RFC 9112, sections 4 to 7).
-use Rattle.std.specs.Prelude.{◌≡◌, ℕ, ◌≤◌, ◌+◌, ◌⊎◌, ⊤, true, false, List, [], length, drop, take, flat_map, Option, Some, None, Result, Ok, Err, IfOk, MatchResult}
+use Rattle.std.specs.Prelude.{◌≡◌, ℕ, ◌<◌, ◌≤◌, ◌+◌, ◌⊎◌, ⊤, true, false, List, [], length, drop, take, flat_map, Option, Some, None, Result, Ok, Err, IfOk, MatchResult}
 use Rattle.std.specs.List.{AllByRecursion}
 use Rattle.std.specs.Io.KnownBytes.{IsAtEnd}
 use Rattle.httparse.specs.Grammar.{ResponseHead, IsResponseHead, print_response, status_code, ReadsResponse, NeverHasResponse}
@@ -8,7 +8,7 @@ use Rattle.http_messages.specs.declared.fault.FetchFault.{FetchFault}
 use Rattle.http_messages.specs.declared.fault.FetchFault.TheVariants.{Io, EndOfInput, BadHead, HeadTooLong, TooManyTurns, NoMemory}
 use Rattle.http_reading.specs.declared.framing.Framing.{Framing}
 use Rattle.http_reading.specs.declared.framing.Framing.TheVariants.{Length, Chunked, ToEnd}
-use Rattle.http_intake.specs.Reading.{Takes, most_turns}
+use Rattle.http_intake.specs.Reading.{Held, nothing_held, Takes, MakesFew, most_turns}
 use Rattle.http_intake.specs.Heads.{longest_head, most_fields, head_window, IsLongResponse, IsOpenResponse}
 use Rattle.http_intake.specs.Trailer.{HoldsChunkedBody, StopsInChunkedBody}
 use Rattle.http_intake.specs.Bodies.{StopsBefore, StopsBeforeEnd}
@@ -64,66 +64,71 @@ pub record SpellsAnswer (octets : List ℕ) (end : ℕ) (answer : AnswerText) : 
   pub spelled : SpellsBody told.framing octets body_start end answer.body
   pub answer_is : answer ≡ answer_of told answer.body
 
--- a body up to the end of the input has all of the input
-abbrev pub EndsWithInput : Option Framing → Option (List ℕ) → Type 0
-EndsWithInput (Some ToEnd) reader = IsAtEnd reader
-EndsWithInput framing reader = ⊤
+-- a body up to the end of the input has all of the input, and the last of 70,000 calls at most
+-- found the end
+abbrev pub EndsWithInput : Option Framing → Option (List ℕ) → ℕ → Type 0
+EndsWithInput (Some ToEnd) reader calls = IsAtEnd reader × (calls < most_turns)
+EndsWithInput framing reader calls = ⊤
 
 -- why reading stopped at a head that begins at `start`
-abbrev pub StopsAtHead : Option (List ℕ) → List ℕ → ℕ → FetchFault → Type 0
-StopsAtHead reader octets start Io = IsOpenResponse (drop start octets)
-StopsAtHead reader octets start NoMemory = ⊤
-StopsAtHead reader octets start EndOfInput = IsOpenResponse (drop start octets) × IsAtEnd reader
-StopsAtHead reader octets start TooManyTurns = IsOpenResponse (drop start octets) × (most_turns ≤ length octets)
-StopsAtHead reader octets start BadHead = NeverHasResponse (head_window start octets)
-StopsAtHead reader octets start HeadTooLong = IsLongResponse (head_window start octets)
-StopsAtHead reader octets start fault = ⊥
+abbrev pub StopsAtHead : Option (List ℕ) → Held → ℕ → FetchFault → Type 0
+StopsAtHead reader held start Io = IsOpenResponse (drop start held.octets)
+StopsAtHead reader held start NoMemory = ⊤
+StopsAtHead reader held start EndOfInput = IsOpenResponse (drop start held.octets) × IsAtEnd reader
+StopsAtHead reader held start TooManyTurns = IsOpenResponse (drop start held.octets) × (held.calls ≡ most_turns)
+StopsAtHead reader held start BadHead = NeverHasResponse (head_window start held.octets)
+StopsAtHead reader held start HeadTooLong = IsLongResponse (head_window start held.octets)
+StopsAtHead reader held start fault = ⊥
 
 -- why reading stopped in a body that begins at `start`
-abbrev pub StopsInBody : Option Framing → Option (List ℕ) → List ℕ → ℕ → FetchFault → Type 0
-StopsInBody None reader octets start fault = ⊥
-StopsInBody (Some (Length n)) reader octets start fault = StopsBefore n reader octets start fault
-StopsInBody (Some Chunked) reader octets start fault = StopsInChunkedBody reader octets start fault
-StopsInBody (Some ToEnd) reader octets start fault = StopsBeforeEnd octets start fault
+abbrev pub StopsInBody : Option Framing → Option (List ℕ) → Held → ℕ → FetchFault → Type 0
+StopsInBody None reader held start fault = ⊥
+StopsInBody (Some (Length n)) reader held start fault = StopsBefore n reader held start fault
+StopsInBody (Some Chunked) reader held start fault = StopsInChunkedBody reader held start fault
+StopsInBody (Some ToEnd) reader held start fault = StopsBeforeEnd held start fault
 
--- the octets read grew by what was taken; they spell the body, or the fault says why they do not
-pub record ReadsBody (framing : Option Framing) (reader_old reader_new : Option (List ℕ)) (old : List ℕ) (start : ℕ)
+-- the octets read grew by what was taken, by 70,000 calls at most; they spell the body, or the
+-- fault says why they do not
+pub record ReadsBody (framing : Option Framing) (reader_old reader_new : Option (List ℕ)) (old : Held) (start : ℕ)
     (result : Result (List ℕ) FetchFault) : Type 0 where
-  pub octets : List ℕ
-  pub taken : Takes reader_old reader_new old octets
-  pub outcome : MatchResult result (λ body. (end : ℕ) × SpellsBody framing octets start end body
-      × EndsWithInput framing reader_new)
-      (λ fault. (fault ≡ NoMemory) ⊎ StopsInBody framing reader_new octets start fault)
+  pub held : Held
+  pub taken : Takes reader_old reader_new old held
+  pub made : MakesFew result held.calls
+  pub outcome : MatchResult result (λ body. (end : ℕ) × SpellsBody framing held.octets start end body
+      × EndsWithInput framing reader_new held.calls)
+      (λ fault. (fault ≡ NoMemory) ⊎ StopsInBody framing reader_new held start fault)
   pub short : IfOk result (λ body. length body ≤ longest_body)
 
 -- the same, with the response of the head and the body
-pub record ReadsRest (told : ToldText) (reader_old reader_new : Option (List ℕ)) (old : List ℕ) (start : ℕ)
+pub record ReadsRest (told : ToldText) (reader_old reader_new : Option (List ℕ)) (old : Held) (start : ℕ)
     (result : Result AnswerText FetchFault) : Type 0 where
-  pub octets : List ℕ
-  pub taken : Takes reader_old reader_new old octets
-  pub outcome : MatchResult result (λ answer. (end : ℕ) × SpellsBody told.framing octets start end answer.body
-      × EndsWithInput told.framing reader_new × (answer ≡ answer_of told answer.body))
-      (λ fault. (fault ≡ NoMemory) ⊎ StopsInBody told.framing reader_new octets start fault)
+  pub held : Held
+  pub taken : Takes reader_old reader_new old held
+  pub made : MakesFew result held.calls
+  pub outcome : MatchResult result (λ answer. (end : ℕ) × SpellsBody told.framing held.octets start end answer.body
+      × EndsWithInput told.framing reader_new held.calls × (answer ≡ answer_of told answer.body))
+      (λ fault. (fault ≡ NoMemory) ⊎ StopsInBody told.framing reader_new held start fault)
 
 -- why reading stopped in a response: at a head, by what a head says, in the body, or for want of
 -- memory
-abbrev pub StopsInAnswer : Option (List ℕ) → List ℕ → FetchFault → Type 0
-StopsInAnswer reader octets fault =
-    ((start : ℕ) × PassesInterim octets start × StopsAtHead reader octets start fault)
-    ⊎ ((start : ℕ) × (end : ℕ) × HeadSays octets start end (Err fault))
-    ⊎ ((start : ℕ) × (end : ℕ) × (t : ToldText) × HeadSays octets start end (Ok t)
-    × StopsInBody t.framing reader octets end fault)
+abbrev pub StopsInAnswer : Option (List ℕ) → Held → FetchFault → Type 0
+StopsInAnswer reader held fault =
+    ((start : ℕ) × PassesInterim held.octets start × StopsAtHead reader held start fault)
+    ⊎ ((start : ℕ) × (end : ℕ) × HeadSays held.octets start end (Err fault))
+    ⊎ ((start : ℕ) × (end : ℕ) × (t : ToldText) × HeadSays held.octets start end (Ok t)
+    × StopsInBody t.framing reader held end fault)
     ⊎ (fault ≡ NoMemory)
 
--- the octets read grew by what was taken; they begin with the response, or the fault says why they
--- do not
-pub record ReadsOn (reader_old reader_new : Option (List ℕ)) (old : List ℕ) (result : Result AnswerText FetchFault) :
+-- the octets read grew by what was taken, by 70,000 calls at most; they begin with the response, or
+-- the fault says why they do not
+pub record ReadsOn (reader_old reader_new : Option (List ℕ)) (old : Held) (result : Result AnswerText FetchFault) :
     Type 0 where
-  pub octets : List ℕ
-  pub taken : Takes reader_old reader_new old octets
-  pub outcome : MatchResult result (λ answer. (end : ℕ) × (a : SpellsAnswer octets end answer)
-      × EndsWithInput a.told.framing reader_new) (StopsInAnswer reader_new octets)
+  pub held : Held
+  pub taken : Takes reader_old reader_new old held
+  pub made : MakesFew result held.calls
+  pub outcome : MatchResult result (λ answer. (end : ℕ) × (a : SpellsAnswer held.octets end answer)
+      × EndsWithInput a.told.framing reader_new held.calls) (StopsInAnswer reader_new held)
 
 -- the contract of `read_answer`: the same, where nothing was read before
 abbrev pub ReadsAnswer : Option (List ℕ) → Option (List ℕ) → Result AnswerText FetchFault → Type 0
-ReadsAnswer reader_old reader_new result = ReadsOn reader_old reader_new [] result
+ReadsAnswer reader_old reader_new result = ReadsOn reader_old reader_new nothing_held result

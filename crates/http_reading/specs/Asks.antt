@@ -5,7 +5,7 @@ use Rattle.httparse.specs.Grammar.{RequestHead, ReadsRequest, NeverHasRequest}
 use Rattle.http_messages.specs.declared.ask.Ask.{Ask}
 use Rattle.http_messages.specs.declared.fault.FetchFault.{FetchFault}
 use Rattle.http_messages.specs.declared.fault.FetchFault.TheVariants.{Io, EndOfInput, BadHead, HeadTooLong, TooManyTurns, NoMemory}
-use Rattle.http_intake.specs.Reading.{Takes, most_turns}
+use Rattle.http_intake.specs.Reading.{Held, nothing_held, Takes, MakesFew, most_turns}
 use Rattle.http_intake.specs.Heads.{longest_head, longest_read, most_fields, head_window, IsLongRequest, IsOpenRequest}
 use Rattle.http_reading.specs.AskHead.{parts_of, Says}
 
@@ -25,20 +25,21 @@ SpellsAsk octets ask = SpellsHead octets (Ok ask)
 abbrev pub FrontSays : List ℕ → Result Ask FetchFault → Type 0
 FrontSays octets outcome = (front : List ℕ) × (rest : List ℕ) × (octets ≡ front ++ rest) × SpellsHead front outcome
 
--- why reading stopped in a request after these octets
-abbrev pub StopsInAsk : Option (List ℕ) → List ℕ → FetchFault → Type 0
-StopsInAsk reader octets Io = IsOpenRequest octets
-StopsInAsk reader octets NoMemory = ⊤
-StopsInAsk reader octets EndOfInput = IsOpenRequest octets × IsAtEnd reader
-StopsInAsk reader octets TooManyTurns = IsOpenRequest octets × (most_turns ≤ length octets)
-StopsInAsk reader octets BadHead = NeverHasRequest (head_window 0 octets) ⊎ FrontSays octets (Err BadHead)
-StopsInAsk reader octets HeadTooLong = IsLongRequest (head_window 0 octets)
-StopsInAsk reader octets fault = FrontSays octets (Err fault)
+-- why reading stopped in a request after these octets, which so many calls gave
+abbrev pub StopsInAsk : Option (List ℕ) → Held → FetchFault → Type 0
+StopsInAsk reader held Io = IsOpenRequest held.octets
+StopsInAsk reader held NoMemory = ⊤
+StopsInAsk reader held EndOfInput = IsOpenRequest held.octets × IsAtEnd reader
+StopsInAsk reader held TooManyTurns = IsOpenRequest held.octets × (held.calls ≡ most_turns)
+StopsInAsk reader held BadHead = NeverHasRequest (head_window 0 held.octets) ⊎ FrontSays held.octets (Err BadHead)
+StopsInAsk reader held HeadTooLong = IsLongRequest (head_window 0 held.octets)
+StopsInAsk reader held fault = FrontSays held.octets (Err fault)
 
--- the contract of `read_ask`: the octets taken, at most 20,480, begin with the request, or the
--- fault says why they do not
+-- the contract of `read_ask`: the octets taken, at most 20,480 by 70,000 calls at most, begin with
+-- the request, or the fault says why they do not
 pub record ReadsAsk (reader_old reader_new : Option (List ℕ)) (result : Result Ask FetchFault) : Type 0 where
-  pub octets : List ℕ
-  pub taken : Takes reader_old reader_new [] octets
-  pub few : length octets ≤ longest_read
-  pub outcome : MatchResult result (λ ask. FrontSays octets (Ok ask)) (StopsInAsk reader_new octets)
+  pub held : Held
+  pub taken : Takes reader_old reader_new nothing_held held
+  pub few : length held.octets ≤ longest_read
+  pub made : MakesFew result held.calls
+  pub outcome : MatchResult result (λ ask. FrontSays held.octets (Ok ask)) (StopsInAsk reader_new held)

@@ -2,6 +2,7 @@
 ghost use Rattle.std.specs.Prelude.{◌≡◌, ◌≤◌, ◌+◌, false, length, IsTrue, IfOk, IfErr};
 ghost use Rattle.httparse.specs.Spans.{IsResponseWithin, IsResponseOf};
 ghost use Rattle.http_messages.specs.Answer.{is_writable};
+ghost use Rattle.http_intake.specs.Reading.{most_turns};
 ghost use Rattle.http_intake.specs.Heads.{head_window, most_fields};
 ghost use Rattle.http_reading.specs.AnswerHead as head_rules;
 ghost use Rattle.http_reading.specs.AnswerHead.{told_text, is_fit};
@@ -23,7 +24,8 @@ use std::io::Read;
 /// - `BadHead`: no octets that follow can make it a head;
 /// - `HeadTooLong`: it has more than 16,384 octets or 64 fields;
 /// - `EndOfInput`: the input ended first;
-/// - `TooManyTurns`: 70,000 calls of the reader were not enough;
+/// - `TooManyTurns`: 70,000 calls of the reader, the most that are made, gave octets, and not the
+///   whole message;
 /// - `Io`: the reader failed;
 /// - `NoMemory`: there was no memory.
 ///
@@ -61,13 +63,13 @@ fn read_final<R: Read>(
     head: ResponseSpans,
     headers: &[HeaderSpan],
 ) -> Result<Answer, FetchFault>
-    requires start { start ≤ length intake }
-    requires within { IsResponseWithin (head_window start intake) headers.now head }
-    requires head { IsResponseOf (head_window start intake) headers.now head }
-    requires inside { start + head.len ≤ length intake }
+    requires start { start ≤ length intake.octets }
+    requires within { IsResponseWithin (head_window start intake.octets) headers.now head }
+    requires head { IsResponseOf (head_window start intake.octets) headers.now head }
+    requires inside { start + head.len ≤ length intake.octets }
     requires last { head_rules.is_interim head.code ≡ false }
     requires room { length headers.now ≡ most_fields }
-    ensures { PassesInterim intake start →
+    ensures { PassesInterim intake.octets start →
         ReadsOn (R.remaining reader.old) (R.remaining reader.new) intake result }
 {
     match tell(alloc, intake.window(start), head, headers) {
@@ -84,7 +86,8 @@ fn read_told<R: Read>(
     start: usize,
     told: Told,
 ) -> Result<Answer, FetchFault>
-    requires start { start ≤ length intake }
+    requires start { start ≤ length intake.octets }
+    requires few { intake.calls ≤ most_turns }
     requires fit { IsTrue (is_fit (told_text told)) }
     ensures { ReadsRest (told_text told) (R.remaining reader.old)
         (R.remaining reader.new) intake start result }

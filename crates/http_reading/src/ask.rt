@@ -22,7 +22,8 @@ use url_key::{Key, KeyFault};
 /// - `BadHead`: no octets that follow can make it a head;
 /// - `HeadTooLong`: it has more than 16,384 octets or 64 fields;
 /// - `EndOfInput`: the input ended first;
-/// - `TooManyTurns`: 70,000 calls of the reader were not enough;
+/// - `TooManyTurns`: 70,000 calls of the reader, the most that are made, gave octets, and not the
+///   whole head;
 /// - `Io`: the reader failed;
 /// - `NoMemory`: there was no memory.
 ///

@@ -1,5 +1,6 @@
 //! Reading the body of a response.
 ghost use Rattle.std.specs.Prelude.{◌≡◌, ◌≤◌, length, MatchResult, Some, Err};
+ghost use Rattle.http_intake.specs.Reading.{most_turns};
 ghost use Rattle.http_reading.specs.Answers.{ReadsBody};
 
 use crate::Framing;
@@ -17,7 +18,8 @@ pub(crate) fn read_body<R: Read>(
     start: usize,
     framing: Option<Framing>,
 ) -> Result<Body, FetchFault>
-    requires { start ≤ length intake }
+    requires start { start ≤ length intake.octets }
+    requires few { intake.calls ≤ most_turns }
     ensures { ReadsBody framing (R.remaining reader.old)
         (R.remaining reader.new) intake start result }
 {
@@ -35,7 +37,8 @@ fn read_framed<R: Read>(
     start: usize,
     framing: Framing,
 ) -> Result<Body, FetchFault>
-    requires { start ≤ length intake }
+    requires start { start ≤ length intake.octets }
+    requires few { intake.calls ≤ most_turns }
     ensures { ReadsBody (Some framing) (R.remaining reader.old)
         (R.remaining reader.new) intake start result }
 {

@@ -11,9 +11,11 @@
 //! call lasts as long as its reader blocks.
 //!
 //! Their contracts say that the octets taken begin with a message, by the grammar of RFC 9112 and
-//! the rules over its fields (`ReadsAsk` of `specs/Asks`, `ReadsAnswer` of `specs/Answers`). For
-//! each fault but `Io` and `NoMemory` they say what held of the octets. A whole head gives its
-//! first fault in a stated order (`specs/AskHead`, `specs/AnswerHead`).
+//! the rules over its fields (`ReadsAsk` of `specs/Asks`, `ReadsAnswer` of `specs/Answers`), and
+//! that at most 70,000 calls of the reader gave them. For each fault but `Io` and `NoMemory` they
+//! say what held of the octets; `TooManyTurns` comes only where 70,000 calls gave octets and not
+//! the whole message. A whole head gives its first fault in a stated order (`specs/AskHead`,
+//! `specs/AnswerHead`).
 //!
 //! The functions on fields read nothing. Each takes `window`, the octets of a head, and `headers`,
 //! the offsets of its fields there, as `httparse::spans` finds them. It matches names ignoring case

@@ -7,7 +7,7 @@ use Rattle.httparse.proofs.GrammarLemmas.{ReadsRequest-append}
 use Rattle.http_messages.specs.declared.ask.Ask.{Ask}
 use Rattle.http_messages.specs.declared.fault.FetchFault.{FetchFault}
 use Rattle.http_messages.specs.declared.fault.FetchFault.TheVariants.{Io, EndOfInput, BadHead, HeadTooLong, BadTarget, MethodNotServed, Credentials, BadBody, BodyTooLong, TooManyTurns, NoMemory}
-use Rattle.http_intake.specs.Reading.{Takes, most_turns}
+use Rattle.http_intake.specs.Reading.{Held, nothing_held, Takes, most_turns}
 use Rattle.http_intake.specs.Heads.{longest_head, head_window, IsLongRequest}
 use Rattle.http_reading.specs.Asks.{SpellsHead, FrontSays, StopsInAsk, ReadsAsk}
 use Rattle.peer_fetch.specs.Reading.{StopsInAskText}
@@ -21,45 +21,45 @@ front_of_front a r b q same fits =
     ∙ ap (λ (t : List ℕ). t ++ drop (length a) b) (sym (take-append-le (length a) b q fits) ∙ ap (take (length a)) (sym same) ∙ take_at a r (length a) refl)
 
 -- An input that begins with the head of a request, of which some octets were taken
-module _ (input text rest octets left : List ℕ) (ask : Ask) (input_is : input ≡ text ++ rest) (taken : input ≡ octets ++ left)
-    (spells : SpellsHead text (Ok ask)) where
+module _ (input text rest : List ℕ) (held : Held) (left : List ℕ) (ask : Ask) (input_is : input ≡ text ++ rest) (taken : input ≡ held.octets ++ left)
+    (counted : held.calls ≤ length held.octets) (spells : SpellsHead text (Ok ask)) where
   whole : ReadsRequest input spells.head rest
   whole = subst (λ (t : List ℕ). ReadsRequest t spells.head rest) (sym input_is) (ReadsRequest-append text spells.head [] rest spells.reads)
 
   -- what a front says is the request
-  front_says : (outcome : Result Ask FetchFault) → FrontSays octets outcome → outcome ≡ Ok ask
+  front_says : (outcome : Result Ask FetchFault) → FrontSays held.octets outcome → outcome ≡ Ok ask
   front_says outcome (front, behind, cut, there) =
       let at : input ≡ front ++ (behind ++ left) = taken ∙ ap (λ (t : List ℕ). t ++ left) cut ∙ append_assoc front behind left in
       sym (fronts_once input text rest front (behind ++ left) (Ok ask) outcome input_is at spells there).1
 
-  no_fault : (fault : FetchFault) → FrontSays octets (Err fault) → ⊥
+  no_fault : (fault : FetchFault) → FrontSays held.octets (Err fault) → ⊥
   no_fault fault says = let same = front_says (Err fault) says in cc
 
   window : List ℕ
-  window = head_window 0 octets
+  window = head_window 0 held.octets
 
   tail : List ℕ
-  tail = drop longest_head octets ++ left
+  tail = drop longest_head held.octets ++ left
 
   window_is : input ≡ window ++ tail
   unfolding window tail
-  window_is = taken ∙ ap (λ (t : List ℕ). t ++ left) (sym (take-append-drop longest_head octets))
-      ∙ append_assoc (take longest_head octets) (drop longest_head octets) left
+  window_is = taken ∙ ap (λ (t : List ℕ). t ++ left) (sym (take-append-drop longest_head held.octets))
+      ∙ append_assoc (take longest_head held.octets) (drop longest_head held.octets) left
 
   never : ¬ (NeverHasRequest window)
   never none = none tail spells.head rest (subst (λ (t : List ℕ). ReadsRequest t spells.head rest) window_is whole)
 
-  ended : (left ≡ []) → HasNoRequest octets → ⊥
+  ended : (left ≡ []) → HasNoRequest held.octets → ⊥
   ended none has = has spells.head rest (subst (λ (t : List ℕ). ReadsRequest t spells.head rest)
-      (taken ∙ ap (λ (t : List ℕ). octets ++ t) none ∙ append-nil octets) whole)
+      (taken ∙ ap (λ (t : List ℕ). held.octets ++ t) none ∙ append-nil held.octets) whole)
 
   -- octets that are longer than a head hold the whole of it
-  spent : HasNoRequest octets → most_turns ≤ length octets → ⊥
+  spent : HasNoRequest held.octets → held.calls ≡ most_turns → ⊥
   spent none many =
       let short = spells.short in
-      let begins = front_of_front text rest octets left (sym input_is ∙ taken) (omega arith) in
-      none spells.head _ (subst (λ (t : List ℕ). ReadsRequest t spells.head (drop (length text) octets)) (sym begins)
-      (ReadsRequest-append text spells.head [] (drop (length text) octets) spells.reads))
+      let begins = front_of_front text rest held.octets left (sym input_is ∙ taken) (omega arith) in
+      none spells.head _ (subst (λ (t : List ℕ). ReadsRequest t spells.head (drop (length text) held.octets)) (sym begins)
+      (ReadsRequest-append text spells.head [] (drop (length text) held.octets) spells.reads))
 
   long : IsLongRequest window → ⊥
   long (inl (full, none, may)) =
@@ -73,7 +73,7 @@ module _ (input text rest octets left : List ℕ) (ask : Ask) (input_is : input 
       let room = spells.few in
       omega (arith, few, room, over)
 
-  pub fault_stops : (fault : FetchFault) → StopsInAsk (Some left) octets fault → StopsInAskText fault
+  pub fault_stops : (fault : FetchFault) → StopsInAsk (Some left) held fault → StopsInAskText fault
   unfolding window
   fault_stops Io stops = inl refl
   fault_stops NoMemory stops = inr refl
@@ -88,21 +88,23 @@ module _ (input text rest octets left : List ℕ) (ask : Ask) (input_is : input 
   fault_stops BadBody stops = absurd (no_fault BadBody stops)
   fault_stops BodyTooLong stops = absurd (no_fault BodyTooLong stops)
 
-  pub ok_says : (read : Ask) → FrontSays octets (Ok read) → read ≡ ask
+  pub ok_says : (read : Ask) → FrontSays held.octets (Ok read) → read ≡ ask
   ok_says read says = let same = front_says (Ok read) says in cc
 
 abbrev pub ReadsBack : Ask → Result Ask FetchFault → Type 0
 ReadsBack ask result = MatchResult result (λ read. read ≡ ask) StopsInAskText
 
-reads_by : (text rest octets : List ℕ) (reader : Option (List ℕ)) (ask : Ask) (result : Result Ask FetchFault) → SpellsHead text (Ok ask) →
-    Takes (Some (text ++ rest)) reader [] octets
-    → MatchResult result (λ ask. FrontSays octets (Ok ask)) (StopsInAsk reader octets) → ReadsBack ask result
-reads_by text rest octets None ask result spells taken outcome = absurd taken.2
-reads_by text rest octets (Some left) ask (Ok read) spells (piece, same, consumed) outcome =
-    ok_says (text ++ rest) text rest octets left ask refl (consumed ∙ ap (λ (t : List ℕ). t ++ left) (sym same)) spells read outcome
-reads_by text rest octets (Some left) ask (Err fault) spells (piece, same, consumed) outcome =
-    fault_stops (text ++ rest) text rest octets left ask refl (consumed ∙ ap (λ (t : List ℕ). t ++ left) (sym same)) spells fault outcome
+reads_by : (text rest : List ℕ) (held : Held) (reader : Option (List ℕ)) (ask : Ask) (result : Result Ask FetchFault) → SpellsHead text (Ok ask) →
+    Takes (Some (text ++ rest)) reader nothing_held held
+    → MatchResult result (λ ask. FrontSays held.octets (Ok ask)) (StopsInAsk reader held) → ReadsBack ask result
+reads_by text rest held None ask result spells taken outcome = absurd taken.2
+reads_by text rest held (Some left) ask (Ok read) spells (piece, same, consumed, each, most) outcome =
+    ok_says (text ++ rest) text rest held left ask refl (consumed ∙ ap (λ (t : List ℕ). t ++ left) (sym same)) (omega (arith, each, ap length same)) spells read
+    outcome
+reads_by text rest held (Some left) ask (Err fault) spells (piece, same, consumed, each, most) outcome =
+    fault_stops (text ++ rest) text rest held left ask refl (consumed ∙ ap (λ (t : List ℕ). t ++ left) (sym same)) (omega (arith, each, ap length same)) spells
+    fault outcome
 
 pub ask_reads : (text rest : List ℕ) (reader : Option (List ℕ)) (ask : Ask) (result : Result Ask FetchFault) → SpellsHead text (Ok ask) →
     ReadsAsk (Some (text ++ rest)) reader result → ReadsBack ask result
-ask_reads text rest reader ask result spells reads = reads_by text rest reads.octets reader ask result spells reads.taken reads.outcome
+ask_reads text rest reader ask result spells reads = reads_by text rest reads.held reader ask result spells reads.taken reads.outcome

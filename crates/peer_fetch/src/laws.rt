@@ -29,7 +29,7 @@ pub fn asks_have_no_proper_front()
 {}
 
 /// A law: an input that begins with the text of a request is read as that request, whatever
-/// follows, or reading fails with `Io` or `NoMemory`.
+/// follows and in however many calls, or reading fails with `Io` or `NoMemory`.
 pub fn written_asks_are_read_back()
     ensures { (form : AskForm) (ask : Ask) (via rest : List ℕ) (reader : Option (List ℕ))
         (result : Result Ask FetchFault) → IsWritableAsk ask → IsTrue (names_cache via) →
@@ -55,13 +55,15 @@ pub fn answers_have_no_proper_front()
 {}
 
 /// A law: an input that begins with the text of a response is read as that response, whatever
-/// follows, or reading fails with `Io` or `NoMemory`, or with `TooManyTurns` where the text has
-/// more than 70,000 octets.
+/// follows, wherever at most 70,000 calls of the reader give all of the text; or reading fails with
+/// `Io` or `NoMemory`. `TooManyTurns` comes only where 70,000 calls gave fewer octets than the text
+/// has.
 pub fn written_answers_are_read_back()
     ensures { (answer : AnswerText) (via rest : List ℕ) (reader : Option (List ℕ))
         (result : Result AnswerText FetchFault) → IsWritableAnswer answer →
         IsTrue (names_cache via) →
         let input = answer_text answer via ++ rest in
-        ReadsAnswer (Some input) reader result →
-        MatchResult result (λ read. read ≡ answer) (StopsInAnswerText (answer_text answer via)) }
+        (reads : ReadsAnswer (Some input) reader result) →
+        MatchResult result (λ read. read ≡ answer)
+        (StopsInAnswerText (answer_text answer via) reads.held) }
 {}

@@ -11,8 +11,9 @@
 //! - no request is a proper front of another; neither is a response, unless its body goes up to
 //!   the end of the input;
 //! - an input that begins with a written text is read as that message, in any pieces and whatever
-//!   follows. Reading may instead fail with `Io` or `NoMemory`, and with `TooManyTurns` where the
-//!   text of a response has more than 70,000 octets.
+//!   follows, wherever at most 70,000 calls of the reader give all of the text. Reading may instead
+//!   fail with `Io` or `NoMemory`, and with `TooManyTurns` where 70,000 calls gave only a part of
+//!   the text of a response.
 //!
 //! They speak of readers whose octets contracts know. `specs/Writable` says of which requests and
 //! responses they speak: a request whose key is that of some URL and whose member is 1 to 16 or

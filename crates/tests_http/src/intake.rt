@@ -500,6 +500,7 @@ fn slow(rt: &(impl Abort + AllocGlobal), text: &[u8]) -> (Option<FetchFault>, u3
     let read = intake.read_response_head(&mut reader, 0, &mut headers);
     let head = read.expect(rt, "a head");
     assert_eq!(rt; intake.octets().len(), head.len);
+    assert_eq!(rt; intake.calls(), reader.calls);
     let body = intake.read_body_of(rt.alloc(), &mut reader, head.len, 65_536);
     (body.err(), reader.calls)
 }

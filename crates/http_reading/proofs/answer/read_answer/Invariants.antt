@@ -1,5 +1,5 @@
-use Rattle.std.proofs.Common.{◌≡◌, ◌-◌, [], length}
-use Rattle.http_intake.specs.Reading.{Takes}
+use Rattle.std.proofs.Common.{◌≡◌, ◌-◌, length}
+use Rattle.http_intake.specs.Reading.{nothing_held, Takes}
 use Rattle.http_intake.specs.Heads.{most_fields}
 use Rattle.http_reading.specs.Answers.{PassesInterim}
 use Rattle.http_reading.proofs.answer.read_answer.Given as goal
@@ -7,8 +7,8 @@ use Rattle.http_reading.proofs.answer.read_answer.Given as goal
 -- what was read so far begins with interim heads
 abbrev pub invariant-heads : goal.invariant-heads
 invariant-heads g l = record {
-  passes : PassesInterim l.intake l.start;
-  taken : Takes (g.R.Read.remaining l.fn.reader) (g.R.Read.remaining l.reader) [] l.intake;
+  passes : PassesInterim l.intake.octets l.start;
+  taken : Takes (g.R.Read.remaining l.fn.reader) (g.R.Read.remaining l.reader) nothing_held l.intake;
   room : length l.headers ≡ most_fields;
 }
 

@@ -8,16 +8,17 @@ returns-in-Ok g c =
     let says = rw (c.window.ensures.value, c.as_slice.ensures) at c.judge.ensures.says in
     head_read (g.R.Read.remaining c.args.reader.now) (g.R.Read.remaining c.read_request_head.new.reader) c.read_request_head.new.self
     c.read_request_head.new.headers c.in-Ok.head c.judge.result
-    taken (few_read c.new-intake.result c.read_request_head.new.self c.new-intake.ensures c.in-Ok.ensures.no_more)
+    taken c.in-Ok.ensures.few (few_read c.new-intake.result c.read_request_head.new.self c.new-intake.ensures c.in-Ok.ensures.no_more)
     (c.read_request_head.auto.headers ∙ ap length c.as_mut_slice.ensures.value) c.in-Ok.ensures.head says c.judge.ensures.faults
 
 pub returns : goal.returns
 returns g c =
     let taken = rw c.new-intake.ensures at c.in-Err.ensures.taken in
     record {
-      octets = c.read_request_head.new.self;
+      held = c.read_request_head.new.self;
       taken = taken;
       few = few_read c.new-intake.result c.read_request_head.new.self c.new-intake.ensures c.in-Err.ensures.no_more;
+      made = c.in-Err.ensures.last;
       outcome = head_stops (g.R.Read.remaining c.read_request_head.new.reader) c.read_request_head.new.self c.in-Err.fault c.in-Err.ensures.faults
           (λ e. c.in-Err.ensures.bad (ap Err e)) (λ e. c.in-Err.ensures.long (ap Err e)) c.in-Err.ensures.open (λ e. c.in-Err.ensures.ended (ap Err e))
           (λ e. c.in-Err.ensures.spent (ap Err e));

@@ -18,10 +18,11 @@ pub returns-in-Ok : goal.returns-in-Ok
 returns-in-Ok g c =
     rw c.in-Chunked.is
     (chunks_read (g.R.Read.remaining c.args.reader.now) (g.R.Read.remaining c.read_chunked_body.new.reader) c.args.intake c.read_chunked_body.new.self
-    c.args.start c.in-Ok._end c.in-Ok.octets c.held-in-Ok.result c.in-Ok.ensures.taken c.in-Ok.ensures.body c.in-Ok.ensures.short c.held-in-Ok.ensures)
+    c.args.start c.in-Ok._end c.in-Ok.octets c.held-in-Ok.result c.in-Ok.ensures.taken c.in-Ok.ensures.few c.in-Ok.ensures.body c.in-Ok.ensures.short
+    c.held-in-Ok.ensures)
 
 pub returns : goal.returns
 returns g c =
     rw c.in-Chunked.is
     (chunks_stop (g.R.Read.remaining c.args.reader.now) (g.R.Read.remaining c.read_chunked_body.new.reader) c.args.intake c.read_chunked_body.new.self
-    c.args.start c.in-Err.fault c.in-Err.ensures.taken c.in-Err.ensures.stopped)
+    c.args.start c.in-Err.fault c.in-Err.ensures.taken c.in-Err.ensures.last c.in-Err.ensures.stopped)

@@ -6,8 +6,11 @@ use Rattle.http_intake.proofs.intake.Intake.judge_cut_response.Goals as goal
 
 pub returns-in-Ok-Partial-clause-cut : goal.returns-in-Ok-Partial-clause-cut
 returns-in-Ok-Partial-clause-cut c = λ _.
-    let partial = rw c.in-Ok-Partial.field-0-is at c.in-Ok-Partial.ensures in
-    (refl, subst IsOpenResponse (whole_window c.args.start c.args.self.now c.window.result.now c.window.ensures.value partial.unfinished.2) partial.unfinished)
+    let partial = rw c.in-Ok-Partial.field-0-is at c.in-Ok-Partial.ensures in (
+      refl,
+      subst IsOpenResponse (whole_window c.args.start c.args.self.now.octets c.window.result.now c.window.ensures.value partial.unfinished.2)
+          partial.unfinished,
+    )
 
 pub returns-in-Err-clause-long : goal.returns-in-Err-clause-long
 returns-in-Err-clause-long c = λ is.

@@ -15,7 +15,7 @@ returns-in-Ok-read_trailer-clause-body g c =
     let taken = c.in-Ok-read_trailer.ensures.taken in
     record {
       trailer = c.in-Ok.found.1;
-      chunks = holds_grown c.read_chunks.new.self c.read_trailer.new.self taken.0 c.args.start c.in-Ok.found.1 c.in-Ok.found.0.items taken.1
+      chunks = holds_grown c.read_chunks.new.self.octets c.read_trailer.new.self.octets taken.0 c.args.start c.in-Ok.found.1 c.in-Ok.found.0.items taken.1
           c.in-Ok.ensures.chunks;
       section = c.in-Ok-read_trailer.ensures.section;
     }
@@ -31,7 +31,8 @@ returns-in-Err-read_trailer-clause-stopped g c =
     inr (
       c.in-Ok.found.1,
       c.in-Ok.found.0.items,
-      holds_grown c.read_chunks.new.self c.read_trailer.new.self taken.0 c.args.start c.in-Ok.found.1 c.in-Ok.found.0.items taken.1 c.in-Ok.ensures.chunks,
+      holds_grown c.read_chunks.new.self.octets c.read_trailer.new.self.octets taken.0 c.args.start c.in-Ok.found.1 c.in-Ok.found.0.items
+          taken.1 c.in-Ok.ensures.chunks,
       omega (arith, c.in-Ok.ensures.short, c.in-Ok.found.0.ok.0),
       c.in-Err-read_trailer.ensures.stopped,
     )

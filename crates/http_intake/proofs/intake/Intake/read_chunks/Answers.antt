@@ -2,6 +2,7 @@
 -- adds octets after them.
 use Rattle.std.proofs.Common.{length, drop, Err, sym, arith, ap, subst}
 use Rattle.http_intake.specs.Chunks.{AddsChunk, IsOpenChunk, ChunksUpTo, RefusesStep}
+use Rattle.http_intake.specs.Reading.{Held}
 use Rattle.http_intake.proofs.ReadingLemmas.{takes_then}
 use Rattle.http_intake.proofs.ChunkLemmas.{chunks_more, read_stops, refused_stops}
 use Rattle.http_intake.proofs.intake.Intake.read_chunks.Goals as goal
@@ -15,7 +16,8 @@ chunks-preserved-in-Ok-Chunk g c =
       taken = c.chunks.invariant.taken;
       within = omega (arith, adds.within);
       short = step.short;
-      so_far = chunks_more c.chunks.self c.args.start c.chunks.at c.in-Ok-Chunk.next c.chunks.body.items c.take_chunk.new.body.items c.chunks.invariant.so_far
+      so_far = chunks_more c.chunks.self.octets c.args.start c.chunks.at c.in-Ok-Chunk.next c.chunks.body.items
+          c.take_chunk.new.body.items c.chunks.invariant.so_far
           adds;
     }
 
@@ -33,11 +35,13 @@ returns-in-Err-read_more-clause-stopped g c =
     record {
       at = c.chunks.at;
       body = c.chunks.body.items;
-      chunks = subst (λ octets. ChunksUpTo octets c.args.start c.chunks.at c.chunks.body.items) (sym read.kept) c.chunks.invariant.so_far;
+      chunks = subst (λ (held : Held). ChunksUpTo held.octets c.args.start c.chunks.at c.chunks.body.items) (sym read.kept) c.chunks.invariant.so_far;
       short = omega (arith, c.chunks.body.ok.0);
-      why = read_stops (g.R.Read.remaining c.read_more.new.reader) c.read_more.new.self (drop c.chunks.at c.read_more.new.self) (length c.chunks.body.items)
+      why = read_stops (g.R.Read.remaining c.read_more.new.reader) c.read_more.new.self.calls (drop c.chunks.at c.read_more.new.self.octets)
+          (length c.chunks.body.items)
           c.in-Err-read_more.fault
-          read.faults (subst (λ octets. IsOpenChunk (drop c.chunks.at octets) (length c.chunks.body.items)) (sym read.kept) opened) (λ e. read.ended (ap Err e))
+          read.faults (subst (λ (held : Held). IsOpenChunk (drop c.chunks.at held.octets) (length c.chunks.body.items)) (sym read.kept) opened)
+          (λ e. read.ended (ap Err e))
           (λ e. read.spent (ap Err e));
     }
 
@@ -50,6 +54,7 @@ returns-in-Err-clause-stopped g c =
       body = c.chunks.body.items;
       chunks = c.chunks.invariant.so_far;
       short = omega (arith, c.chunks.body.ok.0);
-      why = refused_stops (g.R.Read.remaining c.chunks.reader) c.chunks.self (drop c.chunks.at c.chunks.self) (length c.chunks.body.items) c.in-Err.fault
-          (subst (λ len. RefusesStep (drop c.chunks.at c.chunks.self) len c.in-Err.fault) c.chunks.body.ok.0 here);
+      why = refused_stops (g.R.Read.remaining c.chunks.reader) c.chunks.self.calls (drop c.chunks.at c.chunks.self.octets)
+          (length c.chunks.body.items) c.in-Err.fault
+          (subst (λ len. RefusesStep (drop c.chunks.at c.chunks.self.octets) len c.in-Err.fault) c.chunks.body.ok.0 here);
     }

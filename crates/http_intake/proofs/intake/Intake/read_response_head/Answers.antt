@@ -19,8 +19,8 @@ returns-in-Err-read_until_due-clause-taken g c =
 pub parses-preserved : goal.parses-preserved
 parses-preserved g c =
     let partial = rw c.in-Ok-Partial.field-0-is at c.in-Ok-Partial.ensures in
-    let size = ap length c.window-in-parses.ensures.value ∙ length-take 16384 (drop c.args.start c.parses.self) in
-    let behind = length-drop c.args.start c.parses.self in
+    let size = ap length c.window-in-parses.ensures.value ∙ length-take 16384 (drop c.args.start c.parses.self.octets) in
+    let behind = length-drop c.args.start c.parses.self.octets in
     let more = c.in-Ok.ensures in
     record {
       taken = takes_then (g.R.Read.remaining c.args.reader.now) (g.R.Read.remaining c.parses.reader) (g.R.Read.remaining c.read_until_due.new.reader)
@@ -33,6 +33,6 @@ parses-preserved g c =
 pub returns-in-Err-read_until_due-clause-no_more : goal.returns-in-Err-read_until_due-clause-no_more
 returns-in-Err-read_until_due-clause-no_more g c =
     let partial = rw c.in-Ok-Partial.field-0-is at c.in-Ok-Partial.ensures in
-    let size = ap length c.window-in-parses.ensures.value ∙ length-take 16384 (drop c.args.start c.parses.self) in
-    let behind = length-drop c.args.start c.parses.self in
+    let size = ap length c.window-in-parses.ensures.value ∙ length-take 16384 (drop c.args.start c.parses.self.octets) in
+    let behind = length-drop c.args.start c.parses.self.octets in
     omega (arith, size, behind, partial.unfinished.2, c.in-Err-read_until_due.ensures.no_more)

@@ -5,8 +5,8 @@ use Rattle.http_intake.proofs.intake.Intake.read_trailer.Given as goal
 abbrev pub invariant-parses : goal.invariant-parses
 invariant-parses g l = record {
   taken : Takes (g.R.Read.remaining l.fn.reader) (g.R.Read.remaining l.reader) l.fn.self l.self;
-  start : l.start ≤ length l.self;
+  start : l.start ≤ length l.self.octets;
 }
 
 abbrev pub decreases-parses : goal.decreases-parses
-decreases-parses g l = 286720000 - length l.self
+decreases-parses g l = 286720000 - length l.self.octets

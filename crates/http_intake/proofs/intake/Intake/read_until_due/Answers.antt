@@ -8,8 +8,8 @@ pieces-preserved g c =
     let more = c.in-Ok.ensures in
     let grown = more.grown in
     let before = c.pieces.invariant.grown in
-    let size = ap length c.window.ensures.value ∙ length-take 16384 (drop c.args.start c.read_more.new.self) in
-    let behind = length-drop c.args.start c.read_more.new.self in
+    let size = ap length c.window.ensures.value ∙ length-take 16384 (drop c.args.start c.read_more.new.self.octets) in
+    let behind = length-drop c.args.start c.read_more.new.self.octets in
     let room = not_full (length c.window.result.now) c.window.ensures.short (λ full. false≢true (c.if-is_due.ensures full)) in
     record {
       taken = takes_then (g.R.Read.remaining c.args.reader.now) (g.R.Read.remaining c.pieces.reader) (g.R.Read.remaining c.read_more.new.reader)
