@@ -50,8 +50,8 @@ pub enum Task {
         dir: String,
         /// How many workers each member has: 2 to 8, and 2 where the words do not say.
         workers: u8,
-        /// How many records of each member are kept for `check`: 0 to 65,536, and 16 where the words
-        /// do not say.
+        /// How many pages of each member are kept for `check`: 0 to 65,536, and 16 where the
+        /// words do not say.
         history: u32,
     },
     /// `cache origin ADDRESS COUNT`.

@@ -7,15 +7,17 @@
 //!
 //! A [`MasterLoop`] has the master's UDP socket. [`MasterLoop::poll_once`] polls for 100
 //! milliseconds at most, makes the calls that datagrams ask for (responses to a CLR; RFC 2756,
-//! "CLR"), and sends again the CLR of each pending purge to each member that has not acknowledged it:
-//! after 20 milliseconds, and then after about twice the time, up to a second. Where nothing can be due, no call is made and none is entered. A
-//! [`MasterSender`] issues a purge and sends its CLR to each member, from any thread, on the same
-//! socket. No lock is held while a socket is waited for or written.
+//! "CLR"), and sends again the CLR of each pending purge to each member that has not acknowledged
+//! it: after 20 milliseconds, and then after about twice the time, up to a second. Where nothing
+//! can be due, no call is made and none is entered. A [`MasterSender`] issues a purge and sends its
+//! CLR to each member, from any thread, on the same socket. No lock is held while a socket is
+//! waited for or written.
 //!
 //! Order of reading: `specs/LockedBook.antt` (what a call does to the book), `specs/Answers.antt`
 //! (what a caller knows of an answer); `src/shared.rt` (the calls), `src/locked_book.rt` (the calls
-//! inside the lock), `src/master_loop.rt` (the loop), `src/sending.rt` (the CLRs), `src/schedule.rt`
-//! (when they are sent again), `src/fault.rt`, `specs/Names.antt`; `proofs/Clears.antt`.
+//! inside the lock), `src/master_loop.rt` (the loop), `src/sending.rt` (the CLRs),
+//! `src/schedule.rt` (when they are sent again), `src/fault.rt`, `specs/Names.antt`;
+//! `proofs/Clears.antt`.
 //!
 //! The crate opens one socket, polls it, reads the clock, and waits at its lock. It starts no
 //! thread: the caller runs [`MasterLoop::run_until`] on one. Files are touched by the store of

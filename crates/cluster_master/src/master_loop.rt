@@ -167,11 +167,11 @@ impl MasterLoop {
         Ok(())
     }
 
-    /// Polls until the socket is ready, a purge was issued, or something is to be sent again, for 100
-    /// milliseconds at most. Then makes the calls of the datagrams that are there, 256 at most; the
-    /// rest is for the next poll. Then sends the CLR of a pending purge again to each member that has
-    /// not acknowledged it: 20 milliseconds after it was issued, and from then on after about twice
-    /// the time, up to a second; about 256 CLRs each 10 milliseconds at most.
+    /// Polls until the socket is ready, a purge was issued, or something is to be sent again, for
+    /// 100 milliseconds at most. Then makes the calls of the datagrams that are there, 256 at most;
+    /// the rest is for the next poll. Then sends the CLR of a pending purge again to each member
+    /// that has not acknowledged it: 20 milliseconds after it was issued, and from then on after
+    /// about twice the time, up to a second; about 256 CLRs each 10 milliseconds at most.
     ///
     /// An error is the system's refusal of a poll, a read or the clock. What can be done all the
     /// same is done, and a later poll goes on. Where there is no memory for a call, it is lost, as

@@ -9,8 +9,8 @@ const FIRST_WAIT: u64 = 20;
 /// How many milliseconds at most pass from one CLR of a purge to the next.
 const LONGEST_WAIT: u64 = 1_000;
 
-/// How many milliseconds pass at least from one sending of what is due to the next, which bounds how
-/// many datagrams are sent again in all.
+/// How many milliseconds pass at least from one sending of what is due to the next, which bounds
+/// how many datagrams are sent again in all.
 const PACE: u64 = 10;
 
 /// When the CLR of a pending purge is sent again.
@@ -52,8 +52,8 @@ fn longer(wait: u64) -> u64
     wait.saturating_mul(2).min(LONGEST_WAIT)
 }
 
-/// The wait, or up to a quarter less by the number, so that purges that were issued together are not
-/// all sent again together.
+/// The wait, or up to a quarter less by the number, so that purges that were issued together are
+/// not all sent again together.
 fn spread(number: u32, wait: u64) -> u64
     ensures most { result ≤ wait }
     ensures least { wait ≤ 2 * result }
@@ -119,8 +119,8 @@ impl Schedule {
         self.paced = now.saturating_add(PACE);
     }
 
-    /// Whether the CLR of this pending purge is sent again now. If so, the next time is set. A purge
-    /// that is not entered is sent, and entered.
+    /// Whether the CLR of this pending purge is sent again now. If so, the next time is set. A
+    /// purge that is not entered is sent, and entered.
     pub(crate) fn takes(&mut self, number: u32, now: u64) -> bool {
         match place_of(self.row.as_slice(), number) {
             Ok(place) => match self.row.get_mut(place) {

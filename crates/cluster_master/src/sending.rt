@@ -153,8 +153,8 @@ impl MasterSender {
         clear_of(rt, self.alloc, master, number)
     }
 
-    /// Sends the CLRs of these pending purges to these members, where they are to be sent again now:
-    /// of the first 256, and of the other members of the last purge among them.
+    /// Sends the CLRs of these pending purges to these members, where they are to be sent again
+    /// now: of the first 256, and of the other members of the last purge among them.
     fn send_pairs<S: PurgeStore, R: Wait>(
         &self,
         rt: &R,
@@ -182,8 +182,8 @@ impl MasterSender {
     }
 
     /// Sends what is due again: the CLR of a pending purge to each member that has not acknowledged
-    /// it, by number and then by id. Nothing is sent where the master does not answer. Where nothing
-    /// can be due no call is made, so an idle master makes no entries.
+    /// it, by number and then by id. Nothing is sent where the master does not answer. Where
+    /// nothing can be due no call is made, so an idle master makes no entries.
     pub(crate) fn send_due<S: PurgeStore, R: Wait>(
         &self,
         rt: &R,

@@ -214,8 +214,8 @@ impl<'a> Board<'a> {
         Ok(())
     }
 
-    /// A node has an entry. Returns its flaw, if it has one. What it received must have been sent to
-    /// it before, even if nothing is known of the node.
+    /// A node has an entry. Returns its flaw, if it has one. What it received must have been sent
+    /// to it before, even if nothing is known of the node.
     fn steps(
         &mut self,
         alloc: Global,
@@ -281,8 +281,8 @@ impl<'a> Board<'a> {
         Ok(None)
     }
 
-    /// Takes the next note. Returns its flaw, if it has one. Then the state is as it was if a record
-    /// closes, and else nothing is promised of it.
+    /// Takes the next note. Returns its flaw, if it has one. Then the state is as it was if a
+    /// record closes, and else nothing is promised of it.
     pub(crate) fn judge(
         &mut self,
         alloc: Global,
