@@ -1,5 +1,5 @@
 //! What the lock of a shared node holds.
-ghost use Rattle.std.specs.Prelude.{◌≡◌, [], Some, IfOk, IfSome, IsFalse, OnOk, OnErr};
+ghost use Rattle.std.specs.Prelude.{◌≡◌, [], Some, IfOk, IfSome, IsFalse, OnErr};
 ghost use Rattle.node_bytes.specs.Stepping.{AnswersAsk};
 ghost use Rattle.node_seats.specs.Beginning.{beginning_of};
 ghost use Rattle.node_seats.specs.Desks.{AreNewSteps, HasRoom, IsEndedIn, IsWithoutBook, with_page_filed};
@@ -20,8 +20,8 @@ use node_rules::{Event, StepFault};
 use std::alloc::{AllocError, Global};
 use std::marker::Model;
 
-/// Once the events of a page have brought this many octets along, the page is full. This bounds what
-/// its entries keep in memory.
+/// Once the events of a page have brought this many octets along, the page is full. This bounds
+/// what its entries keep in memory.
 const MOST_OCTETS: u64 = 4_194_304;
 
 /// A node with its history, and with the record that is kept for a check.
@@ -57,7 +57,12 @@ impl<S: FloorStore, J: Origin> Model for Desk<S, J> {
 
     ghost coded = { Prim.hlevel (codes, map_code {R = slice_cmp nat_cmp} (coded_list coded_ℕ) coded_ℕ) };
 
-    ghost view = { λ desk. record { log = desk.whole; steps = desk.steps; pages = desk.pages; octets = desk.octets } };
+    ghost view = { λ desk. record {
+      log = desk.whole;
+      steps = desk.steps;
+      pages = desk.pages;
+      octets = desk.octets;
+    } };
 
     ghost invariant = { λ desk. Stands J.beginning desk.whole desk.steps };
 }
@@ -86,11 +91,12 @@ impl<S: FloorStore + Drop, J: Origin> Desk<S, J> {
         })
     }
 
-    /// Makes one call by a seat: takes a step, and adds its entry to the history. Where the open page
-    /// is full, the next page begins before the call.
+    /// Makes one call by a seat: takes a step, and adds its entry to the history. Where the open
+    /// page is full, the next page begins before the call.
     ///
-    /// Faults: those of the step. `NoMemory` also comes where there is no memory for the entry, and no
-    /// step is taken then; and where there is none for a copy of the reply, and the step stands then.
+    /// Faults: those of the step. `NoMemory` also comes where there is no memory for the entry, and
+    /// no step is taken then; and where there is none for a copy of the reply, and the step stands
+    /// then.
     pub(crate) fn call(&mut self, seat: &mut Seat<J>, event: Event<()>) -> Told
         ensures called { Called seat.old event result seat.new }
         ensures asks { IfOk result (AnswersAsk event) }
@@ -173,8 +179,8 @@ impl<S: FloorStore + Drop, J: Origin> Desk<S, J> {
         self.octets = 0;
     }
 
-    /// Takes out the record of all pages, and begins the next one; or takes none, where none is kept.
-    /// It copies the node's state twice. Where there is no memory for that, nothing changes.
+    /// Takes out the record of all pages, and begins the next one; or takes none, where none is
+    /// kept. It copies the node's state twice. Where there is no memory for that, nothing changes.
     pub(crate) fn take_record(&mut self) -> Result<Option<Record>, AllocError>
         ensures { IfOk result (λ taken. IfSome taken (IsPart J.beginning)) }
     {

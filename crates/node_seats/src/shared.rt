@@ -48,11 +48,12 @@ impl<S: FloorStore + Drop, J: Origin> SharedNode<S, J> {
     }
 
     /// Makes one call by a seat. The entry of the call is then the last one that the seat knows of
-    /// the history. Where no step was taken, the seat stays as it was. A request that is answered is
-    /// served at once, and nothing else is done then; or it waits for what begins with it.
+    /// the history. Where no step was taken, the seat stays as it was. A request that is answered
+    /// is served at once, and nothing else is done then; or it waits for what begins with it.
     ///
-    /// Faults: those of the step. `NoMemory` also comes where there is no memory for the entry, and no
-    /// step is taken then; and where there is none for a copy of the reply, and the step stands then.
+    /// Faults: those of the step. `NoMemory` also comes where there is no memory for the entry, and
+    /// no step is taken then; and where there is none for a copy of the reply, and the step stands
+    /// then.
     pub fn call<R: Wait>(
         &self,
         rt: &R,
@@ -96,9 +97,9 @@ pub struct Held<'n, S: FloorStore, J: Origin> {
 }
 
 impl<S: FloorStore + Drop, J: Origin> Held<'_, S, J> {
-    /// Takes out the record of the steps since the last time, and begins the next one; or takes none,
-    /// where none is kept. The record is a part of the node's history. Where there is no memory for
-    /// that, nothing changes.
+    /// Takes out the record of the steps since the last time, and begins the next one; or takes
+    /// none, where none is kept. The record is a part of the node's history. Where there is no
+    /// memory for that, nothing changes.
     pub fn take_record(&mut self) -> Result<Option<Record>, AllocError>
         ensures { IfOk result (λ taken. IfSome taken (IsPart J.beginning)) }
     {
