@@ -6,7 +6,7 @@ use mathlib.Core.Option.{some, some-injective, some-ne-none}
 use lib.ListN.{get_elem?}
 use native.Mathlib.Decide.{ℕ_discrete}
 use Prim.{yes, no}
-use Rattle.crossbeam_queue.specs.Fifo.{Pushes, Pops, Forks, Merges, Learns}
+use Rattle.crossbeam_queue.specs.Fifo.{Pushes, Pops, Forks, Merges}
 use Rattle.crossbeam_queue.proofs.Lists.{at_set, at_snoc, at_longer, set_else}
 use Rattle.cluster_jobs.specs.declared.job.Job.{Job}
 use Rattle.cluster_jobs.specs.declared.order.Step.{Step}
@@ -139,17 +139,50 @@ pub takes : (pass : ℕ) (v : View) → 0 < v.parts → Pops Kept pass v (λ job
 takes pass v part job items views kept at =
     steps_on (job ∷ items) items views pass v (took job) kept.0 part kept.1 at (leaves_took kept.0 (map sight_of items) (sight_of job) kept.1.leaves)
 
--- what a look at the queue teaches
-pub finds : (pass : ℕ) (v : View) → Learns Kept pass v (Finds v)
-finds pass v items views kept at = (
-  kept.0,
-  record {
-    begins = kept.1.begins pass v at;
-    in_order = kept.1.in_order;
-    leaves = kept.1.leaves;
-    alone = λ whole. (sees_all items views kept.0 pass v kept.1 at whole, owns_all items views kept.0 pass v kept.1 at whole);
-  },
-)
+-- whatever the queue holds and whatever the others know, the rule stays when this pass looks at it, and its view
+-- becomes some w
+abbrev pub Looks : ℕ → View → (List Job → View → Type 0) → Type 0
+Looks pass v then = (items : List Job) (views : List View) → Kept items views → get_elem? views pass ≡ some v
+    → (w : View) × Kept items (set views pass w) × then items w
+
+-- a look keeps the rule: this pass has then seen all steps
+pub looks : (pass : ℕ) (v : View) → 0 < v.parts → Looks pass v (λ items w. Finds v (map sight_of items) w)
+looks pass v part items views kept at =
+    let steps = kept.0 in
+    let k = kept.1 in
+    let w = view v.parts steps v.own in
+    let seen = k.begins pass v at in
+    let all : v.parts ≡ all_parts → steps ≡ v.seen = sees_all items views steps pass v k at in (
+      w,
+      (
+        steps,
+        record {
+          in_order = k.in_order;
+          leaves = k.leaves;
+          parts =
+              let sum = weigh-set (λ (u : View). u.parts) views pass v w at in
+              let old = k.parts in
+              omega arith;
+          begins = all_set (λ _ u. Begins u.seen steps) views pass w (begins_self steps)
+              (λ j u other e. k.begins j u e);
+          known = (pass, w, here_set views pass v w at, refl);
+          owned = λ weight.
+              let sum = weigh-set (own_weight weight) views pass v w at in
+              let old = k.owned weight in
+              omega arith;
+          idle = all_set (λ _ u. u.parts ≡ 0 → u ≡ nobody) views pass w (λ none. absurd (omega arith))
+              (λ j u other e. k.idle j u e);
+        },
+      ),
+      record {
+        parts = refl;
+        seen = (seen.0, sym seen.1, λ whole. nothing_more v.seen seen.0 (seen.1 ∙ all whole));
+        own = refl;
+        in_order = k.in_order;
+        leaves = k.leaves;
+        alone = owns_all items views steps pass v k at;
+      },
+    )
 
 -- the pass that has seen all steps, where it is this one
 the_same : (views : List View) (steps : List Step) (pass : ℕ) (v : View) (j : ℕ) (u : View) → j ≡ pass → get_elem? views pass ≡ some v →

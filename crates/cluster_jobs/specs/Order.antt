@@ -118,18 +118,16 @@ pub record Follows (v : View) (step : Step) (w : View) : Type 0 where
   pub own : w.own ≡ v.own ++ step ∷ []
   pub in_order : IsInOrder w.seen
 
--- at one moment these were all steps: they begin with what the pass has seen, and leave what the queue then held; a
--- pass with every part has seen them all, and all are its own
-pub record FindsAt (v : View) (waiting : List Sight) (steps : List Step) : Type 0 where
-  pub begins : Begins v.seen steps
-  pub in_order : IsInOrder steps
-  pub leaves : Leaves steps waiting
-  pub alone : v.parts ≡ all_parts → (steps ≡ v.seen) × ((weight : Step → ℕ) → weigh weight v.own ≡ weigh weight steps)
+-- a pass after a look at the queue, which then held these jobs: it has seen all steps up to that moment, and no new one
+-- is its own; a pass with every part had seen them all, and all are its own
+pub record Finds (v : View) (waiting : List Sight) (w : View) : Type 0 where
+  pub parts : w.parts ≡ v.parts
+  pub seen : (between : List Step) × (w.seen ≡ v.seen ++ between) × (v.parts ≡ all_parts → between ≡ [])
+  pub own : w.own ≡ v.own
+  pub in_order : IsInOrder w.seen
+  pub leaves : Leaves w.seen waiting
+  pub alone : v.parts ≡ all_parts → (weight : Step → ℕ) → weigh weight w.own ≡ weigh weight w.seen
 
--- what a pass learns from a look at the queue, which then held these jobs
-abbrev pub Finds : View → List Job → Type 0
-Finds v items = (steps : List Step) × FindsAt v (map sight_of items) steps
-
--- at some moment of the call the queue held this many jobs
-abbrev pub HeldOnce : View → ℕ → Type 0
-HeldOnce v count = (steps : List Step) × (waiting : List Sight) × (length waiting ≡ count) × FindsAt v waiting steps
+-- a pass after a look at the queue, which then held this many jobs
+abbrev pub FindsHeld : View → ℕ → View → Type 0
+FindsHeld v count w = (waiting : List Sight) × (length waiting ≡ count) × Finds v waiting w

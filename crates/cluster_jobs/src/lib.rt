@@ -13,25 +13,29 @@
 //!
 //! The rule stands in `specs/Order.antt`: one list has all puts and takes, and at every moment the
 //! jobs taken are a prefix of the jobs put. Each pass has seen a beginning of that list, and each
-//! of them is one pass's own, once. So no job is taken twice, and none is lost.
+//! of them is one pass's own, once. So no job is taken twice, and none is lost. A refused call
+//! leaves its pass with a beginning at whose end the queue holds 256 jobs, or none.
 //!
 //! Order of reading: `specs/Order.antt`; `src/job.rt` (what a job is); `src/jobs.rt` (the calls);
 //! `src/names.rt` (a type names each queue, so that a pass which comes back from a thread is known
 //! to be of that queue); `src/order.rt` (the types that contracts speak of; no value of them is
-//! made); `proofs/Rule.antt` (each call keeps the rule).
+//! made); `proofs/Rule.antt` (each call keeps the rule). Then the ring of slots under the queue:
+//! `src/ring.rt`, `src/ring/loops.rt` (a put and a take), `src/ring/steps.rt`, `src/ring/looks.rt`,
+//! `specs/Looks.antt` and `src/ring/plays.rt` (what each step tells), `src/ring/passes.rt`,
+//! `proofs/Looks.antt`. Its steps are those of `ArrayQueue` in the crate `crossbeam_queue`.
 //!
 //! The crate opens no socket, file or thread. The streams in its jobs are passed through.
 //!
-//! What it does not promise: that `take` gives no job only where the queue was empty, and that
-//! `put` gives a job back only where the queue held 256, is said of one moment of the call; other
-//! threads may put and take meanwhile. Contracts see a stream as its number alone. No contract says
-//! how soon a job is taken.
+//! What it does not promise: a refused call found the queue full or empty at one moment; other
+//! threads may put and take before it returns. Contracts see a stream as its number alone. No
+//! contract says how soon a job is taken.
 #![tactic(auto)]
 
 mod job;
 mod jobs;
 mod names;
 pub mod order;
+mod ring;
 
 pub use job::Job;
 pub use jobs::{CAPACITY, Jobs, Pass};

@@ -1,12 +1,9 @@
 //! Types that name queues, and a new queue before it has a name.
-ghost use Rattle.std.specs.Prelude.{◌≡◌, IfOk};
-ghost use Rattle.crossbeam_queue.specs.Passes.{IsPassOf, view as known, ruled_capacity};
+ghost use Rattle.std.specs.Prelude.{◌≡◌};
 ghost use Rattle.cluster_jobs.specs.Order.{newcomer};
 
-use crate::job::Job;
-use crate::jobs::{CAPACITY, Jobs, Pass};
-use crate::order::{FirstInFirstOut, View};
-use crossbeam_queue::RuledArrayQueue;
+use crate::jobs::{Jobs, Pass};
+use crate::ring::{JobRing, Seated};
 use std::alloc::{AllocError, Global};
 use std::marker::{Brand, Model};
 
@@ -28,30 +25,31 @@ impl QueueName for Brand {
 /// its table, which the name that it gets has to have.
 #[derive(Drop)]
 pub struct NewJobs {
-    queue: RuledArrayQueue<Job, View, FirstInFirstOut>,
-    pass: crossbeam_queue::Pass<Job, View>,
+    ring: JobRing,
+    seat: Seated,
 }
 
 impl Model for NewJobs {
     ghost use Rattle.std.specs.Prelude.{◌≡◌};
     ghost use Rattle.atomic_table.specs.Seated.{TableId, table_id_coded};
-    ghost use Rattle.crossbeam_queue.specs.Passes.{IsPassOf, view as known, ruled_capacity};
+    ghost use Rattle.crossbeam_queue.specs.Passes.{view as known};
     ghost use Rattle.cluster_jobs.specs.Order.{newcomer};
+    ghost use Rattle.cluster_jobs.specs.Looks.{IsSeatOf};
 
     ghost Value = { TableId };
 
     ghost coded = { table_id_coded };
 
-    ghost view = { λ new. new.queue.table.shared.table_id };
+    ghost view = { λ new. new.ring.table.shared.table_id };
 
-    ghost invariant = { λ new. (ruled_capacity new.queue ≡ 256) × IsPassOf new.queue new.pass × (known new.pass ≡ newcomer) };
+    ghost invariant = { λ new. IsSeatOf new.ring.table.shared.table_id new.seat × (known new.seat ≡ newcomer) };
 }
 
 impl NewJobs {
     /// Makes an empty queue of 256 places. `AllocError` comes where there is no memory for them.
     pub fn new(alloc: Global) -> Result<NewJobs, AllocError> {
-        let (queue, pass) = RuledArrayQueue::ruled(alloc, CAPACITY)?;
-        Ok(NewJobs { queue, pass })
+        let (ring, seat) = JobRing::new(alloc)?;
+        Ok(NewJobs { ring, seat })
     }
 
     /// Gives the queue this name, together with its first pass, which has all 1,024 parts and knows
@@ -60,7 +58,7 @@ impl NewJobs {
         requires { self ≡ Q.table }
         ensures { result.1 ≡ newcomer }
     {
-        let NewJobs { queue, pass } = self;
-        (Jobs::named(queue), Pass::named(pass))
+        let NewJobs { ring, seat } = self;
+        (Jobs::named(ring), Pass::named(seat))
     }
 }

@@ -1,13 +1,14 @@
 -- A pass that puts nothing, one job, or first some jobs and then others, has only put jobs that came over a socket. So
 -- each loop of a poll keeps HasPut, and so does the poll.
-use Rattle.std.proofs.Common.{Result, Ok, Err, MatchResult, ◌≡◌, List, [], ◌∷◌, ◌++◌, map, sym, refl, ap, ◌∙◌, append_assoc, append-nil, subst}
+use Rattle.std.proofs.Common.{Result, Ok, Err, MatchResult, ◌≡◌, List, [], ◌∷◌, ◌++◌, map, sym, refl, ap, ◌∙◌, append_assoc, append-nil}
 use Rattle.std.proofs.lemmas.List.{map-append}
 use Rattle.std.proofs.lemmas.List.Elements.{All-nil, All-cons, All-append}
 use Rattle.cluster_jobs.specs.declared.job.Job.{Job}
+use Rattle.cluster_jobs.specs.declared.order.Sight.{Sight}
 use Rattle.cluster_jobs.specs.declared.order.Step.{Step}
 use Rattle.cluster_jobs.specs.declared.order.Step.TheVariants.{Put}
 use Rattle.cluster_jobs.specs.declared.order.View.{View}
-use Rattle.cluster_jobs.specs.Order.{sight_of, put, Begins, Follows, HeldOnce}
+use Rattle.cluster_jobs.specs.Order.{sight_of, put, Begins, Follows, Finds, FindsHeld}
 use Rattle.cluster_sockets.specs.Polls.{HasCome, HasPut}
 
 -- a beginning of a beginning of a list is a beginning of it
@@ -39,8 +40,16 @@ more_put u v w h k = record {
   );
 }
 
+-- a pass that only looks at the queue
+pub only_looked : (v w : View) (waiting : List Sight) → Finds v waiting w → HasPut v w
+only_looked v w waiting h = record {
+  parts = h.parts;
+  seen = (h.seen.0, sym h.seen.1);
+  own = ([], h.own ∙ sym (append-nil v.own), All-nil HasCome);
+}
+
 -- a call that puts a job, or hands it back
 pub put_or_not : (v w : View) (job : Job) (answer : Result (Unit {0}) Job) → HasCome (sight_of job)
-    → MatchResult answer (λ _. Follows v (put job) w) (λ back. (back ≡ job) × (w ≡ v) × HeldOnce v 256) → HasPut v w
+    → MatchResult answer (λ _. Follows v (put job) w) (λ back. (back ≡ job) × FindsHeld v 256 w) → HasPut v w
 put_or_not v w job (Ok done) come h = one_put v w job come h
-put_or_not v w job (Err back) come h = subst (HasPut v) (sym h.1) (none_put v)
+put_or_not v w job (Err back) come h = only_looked v w h.1.0 h.1.2
