@@ -6,6 +6,7 @@ pub mod Reading
 pub mod Faults
 pub mod Written
 pub mod Laws
+pub mod Decoded
 pub mod Cut
 pub mod Numbers
 pub mod Lines

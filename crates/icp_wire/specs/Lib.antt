@@ -5,3 +5,4 @@ pub mod Reading
 pub mod Faults
 pub mod Written
 pub mod Laws
+pub mod Decoded
