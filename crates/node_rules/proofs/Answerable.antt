@@ -1,7 +1,8 @@
--- Every message that a codec decodes can be answered. An ICP payload holds the URL and a zero octet
+-- Every message that octets spell can be answered. An ICP payload holds the URL and a zero octet
 -- within the longest message, so an answer, which is no longer, can repeat the URL. HTCP's opcode
 -- is half an octet, so it is below 16.
-use Rattle.std.proofs.Common.{◌≡◌, ℕ, ◌≤◌, ◌<◌, ◌+◌, ◌*◌, List, [], ◌∷◌, ◌++◌, length, get_or, refl, ap, ◌∙◌, arith, length-append}
+use Rattle.std.proofs.Common.{◌≡◌, ℕ, ◌≤◌, ◌<◌, ◌+◌, ◌*◌, List, [], ◌∷◌, ◌++◌, length, get_or, Option, Some, None, refl, ap, ◌∙◌, arith, length-append}
+use Rattle.std.specs.Prelude.{option_map}
 use Rattle.byteorder.specs.Endian.{big_bytes}
 use Rattle.values_plain.specs.Fields.{IsOctets}
 use Rattle.values_plain.specs.Counted.{counted}
@@ -14,7 +15,12 @@ use Rattle.htcp_wire.specs.declared.message.Htcp.{Htcp}
 use Rattle.htcp_wire.specs.declared.message.Content.{Content}
 use Rattle.htcp_wire.specs.declared.message.Content.TheVariants as content
 use Rattle.htcp_wire.specs.Grammar as htcp
-use Rattle.node_rules.specs.Texts.{HasOpcode, icp_message}
+use Rattle.icp_wire.proofs.Exactness as icp_exact
+use Rattle.htcp_wire.proofs.Exactness as htcp_exact
+use Rattle.node_rules.specs.declared.message.Message.{Message}
+use Rattle.node_rules.specs.declared.message.Message.TheVariants as message
+use Rattle.node_rules.specs.Texts.{IsAnswerable, HasOpcode, icp_message}
+use Rattle.node_rules.specs.Spelled.{IsSpelled}
 
 -- a payload has its URL, and a zero octet
 
@@ -49,7 +55,7 @@ short_answer : (code number count : ℕ) (url : List ℕ) → 21 + length url �
 short_answer code number count url short = omega (arith, short, length-append url (0 ∷ []))
 
 -- the URL of an ICP message that octets spell can be repeated by an answer
-pub icp_is_answerable : (octets : List ℕ) (message : Icp) → icp.Spells octets message → icp_text.Fits (icp_message Miss message.number message.url)
+icp_is_answerable : (octets : List ℕ) (message : Icp) → icp.Spells octets message → icp_text.Fits (icp_message Miss message.number message.url)
 icp_is_answerable octets message spells =
     let whole : length octets ≡ 2 + 6 + length spells.options + length spells.option_data + length spells.sender + length spells.payload =
     ap length spells.parts ∙ size_of (icp.opcode message.op) 2 (big_bytes 2 (length octets) ++ big_bytes 4 message.number) spells.options spells.option_data
@@ -89,6 +95,23 @@ four_bits (content.Overall opcode code) section is small = tt
 four_bits (content.OtherAnswer opcode code) section is small = tt
 
 -- the opcode of an HTCP message that octets spell has four bits
-pub htcp_is_answerable : (octets : List ℕ) (message : Htcp) → IsOctets octets → htcp.Spells octets message → HasOpcode message.content
+htcp_is_answerable : (octets : List ℕ) (message : Htcp) → IsOctets octets → htcp.Spells octets message → HasOpcode message.content
 htcp_is_answerable octets message fits spells =
     four_bits message.content spells.section spells.is_content (omega (arith, fits 6, opcode_octet octets message spells))
+
+-- the message that a codec has read
+
+icp_read : (read : Option Icp) (m : Icp) → option_map (λ m. message.Icp m) read ≡ Some (message.Icp m) → read ≡ Some m
+icp_read None m is = absurd cc
+icp_read (Some n) m is = cc
+
+htcp_read : (read : Option Htcp) (m : Htcp) → option_map (λ m. message.Htcp m) read ≡ Some (message.Htcp m) → read ≡ Some m
+htcp_read None m is = absurd cc
+htcp_read (Some n) m is = cc
+
+pub spelled_answerable : (m : Message) → IsSpelled m → IsAnswerable m
+spelled_answerable (message.Icp m) is =
+    icp_is_answerable is.octets m ((icp_exact.decoded_exact is.octets is.are_octets).spelled m (icp_read _ m is.spell))
+spelled_answerable (message.Htcp m) is =
+    htcp_is_answerable is.octets m is.are_octets
+    ((htcp_exact.decoded_exact is.octets is.are_octets).spelled m (htcp_read _ m is.spell))
