@@ -3,6 +3,7 @@ pub mod Names
 pub mod Grammar
 pub mod Clearing
 pub mod Reading
+pub mod Questions
 pub mod Faults
 pub mod Written
 pub mod Laws

@@ -6,6 +6,7 @@
 //!   TST and CLR with what they say, all others by their numbers. Contracts see its fields, and the
 //!   texts as lists of octets.
 //! - [`decode`]: the message of a datagram, or its first fault ([`HtcpFault`]).
+//! - [`is_test`]: whether a datagram begins like a TST request, before it is decoded.
 //! - [`fits`], [`encode`]: whether a message can be written, and its octets.
 //! - [`number_in`]: the number in a private header line, `X-Purge-Number` or `X-Purge-Stamp`
 //!   ([`HeaderKind`]).
@@ -24,14 +25,15 @@
 //!    `IsContent` says which DATA a content has.
 //! 2. `specs/Reading.antt`: what is at which offset. `specs/Faults.antt`: the first fault of a
 //!    datagram (`first_fault`). `specs/Decoded.antt`: its message as a function (`decoded`).
+//!    `specs/Questions.antt`: which octets begin like a TST request.
 //! 3. `specs/Written.antt`: the octets that are written, and of which messages (`Fits`).
 //! 4. `specs/Numbers.antt`, `specs/Lines.antt`: the number of a header line, and the lines of a
 //!    text. `specs/Clearing.antt`: which responses to CLR acknowledge a purge.
 //! 5. `specs/Laws.antt`, `src/laws.rt` and `src/decoding.rt`: the laws. `specs/Names.antt`: names
 //!    that scripts print.
 //!    `specs/Cut.antt`: contents whose texts are still in the datagram.
-//! 6. `src/message.rt`, `src/fault.rt`, `src/reading.rt`, `src/cut.rt`, `src/writing.rt`,
-//!    `src/numbers.rt`.
+//! 6. `src/message.rt`, `src/fault.rt`, `src/reading.rt`, `src/cut.rt`, `src/questions.rt`,
+//!    `src/writing.rt`, `src/numbers.rt`.
 //! 7. `proofs/Decided.antt`, and before it what it is built on, in the order of `proofs/Lib.antt`.
 //!
 //! It touches no file, socket, clock or thread.
@@ -43,6 +45,7 @@ mod fault;
 mod laws;
 mod message;
 mod numbers;
+mod questions;
 mod reading;
 mod writing;
 
@@ -53,5 +56,6 @@ pub use message::{
     CLR, Content, Detail, Htcp, LONGEST_WRITTEN, NOT_ALLOWED, NOT_IMPLEMENTED, Specifier, TST,
 };
 pub use numbers::{HeaderKind, number_in};
+pub use questions::is_test;
 pub use reading::decode;
 pub use writing::{encode, fits};

@@ -4,6 +4,7 @@
 //! - [`Icp`]: a message with its [`IcpOp`], request number, URL and object. Contracts see its
 //!   fields, and the texts as lists of octets.
 //! - [`decode`]: the message of a datagram, or its first fault ([`IcpFault`]).
+//! - [`is_query`]: whether a datagram begins like a QUERY, before it is decoded.
 //! - [`fits`], [`encode`]: whether a message can be written, and its octets.
 //! - [`grammar_is_exact`], [`decoded_is_exact`], [`written_is_spelled`]: laws. A datagram spells
 //!   exactly one message or has a fault; the function `decoded` gives that message; what `encode`
@@ -18,10 +19,11 @@
 //! 1. `specs/Grammar.antt`: which octets spell which message (`Spells`).
 //! 2. `specs/Reading.antt`: what is at which offset. `specs/Faults.antt`: the first fault of a
 //!    datagram (`first_fault`). `specs/Decoded.antt`: its message as a function (`decoded`).
+//!    `specs/Questions.antt`: which octets begin like a QUERY.
 //! 3. `specs/Written.antt`: the octets that are written, and of which messages (`Fits`).
 //! 4. `specs/Laws.antt`, `src/laws.rt` and `src/decoding.rt`: the laws. `specs/Names.antt`: names
 //!    that scripts print.
-//! 5. `src/message.rt`, `src/fault.rt`, `src/reading.rt`, `src/writing.rt`.
+//! 5. `src/message.rt`, `src/fault.rt`, `src/reading.rt`, `src/questions.rt`, `src/writing.rt`.
 //! 6. `proofs/Decided.antt`, and before it what it is built on, in the order of `proofs/Lib.antt`.
 //!
 //! It touches no file, socket, clock or thread.
@@ -31,6 +33,7 @@ mod decoding;
 mod fault;
 mod laws;
 mod message;
+mod questions;
 mod reading;
 mod writing;
 
@@ -38,5 +41,6 @@ pub use decoding::decoded_is_exact;
 pub use fault::IcpFault;
 pub use laws::{grammar_is_exact, written_is_spelled};
 pub use message::{Icp, IcpOp, LONGEST_MESSAGE};
+pub use questions::is_query;
 pub use reading::decode;
 pub use writing::{encode, fits};
