@@ -1,6 +1,9 @@
 //! ICP queries and HTCP TST requests, which are answered on the thread of the event loop.
 ghost use Rattle.std.specs.Prelude.{◌≡◌};
-ghost use Rattle.cluster_service.specs.Questions.{is_question as asks};
+ghost use Rattle.node_rules.specs.declared.message.Message.{Message};
+ghost use Rattle.node_rules.specs.Questions.{is_question as asks};
+ghost use Rattle.node_bytes.specs.Bytes.{SpellsBy};
+ghost use Rattle.cluster_service.specs.Questions.{begins_question};
 
 use crate::gate::Gate;
 use crate::station::{Station, seconds};
@@ -9,9 +12,6 @@ use node_bytes::{Stepper, Turn, on_datagram};
 use roster::{Address, Udp};
 use std::sync::Wait;
 use std::time::Clock;
-
-/// The opcode of an ICP QUERY (RFC 2186) and of an HTCP TST (RFC 2756).
-const QUESTION: u8 = 1;
 
 /// How many responses are held back at most, so that the first waits for no more than 32 steps.
 const MOST_HELD: usize = 32;
@@ -76,17 +76,18 @@ impl<N: Stepper + Drop, G: Gate + Drop> Questions<'_, N, G> {
     }
 }
 
-/// Whether octets are a question, if they are a message at all: by the opcode, and in HTCP by the
-/// bit RR, which is clear in a request.
+/// Whether octets are a question, if they are a message at all: an ICP QUERY or an HTCP TST
+/// request, as the codecs say before they decode.
 fn is_question(udp: Udp, octets: &[u8]) -> bool
-    ensures { result ≡ asks udp octets.now }
+    // The octets begin like one.
+    ensures begins { result ≡ begins_question udp octets.now }
+    // If the octets spell a message, this says whether it is a question, whose step begins nothing.
+    ensures spelled { (message : Message) → SpellsBy udp octets.now message →
+        result ≡ asks message }
 {
-    match (udp, octets) {
-        (Udp::Icp, [code, ..]) => *code == QUESTION,
-        (Udp::Htcp, [_, _, _, _, _, _, code, flags, ..]) => {
-            code >> 4 == QUESTION && flags & 1 == 0
-        }
-        _ => false,
+    match udp {
+        Udp::Icp => icp_wire::is_query(octets),
+        Udp::Htcp => htcp_wire::is_test(octets),
     }
 }
 
