@@ -13,16 +13,18 @@
 //! and the senders. A [`Gate`] (a trait) is called before an origin is read. No lock is held
 //! while a socket is waited for.
 //!
-//! Order of reading: `src/station.rt` (what is shared); `src/worker.rt`, `src/fetcher.rt`,
+//! Order of reading: `specs/Steps.antt` (which steps each thread takes), `specs/Questions.antt`,
+//! `specs/Addresses.antt`; `src/station.rt` (what is shared); `src/worker.rt`, `src/fetcher.rt`,
 //! `src/questions.rt`; `src/seated.rt` (what workers and fetchers do with a step); `src/telling.rt`
-//! (how a client is answered); `src/gate.rt`; `specs/Questions.antt`,
-//! `specs/Addresses.antt`.
+//! (how a client is answered); `src/gate.rt`; `proofs/Steps.antt` (what steps add up to).
 //!
 //! The crate reads and writes sockets, opens connections (`cluster_fetch`), reads the clock, and waits
 //! at the station's locks. It starts no thread and opens no listener.
 //!
-//! Contracts say which octets are a question (`is_question`) and where a peer is asked
-//! (`source_of`). No contract says what is done over sockets: tests show it.
+//! Contracts say which steps are taken, with which events, and that what is done next is what the
+//! step before it asks for. They also say which octets are a question (`is_question`) and where a
+//! peer is asked (`source_of`). No contract says what is done over sockets, or at which time: tests
+//! show it.
 #![tactic(auto)]
 
 mod fetcher;

@@ -1,15 +1,17 @@
 //! ICP queries and HTCP TST requests, which are answered on the thread of the event loop.
-ghost use Rattle.std.specs.Prelude.{◌≡◌};
+ghost use Rattle.std.specs.Prelude.{◌≡◌, []};
 ghost use Rattle.node_rules.specs.declared.message.Message.{Message};
 ghost use Rattle.node_rules.specs.Questions.{is_question as asks};
 ghost use Rattle.node_bytes.specs.Bytes.{SpellsBy};
 ghost use Rattle.cluster_service.specs.Questions.{begins_question};
+ghost use Rattle.cluster_service.specs.Steps.{Holds, CarriesOut, DealsWith};
 
 use crate::gate::Gate;
 use crate::station::{Station, seconds};
 use cluster_sockets::AtOnce;
 use node_bytes::{Stepper, Turn, on_datagram};
 use roster::{Address, Udp};
+use std::marker::Model;
 use std::sync::Wait;
 use std::time::Clock;
 
@@ -22,6 +24,8 @@ const MOST_HELD: usize = 32;
 ///
 /// Responses to questions that came together are sent together: the first one wakes the receiver,
 /// and the others mostly find it awake.
+///
+/// A contract sees what takes the steps, and the turns that are held back.
 #[derive(Drop)]
 pub struct Questions<'a, N: Stepper + Drop, G: Gate + Drop> {
     station: &'a Station<G>,
@@ -29,9 +33,19 @@ pub struct Questions<'a, N: Stepper + Drop, G: Gate + Drop> {
     held: Vec<Turn>,
 }
 
+impl<'a, N: Stepper + Drop, G: Gate + Drop> Model for Questions<'a, N, G> {
+    ghost use Rattle.cluster_service.specs.Steps.{QuestionsView};
+
+    ghost Value = { QuestionsView N };
+
+    ghost view = { λ questions. record { node = questions.node; held = questions.held.items } };
+}
+
 impl<'a, N: Stepper + Drop, G: Gate + Drop> Questions<'a, N, G> {
     /// Questions to this node, none of which is held back.
-    pub fn new(station: &'a Station<G>, node: N) -> Questions<'a, N, G> {
+    pub fn new(station: &'a Station<G>, node: N) -> Questions<'a, N, G>
+        ensures { result ≡ record { node = node; held = [] } }
+    {
         Questions {
             station,
             node,
@@ -42,7 +56,9 @@ impl<'a, N: Stepper + Drop, G: Gate + Drop> Questions<'a, N, G> {
 
 impl<N: Stepper + Drop, G: Gate + Drop> Questions<'_, N, G> {
     /// Sends the responses that are held back, in the order of their questions.
-    fn send_held(&mut self) {
+    fn send_held(&mut self)
+        ensures { self.new ≡ record { node = self.old.node; held = [] } }
+    {
         for turn in self.held.as_slice() {
             self.station.send_all(turn.send.as_slice());
         }
@@ -51,7 +67,10 @@ impl<N: Stepper + Drop, G: Gate + Drop> Questions<'_, N, G> {
 
     /// Holds a response back until the loop has read what is ready, or 32 are held. Where there is
     /// no memory to hold it, it is sent now, after those that are held.
-    fn hold(&mut self, turn: Turn) {
+    fn hold(&mut self, turn: Turn)
+        ensures node { self.new.node ≡ self.old.node }
+        ensures held { Holds self.old.held turn self.new.held }
+    {
         if self.held.len() >= MOST_HELD {
             self.send_held();
         }
@@ -65,7 +84,10 @@ impl<N: Stepper + Drop, G: Gate + Drop> Questions<'_, N, G> {
 
     /// Has what a step asks for sent. What a question never asks for (to serve a client, or to
     /// begin a fetch) is left to a fetcher, since it would have to be waited for.
-    fn carry_out<R: Wait>(&mut self, rt: &R, turn: Turn) {
+    fn carry_out<R: Wait>(&mut self, rt: &R, turn: Turn)
+        ensures node { self.new.node ≡ self.old.node }
+        ensures held { CarriesOut turn.serve turn.begin self.old.held turn self.new.held }
+    {
         if turn.serve.is_none() && turn.begin.is_none() {
             self.hold(turn);
         } else {
@@ -98,7 +120,9 @@ impl<N: Stepper + Drop, G: Gate + Drop> AtOnce for Questions<'_, N, G> {
         udp: Udp,
         from: Address,
         octets: &[u8],
-    ) -> bool {
+    ) -> bool
+        ensures { DealsWith N.takes udp from octets.now self.old result self.new }
+    {
         if !is_question(udp, octets) {
             return false;
         }
@@ -113,7 +137,9 @@ impl<N: Stepper + Drop, G: Gate + Drop> AtOnce for Questions<'_, N, G> {
         }
     }
 
-    fn finish(&mut self) {
+    fn finish(&mut self)
+        ensures { self.new ≡ record { node = self.old.node; held = [] } }
+    {
         if !self.held.is_empty() {
             self.send_held();
         }

@@ -1,4 +1,7 @@
 //! What workers and fetchers do with the steps of a node.
+ghost use Rattle.std.specs.Prelude.{◌≡◌};
+ghost use Rattle.cluster_service.specs.Steps.{TakesOne, BeginsAtMost, BeginsRound, EndsRound, FailsFetch};
+
 use crate::gate::Gate;
 use crate::station::{Station, milliseconds, seconds};
 use crate::telling::{refuse_all, tell};
@@ -30,7 +33,9 @@ pub struct Seated<'a, N: Stepper + Drop, G: Gate + Drop, R> {
 
 impl<N: Stepper + Drop, G: Gate + Drop, R: Wait + Clock> Seated<'_, N, G, R> {
     /// Takes a step, and returns what is to be done then.
-    pub(crate) fn step(&mut self, event: Event<()>) -> Option<Turn> {
+    pub(crate) fn step(&mut self, event: Event<()>) -> Option<Turn>
+        ensures { TakesOne N.takes event self.old.node self.new.node result }
+    {
         match self.node.step(event) {
             Ok(reply) => Turn::of(self.station.alloc, reply).ok(),
             Err(fault) => {
@@ -41,7 +46,9 @@ impl<N: Stepper + Drop, G: Gate + Drop, R: Wait + Clock> Seated<'_, N, G, R> {
     }
 
     /// Notes a fault of a step. Where the node has closed, those who wait get 503.
-    pub(crate) fn note(&mut self, fault: StepFault) {
+    pub(crate) fn note(&mut self, fault: StepFault)
+        ensures { self.new.node ≡ self.old.node }
+    {
         if fault == StepFault::Closed || fault == StepFault::StoreFault {
             self.station.is_closed.store(true, Ordering::SeqCst);
             self.refuse_all();
@@ -49,18 +56,25 @@ impl<N: Stepper + Drop, G: Gate + Drop, R: Wait + Clock> Seated<'_, N, G, R> {
     }
 
     /// Answers 503 to all who wait.
-    pub(crate) fn refuse_all(&mut self) {
+    pub(crate) fn refuse_all(&mut self)
+        ensures { self.new.node ≡ self.old.node }
+    {
         refuse_all(self.rt, self.station, &mut self.polls);
     }
 
     /// Writes what a client is served.
-    pub(crate) fn tell(&mut self, stream: TcpStream, serve: &Serve<()>) {
+    pub(crate) fn tell(&mut self, stream: TcpStream, serve: &Serve<()>)
+        ensures { self.new.node ≡ self.old.node }
+    {
         tell(self.rt, self.station, &mut self.polls, stream, serve);
     }
 
     /// Sends and serves what a step asks for, and returns what it begins. At a node that is to
     /// stop, nothing more begins.
-    pub(crate) fn carry_out(&mut self, turn: Turn) -> Option<Begin> {
+    pub(crate) fn carry_out(&mut self, turn: Turn) -> Option<Begin>
+        ensures node { self.new.node ≡ self.old.node }
+        ensures begins { BeginsAtMost turn result }
+    {
         let Turn { serve, send, begin } = turn;
         self.station.send_all(send.as_slice());
         if let Some(serve) = serve {
@@ -74,7 +88,9 @@ impl<N: Stepper + Drop, G: Gate + Drop, R: Wait + Clock> Seated<'_, N, G, R> {
 
     /// Answers the client whose request is served, or keeps the answer until that client comes to
     /// the tables.
-    fn serve(&mut self, serve: Serve<()>) {
+    fn serve(&mut self, serve: Serve<()>)
+        ensures { self.new.node ≡ self.old.node }
+    {
         let Some(block) = serve.waiter else {
             return;
         };
@@ -85,7 +101,9 @@ impl<N: Stepper + Drop, G: Gate + Drop, R: Wait + Clock> Seated<'_, N, G, R> {
 
     /// Has a round wait for `query_wait` milliseconds (of the roster). Where it cannot wait, its
     /// time is over at once.
-    pub(crate) fn begin_round(&mut self, serial: u32) -> Option<Turn> {
+    pub(crate) fn begin_round(&mut self, serial: u32) -> Option<Turn>
+        ensures { BeginsRound N.takes serial self.old.node self.new.node result }
+    {
         let wait = self.station.roster.limits().query_wait;
         let until = milliseconds(self.rt).saturating_add(wait);
         match self.station.tables.begin(self.rt, until, serial) {
@@ -95,13 +113,17 @@ impl<N: Stepper + Drop, G: Gate + Drop, R: Wait + Clock> Seated<'_, N, G, R> {
     }
 
     /// Takes the step of a round whose time is over (RFC 2187, section 5.3.3).
-    pub(crate) fn end_round(&mut self, serial: u32) -> Option<Turn> {
+    pub(crate) fn end_round(&mut self, serial: u32) -> Option<Turn>
+        ensures { EndsRound N.takes serial self.old.node self.new.node result }
+    {
         let now = seconds(self.rt);
         self.step(Event::Expired { serial, now })
     }
 
     /// Takes the step of a fetch that failed.
-    pub(crate) fn fail(&mut self, serial: u32) -> Option<Turn> {
+    pub(crate) fn fail(&mut self, serial: u32) -> Option<Turn>
+        ensures { FailsFetch N.takes serial self.old.node self.new.node result }
+    {
         let now = seconds(self.rt);
         self.step(Event::FetchFailed { serial, now })
     }

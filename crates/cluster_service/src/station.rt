@@ -27,9 +27,9 @@ pub struct Station<G: Drop> {
     pub errands: Errands<Turn>,
     pub(crate) alloc: Global,
     /// Who takes part.
-    pub(crate) roster: Roster,
+    pub roster: Roster,
     /// The member's id.
-    pub(crate) id: u8,
+    pub id: u8,
     /// The node's UDP sockets, for sending.
     pub(crate) senders: Senders,
     /// Whether a step has answered that the node is closed, or that its store has failed.

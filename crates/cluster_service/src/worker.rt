@@ -1,6 +1,8 @@
 //! What a worker does with a job.
 ghost use Rattle.std.specs.Prelude.{◌≡◌, true};
 ghost use Rattle.roster.specs.Lookups.{is_member};
+ghost use Rattle.node_rules.specs.State.{serial_of as serial_begun};
+ghost use Rattle.cluster_service.specs.Steps.{ServesOnce, TakesDatagram, TakesRequest, TakesJob, DoesJob, GoesOn, GivesUp, CarriesOn, HandsOver, begun_in};
 
 use crate::gate::Gate;
 use crate::seated::{MOST_FURTHER_STEPS, Seated};
@@ -47,7 +49,9 @@ fn ask<N: Stepper, G: Gate + Drop, C: Clock>(
     incoming: &mut TcpStream,
     outgoing: &mut TcpStream,
     octets: &[u8],
-) -> Result<Asked, ServeFault> {
+) -> Result<Asked, ServeFault>
+    ensures { ServesOnce N.takes station.now.roster station.now.id node.old node.new result }
+{
     let StreamPolls { reading, writing } = polls;
     match Timed::new(clock, reading, incoming, Duration::from_secs(PATIENCE)) {
         Ok(rest) => {
@@ -66,7 +70,9 @@ fn answer<N: Stepper, G: Gate + Drop, I: Read, C: Clock>(
     reader: &mut I,
     writing: &mut StreamPoll,
     outgoing: &mut TcpStream,
-) -> Result<Asked, ServeFault> {
+) -> Result<Asked, ServeFault>
+    ensures { ServesOnce N.takes station.now.roster station.now.id node.old node.new result }
+{
     match Timed::new(clock, writing, outgoing, Duration::from_secs(PATIENCE)) {
         Ok(mut writer) => {
             let now = seconds(clock);
@@ -88,7 +94,9 @@ fn answer<N: Stepper, G: Gate + Drop, I: Read, C: Clock>(
 }
 
 /// The serial of the round or fetch that begins.
-fn serial_of(begin: &Begin) -> u32 {
+fn serial_of(begin: &Begin) -> u32
+    ensures { result ≡ serial_begun begin.now }
+{
     match begin {
         Begin::Round { serial } | Begin::Peer { serial, .. } | Begin::Read { serial, .. } => {
             *serial
@@ -98,12 +106,31 @@ fn serial_of(begin: &Begin) -> u32 {
 
 impl<N: Stepper + Drop, G: Gate + Drop, R: Wait + Clock> Worker<'_, N, G, R> {
     /// Does a job. A fetch that a step begins is left to the fetchers.
-    pub fn do_job(&mut self, job: Job) {
-        let mut next = match job {
+    pub fn do_job(&mut self, job: Job)
+        ensures { DoesJob N.takes self.old.seated.station.now.roster self.old.seated.station.now.id
+            job self.old.seated.node self.new.seated.node }
+    {
+        let turn = self.take(job);
+        self.go_on(turn);
+    }
+
+    /// Takes the first step of a job, and returns what is to be done then.
+    fn take(&mut self, job: Job) -> Option<Turn>
+        ensures { TakesJob N.takes self.old.seated.station.now.roster self.old.seated.station.now.id
+            job self.old.seated.node self.new.seated.node result }
+    {
+        match job {
             Job::Datagram { udp, from, octets } => self.take_datagram(udp, from, octets.as_slice()),
             Job::Stream { stream, octets, .. } => self.take_stream(stream, octets.as_slice()),
             Job::Timer { serial } => self.seated.end_round(serial),
-        };
+        }
+    }
+
+    /// Does what a step asks for, and what the steps after it ask for.
+    fn go_on(&mut self, turn: Option<Turn>)
+        ensures { GoesOn N.takes GivesUp (begun_in turn) self.old.seated.node self.new.seated.node }
+    {
+        let mut next = turn;
         for _ in 0..MOST_FURTHER_STEPS {
             let Some(turn) = next else {
                 break;
@@ -113,7 +140,10 @@ impl<N: Stepper + Drop, G: Gate + Drop, R: Wait + Clock> Worker<'_, N, G, R> {
     }
 
     /// Takes the step of a datagram.
-    fn take_datagram(&mut self, udp: Udp, from: Address, octets: &[u8]) -> Option<Turn> {
+    fn take_datagram(&mut self, udp: Udp, from: Address, octets: &[u8]) -> Option<Turn>
+        ensures { TakesDatagram N.takes udp from octets.now self.old.seated.node
+            self.new.seated.node result }
+    {
         let station = self.seated.station;
         let now = seconds(self.seated.rt);
         match on_datagram(station.alloc, &mut self.seated.node, udp, from, octets, now) {
@@ -126,7 +156,10 @@ impl<N: Stepper + Drop, G: Gate + Drop, R: Wait + Clock> Worker<'_, N, G, R> {
     }
 
     /// Reads and answers the request of a connection, or leaves its client in the table.
-    fn take_stream(&mut self, stream: TcpStream, octets: &[u8]) -> Option<Turn> {
+    fn take_stream(&mut self, stream: TcpStream, octets: &[u8]) -> Option<Turn>
+        ensures { TakesRequest N.takes self.old.seated.station.now.roster
+            self.old.seated.station.now.id self.old.seated.node self.new.seated.node result }
+    {
         let (mut incoming, mut outgoing) = ends_of(stream).ok()?;
         let seated = &mut self.seated;
         match ask(
@@ -153,7 +186,9 @@ impl<N: Stepper + Drop, G: Gate + Drop, R: Wait + Clock> Worker<'_, N, G, R> {
 
     /// Leaves a client in the table until its request is served, or answers it where that has
     /// happened. Where the node has closed meanwhile, all who wait get 503.
-    fn leave(&mut self, block: u32, stream: TcpStream) {
+    fn leave(&mut self, block: u32, stream: TcpStream)
+        ensures { self.new.seated.node ≡ self.old.seated.node }
+    {
         let station = self.seated.station;
         match station.tables.leave(self.seated.rt, block, stream) {
             Ok(Some((stream, serve))) => self.seated.tell(stream, &serve),
@@ -168,7 +203,9 @@ impl<N: Stepper + Drop, G: Gate + Drop, R: Wait + Clock> Worker<'_, N, G, R> {
 
     /// Does what a step asks for. Another step follows only where what begins can neither wait nor
     /// be left to a fetcher.
-    fn follow(&mut self, turn: Turn) -> Option<Turn> {
+    fn follow(&mut self, turn: Turn) -> Option<Turn>
+        ensures { CarriesOn N.takes GivesUp turn self.old.seated.node self.new.seated.node result }
+    {
         match self.seated.carry_out(turn)? {
             Begin::Round { serial } => self.seated.begin_round(serial),
             fetch => self.hand_over(fetch),
@@ -176,7 +213,9 @@ impl<N: Stepper + Drop, G: Gate + Drop, R: Wait + Clock> Worker<'_, N, G, R> {
     }
 
     /// Leaves a fetch to the fetchers. Where there is no memory for that, the fetch has failed.
-    fn hand_over(&mut self, fetch: Begin) -> Option<Turn> {
+    fn hand_over(&mut self, fetch: Begin) -> Option<Turn>
+        ensures { HandsOver N.takes fetch self.old.seated.node self.new.seated.node result }
+    {
         let station = self.seated.station;
         let serial = serial_of(&fetch);
         let mut errand = Turn::idle(station.alloc);
