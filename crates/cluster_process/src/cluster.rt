@@ -58,16 +58,16 @@ struct Common<'a> {
 /// or that of the master; `status P` prints `pending C`, `done P` or `unknown`, or the fault of the
 /// master; `get N URL` asks member N over HTTP, as a client, and prints the status and the body in
 /// hex (`-` where it is empty), or the name of the fault; `check` has all that the members and the
-/// master did so far judged, and prints `yes`, `no PLACE CAUSE`, `forgotten`, or why the record of a
-/// member is not given; `quit` prints nothing. Any other line, also one that names no member,
+/// master did so far judged, and prints `yes`, `no PLACE CAUSE`, `forgotten`, or why the record of
+/// a member is not given; `quit` prints nothing. Any other line, also one that names no member,
 /// prints `bad line`.
 ///
-/// For `check`, what the members and the master did is kept in memory: `history` pages of each member
-/// and of the master, of 4,096 steps or calls each. A member's page is shorter where its events have
-/// brought 4 MiB along. All that is kept may not be more than so many steps and
-/// calls; four floors, copies or pending requests in the opening or closing state of a record count
-/// as one, and so do 1,024 octets that its events brought along. Where there would be more, all of
-/// it is dropped, and `check` prints `forgotten` from then on. With 0 nothing is kept.
+/// For `check`, what the members and the master did is kept in memory: `history` pages of each
+/// member and of the master, of 4,096 steps or calls each. A member's page is shorter where its
+/// events have brought 4 MiB along. All that is kept may not be more than so many steps and calls;
+/// four floors, copies or pending requests in the opening or closing state of a record count as
+/// one, and so do 1,024 octets that its events brought along. Where there would be more, all of it
+/// is dropped, and `check` prints `forgotten` from then on. With 0 nothing is kept.
 ///
 /// What is kept at the end is returned, if it is all that was done until then; each verdict that
 /// was printed is the one on a front of it, which was gathered when that line came.

@@ -69,8 +69,8 @@ impl<S: PurgeStore> Judge<'_, S> {
         Ok(())
     }
 
-    /// Holds all members and the master, gathers what they did since the last time, and lets them go
-    /// on. So nothing is done between the first record that is taken and the last entry.
+    /// Holds all members and the master, gathers what they did since the last time, and lets them
+    /// go on. So nothing is done between the first record that is taken and the last entry.
     ///
     /// Faults: those of [`Workers::record`](node_workers::Workers::record). What was gathered
     /// before such a fault stays, and the rest is gathered the next time. Where there is no memory

@@ -18,8 +18,8 @@
 //! `src/questions.rt`; `src/seated.rt` (what workers and fetchers do with a step); `src/telling.rt`
 //! (how a client is answered); `src/gate.rt`; `proofs/Steps.antt` (what steps add up to).
 //!
-//! The crate reads and writes sockets, opens connections (`cluster_fetch`), reads the clock, and waits
-//! at the station's locks. It starts no thread and opens no listener.
+//! The crate reads and writes sockets, opens connections (`cluster_fetch`), reads the clock, and
+//! waits at the station's locks. It starts no thread and opens no listener.
 //!
 //! Contracts say which steps are taken, with which events, and that what is done next is what the
 //! step before it asks for. They also say which octets are a question (`is_question`) and where a

@@ -144,8 +144,8 @@ fn polls_for<N: Net>(
     }
 }
 
-/// Opens what the threads of a node work with, beside the node, and the signals that they share with
-/// the thread that starts them.
+/// Opens what the threads of a node work with, beside the node, and the signals that they share
+/// with the thread that starts them.
 fn edge_of<G: Gate + Drop, R: Net + Clock>(
     rt: &R,
     alloc: Global,
@@ -293,12 +293,13 @@ impl Workers {
         self.halt.hold(rt);
     }
 
-    /// Hands out the record of the steps since the last time, and begins the next one; or none, where
-    /// none is kept, from the start or since there were more pages than are kept. A node that was not
-    /// held is held first, and stays held.
+    /// Hands out the record of the steps since the last time, and begins the next one; or none,
+    /// where none is kept, from the start or since there were more pages than are kept. A node that
+    /// was not held is held first, and stays held.
     ///
-    /// Faults: `NoMemory` where there is no memory to begin the next record; the node stays held, its
-    /// record stays with it, and may be asked for again. `Ended` where the node's thread has ended.
+    /// Faults: `NoMemory` where there is no memory to begin the next record; the node stays held,
+    /// its record stays with it, and may be asked for again. `Ended` where the node's thread has
+    /// ended.
     pub fn record<R: Wait>(&self, rt: &R) -> Result<Option<Record>, StopFault> {
         self.halt.hold(rt);
         self.halt.ask(rt)

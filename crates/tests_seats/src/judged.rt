@@ -158,8 +158,8 @@ fn alter(alloc: Global, record: &mut Record) -> Option<u64> {
     }
 }
 
-/// How many of the records are judged. Where it is altered, the last of these has its reply silenced
-/// first.
+/// How many of the records are judged. Where it is altered, the last of these has its reply
+/// silenced first.
 #[derive(Clone, Copy)]
 struct Trial {
     count: usize,

@@ -129,8 +129,8 @@ fn key_of(alloc: Global) -> Option<Key> {
     }
 }
 
-/// A client asks for the page, of which there is no copy: for what is held alone, or else for one of
-/// the origin's.
+/// A client asks for the page, of which there is no copy: for what is held alone, or else for one
+/// of the origin's.
 pub(crate) fn asked(alloc: Global, only_if_cached: bool) -> Option<Event<()>> {
     let ask = Ask {
         key: key_of(alloc)?,

@@ -192,8 +192,8 @@ fn wrong_move<J: Origin, R: Wait>(
     None
 }
 
-/// The same of a new node; or no answer where there is no memory. All records that are taken are put
-/// behind these.
+/// The same of a new node; or no answer where there is no memory. All records that are taken are
+/// put behind these.
 fn tried<J: Origin, R: Wait>(
     rt: &R,
     alloc: Global,

@@ -159,8 +159,8 @@ fn make_hundred<J: Origin, R: Wait>(
     }
 }
 
-/// Has a thread of its own for each seat make a hundred calls, and counts those that were told their
-/// fault.
+/// Has a thread of its own for each seat make a hundred calls, and counts those that were told
+/// their fault.
 fn make_hundreds<J: Origin + Send + Sync, R: Threads + Wait + Sync>(
     rt: &R,
     node: &SharedNode<MemoryFloors, J>,
@@ -228,8 +228,8 @@ fn hundreds_of(records: &[Record]) -> Option<(usize, usize)> {
     Some((entries.len(), seats))
 }
 
-/// How many of the calls of eight threads were told their fault; how many entries there are, and how
-/// many seats have theirs in order; and the verdict on the record.
+/// How many of the calls of eight threads were told their fault; how many entries there are, and
+/// how many seats have theirs in order; and the verdict on the record.
 type Hundreds = (u64, (usize, usize), Verdict);
 
 /// What is seen of the calls of eight threads.
