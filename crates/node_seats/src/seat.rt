@@ -1,7 +1,7 @@
 //! A seat: one thread's right to call a node, with what the thread knows of the node's history.
 ghost use Rattle.std.specs.Prelude.{◌≡◌};
 
-use node_history::{Front, Run};
+use values_history::{Front, Run};
 use std::marker::{Brand, Model};
 
 /// Which run of which node it is, and how its history begins.

@@ -14,7 +14,7 @@ use crate::whole::Whole;
 use floor_rules::FloorStore;
 use node_book::Record;
 use node_core::Node;
-use node_history::{Front, Head};
+use values_history::{Front, Head};
 use node_rules::{Event, Reply, StepFault};
 use std::alloc::{AllocError, Global};
 use std::sync::{Mutex, MutexGuard, Wait};

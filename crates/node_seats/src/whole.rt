@@ -5,7 +5,7 @@ ghost use Rattle.node_seats.specs.Seats.{Adds, IsNext};
 
 use crate::seat::{Origin, Seat};
 use node_book::NodeEntry;
-use node_history::{Front, Head};
+use values_history::{Front, Head};
 use std::alloc::{AllocError, Global};
 use std::marker::Model;
 

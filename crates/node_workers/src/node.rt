@@ -12,7 +12,7 @@ use cluster_streams::StreamPolls;
 use floor_rules::FloorStore;
 use node_book::Record;
 use node_core::Node;
-use node_history::NewHistory;
+use values_history::NewHistory;
 use node_seats::{Origin, Places, Retention, Seat, SharedNode};
 use std::alloc::Global;
 use std::marker::Brand;

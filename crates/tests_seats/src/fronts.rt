@@ -2,7 +2,7 @@
 ghost use Rattle.std.specs.Prelude.{◌≡◌};
 
 use node_book::NodeEntry;
-use node_history::{NewHistory, Run};
+use values_history::{NewHistory, Run};
 use node_rules::{Event, StepFault};
 use std::marker::Brand;
 use std::test::Fail;

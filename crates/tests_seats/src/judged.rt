@@ -5,7 +5,7 @@ ghost use Rattle.node_seats.specs.Beginning.{beginning_of};
 use crate::nodes::{Start, asked, call, share, start_of, take, verdict_on};
 use node_book::{NodeEntry, Record};
 use node_copies::{copy_of_event, copy_of_reply};
-use node_history::NewHistory;
+use values_history::NewHistory;
 use node_rules::{Event, Reply, StepFault};
 use node_seats::{Origin, Retention};
 use roster::Listed;

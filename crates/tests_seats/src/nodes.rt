@@ -6,7 +6,7 @@ use floor_rules::MemoryFloors;
 use http_messages::{Answer, Ask, Body, Fields};
 use node_book::Record;
 use node_core::Node;
-use node_history::NewHistory;
+use values_history::NewHistory;
 use node_rules::{Event, Reply, StepFault};
 use node_seats::{Origin, Places, Retention, Seat, SharedNode};
 use roster::Roster;

@@ -7,7 +7,7 @@ use crate::seats::is_unknown;
 use floor_rules::MemoryFloors;
 use node_book::Record;
 use node_bytes::Stepper;
-use node_history::NewHistory;
+use values_history::NewHistory;
 use node_rules::Event;
 use node_seats::{AtSeat, Origin, Retention, Seat, SharedNode};
 use run_check::Verdict;

@@ -5,7 +5,7 @@ ghost use Rattle.node_seats.specs.Beginning.{beginning_of};
 use crate::nodes::{Shared, Start, Told, asked, share, start_of, take, verdict_on};
 use floor_rules::MemoryFloors;
 use node_book::{NodeEntry, Record};
-use node_history::NewHistory;
+use values_history::NewHistory;
 use node_rules::{Event, Served, StepFault};
 use node_seats::{Origin, Places, Retention, Seat, SharedNode};
 use run_check::Verdict;
