@@ -4,21 +4,16 @@ use Rattle.values_tables.specs.declared.plain.Tables.{Tables}
 use Rattle.http_messages.specs.declared.ask.Ask.{Ask}
 use Rattle.http_messages.specs.declared.fault.FetchFault.{FetchFault}
 use Rattle.node_rules.specs.declared.reply.Begin.{Begin}
-use Rattle.node_rules.specs.declared.reply.Begin.TheVariants as begin
 use Rattle.node_bytes.specs.declared.turns.Turn.{Turn}
-use Rattle.node_http.specs.declared.asking.Asked.{Asked}
+use Rattle.node_http.specs.declared.taking.Taken.{Taken}
 use Rattle.node_http.specs.declared.fault.ServeFault.{ServeFault}
-use Rattle.node_http.specs.Asking.{AfterRead, AfterStep}
+use Rattle.node_http.specs.Asking.{AfterRead, IsTaken}
 use Rattle.node_rules.specs.declared.reply.StepFault.{StepFault}
 use Rattle.values_plain.specs.declared.address.Address.{Address}
 use Rattle.values_plain.specs.declared.address.Udp.{Udp}
 use Rattle.node_bytes.specs.Turns.{MeetsOctets}
-use Rattle.node_rules.specs.declared.event.Event.TheVariants as event
-use Rattle.cluster_fetch.specs.declared.events.ResponseSource.{ResponseSource}
-use Rattle.cluster_fetch.specs.Fetched.{event_of_fetch}
-use Rattle.cluster_service.specs.Addresses.{peer_source}
 use Rattle.cluster_service.specs.Questions.{begins_question}
-use Rattle.cluster_service.specs.Steps.{Ending, Ends, EndsFetch, FailsFetch, event_of_source, QuestionsView, MeetsQuestion, DealsWith, Takes, Outcome, IsTurnOf, Step, Leads, begun_by, begun_in, Follow, GoesOn, EndsOne, CarriesOn, ServesOnce, turn_after, TakesRequest}
+use Rattle.cluster_service.specs.Steps.{AsksOnce, Ending, QuestionsView, MeetsQuestion, DealsWith, Takes, Outcome, IsTurnOf, Step, Leads, begun_by, begun_in, Follow, GoesOn, CarriesOn, turn_after, TakesRequest}
 
 -- Where nothing has begun, no step follows.
 pub none_follows : (ends : Ending) (begun : Option Begin) (steps : List Step) → Follow ends None steps →
@@ -57,30 +52,28 @@ goes_on takes ends turn next before between after (inr (begun, begins, ended)) (
 )
 
 -- What is to be done after the step of a request.
-pub asked_turn : (old new : Option (List ℕ)) (via : List ℕ) (asker : Option ℕ) (outcome : Outcome) (result : Result Asked ServeFault) →
-    AfterStep old new via asker outcome result → IsTurnOf outcome (turn_after result)
-asked_turn old new via asker (Ok reply) (Ok asked) (inl once) = inr (ap (λ (a : Asked). turn_after (Ok a)) once.told.0)
-asked_turn old new via asker (Ok reply) (Err fault) (inl once) = inr refl
-asked_turn old new via asker (Ok reply) result (inr waits) = elim waits.hands_on [
-  | inl h ↦ inl (ap turn_after h.0)
-  | inr h ↦ inr (ap turn_after h.0)
+asked_turn : (asker : Option ℕ) (outcome : Outcome) (result : Result Taken ServeFault) → IsTaken asker outcome result →
+    IsTurnOf outcome (turn_after result)
+asked_turn asker (Ok reply) result (inl once) = inr (ap turn_after once.is)
+asked_turn asker (Ok reply) result (inr waits) = elim waits.is [
+  | inl h ↦ inl (ap turn_after h)
+  | inr h ↦ inr (ap turn_after h)
 ]
-asked_turn old new via asker (Err fault) result h = ap turn_after h.0
+asked_turn asker (Err fault) result h = ap turn_after h
 
 -- What reading a request leads to.
-pub read_takes : {N : Type 0} (takes : Takes N) (roster : Tables) (id now : ℕ) (read : Result Ask FetchFault) (before after : N)
-    (old new : Option (List ℕ)) (result : Result Asked ServeFault) → AfterRead takes roster id now read before after old new result →
+read_takes : {N : Type 0} (takes : Takes N) (roster : Tables) (id now : ℕ) (read : Result Ask FetchFault) (before after : N)
+    (result : Result Taken ServeFault) → AfterRead takes roster id now read before after result →
     TakesRequest takes roster id before after (turn_after result)
-read_takes takes roster id now (Ok ask) before after old new result (outcome, taken, told) =
-    inr (ask, now, record { outcome = outcome; taken = taken; turn_is = asked_turn old new _ _ outcome result told })
-read_takes takes roster id now (Err fault) before after old new result h = inl (h.0, ap turn_after h.1.0)
+read_takes takes roster id now (Ok ask) before after result (outcome, taken, is) =
+    inr (ask, now, record { outcome = outcome; taken = taken; turn_is = asked_turn _ outcome result is })
+read_takes takes roster id now (Err fault) before after result h = inl (h.0, ap turn_after h.1)
 
--- What serving a request leads to.
-pub request_takes : {N : Type 0} (takes : Takes N) (roster : Tables) (id : ℕ) (before after : N) (result : Result Asked ServeFault) →
-    ServesOnce takes roster id before after result → TakesRequest takes roster id before after (turn_after result)
-request_takes takes roster id before after result (inl (now, unread, rest, unwritten, written, serves)) =
-    read_takes takes roster id now serves.read before after unwritten written result serves.answers
-request_takes takes roster id before after result (inr h) = inl (h.0, ap turn_after h.1)
+-- What a request leads to.
+pub request_takes : {N : Type 0} (takes : Takes N) (roster : Tables) (id : ℕ) (before after : N) (result : Result Taken ServeFault) →
+    AsksOnce takes roster id before after result → TakesRequest takes roster id before after (turn_after result)
+request_takes takes roster id before after result (now, unread, rest, asks) =
+    read_takes takes roster id now asks.read before after result asks.steps
 
 -- A question whose step is refused is left to a worker.
 pub question_refused : {N : Type 0} (takes : Takes N) (udp : Udp) (from : Address) (octets : List ℕ) (now : ℕ) (fault : StepFault)
@@ -89,32 +82,3 @@ pub question_refused : {N : Type 0} (takes : Takes N) (udp : Udp) (from : Addres
     DealsWith takes udp from octets before false after
 question_refused {N} takes udp from octets now fault before after is meets held =
     subst (λ asks. MeetsQuestion takes asks udp from octets before false after) (sym is) (now, Err fault, meets, (refl, held))
-
--- A fetch from a peer that was found ends what began.
-pub peer_ends : {N : Type 0} (takes : Takes N) (roster : Tables) (serial peer : ℕ) (ask : Ask) (before after : N) (turn : Option Turn)
-    (found : Option (ResponseSource × Address)) (source : ResponseSource × Address) → found ≡ peer_source roster peer →
-    found ≡ Some source → EndsFetch takes source.0 serial ask.key before after turn →
-    EndsOne takes (Ends roster) (begin.Peer serial peer ask) before after turn
-peer_ends takes roster serial peer ask before after turn found source is some (answer, now, one) = record {
-  event = event_of_fetch source.0 serial ask.key answer now;
-  end = (
-    answer,
-    now,
-    ap (λ (o : Option (ResponseSource × Address)). event_of_source o serial ask.key answer now) (sym some ∙ is),
-  );
-  one = one;
-}
-
--- A fetch from a peer that was not found has failed.
-pub no_peer_ends : {N : Type 0} (takes : Takes N) (roster : Tables) (serial peer : ℕ) (ask : Ask) (before after : N)
-    (turn : Option Turn) (found : Option (ResponseSource × Address)) → found ≡ peer_source roster peer → found ≡ None →
-    FailsFetch takes serial before after turn → EndsOne takes (Ends roster) (begin.Peer serial peer ask) before after turn
-no_peer_ends takes roster serial peer ask before after turn found is none (now, one) = record {
-  event = event.FetchFailed serial now;
-  end = (
-    None,
-    now,
-    ap (λ (o : Option (ResponseSource × Address)). event_of_source o serial ask.key None now) (sym none ∙ is),
-  );
-  one = one;
-}

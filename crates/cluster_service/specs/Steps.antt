@@ -1,11 +1,10 @@
 -- What the threads of a node do with its steps: which event each takes, and what is done after it. The rules are
--- `DoesJob` (a worker), `DoesErrand` (a fetcher) and `DealsWith` (the thread of the event loop).
+-- `DoesJob` (a worker) and `DealsWith` (the thread of the event loop).
 use Rattle.std.specs.Prelude.{◌≡◌, ◌⊎◌, ℕ, List, [], ◌∷◌, ◌++◌, length, nat_lt, if◌then◌else◌, Bool, true, false, Option, Some, None, Result, Ok, Err}
 use Rattle.std.specs.Result.{result_ok}
 use Rattle.values_plain.specs.declared.address.Address.{Address}
 use Rattle.values_plain.specs.declared.address.Udp.{Udp}
 use Rattle.values_tables.specs.declared.plain.Tables.{Tables}
-use Rattle.http_messages.specs.Answer.{AnswerText}
 use Rattle.http_messages.specs.declared.ask.Ask.{Ask}
 use Rattle.node_rules.specs.declared.event.Event.{Event}
 use Rattle.node_rules.specs.declared.event.Event.TheVariants as event
@@ -14,21 +13,17 @@ use Rattle.node_rules.specs.declared.reply.Begin.TheVariants as begin
 use Rattle.node_rules.specs.declared.reply.Reply.{Reply}
 use Rattle.node_rules.specs.declared.reply.Serve.{Serve}
 use Rattle.node_rules.specs.declared.reply.StepFault.{StepFault}
-use Rattle.node_rules.specs.declared.reply.StepFault.TheVariants.{NoMemory}
 use Rattle.node_rules.specs.State.{serial_of}
 use Rattle.node_bytes.specs.declared.turns.Turn.{Turn}
 use Rattle.node_bytes.specs.Turns.{turn_of, MeetsOctets}
-use Rattle.node_http.specs.declared.asking.Asked.{Asked}
-use Rattle.node_http.specs.declared.asking.Asked.TheVariants.{Waits}
+use Rattle.node_http.specs.declared.taking.Taken.{Taken}
+use Rattle.node_http.specs.declared.taking.Taken.TheVariants.{Waits}
 use Rattle.node_http.specs.declared.fault.ServeFault.{ServeFault}
-use Rattle.node_http.specs.declared.fault.ServeFault.TheVariants as fault
-use Rattle.node_http.specs.Asking.{ServesAsk, asker_of, event_by}
-use Rattle.cluster_fetch.specs.declared.events.ResponseSource.{ResponseSource}
-use Rattle.cluster_fetch.specs.declared.events.ResponseSource.TheVariants.{Origin}
+use Rattle.node_http.specs.Asking.{TakesAsk, asker_of, event_by}
+use Rattle.cluster_fetch.specs.declared.ended.Fetched.{Fetched}
 use Rattle.cluster_fetch.specs.Fetched.{event_of_fetch}
 use Rattle.cluster_jobs.specs.declared.job.Job.{Job}
 use Rattle.cluster_jobs.specs.declared.job.Job.TheVariants as job
-use Rattle.cluster_service.specs.Addresses.{peer_source}
 use Rattle.cluster_service.specs.Questions.{begins_question}
 
 -- One step
@@ -70,7 +65,7 @@ FailsFetch takes serial before after turn = (now : ℕ) × TakesOne takes (event
 abbrev pub BeginsRound : {N : Type 0} → Takes N → ℕ → N → N → Option Turn → Type 0
 BeginsRound takes serial before after turn = TakesNone before after turn ⊎ EndsRound takes serial before after turn
 
--- A fetch is left to the fetchers, and no step is taken; or it has failed.
+-- A fetch is left to the event loop, and no step is taken; or it has failed.
 abbrev pub HandsOver : {N : Type 0} → Takes N → Begin → N → N → Option Turn → Type 0
 HandsOver takes fetch before after turn =
     TakesNone before after turn ⊎ FailsFetch takes (serial_of fetch) before after turn
@@ -136,15 +131,13 @@ abbrev pub TakesDatagram : {N : Type 0} → Takes N → Udp → Address → List
 TakesDatagram takes udp from octets before after turn = (now : ℕ) × (told : Result Turn StepFault)
     × MeetsOctets takes udp from octets now before after told × (turn ≡ result_ok told)
 
--- A request is read, takes its step and is answered; or the system has no clock, and no step is taken.
-abbrev pub ServesOnce : {N : Type 0} → Takes N → Tables → ℕ → N → N → Result Asked ServeFault → Type 0
-ServesOnce takes roster id before after asked =
-    ((now : ℕ) × (unread : Option (List ℕ)) × (rest : Option (List ℕ)) × (unwritten : Option (List ℕ))
-    × (written : Option (List ℕ)) × ServesAsk takes roster id now before after unread rest unwritten written asked)
-    ⊎ ((after ≡ before) × (asked ≡ Err (fault.Step NoMemory)))
+-- A request is read and takes its step.
+abbrev pub AsksOnce : {N : Type 0} → Takes N → Tables → ℕ → N → N → Result Taken ServeFault → Type 0
+AsksOnce takes roster id before after taken = (now : ℕ) × (unread : Option (List ℕ)) × (rest : Option (List ℕ))
+    × TakesAsk takes roster id now before after unread rest taken
 
 -- What is to be done after a request that waits.
-abbrev pub turn_after : Result Asked ServeFault → Option Turn
+abbrev pub turn_after : Result Taken ServeFault → Option Turn
 turn_after (Ok (Waits block turn)) = Some turn
 turn_after _ = None
 
@@ -153,13 +146,19 @@ abbrev pub TakesRequest : {N : Type 0} → Takes N → Tables → ℕ → N → 
 TakesRequest takes roster id before after turn = TakesNone before after turn
     ⊎ ((ask : Ask) × (now : ℕ) × TakesOne takes (event_by (asker_of roster id ask.member) ask now) before after turn)
 
+-- The step at the end of a fetch: the response, or the failure.
+abbrev pub EndsFetch : {N : Type 0} → Takes N → Fetched → N → N → Option Turn → Type 0
+EndsFetch takes f before after turn =
+    (now : ℕ) × TakesOne takes (event_of_fetch f.source f.serial f.key f.answer now) before after turn
+
 -- The first step of a job.
 abbrev pub TakesJob : {N : Type 0} → Takes N → Tables → ℕ → Job → N → N → Option Turn → Type 0
-TakesJob takes roster id (job.Datagram udp from octets) before after turn =
+TakesJob takes roster id (job.Datagram sender udp from octets) before after turn =
     TakesDatagram takes udp from octets.items before after turn
 TakesJob takes roster id (job.Stream number stream octets) before after turn =
     TakesRequest takes roster id before after turn
 TakesJob takes roster id (job.Timer serial) before after turn = EndsRound takes serial before after turn
+TakesJob takes roster id (job.Fetched f) before after turn = EndsFetch takes f before after turn
 
 -- The event by which a thread gives up what has begun: the time of the round is over, or the fetch has failed.
 abbrev pub given_up : Begin → ℕ → Event (Unit {0})
@@ -178,31 +177,6 @@ pub record DoesJob {N : Type 0} (takes : Takes N) (roster : Tables) (id : ℕ) (
   pub first : TakesJob takes roster id job before between turn
   pub further : GoesOn takes GivesUp (begun_in turn) between after
 
--- A fetcher
-
--- The event of a fetch from a source of the roster; it fails where there is no such source.
-abbrev pub event_of_source : Option (ResponseSource × Address) → ℕ → List ℕ → Option AnswerText → ℕ → Event (Unit {0})
-event_of_source None serial key answer now = event.FetchFailed serial now
-event_of_source (Some source) serial key answer now = event_of_fetch source.0 serial key answer now
-
--- The event ends what has begun: the time of the round is over; or the fetch has ended, with a response of whom it
--- asked, or with none.
-abbrev pub Ends : Tables → Begin → Event (Unit {0}) → Type 0
-Ends roster (begin.Round serial) e = (now : ℕ) × (e ≡ event.Expired serial now)
-Ends roster (begin.Peer serial peer ask) e = (answer : Option AnswerText) × (now : ℕ)
-    × (e ≡ event_of_source (peer_source roster peer) serial ask.key answer now)
-Ends roster (begin.Read serial ask) e = (answer : Option AnswerText) × (now : ℕ)
-    × (e ≡ event_of_fetch Origin serial ask.key answer now)
-
--- The step at the end of a fetch from this source: the response, or the failure.
-abbrev pub EndsFetch : {N : Type 0} → Takes N → ResponseSource → ℕ → List ℕ → N → N → Option Turn → Type 0
-EndsFetch takes source serial key before after turn = (answer : Option AnswerText) × (now : ℕ)
-    × TakesOne takes (event_of_fetch source serial key answer now) before after turn
-
--- A fetcher takes a step at the end of what a turn begins, and so on with what that step begins.
-abbrev pub DoesErrand : {N : Type 0} → Takes N → Tables → Turn → N → N → Type 0
-DoesErrand takes roster errand before after = GoesOn takes (Ends roster) errand.begin before after
-
 -- The thread of the event loop
 
 -- What takes the steps of questions, and the turns that are held back.
@@ -218,7 +192,7 @@ with_room held = if nat_lt (length held) 32 then held else []
 abbrev pub Holds : List Turn → Turn → List Turn → Type 0
 Holds held turn after = (after ≡ with_room held ++ turn ∷ []) ⊎ (after ≡ [])
 
--- A turn that serves or begins is left to a fetcher; any other is held back.
+-- A turn that serves or begins anything is carried out apart; any other is held back.
 abbrev pub CarriesOut : Option (Serve (Unit {0})) → Option Begin → List Turn → Turn → List Turn → Type 0
 CarriesOut None None held turn after = Holds held turn after
 CarriesOut serve begun held turn after = after ≡ held

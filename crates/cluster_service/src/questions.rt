@@ -8,9 +8,11 @@ ghost use Rattle.cluster_service.specs.Steps.{Holds, CarriesOut, DealsWith};
 
 use crate::gate::Gate;
 use crate::station::{Station, seconds};
+use cluster_jobs::Sender;
 use cluster_sockets::AtOnce;
 use node_bytes::{Stepper, Turn, on_datagram};
-use roster::{Address, Udp};
+use node_rules::SERIALS;
+use roster::{Address, Roster, Udp, address_by};
 use std::marker::Model;
 use std::sync::Wait;
 use std::time::Clock;
@@ -82,19 +84,31 @@ impl<N: Stepper + Drop, G: Gate + Drop> Questions<'_, N, G> {
         }
     }
 
-    /// Has what a step asks for sent. What a question never asks for (to serve a client, or to
-    /// begin a fetch) is left to a fetcher, since it would have to be waited for.
-    fn carry_out<R: Wait>(&mut self, rt: &R, turn: Turn)
+    /// Has what a step asks for sent. What a question never asks for (to serve a client, or to begin
+    /// a fetch) is carried out at once, without the others.
+    fn carry_out<R: Wait + Clock>(&mut self, rt: &R, turn: Turn)
         ensures node { self.new.node ≡ self.old.node }
         ensures held { CarriesOut turn.serve turn.begin self.old.held turn self.new.held }
     {
         if turn.serve.is_none() && turn.begin.is_none() {
             self.hold(turn);
         } else {
-            // (where there is no memory for that, it is lost, as a reply is for which there is
-            // none)
-            let _ = self.station.errands.put(rt, turn);
+            self.station.carry_out(rt, turn);
         }
+    }
+}
+
+/// Whose a datagram is: the master's, which sends HTCP, a peer's, or a stranger's.
+fn sender_in(roster: &Roster, udp: Udp, from: Address) -> Sender {
+    let is_peer = roster.member_at(from, udp).is_some()
+        || roster
+            .foreign()
+            .iter()
+            .any(|cache| address_by(udp, cache) == from);
+    match udp {
+        Udp::Htcp if roster.is_master(from) => Sender::Master,
+        _ if is_peer => Sender::Peer,
+        _ => Sender::Stranger,
     }
 }
 
@@ -135,6 +149,14 @@ impl<N: Stepper + Drop, G: Gate + Drop> AtOnce for Questions<'_, N, G> {
             // (a worker tries again, and answers those who wait if the node has closed)
             Err(_) => false,
         }
+    }
+
+    fn sender_of(&self, udp: Udp, from: Address) -> Sender {
+        sender_in(&self.station.roster, udp, from)
+    }
+
+    fn is_wanted<R: Wait>(&self, rt: &R, serial: u32) -> bool {
+        self.station.tables.is_awaited(rt, serial / SERIALS)
     }
 
     fn finish(&mut self)

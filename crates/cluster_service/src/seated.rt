@@ -1,11 +1,11 @@
-//! What workers and fetchers do with the steps of a node.
+//! What workers do with the steps of a node.
 ghost use Rattle.std.specs.Prelude.{◌≡◌};
 ghost use Rattle.cluster_service.specs.Steps.{TakesOne, BeginsAtMost, BeginsRound, EndsRound, FailsFetch};
 
+use crate::client::Client;
 use crate::gate::Gate;
 use crate::station::{Station, milliseconds, seconds};
-use crate::telling::{refuse_all, tell};
-use cluster_streams::StreamPolls;
+use crate::telling::{refuse_all, tell, tell_client};
 use mio::net::TcpStream;
 use node_bytes::{Stepper, Turn};
 use node_rules::{Begin, Event, Serve, StepFault};
@@ -13,8 +13,8 @@ use std::sync::Wait;
 use std::sync::atomic::Ordering;
 use std::time::Clock;
 
-/// How many steps follow the first step of a job or an errand at most: one for the end of each of
-/// the 26 fetches of a request, and one for a round whose time is over at once.
+/// How many steps follow the first step of a job at most: one for the failure of each of the 26
+/// fetches of a request, and one for a round whose time is over at once.
 pub(crate) const MOST_FURTHER_STEPS: u32 = 31;
 
 /// A thread that takes the steps of a node by a seat of its own, with what it needs to do what they
@@ -27,8 +27,8 @@ pub struct Seated<'a, N: Stepper + Drop, G: Gate + Drop, R> {
     pub station: &'a Station<G>,
     /// What takes its steps.
     pub node: N,
-    /// What it polls its streams with.
-    pub polls: StreamPolls,
+    /// Where short pieces of a response are kept while it is written.
+    pub kept: Vec<u8>,
 }
 
 impl<N: Stepper + Drop, G: Gate + Drop, R: Wait + Clock> Seated<'_, N, G, R> {
@@ -59,14 +59,21 @@ impl<N: Stepper + Drop, G: Gate + Drop, R: Wait + Clock> Seated<'_, N, G, R> {
     pub(crate) fn refuse_all(&mut self)
         ensures { self.new.node ≡ self.old.node }
     {
-        refuse_all(self.rt, self.station, &mut self.polls);
+        refuse_all(self.rt, self.station, &mut self.kept);
     }
 
-    /// Writes what a client is served.
-    pub(crate) fn tell(&mut self, stream: TcpStream, serve: &Serve<()>)
+    /// Writes what a client is served. `lingers` where it may still send.
+    pub(crate) fn tell(&mut self, stream: TcpStream, serve: Serve<()>, lingers: bool)
         ensures { self.new.node ≡ self.old.node }
     {
-        tell(self.rt, self.station, &mut self.polls, stream, serve);
+        tell(self.rt, self.station, &mut self.kept, stream, serve, lingers);
+    }
+
+    /// Writes what a client that waits is served.
+    pub(crate) fn tell_client(&mut self, client: Client, serve: Serve<()>)
+        ensures { self.new.node ≡ self.old.node }
+    {
+        tell_client(self.rt, self.station, &mut self.kept, client, serve);
     }
 
     /// Sends and serves what a step asks for, and returns what it begins. At a node that is to
@@ -94,8 +101,8 @@ impl<N: Stepper + Drop, G: Gate + Drop, R: Wait + Clock> Seated<'_, N, G, R> {
         let Some(block) = serve.waiter else {
             return;
         };
-        if let Ok(Some((stream, serve))) = self.station.tables.answer(self.rt, block, serve) {
-            self.tell(stream, &serve);
+        if let Ok(Some((client, serve))) = self.station.tables.answer(self.rt, block, serve) {
+            self.tell_client(client, serve);
         }
     }
 

@@ -4,9 +4,9 @@ ghost use Rattle.cluster_sockets.specs.Polls.{HasPut, IsSound};
 
 use crate::at_once::AtOnce;
 use crate::fault::LoopFault;
-use crate::putting::{Come, put};
+use crate::putting::{Come, put_or_drop};
 use crate::sockets::Sockets;
-use cluster_jobs::{Job, Jobs, Pass, QueueName};
+use cluster_jobs::{Job, Jobs, Pass, Run};
 use std::alloc::{AllocError, Global};
 use std::io::ErrorKind;
 use std::mem::replace;
@@ -89,7 +89,13 @@ impl Datagrams {
                 let mut octets = Vec::with_capacity(self.alloc, length)?;
                 octets.extend_from_slice(came)?;
                 self.had_jobs = true;
-                Ok(Come::Taken(Some(Job::Datagram { udp, from, octets })))
+                let sender = at_once.sender_of(udp, from);
+                Ok(Come::Taken(Some(Job::Datagram {
+                    sender,
+                    udp,
+                    from,
+                    octets,
+                })))
             }
             Err(error) if error.kind() == ErrorKind::WouldBlock => Ok(Come::Nothing),
             Err(_) => Err(LoopFault::Io),
@@ -98,7 +104,7 @@ impl Datagrams {
 
     /// Reads what is ready of a protocol, 256 datagrams at most, and puts the jobs. Returns whether
     /// there may be more.
-    pub(crate) fn put_ready<Q: QueueName, A: AtOnce, R: Wait + Clock>(
+    pub(crate) fn put_ready<Q: Run, A: AtOnce, R: Wait + Clock>(
         &mut self,
         rt: &R,
         jobs: &Jobs<Q>,
@@ -113,7 +119,7 @@ impl Datagrams {
         }
         for _ in 0..MOST_DATAGRAMS {
             match self.next(rt, udp, at_once) {
-                Ok(Come::Taken(job)) => pass = put(rt, jobs, pass, job),
+                Ok(Come::Taken(job)) => pass = put_or_drop(rt, jobs, pass, job),
                 Ok(Come::Nothing) => {
                     self.set_ready(udp, false);
                     return (pass, Ok(false));

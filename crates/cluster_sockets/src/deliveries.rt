@@ -3,13 +3,18 @@ ghost use Rattle.std.specs.Prelude.{IsTrue};
 ghost use Rattle.http_writing.specs.Name.{is_name as names_cache};
 
 use crate::delivery::{Delivered, Delivery};
+use crate::streams::Streams;
 use mio::{Registry, Token};
+use node_rules::{Serve, Served};
 use slab::Slab;
 use std::alloc::{AllocError, Global};
 use std::time::Instant;
 
 /// How many responses are under way in the loop at most.
 pub(crate) const MOST_DELIVERIES: usize = 4096;
+
+/// How many connections are told at a poll at most that they are refused.
+const MOST_REFUSED: usize = 256;
 
 /// The responses under way, each under a key.
 #[derive(Drop)]
@@ -61,6 +66,24 @@ impl Deliveries {
         }
     }
 
+    /// Tells 503 to those whose connections are refused.
+    pub(crate) fn refuse_all(
+        &mut self,
+        registry: &Registry,
+        streams: &mut Streams,
+        via: &[u8],
+        now: Instant,
+    )
+        requires { IsTrue (names_cache via.now) }
+    {
+        for _ in 0..MOST_REFUSED {
+            let Some(stream) = streams.next_refused() else {
+                break;
+            };
+            self.add(registry, Delivery::new(stream, unavailable(), true, now), via);
+        }
+    }
+
     /// Goes on with the response under this key.
     fn go_on(&mut self, key: usize, via: &[u8])
         requires { IsTrue (names_cache via.now) }
@@ -106,5 +129,14 @@ impl Deliveries {
     /// Whether none is under way.
     pub(crate) fn is_empty(&self) -> bool {
         self.under_way.is_empty()
+    }
+}
+
+/// The status of a connection that is refused (RFC 9110, section 15.6.4).
+fn unavailable() -> Serve<()> {
+    Serve {
+        waiter: None,
+        asker: None,
+        served: Served::Status(503),
     }
 }

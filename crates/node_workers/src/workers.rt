@@ -10,8 +10,8 @@ use crate::halt::Halt;
 use crate::node::{Edge, Start, run_node};
 use crate::signals::Signals;
 use cluster_service::{Gate, Station};
-use cluster_sockets::{LoopFault, NodeLoop, Senders};
-use cluster_streams::StreamPolls;
+use cluster_sockets::{Inbox, NodeLoop, Senders};
+use node_http::name_of;
 use floor_rules::FloorStore;
 use node_book::Record;
 use node_core::{Node, OpenFault};
@@ -43,7 +43,7 @@ pub struct Ground<S: FloorStore> {
     pub keys: RandomState,
 }
 
-/// A running node: its thread, its sockets, its workers and its fetchers.
+/// A running node: its thread, its sockets and its workers.
 #[derive(Drop)]
 pub struct Workers {
     node: JoinHandle<Result<Option<Record>, StopFault>>,
@@ -87,29 +87,10 @@ fn sockets<R: Net + Clock>(
     let Some(member) = roster.member(id) else {
         unreachable!();
     };
-    let (mut poller, senders) = NodeLoop::open(rt, alloc, &member.cache)?;
+    let via = name_of(roster, id);
+    let (mut poller, senders) = NodeLoop::open(rt, alloc, &member.cache, via)?;
     poller.set_wait(Duration::from_millis(WAIT));
     Ok((poller, senders))
-}
-
-/// What one thread polls its streams with.
-fn polls<N: Net>(net: &N, alloc: Global) -> Result<StreamPolls, Unready> {
-    match StreamPolls::new(net, alloc) {
-        Ok(polls) => Ok(polls),
-        Err(_) => Err(Unready::Loop(LoopFault::Io)),
-    }
-}
-
-/// What this many threads poll their streams with.
-fn all_polls<N: Net>(net: &N, alloc: Global, count: u8) -> Result<Vec<StreamPolls>, Unready> {
-    let mut row = Vec::with_capacity(alloc, usize::from(count))?;
-    for _number in 0..count {
-        let one = polls(net, alloc)?;
-        if row.push(one).is_err() {
-            return Err(Unready::NoMemory);
-        }
-    }
-    Ok(row)
 }
 
 /// What the threads of a node share beside the node.
@@ -118,6 +99,7 @@ fn station<G: Gate + Drop>(
     roster: &Roster,
     id: u8,
     senders: Senders,
+    inbox: Arc<Inbox, Global>,
     gate: Arc<G, Global>,
     signals: &Signals,
 ) -> Result<Station<G>, Unready>
@@ -125,22 +107,10 @@ fn station<G: Gate + Drop>(
 {
     let is_stopped = Arc::try_clone(&signals.is_stopped)?;
     match roster.copy(alloc) {
-        Ok(roster) => Ok(Station::new(alloc, roster, id, senders, is_stopped, gate)),
+        Ok(roster) => Ok(Station::new(
+            alloc, roster, id, senders, inbox, is_stopped, gate,
+        )),
         Err(_) => Err(Unready::NoMemory),
-    }
-}
-
-/// What this many workers, as many fetchers and the node's thread poll their streams with.
-fn polls_for<N: Net>(
-    net: &N,
-    alloc: Global,
-    count: u8,
-) -> Result<(Vec<StreamPolls>, Vec<StreamPolls>, StreamPolls), Unready> {
-    let working = all_polls(net, alloc, count)?;
-    let fetching = all_polls(net, alloc, count)?;
-    match polls(net, alloc) {
-        Ok(last) => Ok((working, fetching, last)),
-        Err(fault) => Err(fault),
     }
 }
 
@@ -151,7 +121,6 @@ fn edge_of<G: Gate + Drop, R: Net + Clock>(
     alloc: Global,
     roster: &Roster,
     id: u8,
-    count: u8,
     gate: Arc<G, Global>,
 ) -> Result<(Edge<G>, Signals), Unready>
     requires { is_member roster.now id ≡ true }
@@ -159,24 +128,17 @@ fn edge_of<G: Gate + Drop, R: Net + Clock>(
     let signals = Signals::new(alloc)?;
     let told = signals.try_clone()?;
     let (poller, senders) = sockets(rt, alloc, roster, id)?;
-    let station = station(alloc, roster, id, senders, gate, &signals)?;
-    match polls_for(rt, alloc, count) {
-        Ok((working, fetching, last)) => {
-            let edge = Edge {
-                station,
-                signals: told,
-                poller,
-                working,
-                fetching,
-                last,
-            };
-            Ok((edge, signals))
-        }
-        Err(fault) => Err(fault),
-    }
+    let inbox = poller.inbox()?;
+    let station = station(alloc, roster, id, senders, inbox, gate, &signals)?;
+    let edge = Edge {
+        station,
+        signals: told,
+        poller,
+    };
+    Ok((edge, signals))
 }
 
-/// Starts the thread of a node, and waits until its workers and fetchers are started.
+/// Starts the thread of a node, and waits until its workers are started.
 fn begin<
     S: FloorStore + Drop + Send + 'static,
     G: Gate + Drop + Send + Sync + 'static,
@@ -224,11 +186,10 @@ fn run_and_tell<
 }
 
 impl Workers {
-    /// Starts a node of the roster with this many workers, 2 to 8, and as many fetchers, over a
-    /// store of floors. When this returns, the node can be reached at its addresses.
+    /// Starts a node of the roster with this many workers, 2 to 8, over a store of floors. When this
+    /// returns, the node can be reached at its addresses.
     ///
-    /// Faults: `Open` where the node is not opened, `Loop` where its sockets or the poll instances
-    /// of its threads are not, `NoThread` where a thread cannot be started, `NoMemory`. After a
+    /// Faults: `Open` where the node is not opened, `Loop` where its sockets are not, `NoThread` where a thread cannot be started, `NoMemory`. After a
     /// fault nothing of it runs or is open.
     pub fn start<
         S: FloorStore + Drop + Send + 'static,
@@ -274,7 +235,7 @@ impl Workers {
             keys,
         } = ground;
         let node = open_node(alloc, roster, id, floors, keys)?;
-        let (edge, signals) = edge_of(&rt, alloc, roster, id, count, gate)?;
+        let (edge, signals) = edge_of(&rt, alloc, roster, id, gate)?;
         let start = Start {
             alloc,
             node,
@@ -319,8 +280,8 @@ impl Workers {
     }
 
     /// Stops the node, also one that is held, and waits for its end. Its workers end the jobs that
-    /// they have, and its fetchers the fetches that are under way. Those who wait get 503, and its
-    /// sockets are closed. Returns the record of the steps since the last one, if it is kept.
+    /// they have. Those who wait get 503; responses that clients have not taken whole are written on
+    /// for five seconds at most. Then its sockets are closed. Returns the record of the steps since the last one, if it is kept.
     ///
     /// Fault: `NoMemory` where there is no memory to end the record, or for the seats at the start;
     /// the record is lost then.

@@ -32,7 +32,7 @@ const FAILS: Event<()> = Event::FetchFailed { serial: 34, now: 9 };
 fn two_records<J: Origin, R: Wait>(
     rt: &R,
     start: Start,
-    new: NewHistory,
+    new: NewHistory<NodeEntry>,
     ask: Event<()>,
     alloc: Global,
     kept: &mut Vec<Record>,

@@ -4,7 +4,7 @@ ghost use Rattle.node_seats.specs.Beginning.{beginning_of};
 
 use floor_rules::MemoryFloors;
 use http_messages::{Answer, Ask, Body, Fields};
-use node_book::Record;
+use node_book::{NodeEntry, Record};
 use node_core::Node;
 use values_history::NewHistory;
 use node_rules::{Event, Reply, StepFault};
@@ -73,7 +73,7 @@ pub(crate) struct Shared<J: Origin> {
 pub(crate) fn share<J: Origin>(
     alloc: Global,
     start: Start,
-    new: NewHistory,
+    new: NewHistory<NodeEntry>,
     retention: Retention,
     seats: u8,
 ) -> Option<Shared<J>>

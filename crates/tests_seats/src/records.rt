@@ -5,7 +5,7 @@ ghost use Rattle.node_seats.specs.Beginning.{beginning_of};
 use crate::nodes::{Shared, Start, origin_answer, share, start_of, take, verdict_on};
 use crate::seats::is_unknown;
 use floor_rules::MemoryFloors;
-use node_book::Record;
+use node_book::{NodeEntry, Record};
 use node_bytes::Stepper;
 use values_history::NewHistory;
 use node_rules::Event;
@@ -198,7 +198,7 @@ fn tried<J: Origin, R: Wait>(
     rt: &R,
     alloc: Global,
     start: Start,
-    new: NewHistory,
+    new: NewHistory<NodeEntry>,
     trial: &Trial,
     kept: &mut Vec<Record>,
 ) -> Option<Option<usize>>

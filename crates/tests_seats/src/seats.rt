@@ -101,7 +101,7 @@ fn two_calls<J: Origin + Send + Sync, R: Threads + Wait + Sync>(
     rt: &R,
     alloc: Global,
     start: Start,
-    new: NewHistory,
+    new: NewHistory<NodeEntry>,
     kept: &mut Vec<Record>,
 ) -> Option<(bool, bool)>
     requires book { new.seen.book ≡ J.book }
@@ -181,7 +181,7 @@ fn eight_hundred_calls<J: Origin + Send + Sync, R: Threads + Wait + Sync>(
     rt: &R,
     alloc: Global,
     start: Start,
-    new: NewHistory,
+    new: NewHistory<NodeEntry>,
     kept: &mut Vec<Record>,
 ) -> Option<u64>
     requires book { new.seen.book ≡ J.book }

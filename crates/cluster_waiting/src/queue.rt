@@ -1,11 +1,10 @@
-//! What some threads of a node leave to others.
-ghost use Rattle.std.specs.Prelude.{◌≡◌, ◌↔◌, [], false, IsTrue, OnOk, OnErr};
+//! A queue of what is to be done.
+ghost use Rattle.std.specs.Prelude.{◌≡◌, [], false, OnOk, OnErr};
 ghost use Rattle.cluster_waiting.specs.Waiting.{Takes, with_last, ended};
 
 use std::alloc::{AllocError, Global};
 use std::collections::VecDeque;
 use std::marker::Model;
-use std::sync::{Condvar, Mutex, Wait};
 
 /// A queue of what is to be done, first in, first out, until it is ended. A contract sees the list
 /// of what waits, and whether it is ended.
@@ -60,50 +59,5 @@ impl<T: Drop> Queue<T> {
         ensures { self.new ≡ ended self.old }
     {
         self.is_over = true;
-    }
-
-    /// Whether a thread that takes has to wait: the queue is empty, and not ended.
-    pub fn waits(&self) -> bool
-        ensures { IsTrue result ↔ ((self.now.items ≡ []) × (self.now.over ≡ false)) }
-    {
-        self.items.is_empty() && !self.is_over
-    }
-}
-
-/// A [`Queue`] under a lock, with a condition variable where threads wait for items.
-#[derive(Drop)]
-pub struct Errands<T: Drop> {
-    queue: Mutex<Queue<T>>,
-    has_moved: Condvar,
-}
-
-impl<T: Drop> Errands<T> {
-    /// No errands yet. It takes no memory.
-    pub fn new(alloc: Global) -> Errands<T> {
-        Errands {
-            queue: Mutex::new(Queue::new(alloc)),
-            has_moved: Condvar::new(),
-        }
-    }
-
-    /// [`Queue::put`] under the lock. Wakes one thread that waits.
-    pub fn put<R: Wait>(&self, rt: &R, item: T) -> Result<(), AllocError> {
-        self.queue.lock(rt).put(item)?;
-        self.has_moved.notify_one();
-        Ok(())
-    }
-
-    /// Waits until there is an item or the queue is ended, and then does [`Queue::take`] under the
-    /// lock.
-    pub fn take<R: Wait>(&self, rt: &R) -> Option<T> {
-        self.has_moved
-            .wait_while(rt, self.queue.lock(rt), |queue| queue.waits())
-            .take()
-    }
-
-    /// [`Queue::end`] under the lock. Wakes all threads that wait.
-    pub fn end<R: Wait>(&self, rt: &R) {
-        self.queue.lock(rt).end();
-        self.has_moved.notify_all();
     }
 }
