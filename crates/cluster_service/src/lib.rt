@@ -16,7 +16,7 @@
 //! Order of reading: `specs/Steps.antt` (which steps each thread takes), `specs/Questions.antt`,
 //! `specs/Addresses.antt`; `src/station.rt` (what is shared); `src/worker.rt`, `src/fetcher.rt`,
 //! `src/questions.rt`; `src/seated.rt` (what workers and fetchers do with a step); `src/telling.rt`
-//! (how a client is answered); `src/gate.rt`; `proofs/Steps.antt` (what steps add up to).
+//! (how a client is answered); `src/closing.rt`; `src/gate.rt`; `proofs/Steps.antt` (what steps add up to).
 //!
 //! The crate reads and writes sockets, opens connections (`cluster_fetch`), reads the clock, and
 //! waits at the station's locks. It starts no thread and opens no listener.
@@ -27,6 +27,7 @@
 //! show it.
 #![tactic(auto)]
 
+mod closing;
 mod fetcher;
 mod gate;
 mod questions;
@@ -35,6 +36,7 @@ mod station;
 mod telling;
 mod worker;
 
+pub use closing::{CloseCause, Closing};
 pub use fetcher::Fetcher;
 pub use gate::{Gate, NoGate};
 pub use questions::Questions;

@@ -3,6 +3,7 @@ ghost use Rattle.std.specs.Prelude.{◌≡◌, ◌==◌, true, find, option_map}
 ghost use Rattle.roster.specs.Lookups.{is_member};
 ghost use Rattle.cluster_service.specs.Addresses.{peer_source};
 
+use crate::closing::Closing;
 use crate::gate::Gate;
 use cluster_fetch::ResponseSource;
 use cluster_sockets::Senders;
@@ -32,8 +33,8 @@ pub struct Station<G: Drop> {
     pub id: u8,
     /// The node's UDP sockets, for sending.
     pub(crate) senders: Senders,
-    /// Whether a step has answered that the node is closed, or that its store has failed.
-    pub(crate) is_closed: AtomicBool,
+    /// Whether the node is closed, and why.
+    pub(crate) closing: Arc<Closing, Global>,
     /// Whether the node is to stop.
     pub(crate) is_stopped: Arc<AtomicBool, Global>,
     /// What is told of each read of an origin.
@@ -80,13 +81,15 @@ pub(crate) fn source_of(roster: &Roster, peer: u8) -> Option<(ResponseSource, Ad
 
 impl<G: Gate + Drop> Station<G> {
     /// The station of a member of the roster, with the senders of its sockets; nobody waits yet.
-    /// `is_stopped` is set once the node is to stop. `gate` is told of each read of an origin.
+    /// `is_stopped` is set once the node is to stop. `closing` is told of a fault that closes the
+    /// node, and `gate` of each read of an origin.
     pub fn new(
         alloc: Global,
         roster: Roster,
         id: u8,
         senders: Senders,
         is_stopped: Arc<AtomicBool, Global>,
+        closing: Arc<Closing, Global>,
         gate: Arc<G, Global>,
     ) -> Station<G>
         requires { is_member roster id ≡ true }
@@ -99,7 +102,7 @@ impl<G: Gate + Drop> Station<G> {
             roster,
             id,
             senders,
-            is_closed: AtomicBool::new(false),
+            closing,
             is_stopped,
             gate,
         }

@@ -18,7 +18,6 @@ use roster::{Address, Udp};
 use std::io::{self, Read, Write};
 use std::net;
 use std::sync::Wait;
-use std::sync::atomic::Ordering;
 use std::time::{Clock, Duration};
 
 /// A thread that takes jobs from the queue.
@@ -193,7 +192,7 @@ impl<N: Stepper + Drop, G: Gate + Drop, R: Wait + Clock> Worker<'_, N, G, R> {
         match station.tables.leave(self.seated.rt, block, stream) {
             Ok(Some((stream, serve))) => self.seated.tell(stream, &serve),
             Ok(None) => {
-                if station.is_closed.load(Ordering::SeqCst) {
+                if station.closing.is_closed() {
                     self.seated.refuse_all();
                 }
             }
