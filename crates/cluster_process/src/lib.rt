@@ -7,8 +7,8 @@
 //! `check` it holds all members, gathers their records and the master's entries, lets them go on,
 //! and has `run_check` judge all that is kept.
 //!
-//! Order of reading: `src/cluster.rt` (start, answer, stop); `src/stores.rt` and `src/files.rt`
-//! (the files); `src/master_thread.rt`; `src/judge.rt`, `src/kept.rt` and `specs/Kept.antt` (what
+//! Order of reading: `src/cluster.rt` (start, answer, stop); `src/stores.rt`, `src/node_floors.rt`
+//! and `src/files.rt` (the files), `specs/Numbers.antt`; `src/master_thread.rt`; `src/judge.rt`, `src/kept.rt` and `specs/Kept.antt` (what
 //! is gathered, and how much of it is kept); `src/fault.rt` and `specs/Names.antt` (which file,
 //! port or member is at fault); `proofs/Gathering.antt`, `proofs/Sending.antt`.
 //!
@@ -25,7 +25,9 @@ mod files;
 mod judge;
 mod kept;
 mod master_thread;
+mod node_floors;
 mod stores;
+mod watch;
 
 pub use cluster::{is_worker_count, run_cluster};
 pub use fault::ClusterFault;
