@@ -53,16 +53,12 @@ struct Common<'a> {
 }
 
 /// Runs the hierarchy of a roster in this process, over stores that
-/// [`open_stores`](crate::open_stores) has opened, until the input ends or has a line `quit`: one
-/// thread for the master, and `workers` workers for each member. Each line is answered by one line.
+/// [`open_stores`](crate::open_stores) has opened, until the input ends, cannot be read, or has a line
+/// `quit`: one thread for the master, and `workers` workers for each member.
 ///
-/// The lines: `purge URL` issues a purge and prints `purge P`, the fault of a URL that has no key,
-/// or that of the master; `status P` prints `pending C`, `done P` or `unknown`, or the fault of the
-/// master; `get N URL` asks member N over HTTP, as a client, and prints the status and the body in
-/// hex (`-` where it is empty), or the name of the fault; `check` has all that the members and the
-/// master did so far judged, and prints `yes`, `no PLACE CAUSE`, `forgotten`, or why the record of
-/// a member is not given; `quit` prints nothing. Any other line, also one that names no member,
-/// prints `bad line`.
+/// The lines are those of [`answer_lines`](cluster_console::answer_lines). Once the members run, the
+/// master sends afresh what is pending, and a thread says on standard error which members close.
+/// Where the input has no line, standard error says so.
 ///
 /// For `check`, what the members and the master did is kept in memory: `history` pages of each
 /// member and of the master, of 4,096 steps or calls each. A member's page is shorter where its
@@ -75,8 +71,10 @@ struct Common<'a> {
 /// was printed is the one on a front of it, which was gathered when that line came.
 ///
 /// Faults, the first that comes: those of the master's purges, its socket and its thread; of the
-/// members' floors, sockets and threads, by ascending id; and of the input. After any of them every
-/// thread has ended, and every socket and store is closed.
+/// members' floors, sockets and threads, by ascending id, and of the thread that watches them;
+/// `Input` where the input could not be read, and `Output` where some answer could not be written,
+/// once each line was answered. After any of them every thread has ended, and every socket and store
+/// is closed.
 pub fn run_cluster<
     R: Threads
         + Wait

@@ -8,9 +8,11 @@
 //! and has `run_check` judge all that is kept.
 //!
 //! Order of reading: `src/cluster.rt` (start, answer, stop); `src/stores.rt`, `src/node_floors.rt`
-//! and `src/files.rt` (the files), `specs/Numbers.antt`; `src/master_thread.rt`; `src/judge.rt`, `src/kept.rt` and `specs/Kept.antt` (what
-//! is gathered, and how much of it is kept); `src/fault.rt` and `specs/Names.antt` (which file,
-//! port or member is at fault); `proofs/Gathering.antt`, `proofs/Sending.antt`.
+//! and `src/files.rt` (the files), `specs/Numbers.antt` (when a master is behind);
+//! `src/master_thread.rt`; `src/watch.rt` (who says that a member has closed); `src/judge.rt`,
+//! `src/kept.rt` and `specs/Kept.antt` (what is gathered, and how much of it is kept);
+//! `src/fault.rt` and `specs/Names.antt` (which file, port or member is at fault);
+//! `proofs/Gathering.antt`, `proofs/Sending.antt`, `proofs/Numbers.antt`.
 //!
 //! The crate opens files and sockets, starts threads, reads the clock, and draws random hash keys.
 //!
