@@ -15,7 +15,7 @@
 //! Order of reading: `specs/Steps.antt` (which steps each thread takes), `specs/Questions.antt`,
 //! `specs/Addresses.antt`; `src/station.rt` (what is shared); `src/worker.rt`, `src/questions.rt`;
 //! `src/seated.rt` (what workers do with a step); `src/telling.rt`, `src/client.rt` (how a client is
-//! answered); `src/gate.rt`; `proofs/Steps.antt` (what steps add up to).
+//! answered); `src/closing.rt`; `src/gate.rt`; `proofs/Steps.antt` (what steps add up to).
 //!
 //! The crate reads and writes sockets without waiting, reads the clock, and waits at the station's
 //! locks. It starts no thread and opens no listener or connection.
@@ -27,6 +27,7 @@
 #![tactic(auto)]
 
 mod client;
+mod closing;
 mod gate;
 mod questions;
 mod seated;
@@ -35,6 +36,7 @@ mod telling;
 mod worker;
 
 pub use client::Client;
+pub use closing::{CloseCause, Closing};
 pub use gate::{Gate, NoGate};
 pub use questions::Questions;
 pub use seated::Seated;

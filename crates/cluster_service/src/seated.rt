@@ -10,7 +10,6 @@ use mio::net::TcpStream;
 use node_bytes::{Stepper, Turn};
 use node_rules::{Begin, Event, Serve, StepFault};
 use std::sync::Wait;
-use std::sync::atomic::Ordering;
 use std::time::Clock;
 
 /// How many steps follow the first step of a job at most: one for the failure of each of the 26
@@ -50,7 +49,7 @@ impl<N: Stepper + Drop, G: Gate + Drop, R: Wait + Clock> Seated<'_, N, G, R> {
         ensures { self.new.node ≡ self.old.node }
     {
         if fault == StepFault::Closed || fault == StepFault::StoreFault {
-            self.station.is_closed.store(true, Ordering::SeqCst);
+            self.station.closing.note(fault);
             self.refuse_all();
         }
     }

@@ -4,6 +4,7 @@ ghost use Rattle.roster.specs.Lookups.{is_member};
 ghost use Rattle.cluster_service.specs.Addresses.{fetch_at, fetch_for, peer_source};
 
 use crate::client::Client;
+use crate::closing::Closing;
 use crate::gate::Gate;
 use cluster_fetch::{Fetch, ResponseSource};
 use cluster_sockets::{Delivery, Errand, Inbox, Senders};
@@ -31,8 +32,8 @@ pub struct Station<G: Drop> {
     pub id: u8,
     /// The node's UDP sockets, for sending.
     pub(crate) senders: Senders,
-    /// Whether a step has answered that the node is closed, or that its store has failed.
-    pub(crate) is_closed: AtomicBool,
+    /// Whether the node is closed, and why.
+    pub(crate) closing: Arc<Closing, Global>,
     /// Whether the node is to stop.
     pub(crate) is_stopped: Arc<AtomicBool, Global>,
     /// What is told of each read of an origin.
@@ -107,8 +108,8 @@ fn fetch_from(from: (ResponseSource, Address), serial: u32, ask: Ask) -> Option<
 
 impl<G: Gate + Drop> Station<G> {
     /// The station of a member of the roster, with the senders of its sockets and the inbox of its
-    /// event loop; nobody waits yet. `is_stopped` is set once the node is to stop. `gate` is told of
-    /// each read of an origin.
+    /// event loop; nobody waits yet. `is_stopped` is set once the node is to stop. `closing` is told
+    /// of a fault that closes the node, and `gate` of each read of an origin.
     pub fn new(
         alloc: Global,
         roster: Roster,
@@ -116,6 +117,7 @@ impl<G: Gate + Drop> Station<G> {
         senders: Senders,
         inbox: Arc<Inbox, Global>,
         is_stopped: Arc<AtomicBool, Global>,
+        closing: Arc<Closing, Global>,
         gate: Arc<G, Global>,
     ) -> Station<G>
         requires { is_member roster id ≡ true }
@@ -127,7 +129,7 @@ impl<G: Gate + Drop> Station<G> {
             roster,
             id,
             senders,
-            is_closed: AtomicBool::new(false),
+            closing,
             is_stopped,
             gate,
         }

@@ -19,7 +19,6 @@ use node_rules::Begin;
 use roster::{Address, Udp};
 use std::io::Read;
 use std::sync::Wait;
-use std::sync::atomic::Ordering;
 use std::time::Clock;
 
 /// A thread that takes jobs from the queue.
@@ -177,7 +176,7 @@ impl<N: Stepper + Drop, G: Gate + Drop, R: Wait + Clock> Worker<'_, N, G, R> {
         match station.tables.leave(self.seated.rt, block, client) {
             Ok(Some((client, serve))) => self.seated.tell_client(client, serve),
             Ok(None) => {
-                if station.is_closed.load(Ordering::SeqCst) {
+                if station.closing.is_closed() {
                     self.seated.refuse_all();
                 }
             }

@@ -38,7 +38,7 @@ mod signals;
 mod threads;
 mod workers;
 
-pub use cluster_service::{Gate, NoGate};
+pub use cluster_service::{CloseCause, Closing, Gate, NoGate};
 pub use cluster_sockets::LoopFault;
 pub use fault::{StartFault, StopFault};
 pub use workers::{Ground, Workers};

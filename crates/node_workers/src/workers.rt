@@ -9,7 +9,7 @@ use crate::fault::{StartFault, StopFault, Unready};
 use crate::halt::Halt;
 use crate::node::{Edge, Start, run_node};
 use crate::signals::Signals;
-use cluster_service::{Gate, Station};
+use cluster_service::{CloseCause, Closing, Gate, Station};
 use cluster_sockets::{Inbox, NodeLoop, Senders};
 use node_http::name_of;
 use floor_rules::FloorStore;
@@ -17,7 +17,7 @@ use node_book::Record;
 use node_core::{Node, OpenFault};
 use node_seats::{Places, Retention};
 use roster::Roster;
-use std::alloc::Global;
+use std::alloc::{AllocError, Global};
 use std::hash::RandomState;
 use std::net::{Net, TcpListener, TcpStream};
 use std::sync::atomic::{AtomicBool, Ordering};
@@ -49,6 +49,7 @@ pub struct Workers {
     node: JoinHandle<Result<Option<Record>, StopFault>>,
     is_stopped: Arc<AtomicBool, Global>,
     halt: Arc<Halt, Global>,
+    closing: Arc<Closing, Global>,
 }
 
 /// Opens a node.
@@ -106,9 +107,10 @@ fn station<G: Gate + Drop>(
     requires { is_member roster.now id ≡ true }
 {
     let is_stopped = Arc::try_clone(&signals.is_stopped)?;
+    let closing = Arc::try_clone(&signals.closing)?;
     match roster.copy(alloc) {
         Ok(roster) => Ok(Station::new(
-            alloc, roster, id, senders, inbox, is_stopped, gate,
+            alloc, roster, id, senders, inbox, is_stopped, closing, gate,
         )),
         Err(_) => Err(Unready::NoMemory),
     }
@@ -160,12 +162,14 @@ fn begin<
         is_stopped,
         report,
         halt,
+        closing,
     } = signals;
     match report.wait(&rt) {
         Ok(()) => Ok(Workers {
             node,
             is_stopped,
             halt,
+            closing,
         }),
         Err(fault) => {
             let _ended = node.join(&rt);
@@ -245,6 +249,18 @@ impl Workers {
             edge,
         };
         Ok(begin(rt, start, signals)?)
+    }
+
+    /// Why the node is closed, and so serves nothing and takes no purge; none while it is open. It
+    /// stays closed.
+    pub fn close_cause(&self) -> Option<CloseCause> {
+        self.closing.cause()
+    }
+
+    /// What tells another thread whether the node is closed, and why. `AllocError` comes where one
+    /// more owner cannot be counted.
+    pub fn closing(&self) -> Result<Arc<Closing, Global>, AllocError> {
+        Arc::try_clone(&self.closing)
     }
 
     /// Holds the node, and waits until it is held: until [`Workers::resume`] no step is taken, and
