@@ -16,6 +16,8 @@ const PAUSE: u64 = 100;
 struct Watched {
     id: u8,
     closing: Arc<Closing, Global>,
+    /// Whether it was closed at an earlier look.
+    was_closed: bool,
     is_told: bool,
 }
 
@@ -42,12 +44,16 @@ fn cause_name(cause: CloseCause) -> &'static str {
 }
 
 impl Watched {
-    /// Says that the member has closed, and why, unless it is open or that was said.
-    fn tell<R: Eprint>(&mut self, rt: &R) {
+    /// Says that the member has closed, and why, unless it is open or that was said. It is said at
+    /// the second look, since the thread that met the cause may note it after one that only met a
+    /// closed node; at the last look it is said at once.
+    fn tell<R: Eprint>(&mut self, rt: &R, is_last: bool) {
         if self.is_told {
             return;
         }
-        if let Some(cause) = self.closing.cause() {
+        let is_due = is_last || self.was_closed;
+        self.was_closed = self.closing.is_closed();
+        if let (true, Some(cause)) = (is_due, self.closing.cause()) {
             self.is_told = true;
             // (a standard error that takes nothing ends nothing)
             let _ = eprintln!(rt; "node {} has closed: {}", self.id, cause_name(cause));
@@ -61,7 +67,7 @@ impl Watching {
         for _ in rt.forever() {
             let is_last = self.is_stopped.load(Ordering::SeqCst);
             for member in &mut self.members {
-                member.tell(rt);
+                member.tell(rt, is_last);
             }
             if is_last {
                 return;
@@ -78,6 +84,7 @@ fn members_of(alloc: Global, running: &[Running]) -> Result<Vec<Watched>, Cluste
         let member = Watched {
             id: node.id,
             closing: node.workers.closing()?,
+            was_closed: false,
             is_told: false,
         };
         if members.push(member).is_err() {
