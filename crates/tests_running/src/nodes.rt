@@ -65,7 +65,6 @@ fn datagrams_come(rt: &HostRuntime) -> io::Result<[bool; 2]> {
 #[derive(Clone, Copy, PartialEq, Eq)]
 enum Taker {
     Worker,
-    Fetcher,
     AtSockets,
 }
 
@@ -73,7 +72,6 @@ enum Taker {
 fn taker_at(seat: u8) -> Taker {
     match seat {
         0 | 1 => Taker::Worker,
-        2 | 3 => Taker::Fetcher,
         _ => Taker::AtSockets,
     }
 }
@@ -85,7 +83,7 @@ const TAKERS: [Taker; 5] = [
     Taker::Worker,
     Taker::Worker,
     Taker::Worker,
-    Taker::Fetcher,
+    Taker::Worker,
 ];
 
 /// Whether the steps of a record were taken from seats of these threads, in this order.

@@ -408,7 +408,7 @@ const EARLY: [Act; 4] = [
 const LATE: [Act; 1] = [Act::Polls(800)];
 
 /// Takes the jobs in the queue early and late: whether none came before its time.
-fn wait_out<R: Wait + Clock>(
+fn wait_out<R: Net + Wait + Clock>(
     rt: &HostRuntime,
     wait: &R,
     held: &mut Held,
