@@ -18,7 +18,18 @@ pub enum Checked {
     Ended,
 }
 
-/// Judges the run of a hierarchy.
+/// How a member stands.
+#[derive(Clone, Copy, Debug, PartialEq, Eq)]
+pub enum MemberState {
+    /// It serves, and takes purges.
+    Open,
+    /// It serves nothing and takes no purge until a restart: its store failed.
+    StoreFault,
+    /// The same, since its store lacked memory.
+    NoMemory,
+}
+
+/// Judges the run of a hierarchy, and tells how its members stand.
 pub trait Checker {
     /// What was gathered of the run; none, where some of it is lost.
     ghost gathered: { Self → Option Gathered };
@@ -33,4 +44,7 @@ pub trait Checker {
     ) -> Result<Checked, AllocError>
         ensures said { IfOk result (IsChecked roster.now (gathered self.new)) }
         ensures goes_on { GoesOn (gathered self.old) (gathered self.new) };
+
+    /// How the member of this id stands.
+    fn state(&self, id: u8) -> MemberState;
 }

@@ -14,6 +14,10 @@ pub(crate) enum Line<'a> {
     Get { node: u8, url: &'a [u8] },
     /// `check`: judge what was done so far.
     Check,
+    /// `pending`: ask the master which purges are pending.
+    Pending,
+    /// `members`: ask how each member stands.
+    Members,
     /// Anything else.
     Bad,
 }
@@ -37,6 +41,10 @@ fn line_alone<'a>(keyword: &[u8]) -> Line<'a>
 {
     if keyword == b"check".as_slice() {
         Line::Check
+    } else if keyword == b"pending".as_slice() {
+        Line::Pending
+    } else if keyword == b"members".as_slice() {
+        Line::Members
     } else {
         Line::Bad
     }

@@ -17,6 +17,11 @@
 
 mod asking;
 mod events;
+mod ended;
+mod received;
+mod under_way;
 
 pub use asking::exchange;
 pub use events::{ResponseSource, fetched};
+pub use ended::Fetched;
+pub use under_way::{Fetch, Fetching};

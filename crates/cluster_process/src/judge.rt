@@ -5,9 +5,9 @@ ghost use Rattle.cluster_process.specs.Kept.{gathered_in};
 
 use crate::cluster::Running;
 use crate::kept::{Kept, Memory};
-use cluster_console::{Checked, Checker};
+use cluster_console::{Checked, Checker, MemberState};
 use cluster_master::{HeldMaster, SharedMaster};
-use node_workers::StopFault;
+use node_workers::{CloseCause, StopFault};
 use purge_rules::PurgeStore;
 use roster::Roster;
 use run_check::check_run;
@@ -69,8 +69,8 @@ impl<S: PurgeStore> Judge<'_, S> {
         Ok(())
     }
 
-    /// Holds all members and the master, gathers what they did since the last time, and lets them go
-    /// on. So nothing is done between the first record that is taken and the last entry.
+    /// Holds all members and the master, gathers what they did since the last time, and lets them
+    /// go on. So nothing is done between the first record that is taken and the last entry.
     ///
     /// Faults: those of [`Workers::record`](node_workers::Workers::record). What was gathered
     /// before such a fault stays, and the rest is gathered the next time. Where there is no memory
@@ -131,5 +131,23 @@ impl<S: PurgeStore> Checker for Judge<'_, S> {
             Err(StopFault::NoMemory) => Err(AllocError),
             Err(StopFault::Ended) => Ok(Checked::Ended),
         }
+    }
+
+    fn state(&self, id: u8) -> MemberState {
+        for node in self.nodes {
+            if node.id == id {
+                return state_of(node.workers.close_cause());
+            }
+        }
+        MemberState::Open
+    }
+}
+
+/// How a member stands that is closed for this cause, if it is closed.
+fn state_of(cause: Option<CloseCause>) -> MemberState {
+    match cause {
+        None => MemberState::Open,
+        Some(CloseCause::StoreFault) => MemberState::StoreFault,
+        Some(CloseCause::NoMemory) => MemberState::NoMemory,
     }
 }

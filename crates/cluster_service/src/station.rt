@@ -1,39 +1,39 @@
 //! What the threads of a node share beside the node itself.
-ghost use Rattle.std.specs.Prelude.{◌≡◌, ◌==◌, true, find, option_map};
+ghost use Rattle.std.specs.Prelude.{◌≡◌, ◌==◌, true, find, option_map, Some};
 ghost use Rattle.roster.specs.Lookups.{is_member};
-ghost use Rattle.cluster_service.specs.Addresses.{peer_source};
+ghost use Rattle.cluster_service.specs.Addresses.{fetch_at, fetch_for, peer_source};
 
+use crate::client::Client;
+use crate::closing::Closing;
 use crate::gate::Gate;
-use cluster_fetch::ResponseSource;
-use cluster_sockets::Senders;
-use cluster_waiting::{Bell, Errands, WaitTables};
-use mio::net::TcpStream;
+use cluster_fetch::{Fetch, ResponseSource};
+use cluster_sockets::{Delivery, Errand, Inbox, Senders};
+use cluster_waiting::WaitTables;
+use http_messages::Ask;
 use node_bytes::{Packet, Turn};
-use node_rules::Serve;
+use node_rules::{Begin, Serve};
 use roster::{Address, Cache, Roster};
 use std::alloc::Global;
-use std::sync::Arc;
+use std::sync::{Arc, Wait};
 use std::sync::atomic::{AtomicBool, Ordering};
-use std::time::Clock;
+use std::time::{Clock, Instant};
 
 /// What the threads of a node share beside the node itself.
 #[derive(Drop)]
 pub struct Station<G: Drop> {
     /// The clients that wait, the answers that came before their clients, and the rounds that wait.
-    pub tables: WaitTables<TcpStream, Serve<()>>,
-    /// Where workers wait for jobs.
-    pub bell: Bell,
-    /// What is left to the fetchers.
-    pub errands: Errands<Turn>,
+    pub tables: WaitTables<Client, Serve<()>>,
+    /// What is left to the event loop.
+    pub(crate) inbox: Arc<Inbox, Global>,
     pub(crate) alloc: Global,
     /// Who takes part.
-    pub(crate) roster: Roster,
+    pub roster: Roster,
     /// The member's id.
-    pub(crate) id: u8,
+    pub id: u8,
     /// The node's UDP sockets, for sending.
     pub(crate) senders: Senders,
-    /// Whether a step has answered that the node is closed, or that its store has failed.
-    pub(crate) is_closed: AtomicBool,
+    /// Whether the node is closed, and why.
+    pub(crate) closing: Arc<Closing, Global>,
     /// Whether the node is to stop.
     pub(crate) is_stopped: Arc<AtomicBool, Global>,
     /// What is told of each read of an origin.
@@ -78,28 +78,58 @@ pub(crate) fn source_of(roster: &Roster, peer: u8) -> Option<(ResponseSource, Ad
     }
 }
 
+/// The fetch that begins: whom it asks, and where. None begins with a round, nor where the roster
+/// has no such peer or origin.
+pub(crate) fn fetch_of(roster: &Roster, begin: Begin) -> Option<Fetch>
+    ensures { result ≡ fetch_for roster.now begin }
+{
+    match begin {
+        Begin::Round { .. } => None,
+        Begin::Peer { serial, peer, ask } => fetch_from(source_of(roster, peer)?, serial, ask),
+        Begin::Read { serial, ask } => {
+            let at = roster.origin(ask.key.host(), ask.key.port())?;
+            fetch_from((ResponseSource::Origin, at), serial, ask)
+        }
+    }
+}
+
+/// A fetch from this source at this address.
+fn fetch_from(from: (ResponseSource, Address), serial: u32, ask: Ask) -> Option<Fetch>
+    ensures { result ≡ Some (fetch_at from serial ask) }
+{
+    let (source, at) = from;
+    Some(Fetch {
+        source,
+        serial,
+        at,
+        ask,
+    })
+}
+
 impl<G: Gate + Drop> Station<G> {
-    /// The station of a member of the roster, with the senders of its sockets; nobody waits yet.
-    /// `is_stopped` is set once the node is to stop. `gate` is told of each read of an origin.
+    /// The station of a member of the roster, with the senders of its sockets and the inbox of its
+    /// event loop; nobody waits yet. `is_stopped` is set once the node is to stop. `closing` is told
+    /// of a fault that closes the node, and `gate` of each read of an origin.
     pub fn new(
         alloc: Global,
         roster: Roster,
         id: u8,
         senders: Senders,
+        inbox: Arc<Inbox, Global>,
         is_stopped: Arc<AtomicBool, Global>,
+        closing: Arc<Closing, Global>,
         gate: Arc<G, Global>,
     ) -> Station<G>
         requires { is_member roster id ≡ true }
     {
         Station {
             tables: WaitTables::new(alloc),
-            bell: Bell::new(),
-            errands: Errands::new(alloc),
+            inbox,
             alloc,
             roster,
             id,
             senders,
-            is_closed: AtomicBool::new(false),
+            closing,
             is_stopped,
             gate,
         }
@@ -114,6 +144,42 @@ impl<G: Drop> Station<G> {
             let _ = self
                 .senders
                 .send(packet.by, packet.to, packet.octets.as_slice());
+        }
+    }
+
+    /// Sends, serves and begins what a turn asks for, on the thread of the event loop: a round waits,
+    /// a fetch is left in the inbox, and so is a response. Where there is no memory for that, it is
+    /// lost, as a reply is for which there is none.
+    pub(crate) fn carry_out<R: Wait + Clock>(&self, rt: &R, turn: Turn) {
+        let Turn { serve, send, begin } = turn;
+        self.send_all(send.as_slice());
+        if let Some(serve) = serve {
+            self.leave_response(rt, serve);
+        }
+        if let Some(begin) = begin {
+            self.leave_begin(rt, begin);
+        }
+    }
+
+    /// Leaves the response of a client that waits in the inbox.
+    fn leave_response<R: Wait + Clock>(&self, rt: &R, serve: Serve<()>) {
+        let (Some(block), Ok(now)) = (serve.waiter, Instant::now(rt)) else {
+            return;
+        };
+        if let Ok(Some((Client::Waiting(stream), serve))) = self.tables.answer(rt, block, serve) {
+            let delivery = Delivery::new(stream, serve, false, now);
+            let _ = self.inbox.put(rt, Errand::Deliver(delivery));
+        }
+    }
+
+    /// Has a round wait, or leaves a fetch in the inbox.
+    fn leave_begin<R: Wait + Clock>(&self, rt: &R, begin: Begin) {
+        if let Begin::Round { serial } = &begin {
+            let until = milliseconds(rt).saturating_add(self.roster.limits().query_wait);
+            let _ = self.tables.begin(rt, until, *serial);
+        }
+        if let Some(fetch) = fetch_of(&self.roster, begin) {
+            let _ = self.inbox.put(rt, Errand::Fetch(fetch));
         }
     }
 

@@ -100,6 +100,16 @@ impl Head {
         let _ = registry.deregister(&mut self.stream);
     }
 
+    /// How many connections were accepted before it.
+    pub(crate) fn number(&self) -> u64 {
+        self.number
+    }
+
+    /// The connection alone.
+    pub(crate) fn into_stream(self) -> TcpStream {
+        self.stream
+    }
+
     /// Makes it a job for a worker.
     pub(crate) fn into_job(self) -> Job
         ensures { HasCome (sight_of result) }

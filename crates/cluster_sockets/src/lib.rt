@@ -29,14 +29,21 @@
 
 mod at_once;
 mod datagrams;
+mod deliveries;
+mod delivery;
 mod fault;
+mod fetches;
 mod heads;
+mod inbox;
 mod node_loop;
+mod outgoing;
 mod putting;
 mod sockets;
 mod streams;
 
 pub use at_once::{AtOnce, Never};
+pub use delivery::{Delivered, Delivery};
 pub use fault::LoopFault;
+pub use inbox::{Errand, Inbox};
 pub use node_loop::NodeLoop;
 pub use sockets::Senders;

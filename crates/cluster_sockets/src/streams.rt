@@ -6,13 +6,13 @@ ghost use Rattle.cluster_sockets.specs.Polls.{HasCome, HasPut, IsSound};
 use crate::fault::LoopFault;
 use crate::heads::{Head, Reading};
 use crate::putting::{Come, put};
-use cluster_jobs::{Job, Jobs, Pass, QueueName};
+use cluster_jobs::{Job, Jobs, Pass, Run};
 use mio::Registry;
 use mio::net::{TcpListener, TcpStream};
 use slab::Slab;
 use std::alloc::{AllocError, Global};
+use std::collections::VecDeque;
 use std::io::ErrorKind;
-use std::mem::replace;
 use std::sync::Wait;
 use std::time::Instant;
 
@@ -39,7 +39,7 @@ pub(crate) struct Streams {
     came: Vec<usize>,
     number: u64,
     looked: Instant,
-    had_jobs: bool,
+    refused: VecDeque<TcpStream>,
 }
 
 impl Streams {
@@ -58,7 +58,7 @@ impl Streams {
             came: Vec::with_capacity(alloc, MOST_HEADS)?,
             number: 0,
             looked: now,
-            had_jobs: false,
+            refused: VecDeque::new(alloc),
         })
     }
 
@@ -67,15 +67,64 @@ impl Streams {
         self.is_ready = true;
     }
 
-    /// Whether a connection has had a job since this was last called.
-    pub(crate) fn had_jobs(&mut self) -> bool {
-        replace(&mut self.had_jobs, false)
-    }
-
     /// Notes that more has come of the connection under this key. `AllocError` comes where there is
     /// no room to note it; the connection then waits for more octets, or for its five seconds.
     pub(crate) fn note(&mut self, key: usize) -> Result<(), AllocError> {
         Ok(self.came.push(key)?)
+    }
+
+    /// Puts the job of a connection, if there is one. Where its lane is full the connection is
+    /// refused.
+    fn put_job<Q: Run, R: Wait>(
+        &mut self,
+        rt: &R,
+        jobs: &Jobs<Q>,
+        pass: Pass<Q>,
+        job: Option<Job>,
+    ) -> Pass<Q>
+        requires { IfSome job (λ job. HasCome (sight_of job)) }
+        ensures { HasPut pass result }
+    {
+        let (pass, back) = put(rt, jobs, pass, job);
+        if let Some(job) = back {
+            self.refuse_job(job);
+        }
+        pass
+    }
+
+    /// Keeps the connection of a job that is refused until it is told so.
+    fn refuse_job(&mut self, job: Job) {
+        match job {
+            Job::Stream { stream, .. } => self.refuse(stream),
+            Job::Datagram { .. } | Job::Timer { .. } | Job::Fetched(_) => {}
+        }
+    }
+
+    /// Keeps a connection that is refused until it is told so. Where there is no memory for it, it
+    /// is closed.
+    fn refuse(&mut self, stream: TcpStream) {
+        let _ = self.refused.push_back(stream);
+    }
+
+    /// Takes out a connection that is refused, and that has not been told so.
+    pub(crate) fn next_refused(&mut self) -> Option<TcpStream> {
+        self.refused.pop_front()
+    }
+
+    /// Refuses the connection that has waited longest for its request.
+    fn make_room(&mut self, registry: &Registry) {
+        let oldest = self
+            .heads
+            .iter()
+            .min_by_key(|(_, head)| head.number())
+            .map(|(key, _)| key);
+        let Some(key) = oldest else {
+            return;
+        };
+        if let Some(mut head) = self.heads.try_remove(key) {
+            head.deregister(registry);
+            self.refuse(head.into_stream());
+        }
     }
 
     /// Takes out the connection under this key, as a job.
@@ -84,7 +133,6 @@ impl Streams {
     {
         let mut head = self.heads.try_remove(key)?;
         head.deregister(registry);
-        self.had_jobs = true;
         Some(head.into_job())
     }
 
@@ -108,7 +156,7 @@ impl Streams {
     }
 
     /// Puts the connections that were noted and whose requests have come.
-    pub(crate) fn put_noted<Q: QueueName, R: Wait>(
+    pub(crate) fn put_noted<Q: Run, R: Wait>(
         &mut self,
         rt: &R,
         registry: &Registry,
@@ -122,7 +170,7 @@ impl Streams {
                 break;
             };
             let job = self.read_on(registry, key);
-            pass = put(rt, jobs, pass, job);
+            pass = self.put_job(rt, jobs, pass, job);
         }
         self.came.clear();
         pass
@@ -149,7 +197,7 @@ impl Streams {
 
     /// Puts the connections whose five seconds have passed, 64 at most, at intervals of 100
     /// milliseconds.
-    pub(crate) fn put_late<Q: QueueName, R: Wait>(
+    pub(crate) fn put_late<Q: Run, R: Wait>(
         &mut self,
         rt: &R,
         registry: &Registry,
@@ -168,7 +216,7 @@ impl Streams {
         for key in 0..MOST_HEADS {
             let job = self.take_late(registry, key, now);
             late = late.saturating_add(usize::from(job.is_some()));
-            pass = put(rt, jobs, pass, job);
+            pass = self.put_job(rt, jobs, pass, job);
             if late >= MOST_LATE {
                 break;
             }
@@ -176,11 +224,11 @@ impl Streams {
         pass
     }
 
-    /// Keeps a connection until more has come of it, or closes it where 1,024 wait or the poll does
-    /// not take it.
+    /// Keeps a connection until more has come of it, or closes it where the poll does not take it.
+    /// Where 1,024 wait, the one that has waited longest is refused.
     fn keep(&mut self, registry: &Registry, head: Head) {
         if self.heads.len() >= MOST_HEADS {
-            return;
+            self.make_room(registry);
         }
         let Ok(key) = self.heads.insert(head) else {
             return;
@@ -201,10 +249,7 @@ impl Streams {
         let mut head = Head::new(self.alloc, self.number, stream, now);
         self.number = self.number.wrapping_add(1);
         match head.read() {
-            Reading::Came => {
-                self.had_jobs = true;
-                Some(head.into_job())
-            }
+            Reading::Came => Some(head.into_job()),
             Reading::Waits => {
                 self.keep(registry, head);
                 None
@@ -227,7 +272,7 @@ impl Streams {
 
     /// Accepts what is there, 256 connections at most, and puts those whose requests have come.
     /// Returns whether there may be more.
-    pub(crate) fn put_accepted<Q: QueueName, R: Wait>(
+    pub(crate) fn put_accepted<Q: Run, R: Wait>(
         &mut self,
         rt: &R,
         registry: &Registry,
@@ -242,7 +287,7 @@ impl Streams {
         }
         for _ in 0..MOST_ACCEPTED {
             match self.accept(registry, now) {
-                Ok(Come::Taken(job)) => pass = put(rt, jobs, pass, job),
+                Ok(Come::Taken(job)) => pass = self.put_job(rt, jobs, pass, job),
                 Ok(Come::Nothing) => {
                     self.is_ready = false;
                     return (pass, Ok(false));

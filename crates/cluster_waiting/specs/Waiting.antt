@@ -1,5 +1,5 @@
--- What waits at a node: clients, early answers, rounds of queries, and errands; and the count of a bell.
-use Rattle.std.specs.Prelude.{◌≡◌, ◌≢◌, ◌≤◌, ◌<◌, ◌⊎◌, ℕ, Bool, true, false, max, List, [], ◌∷◌, ◌++◌, length, All, Option, Some, None, IsSome, Result, Ok, MatchResult}
+-- What waits at a node: clients, early answers, rounds of queries, and errands.
+use Rattle.std.specs.Prelude.{◌≡◌, ◌≤◌, ◌<◌, ◌⊎◌, ℕ, Bool, true, false, max, List, [], ◌∷◌, ◌++◌, length, All, Option, Some, None, IsSome, Result, Ok, MatchResult}
 use Rattle.std.specs.Ordering.{nat_cmp}
 use Rattle.std.specs.Map.{lookup, remove_entry}
 use Rattle.std.specs.BTreeMap.{is_at, insert_entry}
@@ -7,7 +7,6 @@ use Rattle.cluster_waiting.specs.declared.fault.TableFault.{TableFault}
 use Rattle.cluster_waiting.specs.declared.fault.TableFault.TheVariants.{Taken, Full, NoMemory}
 use Rattle.cluster_waiting.specs.declared.fault.HandedBack.{HandedBack}
 use Rattle.cluster_waiting.specs.declared.rounds.WaitingRound.{WaitingRound}
-use Rattle.cluster_waiting.specs.declared.bell.Rings.{Rings}
 
 -- Clients and answers
 
@@ -132,9 +131,3 @@ ended queue = record { items = queue.items; over = true }
 abbrev pub Takes : {T : Type 0} → QueueView T → Option T → QueueView T → Type 0
 Takes old None new = (new ≡ old) × ((old.over ≡ true) ⊎ (old.items ≡ []))
 Takes old (Some item) new = (old.over ≡ false) × (old.items ≡ item ∷ new.items) × (new.over ≡ false)
-
--- Rings
-
--- the count is no longer this one, or no job comes any more
-abbrev pub HasMovedPast : Rings → ℕ → Type 0
-HasMovedPast rings seen = (rings.count ≢ seen) ⊎ (rings.is_over ≡ true)

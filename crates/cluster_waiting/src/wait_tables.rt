@@ -1,16 +1,24 @@
-//! The two tables that the threads of a node share, each under its lock.
+//! The tables that the threads of a node share, each under its lock.
 use crate::clients::WaitingClients;
 use crate::fault::HandedBack;
 use crate::rounds::Rounds;
 use std::alloc::{AllocError, Global};
 use std::sync::{Mutex, Wait};
 
-/// The waiting clients with the early answers, and the waiting rounds, each under a lock of its
-/// own. Each function holds one lock for one call.
+/// Who may be kept among the waiting clients.
+pub trait Waits {
+    /// Whether it still waits. One that was told meanwhile that it waits no more is kept until the
+    /// answer to its request comes, which nobody gets then.
+    fn is_waiting(&self) -> bool;
+}
+
+/// The waiting clients with the early answers, the waiting rounds, and the deadlines of requests,
+/// each under a lock of its own. Each function holds one lock for one call.
 #[derive(Drop)]
 pub struct WaitTables<C: Drop, A: Drop> {
     clients: Mutex<WaitingClients<C, A>>,
     rounds: Mutex<Rounds>,
+    asks: Mutex<Rounds>,
 }
 
 impl<C: Drop, A: Drop> WaitTables<C, A> {
@@ -19,6 +27,7 @@ impl<C: Drop, A: Drop> WaitTables<C, A> {
         WaitTables {
             clients: Mutex::new(WaitingClients::new(alloc)),
             rounds: Mutex::new(Rounds::new(alloc)),
+            asks: Mutex::new(Rounds::new(alloc)),
         }
     }
 
@@ -50,6 +59,34 @@ impl<C: Drop, A: Drop> WaitTables<C, A> {
     /// [`WaitingClients::take_first`] under the lock.
     pub fn take_first<R: Wait>(&self, rt: &R) -> Option<C> {
         self.clients.lock(rt).take_first()
+    }
+
+    /// [`WaitingClients::take`] under the lock.
+    pub fn take<R: Wait>(&self, rt: &R, block: u32) -> Option<C> {
+        self.clients.lock(rt).take(block)
+    }
+
+    /// Whether a client under this block still waits.
+    pub fn is_awaited<R: Wait>(&self, rt: &R, block: u32) -> bool
+    where
+        C: Waits,
+    {
+        match self.clients.lock(rt).get(block) {
+            Some(client) => client.is_waiting(),
+            None => false,
+        }
+    }
+
+    /// Has the request of a block wait until this moment, in milliseconds: [`Rounds::begin`] under
+    /// the lock of the deadlines.
+    pub fn begin_ask<R: Wait>(&self, rt: &R, until: u64, block: u32) -> Result<(), AllocError> {
+        self.asks.lock(rt).begin(until, block)
+    }
+
+    /// The block of the first request whose deadline has come at this moment: [`Rounds::due`] under
+    /// the lock of the deadlines.
+    pub fn due_ask<R: Wait>(&self, rt: &R, now: u64) -> Option<u32> {
+        self.asks.lock(rt).due(now)
     }
 
     /// [`Rounds::begin`] under the lock.

@@ -1,6 +1,6 @@
 -- The parts of a world: the world that they are, their invariant (IsSound), and what an event does to
 -- them (IsTaken).
-use Rattle.std.specs.Prelude.{◌≡◌, ◌≢◌, ℕ, suc, Bool, ◌==◌, false, List, [], ◌∷◌, ◌++◌, map, option_map, Option, Some, None, Result, Ok, Err, if◌then◌else◌}
+use Rattle.std.specs.Prelude.{◌≡◌, ◌≢◌, ℕ, zero, suc, ◌^◌, Bool, ◌==◌, false, List, [], ◌∷◌, ◌++◌, map, option_map, Option, Some, None, Result, Ok, Err, if◌then◌else◌}
 use Rattle.std.specs.List.{AllByRecursion}
 use Rattle.floor_rules.specs.Floors.{FloorMap}
 use Rattle.values_tables.specs.declared.plain.Tables.{Tables}
@@ -50,9 +50,14 @@ world_of p = record {
   waiting = p.waiting.items;
 }
 
+-- the place of the next event; 0 stands for 2 ^ 64, which is left when all places are taken
+abbrev pub next_place : ℕ → ℕ
+next_place zero = 2 ^ 64
+next_place (suc place) = suc place
+
 -- what a contract sees of the world, by whether an allocation has failed
 abbrev pub view_of : Parts → Bool → WorldView
-view_of p spoilt = record { roster = p.roster; place = p.place; spoilt = spoilt; world = world_of p }
+view_of p spoilt = record { roster = p.roster; place = next_place p.place; spoilt = spoilt; world = world_of p }
 
 -- the store has the node's floors, whether it is open or closed
 abbrev pub IsStored : MemberNode → Type 0

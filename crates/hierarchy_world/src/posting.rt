@@ -22,7 +22,7 @@ use url_key::Key;
 use world_rules::WorldFault;
 
 /// A copy of a message.
-pub(crate) fn copy_of_message(alloc: Global, message: &Message) -> Result<Message, AllocError>
+fn copy_of_message(alloc: Global, message: &Message) -> Result<Message, AllocError>
     ensures { IfOk result (λ copy. copy ≡ message.now) }
 {
     Ok(match message {

@@ -1,7 +1,8 @@
 -- In reading order. Effects shows that the step has one of five effects; it takes most of the work,
 -- and uses Cases, FloorLaws, Stores and Pendings. Kept says what each effect keeps. Stepping
 -- carries this from the function to the relation, and Lawful puts the law together. Questions,
--- FewAsks and the Tag files each prove one law on their own, rule by rule.
+-- FewAsks and the Tag files each prove one law on their own, rule by rule. Answerable is of received
+-- messages.
 pub mod Cases
 pub mod FloorLaws
 pub mod Stores
@@ -15,3 +16,4 @@ pub mod FewAsks
 pub mod TagLists
 pub mod TagSteps
 pub mod TagRelation
+pub mod Answerable

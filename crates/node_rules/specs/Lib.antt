@@ -3,6 +3,7 @@
 pub mod Names
 pub mod Texts
 pub mod Messages
+pub mod Spelled
 pub mod Known
 pub mod State
 pub mod Fetching

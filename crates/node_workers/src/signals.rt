@@ -2,12 +2,13 @@
 use crate::fault::Unready;
 use crate::halt::Halt;
 use crate::report::Report;
+use cluster_service::Closing;
 use std::alloc::{AllocError, Global};
 use std::sync::atomic::AtomicBool;
 use std::sync::{Arc, Wait};
 
 /// What a node's thread and the thread that started it share: whether the node is to stop, how its
-/// start went, and whether it is held.
+/// start went, whether it is held, and whether it is closed.
 #[derive(Drop)]
 pub(crate) struct Signals {
     /// Whether the node is to stop.
@@ -16,6 +17,8 @@ pub(crate) struct Signals {
     pub(crate) report: Arc<Report, Global>,
     /// Whether it is held.
     pub(crate) halt: Arc<Halt, Global>,
+    /// Whether it is closed, and why.
+    pub(crate) closing: Arc<Closing, Global>,
 }
 
 impl Signals {
@@ -30,10 +33,14 @@ impl Signals {
         let Ok(halt) = Arc::new(alloc, Halt::new()) else {
             return Err(Unready::NoMemory);
         };
+        let Ok(closing) = Arc::new(alloc, Closing::new()) else {
+            return Err(Unready::NoMemory);
+        };
         Ok(Signals {
             is_stopped,
             report,
             halt,
+            closing,
         })
     }
 
@@ -43,6 +50,7 @@ impl Signals {
             is_stopped: Arc::try_clone(&self.is_stopped)?,
             report: Arc::try_clone(&self.report)?,
             halt: Arc::try_clone(&self.halt)?,
+            closing: Arc::try_clone(&self.closing)?,
         })
     }
 

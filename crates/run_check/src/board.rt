@@ -19,7 +19,7 @@ use crate::standing::Standing;
 use crate::stepping::steps;
 use floor_rules::Floors;
 use node_book::NodeEntry;
-use node_rules::{Event, NodeState};
+use node_rules::NodeState;
 use purge_master::MasterEntry;
 use purge_rules::MasterCall;
 use roster::Roster;
@@ -96,16 +96,6 @@ impl Posts {
     {
         Posts {
             posts: Vec::new(alloc),
-        }
-    }
-
-    /// Whether the node with this id is astray.
-    fn is_astray(&self, id: u8) -> bool
-        ensures { result ≡ judging.is_astray (standing_at (posts_of self.now) id) }
-    {
-        match place_of(self.posts.as_slice(), id) {
-            Some(place) => is_astray(&self.posts[place].standing),
-            None => false,
         }
     }
 
@@ -224,16 +214,8 @@ impl<'a> Board<'a> {
         Ok(())
     }
 
-    /// Whether what a node received was sent to it before. True for what comes from neither a
-    /// member nor the master, and for a node that is astray.
-    fn is_heard(&self, roster: &Roster, node: u8, event: &Event<()>) -> bool
-        ensures { (sent : ANetwork) → Holds roster.now self.now.network sent →
-            IsTrue result ↔ judging.IsHeard roster.now (board_of self.now sent) node event.now }
-    {
-        self.posts.is_astray(node) || self.network.is_sent(roster, node, event)
-    }
-
-    /// A node has an entry. Returns its flaw, if it has one.
+    /// A node has an entry. Returns its flaw, if it has one. What it received must have been sent to
+    /// it before, even if nothing is known of the node.
     fn steps(
         &mut self,
         alloc: Global,
@@ -247,7 +229,7 @@ impl<'a> Board<'a> {
             IsJudged roster.now (board_of self.old sent)
             (notes.Steps node entry.now is_closed kept.now) self.new flaw) }
     {
-        if !self.is_heard(roster, node, &entry.event) {
+        if !self.network.is_sent(roster, node, &entry.event) {
             return Ok(Some(Cause::NotSent));
         }
         let standing = self.posts.take(node);
@@ -299,7 +281,8 @@ impl<'a> Board<'a> {
         Ok(None)
     }
 
-    /// Takes the next note. Returns its flaw, if it has one; nothing is promised of the state then.
+    /// Takes the next note. Returns its flaw, if it has one. Then the state is as it was if a record
+    /// closes, and else nothing is promised of it.
     pub(crate) fn judge(
         &mut self,
         alloc: Global,
