@@ -80,7 +80,11 @@ impl Deliveries {
             let Some(stream) = streams.next_refused() else {
                 break;
             };
-            self.add(registry, Delivery::new(stream, unavailable(), true, now), via);
+            self.add(
+                registry,
+                Delivery::new(stream, unavailable(), true, now),
+                via,
+            );
         }
     }
 

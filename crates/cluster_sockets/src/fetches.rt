@@ -39,15 +39,17 @@ struct Placed {
 }
 
 /// The fetches of a node. Each address has a line of its own, so one that does not answer holds up
-/// its own fetches alone.
+/// its own fetches alone. Where all 1,024 places are taken, the lines take turns.
 #[derive(Drop)]
 pub(crate) struct Fetches {
     alloc: Global,
     under_way: Slab<Placed>,
     lines: Vec<Line>,
     ready: VecDeque<usize>,
-    /// The place of a line that has room again.
-    freed: Option<usize>,
+    /// Whether a line in which fetches wait may have room.
+    may_begin: bool,
+    /// The place of the line whose turn is next.
+    turn: usize,
     /// Where the look for late fetches goes on.
     looked: usize,
     first_token: usize,
@@ -61,7 +63,8 @@ impl Fetches {
             under_way: Slab::new(alloc),
             lines: Vec::new(alloc),
             ready: VecDeque::new(alloc),
-            freed: None,
+            may_begin: false,
+            turn: 0,
             looked: MOST_FETCHES,
             first_token,
         }
@@ -76,7 +79,7 @@ impl Fetches {
 
     /// Whether some may go on without waiting.
     pub(crate) fn has_more(&self) -> bool {
-        self.freed.is_some() || !self.ready.is_empty() || self.looked < MOST_FETCHES
+        self.may_begin || !self.ready.is_empty() || self.looked < MOST_FETCHES
     }
 
     /// Begins a look at all fetches, which `next_late` goes on with.
@@ -175,18 +178,13 @@ impl Fetches {
     }
 
     /// Takes out the fetch under this key, which has ended.
-    fn end(
-        &mut self,
-        registry: &Registry,
-        key: usize,
-        answer: Option<Answer>,
-    ) -> Option<Fetched> {
+    fn end(&mut self, registry: &Registry, key: usize, answer: Option<Answer>) -> Option<Fetched> {
         let Placed { mut fetching, line } = self.under_way.try_remove(key)?;
         fetching.deregister(registry);
         if let Some(line) = self.lines.get_mut(line) {
             line.under_way = line.under_way.saturating_sub(1);
         }
-        self.freed = Some(line);
+        self.may_begin = true;
         Some(fetching.into_fetched(answer))
     }
 
@@ -196,24 +194,48 @@ impl Fetches {
         self.end(registry, key, answer)
     }
 
-    /// Begins the next fetch of a line that has room. One whose client no longer waits has failed
+    /// Whether a fetch waits in this line, and there is room for it.
+    fn is_due(&self, place: usize) -> bool {
+        match self.lines.get(place) {
+            Some(line) => !line.waiting.is_empty() && self.has_room(place),
+            None => false,
+        }
+    }
+
+    /// Takes out the next fetch that waits and for which there is room, with the place of its line.
+    /// The lines take turns.
+    fn next_turn(&mut self) -> Option<(usize, Fetch)> {
+        if !self.may_begin {
+            return None;
+        }
+        let count = self.lines.len();
+        let first = self.turn.min(count);
+        let Some(place) = (first..count)
+            .chain(0..first)
+            .find(|place| self.is_due(*place))
+        else {
+            self.may_begin = false;
+            return None;
+        };
+        self.turn = place.saturating_add(1);
+        let fetch = self.lines.get_mut(place)?.waiting.pop_front()?;
+        Some((place, fetch))
+    }
+
+    /// Begins a fetch that has waited for its turn. One whose client no longer waits has failed
     /// instead.
     fn begin_next<A: AtOnce, R: Net + Wait>(
         &mut self,
         rt: &R,
         registry: &Registry,
         at_once: &A,
-        place: usize,
+        next: (usize, Fetch),
         via: &[u8],
         now: Instant,
     ) -> Option<Fetched>
         requires { IsTrue (names_cache via.now) }
     {
-        if !self.has_room(place) {
-            return None;
-        }
-        let fetch = self.lines.get_mut(place)?.waiting.pop_front()?;
-        self.freed = Some(place);
+        let (place, fetch) = next;
         if !at_once.is_wanted(rt, fetch.serial) {
             return Some(fetch.into_failed());
         }
@@ -233,8 +255,8 @@ impl Fetches {
         requires { IsTrue (names_cache via.now) }
     {
         for _ in 0..MOST_FETCHES {
-            let ended = match self.freed.take() {
-                Some(place) => self.begin_next(rt, registry, at_once, place, via, now),
+            let ended = match self.next_turn() {
+                Some(next) => self.begin_next(rt, registry, at_once, next, via, now),
                 None => {
                     let key = self.ready.pop_front()?;
                     self.go_on(registry, key)

@@ -27,6 +27,7 @@ pub(crate) enum Reading {
 #[derive(Drop)]
 pub(crate) struct Head {
     number: u64,
+    ip: u32,
     stream: TcpStream,
     octets: Vec<u8>,
     end: HeadEnd,
@@ -34,10 +35,18 @@ pub(crate) struct Head {
 }
 
 impl Head {
-    /// A connection that was accepted at this moment, before anything is read of it.
-    pub(crate) fn new(alloc: Global, number: u64, stream: TcpStream, since: Instant) -> Head {
+    /// A connection from an IPv4 address that was accepted at this moment, before anything is read
+    /// of it.
+    pub(crate) fn new(
+        alloc: Global,
+        number: u64,
+        ip: u32,
+        stream: TcpStream,
+        since: Instant,
+    ) -> Head {
         Head {
             number,
+            ip,
             stream,
             octets: Vec::new(alloc),
             end: HeadEnd::new(0, true),
@@ -105,6 +114,11 @@ impl Head {
         self.number
     }
 
+    /// The IPv4 address that it comes from.
+    pub(crate) fn ip(&self) -> u32 {
+        self.ip
+    }
+
     /// The connection alone.
     pub(crate) fn into_stream(self) -> TcpStream {
         self.stream
@@ -116,6 +130,7 @@ impl Head {
     {
         let Head {
             number,
+            ip: _,
             stream,
             octets,
             end: _,

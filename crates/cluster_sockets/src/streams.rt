@@ -5,6 +5,7 @@ ghost use Rattle.cluster_sockets.specs.Polls.{HasCome, HasPut, IsSound};
 
 use crate::fault::LoopFault;
 use crate::heads::{Head, Reading};
+use crate::per_address::PerAddress;
 use crate::putting::{Come, put};
 use cluster_jobs::{Job, Jobs, Pass, Run};
 use mio::Registry;
@@ -15,6 +16,7 @@ use std::collections::VecDeque;
 use std::io::ErrorKind;
 use std::sync::Wait;
 use std::time::Instant;
+use values_plain::Address;
 
 /// How many connections wait in the loop at most.
 const MOST_HEADS: usize = 1024;
@@ -36,6 +38,7 @@ pub(crate) struct Streams {
     listener: TcpListener,
     is_ready: bool,
     heads: Slab<Head>,
+    per_address: PerAddress,
     came: Vec<usize>,
     number: u64,
     looked: Instant,
@@ -55,6 +58,7 @@ impl Streams {
             listener,
             is_ready: true,
             heads: Slab::with_capacity(alloc, MOST_HEADS)?,
+            per_address: PerAddress::new(alloc),
             came: Vec::with_capacity(alloc, MOST_HEADS)?,
             number: 0,
             looked: now,
@@ -111,17 +115,33 @@ impl Streams {
         self.refused.pop_front()
     }
 
-    /// Refuses the connection that has waited longest for its request.
-    fn make_room(&mut self, registry: &Registry) {
-        let oldest = self
-            .heads
+    /// Takes out the connection under this key, if it waits.
+    fn remove(&mut self, key: usize) -> Option<Head> {
+        let head = self.heads.try_remove(key)?;
+        self.per_address.remove(head.ip());
+        Some(head)
+    }
+
+    /// The key of the connection that has waited longest for its request: of those from an IPv4
+    /// address, or of all.
+    fn oldest(&self, ip: Option<u32>) -> Option<usize> {
+        self.heads
             .iter()
+            .filter(|(_, head)| match ip {
+                Some(ip) => head.ip() == ip,
+                None => true,
+            })
             .min_by_key(|(_, head)| head.number())
-            .map(|(key, _)| key);
-        let Some(key) = oldest else {
+            .map(|(key, _)| key)
+    }
+
+    /// Refuses the connection that has waited longest for its request: of those from an IPv4
+    /// address, or of all.
+    fn make_room(&mut self, registry: &Registry, ip: Option<u32>) {
+        let Some(key) = self.oldest(ip) else {
             return;
         };
-        if let Some(mut head) = self.heads.try_remove(key) {
+        if let Some(mut head) = self.remove(key) {
             head.deregister(registry);
             self.refuse(head.into_stream());
         }
@@ -131,7 +151,7 @@ impl Streams {
     fn take(&mut self, registry: &Registry, key: usize) -> Option<Job>
         ensures { IfSome result (λ job. HasCome (sight_of job)) }
     {
-        let mut head = self.heads.try_remove(key)?;
+        let mut head = self.remove(key)?;
         head.deregister(registry);
         Some(head.into_job())
     }
@@ -149,7 +169,7 @@ impl Streams {
             Reading::Waits => None,
             Reading::Came => self.take(registry, key),
             Reading::Gone => {
-                let _ = self.heads.try_remove(key);
+                let _ = self.remove(key);
                 None
             }
         }
@@ -189,7 +209,7 @@ impl Streams {
             _ => return None,
         };
         if is_silent {
-            let _ = self.heads.try_remove(key);
+            let _ = self.remove(key);
             return None;
         }
         self.take(registry, key)
@@ -224,13 +244,30 @@ impl Streams {
         pass
     }
 
-    /// Keeps a connection until more has come of it, or closes it where the poll does not take it.
-    /// Where 1,024 wait, the one that has waited longest is refused.
-    fn keep(&mut self, registry: &Registry, head: Head) {
+    /// Counts a connection that is to wait. Where 128 wait from its address, the one of them that
+    /// has waited longest is refused; where 1,024 wait, the one of all. Returns false where there is
+    /// no memory.
+    fn count(&mut self, registry: &Registry, ip: u32) -> bool {
         if self.heads.len() >= MOST_HEADS {
-            self.make_room(registry);
+            self.make_room(registry, None);
+        }
+        if self.per_address.add(ip) {
+            return true;
+        }
+        self.make_room(registry, Some(ip));
+        self.per_address.add(ip)
+    }
+
+    /// Keeps a connection until more has come of it. It is closed where the poll does not take it,
+    /// and refused where there is no memory to count it.
+    fn keep(&mut self, registry: &Registry, head: Head) {
+        let ip = head.ip();
+        if !self.count(registry, ip) {
+            self.refuse(head.into_stream());
+            return;
         }
         let Ok(key) = self.heads.insert(head) else {
+            self.per_address.remove(ip);
             return;
         };
         let is_told = match self.heads.get_mut(key) {
@@ -238,15 +275,21 @@ impl Streams {
             None => true,
         };
         if !is_told {
-            let _ = self.heads.try_remove(key);
+            let _ = self.remove(key);
         }
     }
 
     /// Reads a connection that was just accepted. Returns its job, if its request is there.
-    fn begin(&mut self, registry: &Registry, stream: TcpStream, now: Instant) -> Option<Job>
+    fn begin(
+        &mut self,
+        registry: &Registry,
+        stream: TcpStream,
+        from: Address,
+        now: Instant,
+    ) -> Option<Job>
         ensures { IfSome result (λ job. HasCome (sight_of job)) }
     {
-        let mut head = Head::new(self.alloc, self.number, stream, now);
+        let mut head = Head::new(self.alloc, self.number, from.ip, stream, now);
         self.number = self.number.wrapping_add(1);
         match head.read() {
             Reading::Came => Some(head.into_job()),
@@ -263,7 +306,10 @@ impl Streams {
         ensures { IfOk result IsSound }
     {
         match self.listener.accept() {
-            Ok((stream, _)) => Ok(Come::Taken(self.begin(registry, stream, now))),
+            Ok((stream, from)) => {
+                let from = Address::of_socket(from);
+                Ok(Come::Taken(self.begin(registry, stream, from, now)))
+            }
             Err(error) if error.kind() == ErrorKind::WouldBlock => Ok(Come::Nothing),
             Err(error) if error.kind() == ErrorKind::ConnectionAborted => Ok(Come::Taken(None)),
             Err(_) => Err(LoopFault::Io),

@@ -1,0 +1,55 @@
+//! How many of the connections that wait come from each address.
+ghost use Rattle.std.specs.Prelude.{◌≡◌, ◌<◌, ◌+◌, true, false, pred};
+ghost use Rattle.cluster_sockets.specs.Counts.{count_at};
+
+use std::alloc::Global;
+use std::collections::BTreeMap;
+
+/// How many connections of one address wait at most.
+const MOST: u32 = 128;
+
+/// How many of the connections that wait come from each IPv4 address.
+#[derive(Drop)]
+pub(crate) struct PerAddress {
+    counts: BTreeMap<u32, u32>,
+}
+
+impl PerAddress {
+    /// None waits. It takes no memory.
+    pub(crate) fn new(alloc: Global) -> PerAddress {
+        PerAddress {
+            counts: BTreeMap::new(alloc),
+        }
+    }
+
+    /// Counts one more connection of an address. Returns false, and counts nothing, where 128 of
+    /// that address wait already, or there is no memory.
+    pub(crate) fn add(&mut self, ip: u32) -> bool
+        ensures few { result ≡ true → count_at self.old.counts ip < 128 }
+        ensures counted { result ≡ true →
+            count_at self.new.counts ip ≡ 1 + count_at self.old.counts ip }
+        ensures kept { result ≡ false → self.new.counts.entries ≡ self.old.counts.entries }
+    {
+        let count = self.counts.get(&ip).copied().unwrap_or(0);
+        if count >= MOST {
+            return false;
+        }
+        match self.counts.insert(ip, count + 1) {
+            Ok(_) => true,
+            Err(_) => false,
+        }
+    }
+
+    /// Counts one connection of an address less.
+    pub(crate) fn remove(&mut self, ip: u32)
+        ensures { count_at self.new.counts ip ≡ pred (count_at self.old.counts ip) }
+    {
+        match self.counts.get_mut(&ip) {
+            Some(count) if *count > 1 => *count -= 1,
+            Some(_) => {
+                let _ = self.counts.remove(&ip);
+            }
+            None => {}
+        }
+    }
+}
