@@ -1,28 +1,27 @@
--- What is written for one purge or member after another is what is written for all of them.
-use Rattle.std.proofs.Common.{◌≡◌, ℕ, zero, suc, ◌+◌, ◌<◌, Bool, true, false, MatchBool, List, [], ◌∷◌, ◌++◌, length, take, get_or, refl, sym, ap, ◌∙◌, subst, arith, append_assoc, append-nil}
-use Rattle.purge_rules.specs.declared.purges.Purge.{Purge}
+-- What is written for one purge, member or peer after another is what is written for all of them.
+use Rattle.std.proofs.Common.{◌≡◌, ℕ, zero, suc, ◌<◌, Bool, true, false, MatchBool, List, [], ◌∷◌, ◌++◌, length, take, get_or, refl, sym, ap, ◌∙◌, subst, arith, append_assoc, append-nil}
 use Rattle.roster.specs.Lookups.{is_member}
 use Rattle.values_tables.specs.declared.plain.Tables.{Tables}
 use Rattle.cluster_console.specs.declared.check.MemberState.{MemberState}
-use Rattle.cluster_console.specs.Shown.{pending_line, pending_lines, member_line}
+use Rattle.cluster_console.specs.Shown.{all_shown, member_line}
 use Rattle.cluster_console.specs.Played.{MembersTell}
 
--- one purge more
-lines_more : (roster : Tables) (ps : List Purge) (i : ℕ) (p : Purge) → i < length ps → p ≡ get_or ps i p →
-    pending_lines roster (take (suc i) ps) ≡ pending_lines roster (take i ps) ++ pending_line roster p
-lines_more roster [] i p within is = absurd (omega (arith, within))
-lines_more roster (first ∷ ps) zero p within is = append-nil (pending_line roster first) ∙ ap (pending_line roster) (sym is)
-lines_more roster (first ∷ ps) (suc i) p within is =
-    ap (λ t. pending_line roster first ++ t) (lines_more roster ps i p (omega (arith, within)) is)
-    ∙ sym (append_assoc (pending_line roster first) (pending_lines roster (take i ps)) (pending_line roster p))
+-- one more
+lines_more : {A : Type 0} (shown : A → List ℕ) (xs : List A) (i : ℕ) (x : A) → i < length xs → x ≡ get_or xs i x →
+    all_shown shown (take (suc i) xs) ≡ all_shown shown (take i xs) ++ shown x
+lines_more shown [] i x within is = absurd (omega (arith, within))
+lines_more shown (first ∷ xs) zero x within is = append-nil (shown first) ∙ ap shown (sym is)
+lines_more shown (first ∷ xs) (suc i) x within is =
+    ap (λ t. shown first ++ t) (lines_more shown xs i x (omega (arith, within)) is)
+    ∙ sym (append_assoc (shown first) (all_shown shown (take i xs)) (shown x))
 
-pub pending_more : (roster : Tables) (ps : List Purge) (i next : ℕ) (p : Purge) (start head text more : List ℕ) → next ≡ suc i → i < length ps →
-    p ≡ get_or ps i p → text ≡ start ++ (head ++ pending_lines roster (take i ps)) → more ≡ text ++ pending_line roster p →
-    more ≡ start ++ (head ++ pending_lines roster (take next ps))
-pending_more roster ps i next p start head text more one within is so_far wrote =
-    wrote ∙ ap (λ t. t ++ pending_line roster p) so_far ∙ append_assoc start (head ++ pending_lines roster (take i ps)) (pending_line roster p)
-    ∙ ap (λ t. start ++ t) (append_assoc head (pending_lines roster (take i ps)) (pending_line roster p)
-    ∙ ap (λ t. head ++ t) (sym (lines_more roster ps i p within is) ∙ ap (λ n. pending_lines roster (take n ps)) (sym one)))
+pub rows_more : {A : Type 0} (shown : A → List ℕ) (xs : List A) (i next : ℕ) (x : A) (start head text more : List ℕ) → next ≡ suc i → i < length xs →
+    x ≡ get_or xs i x → text ≡ start ++ (head ++ all_shown shown (take i xs)) → more ≡ text ++ shown x →
+    more ≡ start ++ (head ++ all_shown shown (take next xs))
+rows_more shown xs i next x start head text more one within is so_far wrote =
+    wrote ∙ ap (λ t. t ++ shown x) so_far ∙ append_assoc start (head ++ all_shown shown (take i xs)) (shown x)
+    ∙ ap (λ t. start ++ t) (append_assoc head (all_shown shown (take i xs)) (shown x)
+    ∙ ap (λ t. head ++ t) (sym (lines_more shown xs i x within is) ∙ ap (λ n. all_shown shown (take n xs)) (sym one)))
 
 -- one member more, if there is one
 member_by : (roster : Tables) (id : ℕ) (start head lines text more : List ℕ) (b : Bool) → is_member roster (suc id) ≡ b → MembersTell roster id lines →

@@ -15,10 +15,11 @@ use Rattle.values_tables.specs.declared.plain.Tables.{Tables}
 use Rattle.values_lines.specs.Lines.{is_long}
 use Rattle.values_lines.specs.Words.{words_of}
 use Rattle.cluster_console.specs.declared.check.Checked.{Checked}
+use Rattle.cluster_console.specs.declared.check.DeadPeer.{DeadPeer}
 use Rattle.cluster_console.specs.declared.check.MemberState.{MemberState}
 use Rattle.cluster_console.specs.Checked.{Gathered, GoesOn, IsChecked}
-use Rattle.cluster_console.specs.Command.{Command, PurgeLine, StatusLine, GetLine, CheckLine, PendingLine, MembersLine, BadLine, command_of}
-use Rattle.cluster_console.specs.Shown.{purge_shown, asked_shown, got_shown, checked_shown, pending_shown, member_line}
+use Rattle.cluster_console.specs.Command.{Command, PurgeLine, StatusLine, GetLine, CheckLine, PendingLine, MembersLine, PeersLine, BadLine, command_of}
+use Rattle.cluster_console.specs.Shown.{purge_shown, asked_shown, got_shown, checked_shown, pending_shown, member_line, peers_shown}
 
 -- the fault of a URL that has no key, or what is told of a URL that has one
 abbrev pub IsSaidOf : (List ℕ → Type 0) → Result (List ℕ) KeyFault → List ℕ → Type 0
@@ -73,6 +74,10 @@ abbrev pub TellsMembers : Tables → List ℕ → Type 0
 TellsMembers roster text = (lines : List ℕ) × MembersTell roster 16 lines
     × (text ≡ codes "members " ++ decimal (length roster.members) ++ lines)
 
+-- some peers that members think dead; which, no contract can say
+abbrev pub TellsPeers : List ℕ → Type 0
+TellsPeers text = (dead : List DeadPeer) × (text ≡ peers_shown dead)
+
 -- the text may answer what a line asks for
 abbrev pub CommandTells : Tables → Option Gathered → Command → List ℕ → Type 0
 CommandTells roster gathered (PurgeLine url) text = IsSaid TellsPurge url text
@@ -81,6 +86,7 @@ CommandTells roster gathered (GetLine node url) text = GetTells roster node url 
 CommandTells roster gathered CheckLine text = TellsCheck roster gathered text
 CommandTells roster gathered PendingLine text = TellsPending roster text
 CommandTells roster gathered MembersLine text = TellsMembers roster text
+CommandTells roster gathered PeersLine text = TellsPeers text
 CommandTells roster gathered BadLine text = text ≡ codes "bad line"
 
 -- the text may answer the line, where this is gathered of the run

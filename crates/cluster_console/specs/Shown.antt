@@ -19,6 +19,7 @@ use Rattle.run_rules.specs.declared.verdict.Verdict.{Verdict}
 use Rattle.run_rules.specs.declared.verdict.Verdict.TheVariants.{Yes, No}
 use Rattle.cluster_console.specs.declared.check.Checked.{Checked}
 use Rattle.cluster_console.specs.declared.check.Checked.TheVariants as checked
+use Rattle.cluster_console.specs.declared.check.DeadPeer.{DeadPeer}
 use Rattle.cluster_console.specs.declared.check.MemberState.{MemberState}
 use Rattle.cluster_console.specs.declared.check.MemberState.TheVariants as state
 
@@ -92,10 +93,14 @@ missing_shown roster p = ids_shown (is_missing roster p) 16
 abbrev pub pending_line : Tables → Purge → List ℕ
 pending_line roster p = newline ∷ decimal p.number ++ codes " " ++ p.key ++ missing_shown roster p
 
+-- what is shown of each, one after another
+abbrev pub all_shown : {A : Type 0} → (A → List ℕ) → List A → List ℕ
+all_shown shown [] = []
+all_shown shown (x ∷ xs) = shown x ++ all_shown shown xs
+
 -- pending purges, each on a line of its own
 abbrev pub pending_lines : Tables → List Purge → List ℕ
-pending_lines roster [] = []
-pending_lines roster (p ∷ ps) = pending_line roster p ++ pending_lines roster ps
+pending_lines roster ps = all_shown (pending_line roster) ps
 
 -- how many purges are pending, and then each of them
 abbrev pub pending_shown : Tables → List Purge → List ℕ
@@ -110,3 +115,12 @@ state_shown state.NoMemory = codes "closed NoMemory"
 -- a member, on a line of its own behind others: its id, and how it stands
 abbrev pub member_line : ℕ → MemberState → List ℕ
 member_line id s = newline ∷ decimal id ++ codes " " ++ state_shown s
+
+-- a peer that a member thinks dead, on a line of its own behind others: the member's id, the peer's, and for how many
+-- seconds
+abbrev pub peer_line : DeadPeer → List ℕ
+peer_line d = newline ∷ decimal d.member ++ codes " " ++ decimal d.peer ++ codes " dead " ++ decimal d.seconds
+
+-- how many peers are thought dead, and then each of them
+abbrev pub peers_shown : List DeadPeer → List ℕ
+peers_shown dead = codes "peers " ++ decimal (length dead) ++ all_shown peer_line dead

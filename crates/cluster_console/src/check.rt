@@ -6,6 +6,7 @@ use roster::Roster;
 use run_rules::Verdict;
 use std::alloc::{AllocError, Global};
 use std::sync::Wait;
+use std::time::Clock;
 
 /// What is said of a run so far.
 #[derive(Clone, Copy, Debug, PartialEq, Eq)]
@@ -29,6 +30,17 @@ pub enum MemberState {
     NoMemory,
 }
 
+/// A peer that a member thinks dead: it asks the peer, and does not wait for it.
+#[derive(Clone, Copy, Debug, PartialEq, Eq)]
+pub struct DeadPeer {
+    /// The member.
+    pub member: u8,
+    /// The peer that it asks.
+    pub peer: u8,
+    /// For how many seconds.
+    pub seconds: u64,
+}
+
 /// Judges the run of a hierarchy, and tells how its members stand.
 pub trait Checker {
     /// What was gathered of the run; none, where some of it is lost.
@@ -47,4 +59,11 @@ pub trait Checker {
 
     /// How the member of this id stands.
     fn state(&self, id: u8) -> MemberState;
+
+    /// Which peers the members think dead. `AllocError` comes where there is no memory for the list.
+    fn dead_peers<R: Wait + Clock>(
+        &self,
+        rt: &R,
+        alloc: Global,
+    ) -> Result<Vec<DeadPeer>, AllocError>;
 }

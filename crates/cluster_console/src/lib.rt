@@ -22,5 +22,5 @@ mod line;
 mod play;
 mod show;
 
-pub use check::{Checked, Checker, MemberState};
+pub use check::{Checked, Checker, DeadPeer, MemberState};
 pub use play::{Ended, answer_lines};

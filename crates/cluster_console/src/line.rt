@@ -18,6 +18,8 @@ pub(crate) enum Line<'a> {
     Pending,
     /// `members`: ask how each member stands.
     Members,
+    /// `peers`: ask which peers the members think dead.
+    Peers,
     /// Anything else.
     Bad,
 }
@@ -45,6 +47,8 @@ fn line_alone<'a>(keyword: &[u8]) -> Line<'a>
         Line::Pending
     } else if keyword == b"members".as_slice() {
         Line::Members
+    } else if keyword == b"peers".as_slice() {
+        Line::Peers
     } else {
         Line::Bad
     }

@@ -5,7 +5,7 @@ ghost use Rattle.values_lines.specs.Lines.{is_long};
 ghost use Rattle.cluster_console.specs.Answering.{AppendsText, AnswersLine, AnswersTaken, HasAnswered, is_over as is_over_by, ending_of};
 ghost use Rattle.cluster_console.specs.Checked.{GoesOn};
 ghost use Rattle.cluster_console.specs.Command.{command_text};
-ghost use Rattle.cluster_console.specs.Played.{IsSaid, IsTold, TellsPurge, TellsStatus, TellsAnswer, TellsCheck, TellsPending, TellsMembers, GetTells, CommandTells, LineTells, http_of as http_of_member};
+ghost use Rattle.cluster_console.specs.Played.{IsSaid, IsTold, TellsPurge, TellsStatus, TellsAnswer, TellsCheck, TellsPending, TellsMembers, TellsPeers, GetTells, CommandTells, LineTells, http_of as http_of_member};
 ghost use Rattle.cluster_console.specs.Shown.{member_line};
 ghost use Rattle.cluster_console.specs.declared.check.MemberState.{MemberState as AnyState};
 
@@ -13,7 +13,8 @@ use crate::check::Checker;
 use crate::input::{InputFailed, LONGEST_LINE, Taken, next_line};
 use crate::line::{Line, line_of};
 use crate::show::{
-    push_asked, push_checked, push_got, push_member, push_number, push_pending, push_purge,
+    push_asked, push_checked, push_got, push_member, push_number, push_peers, push_pending,
+    push_purge,
 };
 use cluster_fetch::exchange;
 use cluster_master::{MasterSender, SharedMaster};
@@ -78,8 +79,9 @@ struct Player<'a, S: PurgeStore, C, R> {
 /// prints `yes`, `no PLACE CAUSE`, `forgotten`, or why the records of a member are not given;
 /// `pending` prints `purges C`, and then a line for each pending purge: its number, its URL, and
 /// the ids of the members that have not acknowledged it; `members` prints `members C`, and then a
-/// line for each: its id, and `open`, `closed StoreFault` or `closed NoMemory`. Any other line, also
-/// one that names no member, prints `bad line`. Numbers are decimal, without leading zeros.
+/// line for each: its id, and `open`, `closed StoreFault` or `closed NoMemory`; `peers` prints `peers
+/// C`, and then a line `N P dead S` for each peer P that member N has thought dead for S seconds. Any
+/// other line, also one that names no member, prints `bad line`. Numbers are decimal, without leading zeros.
 ///
 /// A line of more than 140,000 octets prints `LineTooLong`, and one for which there is no memory
 /// `NoMemory`: a purge may have been issued then. An answer that the output does not take is lost.
@@ -293,6 +295,7 @@ impl<S: PurgeStore, C: Checker, R: Wait + Clock + Net> Player<'_, S, C, R> {
             Line::Check => self.check(alloc, text),
             Line::Pending => self.pending(text),
             Line::Members => self.members(text),
+            Line::Peers => self.peers(alloc, text),
             Line::Bad => text.extend_from_slice(b"bad line"),
         }
     }
@@ -375,6 +378,15 @@ impl<S: PurgeStore, C: Checker, R: Wait + Clock + Net> Player<'_, S, C, R> {
             return Ok(());
         }
         push_member(id, self.checker.state(id), text)
+    }
+
+    /// Answers `peers`.
+    fn peers(&self, alloc: Global, text: &mut Vec<u8>) -> Result<(), AllocError>
+        ensures { OnOk result ((answer : List ℕ) × TellsPeers answer
+            × (text.new.items ≡ text.old.items ++ answer)) }
+    {
+        let dead = self.checker.dead_peers(self.rt, alloc)?;
+        push_peers(dead.as_slice(), text)
     }
 
     /// Answers `get N URL`.

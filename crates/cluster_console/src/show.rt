@@ -1,9 +1,9 @@
 //! How the answer to a line reads.
 ghost use Rattle.std.specs.Prelude.{◌≡◌, ◌++◌, ◌≤◌, OnOk, IfOk, IsTrue, decimal};
 ghost use Rattle.http_messages.specs.Answer.{is_writable};
-ghost use Rattle.cluster_console.specs.Shown.{purge_shown, status_shown, asked_shown, got_shown, body_shown, answer_shown, cause_name as name_of_cause, verdict_shown, checked_shown, id_shown, missing_shown, pending_line, pending_shown, state_shown, member_line};
+ghost use Rattle.cluster_console.specs.Shown.{purge_shown, status_shown, asked_shown, got_shown, body_shown, answer_shown, cause_name as name_of_cause, verdict_shown, checked_shown, id_shown, missing_shown, pending_line, pending_shown, state_shown, member_line, peer_line, peers_shown};
 
-use crate::check::{Checked, MemberState};
+use crate::check::{Checked, DeadPeer, MemberState};
 use http_messages::{Answer, FetchFault};
 use itoa::Buffer;
 use purge_rules::{MasterFault, Purge, Purges, Status};
@@ -213,4 +213,28 @@ pub(crate) fn push_member(id: u8, state: MemberState, text: &mut Vec<u8>) -> Res
     push_number(u64::from(id), text)?;
     text.extend_from_slice(b" ")?;
     text.extend_from_slice(state_name(state).as_bytes())
+}
+
+/// Writes a peer that a member thinks dead on a line of its own, behind others.
+fn push_peer(dead: &DeadPeer, text: &mut Vec<u8>) -> Result<(), AllocError>
+    ensures { OnOk result (text.new.items ≡ text.old.items ++ peer_line dead.now) }
+{
+    text.extend_from_slice(b"\n")?;
+    push_number(u64::from(dead.member), text)?;
+    text.extend_from_slice(b" ")?;
+    push_number(u64::from(dead.peer), text)?;
+    text.extend_from_slice(b" dead ")?;
+    push_number(dead.seconds, text)
+}
+
+/// Writes how many peers are thought dead, and then each of them.
+pub(crate) fn push_peers(dead: &[DeadPeer], text: &mut Vec<u8>) -> Result<(), AllocError>
+    ensures { OnOk result (text.new.items ≡ text.old.items ++ peers_shown dead.now) }
+{
+    text.extend_from_slice(b"peers ")?;
+    push_number(dead.len() as u64, text)?;
+    for peer in dead {
+        push_peer(peer, text)?;
+    }
+    Ok(())
 }

@@ -1,5 +1,5 @@
 -- A fetch under way, and what it ends as.
-use Rattle.std.specs.Prelude.{ℕ, List, Option}
+use Rattle.std.specs.Prelude.{ℕ, List, Bool, Option}
 use Rattle.http_messages.specs.Answer.{AnswerText}
 use Rattle.cluster_fetch.specs.declared.events.ResponseSource.{ResponseSource}
 use Rattle.cluster_fetch.specs.declared.ended.Fetched.{Fetched}
@@ -16,5 +16,6 @@ abbrev pub asked_by : Fetch → FetchingView
 asked_by f = record { source = f.source; serial = f.serial; key = f.ask.key }
 
 -- what it ends as
-abbrev pub ended_as : FetchingView → Option AnswerText → Fetched
-ended_as f answer = record { source = f.source; serial = f.serial; key = f.key; answer = answer }
+abbrev pub ended_as : FetchingView → Option AnswerText → Bool → Fetched
+ended_as f answer unreached =
+    record { source = f.source; serial = f.serial; key = f.key; answer = answer; is_unreached = unreached }

@@ -18,6 +18,9 @@ pub struct Fetched {
     pub key: Key,
     /// The response; none where the fetch has failed.
     pub answer: Option<Answer>,
+    /// Whether it has failed since no connection could be made. It is false where none was tried,
+    /// or where this machine lacks what it needs for one.
+    pub is_unreached: bool,
 }
 
 impl Fetched {

@@ -1,10 +1,10 @@
 //! A fetch that is under way, on a connection that no thread waits for.
-ghost use Rattle.std.specs.Prelude.{◌≡◌, IsTrue, IfErr, IfOk, None};
+ghost use Rattle.std.specs.Prelude.{◌≡◌, Bool, false, IsTrue, IfErr, IfOk, None};
 ghost use Rattle.http_writing.specs.Name.{is_name as names_cache};
 ghost use Rattle.cluster_fetch.specs.UnderWay.{FetchingView, asked_by, ended_as};
 
-use crate::events::ResponseSource;
 use crate::ended::Fetched;
+use crate::events::ResponseSource;
 use crate::received::Received;
 use http_messages::{Answer, Ask};
 use http_reading::read_answer;
@@ -78,12 +78,7 @@ fn form_for(source: ResponseSource) -> AskForm {
 }
 
 /// The octets of a request.
-fn request_of(
-    alloc: Global,
-    ask: &Ask,
-    source: ResponseSource,
-    name: &[u8],
-) -> io::Result<Vec<u8>>
+fn request_of(alloc: Global, ask: &Ask, source: ResponseSource, name: &[u8]) -> io::Result<Vec<u8>>
     requires { IsTrue (names_cache name.now) }
 {
     let mut octets = Vec::new(alloc);
@@ -91,6 +86,17 @@ fn request_of(
         Ok(()) => Ok(octets),
         Err(_) => Err(Error::from(ErrorKind::OutOfMemory)),
     }
+}
+
+/// Whether a connection was refused by the other side, or on the way to it.
+fn is_refusal(error: &Error) -> bool {
+    matches!(
+        error.kind(),
+        ErrorKind::ConnectionRefused
+            | ErrorKind::HostUnreachable
+            | ErrorKind::NetworkUnreachable
+            | ErrorKind::TimedOut
+    )
 }
 
 /// Writes the request, and begins to connect.
@@ -107,15 +113,23 @@ fn connected<R: Net>(
 }
 
 impl Fetch {
-    /// The fetch as one that has failed.
+    /// The fetch as one that has failed before a connection was tried.
     pub fn into_failed(self) -> Fetched
-        ensures { result ≡ ended_as (asked_by self) None }
+        ensures { result ≡ ended_as (asked_by self) None false }
+    {
+        self.into_ended(false)
+    }
+
+    /// The fetch as one that has failed. `is_unreached`: no connection could be made.
+    fn into_ended(self, is_unreached: bool) -> Fetched
+        ensures { result ≡ ended_as (asked_by self) None is_unreached }
     {
         Fetched {
             source: self.source,
             serial: self.serial,
             key: self.ask.key,
             answer: None,
+            is_unreached,
         }
     }
 }
@@ -133,7 +147,8 @@ impl Fetching {
     ) -> Result<Fetching, Fetched>
         requires { IsTrue (names_cache name.now) }
         ensures begun { IfOk result (λ fetching. fetching ≡ asked_by fetch) }
-        ensures failed { IfErr result (λ failed. failed ≡ ended_as (asked_by fetch) None) }
+        ensures failed { IfErr result (λ failed. (unreached : Bool)
+            × (failed ≡ ended_as (asked_by fetch) None unreached)) }
     {
         match connected(rt, alloc, &fetch, name) {
             Ok((stream, request)) => Ok(Fetching {
@@ -149,7 +164,7 @@ impl Fetching {
                 tried: 0,
                 until,
             }),
-            Err(_) => Err(fetch.into_failed()),
+            Err(error) => Err(fetch.into_ended(is_refusal(&error))),
         }
     }
 
@@ -174,15 +189,18 @@ impl Fetching {
         now >= self.until
     }
 
-    /// The fetch as one that has ended.
+    /// The fetch as one that has ended. Where it has failed, no connection was made if nothing could
+    /// be sent.
     pub fn into_fetched(self, answer: Option<Answer>) -> Fetched
-        ensures { result ≡ ended_as self answer }
+        ensures { (unreached : Bool) × (result ≡ ended_as self answer unreached) }
     {
+        let is_unreached = self.sent == 0 && answer.is_none();
         Fetched {
             source: self.source,
             serial: self.serial,
             key: self.key,
             answer,
+            is_unreached,
         }
     }
 
@@ -193,7 +211,7 @@ impl Fetching {
         ensures { self.new ≡ self.old }
     {
         if self.send().is_err() || self.receive().is_err() {
-            return Some(None);
+            return self.try_at_failure(alloc);
         }
         if self.is_due() {
             return self.try_to_read(alloc);
@@ -201,14 +219,24 @@ impl Fetching {
         None
     }
 
-    /// Reads the response again, if something came since the last time.
+    /// Goes on, and reads the response again, if something came since the last time.
     pub fn look(&mut self, alloc: Global) -> Option<Option<Answer>>
         ensures { self.new ≡ self.old }
     {
-        if self.response.len() > self.tried {
-            return self.try_to_read(alloc);
+        match self.go_on(alloc) {
+            None if self.response.len() > self.tried => self.try_to_read(alloc),
+            ended => ended,
         }
-        None
+    }
+
+    /// Reads the response, where the connection has failed: it may have come whole before that.
+    fn try_at_failure(&mut self, alloc: Global) -> Option<Option<Answer>>
+        ensures { self.new ≡ self.old }
+    {
+        match self.try_to_read(alloc) {
+            None => Some(None),
+            ended => ended,
+        }
     }
 
     /// Sends what the system takes of the request.

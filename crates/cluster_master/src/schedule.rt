@@ -82,6 +82,9 @@ pub(crate) struct Schedule {
     look: u64,
     /// When something is sent again, at the earliest.
     paced: u64,
+    /// Up to this number a pending purge may lack an entry. One with a greater number that lacks
+    /// one is being issued: who issues it enters it, and sends its first CLRs.
+    old: u32,
 }
 
 impl Schedule {
@@ -91,21 +94,26 @@ impl Schedule {
             row: Vec::new(alloc),
             look: 0,
             paced: 0,
+            old: u32::MAX,
         }
     }
 
-    /// Forgets when CLRs were sent: each pending purge is due at once, as in a new schedule.
-    pub(crate) fn restart(&mut self) {
+    /// Forgets when CLRs were sent: each pending purge up to this number, that of the last purge, is
+    /// due at once.
+    pub(crate) fn restart(&mut self, last: u32) {
         self.row.clear();
         self.look = 0;
         self.paced = 0;
+        self.old = last;
     }
 
     /// Enters a purge whose CLR was sent for the first time now. Where there is no memory, it is
     /// sent again within a second.
     pub(crate) fn add(&mut self, number: u32, now: u64) {
         if let Err(place) = place_of(self.row.as_slice(), number) {
-            let _ = self.row.insert(place, Again::first(number, now));
+            if self.row.insert(place, Again::first(number, now)).is_err() {
+                self.old = self.old.max(number);
+            }
         }
     }
 
@@ -168,13 +176,14 @@ impl Schedule {
     }
 
     /// Whether the CLR of this pending purge is sent now. If so, the next time is set. A purge that
-    /// is not entered is sent, and entered, where there is room for it.
+    /// is not entered is sent, and entered, where there is room for it, unless it is being issued.
     pub(crate) fn takes(&mut self, number: u32, now: u64, has_room: bool) -> bool {
         match place_of(self.row.as_slice(), number) {
             Ok(place) => match self.row.get_mut(place) {
                 Some(again) => again.takes(now),
                 None => false,
             },
+            Err(_) if number > self.old => false,
             Err(_) if has_room => {
                 self.add(number, now);
                 true

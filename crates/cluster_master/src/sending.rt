@@ -108,10 +108,11 @@ impl MasterSender {
         let _ = self.line.waker.wake();
     }
 
-    /// Has the loop send the CLR of each pending purge as soon as it may, whenever it was sent
-    /// before. The owner calls it once the members run: what was sent to them before is lost.
-    pub fn send_afresh<R: Wait>(&self, rt: &R) {
-        self.line.schedule.lock(rt).restart();
+    /// Has the loop send the CLR of each pending purge up to this number, that of the last purge, as
+    /// soon as it may, whenever it was sent before. The owner calls it once the members run, while
+    /// nobody issues a purge: what was sent to the members before is lost.
+    pub fn send_afresh<R: Wait>(&self, rt: &R, last: u32) {
+        self.line.schedule.lock(rt).restart(last);
         // (a loop that is not woken looks within 100 milliseconds)
         let _ = self.line.waker.wake();
     }
@@ -133,7 +134,6 @@ impl MasterSender {
     {
         match master.call(rt, MasterCall::Issue(key)) {
             Ok(MasterAnswer::Issue(number)) => {
-                // (entered first: the loop would otherwise send them too, as those of an old purge)
                 self.enter(rt, number);
                 if let Some(octets) = clear_of(rt, self.alloc, master, number) {
                     for id in 1..=LAST_MEMBER {

@@ -177,7 +177,7 @@ fn answer_watched<
         (O.contents output.old) (O.contents output.new)) }
 {
     // (what was sent to members before they ran is lost)
-    master.sender.send_afresh(&rt);
+    master.sender.send_afresh(&rt, master.last(&rt));
     let watch = Watch::start(rt, alloc, running)?;
     let ended = answer(&rt, alloc, common, running, master, input, output);
     begin_stop(&rt, running);

@@ -5,15 +5,16 @@ ghost use Rattle.cluster_process.specs.Kept.{gathered_in};
 
 use crate::cluster::Running;
 use crate::kept::{Kept, Memory};
-use cluster_console::{Checked, Checker, MemberState};
+use cluster_console::{Checked, Checker, DeadPeer, MemberState};
 use cluster_master::{HeldMaster, SharedMaster};
-use node_workers::{CloseCause, StopFault};
+use node_workers::{AskedPeer, CloseCause, StopFault, milliseconds};
 use purge_rules::PurgeStore;
 use roster::Roster;
 use run_check::check_run;
 use std::alloc::{AllocError, Global};
 use std::hash::RandomState;
 use std::sync::Wait;
+use std::time::Clock;
 
 /// What was gathered of what the members and the master did, and where the rest of it comes from.
 #[derive(Drop)]
@@ -141,6 +142,20 @@ impl<S: PurgeStore> Checker for Judge<'_, S> {
         }
         MemberState::Open
     }
+
+    fn dead_peers<R: Wait + Clock>(
+        &self,
+        rt: &R,
+        alloc: Global,
+    ) -> Result<Vec<DeadPeer>, AllocError> {
+        let now = milliseconds(rt);
+        let mut dead = Vec::new(alloc);
+        for node in self.nodes {
+            let peers = node.workers.dead_peers(rt, alloc)?;
+            push_dead(node.id, peers.as_slice(), now, &mut dead)?;
+        }
+        Ok(dead)
+    }
 }
 
 /// How a member stands that is closed for this cause, if it is closed.
@@ -150,4 +165,21 @@ fn state_of(cause: Option<CloseCause>) -> MemberState {
         Some(CloseCause::StoreFault) => MemberState::StoreFault,
         Some(CloseCause::NoMemory) => MemberState::NoMemory,
     }
+}
+
+/// Adds the peers that a member thinks dead to the list, at this moment in milliseconds.
+fn push_dead(
+    member: u8,
+    peers: &[AskedPeer],
+    now: u64,
+    dead: &mut Vec<DeadPeer>,
+) -> Result<(), AllocError> {
+    for peer in peers {
+        dead.push(DeadPeer {
+            member,
+            peer: peer.id,
+            seconds: now.saturating_sub(peer.since) / 1000,
+        })?;
+    }
+    Ok(())
 }

@@ -11,6 +11,9 @@ use std::time::{Clock, Duration};
 /// How many milliseconds pass from one look at the members to the next.
 const PAUSE: u64 = 100;
 
+/// How many looks pass at least between two lines on a member's want of descriptors: a second.
+const LOOKS: u32 = 10;
+
 /// A member that is watched.
 #[derive(Drop)]
 struct Watched {
@@ -19,6 +22,10 @@ struct Watched {
     /// Whether it was closed at an earlier look.
     was_closed: bool,
     is_told: bool,
+    /// Whether a connection could not be accepted for want of a descriptor.
+    has_lacked: Arc<AtomicBool, Global>,
+    /// How many looks pass until want of descriptors is told again.
+    looks: u32,
 }
 
 /// What the thread has.
@@ -59,6 +66,17 @@ impl Watched {
             let _ = eprintln!(rt; "node {} has closed: {}", self.id, cause_name(cause));
         }
     }
+
+    /// Says that connections of the member wait for want of descriptors, once a second at most.
+    fn tell_want<R: Eprint>(&mut self, rt: &R) {
+        if 0 < self.looks {
+            self.looks -= 1;
+        } else if self.has_lacked.swap(false, Ordering::SeqCst) {
+            self.looks = LOOKS;
+            // (a standard error that takes nothing ends nothing)
+            let _ = eprintln!(rt; "node {} lacks descriptors: connections wait", self.id);
+        }
+    }
 }
 
 impl Watching {
@@ -68,6 +86,7 @@ impl Watching {
             let is_last = self.is_stopped.load(Ordering::SeqCst);
             for member in &mut self.members {
                 member.tell(rt, is_last);
+                member.tell_want(rt);
             }
             if is_last {
                 return;
@@ -86,6 +105,8 @@ fn members_of(alloc: Global, running: &[Running]) -> Result<Vec<Watched>, Cluste
             closing: node.workers.closing()?,
             was_closed: false,
             is_told: false,
+            has_lacked: node.workers.has_lacked()?,
+            looks: 0,
         };
         if members.push(member).is_err() {
             return Err(ClusterFault::NoMemory);

@@ -131,6 +131,12 @@ abbrev pub TakesDatagram : {N : Type 0} → Takes N → Udp → Address → List
 TakesDatagram takes udp from octets before after turn = (now : ℕ) × (told : Result Turn StepFault)
     × MeetsOctets takes udp from octets now before after told × (turn ≡ result_ok told)
 
+-- The step of a datagram. If it serves nobody and begins nothing, the step of a round whose time is over may follow.
+abbrev pub TakesMessage : {N : Type 0} → Takes N → Udp → Address → List ℕ → N → N → Option Turn → Type 0
+TakesMessage {N} takes udp from octets before after turn = TakesDatagram takes udp from octets before after turn
+    ⊎ ((between : N) × (told : Turn) × TakesDatagram takes udp from octets before between (Some told)
+    × (told.begin ≡ None) × (told.serve ≡ None) × (serial : ℕ) × EndsRound takes serial between after turn)
+
 -- A request is read and takes its step.
 abbrev pub AsksOnce : {N : Type 0} → Takes N → Tables → ℕ → N → N → Result Taken ServeFault → Type 0
 AsksOnce takes roster id before after taken = (now : ℕ) × (unread : Option (List ℕ)) × (rest : Option (List ℕ))
@@ -154,7 +160,7 @@ EndsFetch takes f before after turn =
 -- The first step of a job.
 abbrev pub TakesJob : {N : Type 0} → Takes N → Tables → ℕ → Job → N → N → Option Turn → Type 0
 TakesJob takes roster id (job.Datagram sender udp from octets) before after turn =
-    TakesDatagram takes udp from octets.items before after turn
+    TakesMessage takes udp from octets.items before after turn
 TakesJob takes roster id (job.Stream number stream octets) before after turn =
     TakesRequest takes roster id before after turn
 TakesJob takes roster id (job.Timer serial) before after turn = EndsRound takes serial before after turn

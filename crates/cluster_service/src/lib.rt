@@ -29,6 +29,7 @@
 mod client;
 mod closing;
 mod gate;
+mod peers;
 mod questions;
 mod seated;
 mod station;
@@ -38,6 +39,7 @@ mod worker;
 pub use client::Client;
 pub use closing::{CloseCause, Closing};
 pub use gate::{Gate, NoGate};
+pub use peers::peers_of;
 pub use questions::Questions;
 pub use seated::Seated;
 pub use station::{Station, milliseconds};

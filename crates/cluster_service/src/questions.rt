@@ -159,6 +159,10 @@ impl<N: Stepper + Drop, G: Gate + Drop> AtOnce for Questions<'_, N, G> {
         self.station.tables.is_awaited(rt, serial / SERIALS)
     }
 
+    fn is_there<R: Wait>(&self, rt: &R, serial: u32) -> bool {
+        self.station.tables.is_there(rt, serial / SERIALS)
+    }
+
     fn finish(&mut self)
         ensures { self.new ≡ record { node = self.old.node; held = [] } }
     {

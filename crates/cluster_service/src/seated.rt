@@ -65,7 +65,14 @@ impl<N: Stepper + Drop, G: Gate + Drop, R: Wait + Clock> Seated<'_, N, G, R> {
     pub(crate) fn tell(&mut self, stream: TcpStream, serve: Serve<()>, lingers: bool)
         ensures { self.new.node ≡ self.old.node }
     {
-        tell(self.rt, self.station, &mut self.kept, stream, serve, lingers);
+        tell(
+            self.rt,
+            self.station,
+            &mut self.kept,
+            stream,
+            serve,
+            lingers,
+        );
     }
 
     /// Writes what a client that waits is served.
@@ -75,13 +82,16 @@ impl<N: Stepper + Drop, G: Gate + Drop, R: Wait + Clock> Seated<'_, N, G, R> {
         tell_client(self.rt, self.station, &mut self.kept, client, serve);
     }
 
-    /// Sends and serves what a step asks for, and returns what it begins. At a node that is to
-    /// stop, nothing more begins.
+    /// Sends and serves what a step asks for, and returns what it begins. Whom a round waits for is
+    /// noted before its questions are sent. At a node that is to stop, nothing more begins.
     pub(crate) fn carry_out(&mut self, turn: Turn) -> Option<Begin>
         ensures node { self.new.node ≡ self.old.node }
         ensures begins { BeginsAtMost turn result }
     {
         let Turn { serve, send, begin } = turn;
+        if let Some(Begin::Round { serial }) = &begin {
+            self.station.ask(self.rt, *serial, send.as_slice());
+        }
         self.station.send_all(send.as_slice());
         if let Some(serve) = serve {
             self.serve(serve);
@@ -101,15 +111,19 @@ impl<N: Stepper + Drop, G: Gate + Drop, R: Wait + Clock> Seated<'_, N, G, R> {
             return;
         };
         if let Ok(Some((client, serve))) = self.station.tables.answer(self.rt, block, serve) {
+            self.station.tables.end_ask(self.rt, block);
             self.tell_client(client, serve);
         }
     }
 
-    /// Has a round wait for `query_wait` milliseconds (of the roster). Where it cannot wait, its
-    /// time is over at once.
+    /// Has a round wait for `query_wait` milliseconds (of the roster). Where it cannot wait, or all
+    /// its peers are thought dead, its time is over at once.
     pub(crate) fn begin_round(&mut self, serial: u32) -> Option<Turn>
         ensures { BeginsRound N.takes serial self.old.node self.new.node result }
     {
+        if self.station.tables.waits_for_none(self.rt, serial) {
+            return self.end_round(serial);
+        }
         let wait = self.station.roster.limits().query_wait;
         let until = milliseconds(self.rt).saturating_add(wait);
         match self.station.tables.begin(self.rt, until, serial) {
@@ -118,10 +132,23 @@ impl<N: Stepper + Drop, G: Gate + Drop, R: Wait + Clock> Seated<'_, N, G, R> {
         }
     }
 
+    /// Takes the step of a round whose deadline has come. The peers that it still waited for have
+    /// left a question unanswered.
+    pub(crate) fn expire(&mut self, serial: u32) -> Option<Turn>
+        ensures { EndsRound N.takes serial self.old.node self.new.node result }
+    {
+        let peers = self.station.tables.left(self.rt, serial);
+        self.station
+            .peers
+            .missed(self.rt, peers, milliseconds(self.rt));
+        self.end_round(serial)
+    }
+
     /// Takes the step of a round whose time is over (RFC 2187, section 5.3.3).
     pub(crate) fn end_round(&mut self, serial: u32) -> Option<Turn>
         ensures { EndsRound N.takes serial self.old.node self.new.node result }
     {
+        self.station.tables.end(self.rt, serial);
         let now = seconds(self.rt);
         self.step(Event::Expired { serial, now })
     }

@@ -1,5 +1,5 @@
 //! What the threads of a node share beside the node itself.
-ghost use Rattle.std.specs.Prelude.{◌≡◌, ◌==◌, true, find, option_map, Some};
+ghost use Rattle.std.specs.Prelude.{◌≡◌, ◌==◌, true, find, option_map, IfSome, Some, None};
 ghost use Rattle.roster.specs.Lookups.{is_member};
 ghost use Rattle.cluster_service.specs.Addresses.{fetch_at, fetch_for, peer_source};
 
@@ -8,14 +8,14 @@ use crate::closing::Closing;
 use crate::gate::Gate;
 use cluster_fetch::{Fetch, ResponseSource};
 use cluster_sockets::{Delivery, Errand, Inbox, Senders};
-use cluster_waiting::WaitTables;
+use cluster_waiting::{PeerTable, WaitTables};
 use http_messages::Ask;
 use node_bytes::{Packet, Turn};
 use node_rules::{Begin, Serve};
-use roster::{Address, Cache, Roster};
+use roster::{Address, Cache, Roster, Udp};
 use std::alloc::Global;
-use std::sync::{Arc, Wait};
 use std::sync::atomic::{AtomicBool, Ordering};
+use std::sync::{Arc, Wait};
 use std::time::{Clock, Instant};
 
 /// What the threads of a node share beside the node itself.
@@ -23,6 +23,8 @@ use std::time::{Clock, Instant};
 pub struct Station<G: Drop> {
     /// The clients that wait, the answers that came before their clients, and the rounds that wait.
     pub tables: WaitTables<Client, Serve<()>>,
+    /// How the node's peers answer.
+    pub peers: Arc<PeerTable, Global>,
     /// What is left to the event loop.
     pub(crate) inbox: Arc<Inbox, Global>,
     pub(crate) alloc: Global,
@@ -58,8 +60,30 @@ pub fn milliseconds<C: Clock>(clock: &C) -> u64 {
     }
 }
 
+/// The request number or TRANS-ID of the question that octets answer, if they may be an answer.
+fn number_in(udp: Udp, octets: &[u8]) -> Option<u32> {
+    match udp {
+        Udp::Icp if icp_wire::is_query(octets) => None,
+        // (RFC 2186, "Request Number": the fifth to the eighth octet)
+        Udp::Icp => number_at(octets, 4),
+        // (RFC 2756, "DATA": RR is set, and TRANS-ID is the ninth to the twelfth octet)
+        Udp::Htcp => match octets.get(7) {
+            Some(flags) if flags % 2 == 1 => number_at(octets, 8),
+            _ => None,
+        },
+    }
+}
+
+/// The four octets from a place on as a number, the first octet highest.
+fn number_at(octets: &[u8], place: usize) -> Option<u32> {
+    let [first, second, third, fourth, ..] = octets.get(place..)? else {
+        return None;
+    };
+    Some(u32::from_be_bytes([*first, *second, *third, *fourth]))
+}
+
 /// The cache of this id.
-fn cache_in(caches: &[Cache], id: u8) -> Option<&Cache>
+pub(crate) fn cache_in(caches: &[Cache], id: u8) -> Option<&Cache>
     ensures { option_map (λ c. c.now) result ≡ find (λ c. c.id == id) caches.now }
 {
     caches.iter().find(|cache| cache.id == id)
@@ -107,13 +131,14 @@ fn fetch_from(from: (ResponseSource, Address), serial: u32, ask: Ask) -> Option<
 }
 
 impl<G: Gate + Drop> Station<G> {
-    /// The station of a member of the roster, with the senders of its sockets and the inbox of its
-    /// event loop; nobody waits yet. `is_stopped` is set once the node is to stop. `closing` is told
-    /// of a fault that closes the node, and `gate` of each read of an origin.
+    /// The station of a member of the roster, with its peers, the senders of its sockets and the
+    /// inbox of its event loop; nobody waits yet. `is_stopped` is set once the node is to stop.
+    /// `closing` is told of a fault that closes the node, and `gate` of each read of an origin.
     pub fn new(
         alloc: Global,
         roster: Roster,
         id: u8,
+        peers: Arc<PeerTable, Global>,
         senders: Senders,
         inbox: Arc<Inbox, Global>,
         is_stopped: Arc<AtomicBool, Global>,
@@ -124,6 +149,7 @@ impl<G: Gate + Drop> Station<G> {
     {
         Station {
             tables: WaitTables::new(alloc),
+            peers,
             inbox,
             alloc,
             roster,
@@ -137,6 +163,43 @@ impl<G: Gate + Drop> Station<G> {
 }
 
 impl<G: Drop> Station<G> {
+    /// Notes whom a round waits for, before it sends these questions: its peers that are not thought
+    /// dead. Where there is no memory for the note, the round waits for all.
+    pub(crate) fn ask<R: Wait>(&self, rt: &R, serial: u32, questions: &[Packet]) {
+        let mut peers = 0;
+        for question in questions {
+            peers |= self.peers.waits_for(rt, question.by, question.to);
+        }
+        match self.tables.ask(rt, serial, peers) {
+            Ok(()) | Err(_) => {}
+        }
+    }
+
+    /// Notes what a peer has sent by this protocol from this address, after the step that these
+    /// octets led to. Returns the round that still waits, but for no peer that is not thought dead.
+    pub(crate) fn hear<R: Wait>(
+        &self,
+        rt: &R,
+        udp: Udp,
+        from: Address,
+        octets: &[u8],
+        turn: &Turn,
+    ) -> Option<u32>
+        ensures { IfSome result (λ serial. (turn.now.begin ≡ None) × (turn.now.serve ≡ None)) }
+    {
+        let serial = number_in(udp, octets)?;
+        let peer = self.peers.answered(rt, udp, from)?;
+        if turn.begin.is_some() || turn.serve.is_some() {
+            self.tables.end(rt, serial);
+            return None;
+        }
+        if self.tables.heard(rt, serial, !peer) {
+            Some(serial)
+        } else {
+            None
+        }
+    }
+
     /// Sends datagrams on the node's sockets.
     pub(crate) fn send_all(&self, packets: &[Packet]) {
         for packet in packets {
@@ -166,6 +229,7 @@ impl<G: Drop> Station<G> {
         let (Some(block), Ok(now)) = (serve.waiter, Instant::now(rt)) else {
             return;
         };
+        self.tables.end_ask(rt, block);
         if let Ok(Some((Client::Waiting(stream), serve))) = self.tables.answer(rt, block, serve) {
             let delivery = Delivery::new(stream, serve, false, now);
             let _ = self.inbox.put(rt, Errand::Deliver(delivery));

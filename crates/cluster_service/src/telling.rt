@@ -41,7 +41,7 @@ pub(crate) fn tell<G: Gate + Drop, R: Wait + Clock>(
     };
     let mut delivery = Delivery::new(stream, serve, lingers, now);
     let via = name_of(&station.roster, station.id);
-    if delivery.go_on(kept, via) == Delivered::Waits {
+    if delivery.go_on(kept, via) != Delivered::Ended {
         // (where there is no memory for it, its connection is closed)
         let _ = station.inbox.put(rt, Errand::Deliver(delivery));
     }
@@ -61,21 +61,17 @@ pub(crate) fn tell_client<G: Gate + Drop, R: Wait + Clock>(
     }
 }
 
-/// Notes when the request of a block takes too long. Where there is no memory for that, it may take
-/// any time.
-pub(crate) fn begin_ask<G: Gate + Drop, R: Wait + Clock>(
-    rt: &R,
-    station: &Station<G>,
-    block: u32,
-) {
+/// Notes when the request of a block takes too long: after 15 seconds. Where there is no memory
+/// for that, it may take any time.
+pub(crate) fn begin_ask<G: Gate + Drop, R: Wait + Clock>(rt: &R, station: &Station<G>, block: u32) {
     let until = milliseconds(rt).saturating_add(ASK_WAIT);
     match station.tables.begin_ask(rt, until, block) {
         Ok(()) | Err(_) => {}
     }
 }
 
-/// Tells 504 to clients whose requests have taken 15 seconds, 256 at most. The answers to their
-/// requests, which may still come, are dropped then.
+/// Tells 504 (RFC 9110, section 15.6.5) to clients whose requests have taken 15
+/// seconds, 256 at most. The answers to their requests, which may still come, are dropped then.
 pub fn tell_late<G: Gate + Drop, R: Wait + Clock>(
     rt: &R,
     station: &Station<G>,

@@ -2,14 +2,14 @@
 ghost use Rattle.std.specs.Prelude.{◌≡◌, true};
 ghost use Rattle.roster.specs.Lookups.{is_member};
 ghost use Rattle.node_rules.specs.State.{serial_of as serial_begun};
-ghost use Rattle.cluster_service.specs.Steps.{AsksOnce, EndsFetch, TakesDatagram, TakesRequest, TakesJob, DoesJob, GoesOn, GivesUp, CarriesOn, HandsOver, begun_in};
+ghost use Rattle.cluster_service.specs.Steps.{AsksOnce, EndsFetch, TakesDatagram, TakesMessage, TakesRequest, TakesJob, DoesJob, GoesOn, GivesUp, CarriesOn, HandsOver, begun_in};
 
 use crate::client::Client;
 use crate::gate::Gate;
 use crate::seated::{MOST_FURTHER_STEPS, Seated};
-use crate::station::{Station, fetch_of, seconds};
+use crate::station::{Station, fetch_of, milliseconds, seconds};
 use crate::telling::{begin_ask, status};
-use cluster_fetch::Fetched;
+use cluster_fetch::{Fetched, ResponseSource};
 use cluster_jobs::Job;
 use cluster_sockets::Errand;
 use mio::net::TcpStream;
@@ -78,10 +78,13 @@ impl<N: Stepper + Drop, G: Gate + Drop, R: Wait + Clock> Worker<'_, N, G, R> {
     {
         match job {
             Job::Datagram {
-                udp, from, octets, ..
-            } => self.take_datagram(udp, from, octets.as_slice()),
+                udp,
+                from,
+                octets,
+                ..
+            } => self.take_message(udp, from, octets.as_slice()),
             Job::Stream { stream, octets, .. } => self.take_stream(stream, octets.as_slice()),
-            Job::Timer { serial } => self.seated.end_round(serial),
+            Job::Timer { serial } => self.seated.expire(serial),
             Job::Fetched(fetched) => self.take_fetched(fetched),
         }
     }
@@ -115,10 +118,40 @@ impl<N: Stepper + Drop, G: Gate + Drop, R: Wait + Clock> Worker<'_, N, G, R> {
         }
     }
 
+    /// Takes the step of a datagram. Where a round waits for no living peer after it, takes the step
+    /// of that round, whose time is over then.
+    fn take_message(&mut self, udp: Udp, from: Address, octets: &[u8]) -> Option<Turn>
+        ensures { TakesMessage N.takes udp from octets.now self.old.seated.node
+            self.new.seated.node result }
+    {
+        let turn = self.take_datagram(udp, from, octets)?;
+        let station = self.seated.station;
+        match station.hear(self.seated.rt, udp, from, octets, &turn) {
+            Some(serial) => {
+                station.send_all(turn.send.as_slice());
+                self.seated.end_round(serial)
+            }
+            None => Some(turn),
+        }
+    }
+
+    /// Has a peer to which no connection could be made be thought dead.
+    fn note_failure(&self, fetched: &Fetched) {
+        let id = match fetched.source {
+            ResponseSource::Member(id) | ResponseSource::Foreign(id) => id,
+            ResponseSource::Origin => return,
+        };
+        let (rt, station) = (self.seated.rt, self.seated.station);
+        if fetched.is_unreached {
+            station.peers.failed(rt, id, milliseconds(rt));
+        }
+    }
+
     /// Takes the step of a fetch that has ended.
     fn take_fetched(&mut self, fetched: Fetched) -> Option<Turn>
         ensures { EndsFetch N.takes fetched self.old.seated.node self.new.seated.node result }
     {
+        self.note_failure(&fetched);
         let now = seconds(self.seated.rt);
         self.seated.step(fetched.into_event(now))
     }
@@ -171,11 +204,11 @@ impl<N: Stepper + Drop, G: Gate + Drop, R: Wait + Clock> Worker<'_, N, G, R> {
         ensures { self.new.seated.node ≡ self.old.seated.node }
     {
         let station = self.seated.station;
-        begin_ask(self.seated.rt, station, block);
         let client = Client::Waiting(stream);
         match station.tables.leave(self.seated.rt, block, client) {
             Ok(Some((client, serve))) => self.seated.tell_client(client, serve),
             Ok(None) => {
+                begin_ask(self.seated.rt, station, block);
                 if station.closing.is_closed() {
                     self.seated.refuse_all();
                 }

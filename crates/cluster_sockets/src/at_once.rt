@@ -22,8 +22,12 @@ pub trait AtOnce {
     /// Whose a datagram is that came by this protocol from this address.
     fn sender_of(&self, udp: Udp, from: Address) -> Sender;
 
-    /// Whether a client still waits for what the fetch with this serial ends.
+    /// Whether a client waits for what the fetch with this serial ends, and was not told that it
+    /// took too long.
     fn is_wanted<R: Wait>(&self, rt: &R, serial: u32) -> bool;
+
+    /// The same, and the client has not gone away. It must not wait for its connection.
+    fn is_there<R: Wait>(&self, rt: &R, serial: u32) -> bool;
 
     /// Sends what was held back since the last call, such as answers that are sent together. The
     /// loop calls it once in each poll, after it has read the datagrams that were ready. It waits
@@ -51,6 +55,10 @@ impl AtOnce for Never {
     }
 
     fn is_wanted<R: Wait>(&self, _rt: &R, _serial: u32) -> bool {
+        true
+    }
+
+    fn is_there<R: Wait>(&self, _rt: &R, _serial: u32) -> bool {
         true
     }
 

@@ -8,30 +8,44 @@ use mio::{Registry, Token};
 use node_rules::{Serve, Served};
 use slab::Slab;
 use std::alloc::{AllocError, Global};
+use std::mem::swap;
 use std::time::Instant;
 
 /// How many responses are under way in the loop at most.
 pub(crate) const MOST_DELIVERIES: usize = 4096;
 
+/// How many responses are noted without a need for memory.
+const MOST_NOTED: usize = 1024;
+
 /// How many connections are told at a poll at most that they are refused.
 const MOST_REFUSED: usize = 256;
+
+/// How many connections stay open behind their responses until their clients close them, at most.
+/// Further ones are closed once their response is written.
+const MOST_LINGERING: usize = 256;
 
 /// The responses under way, each under a key.
 #[derive(Drop)]
 pub(crate) struct Deliveries {
     under_way: Slab<Delivery>,
+    /// How many of them linger.
+    lingering: usize,
     ready: Vec<usize>,
+    /// Those that may go on at once after they have gone on.
+    again: Vec<usize>,
     kept: Vec<u8>,
     first_token: usize,
 }
 
 impl Deliveries {
     /// No responses yet. Their tokens are `first_token` and up. `AllocError` comes where there is no
-    /// memory for the buffer.
+    /// memory for its lists.
     pub(crate) fn new(alloc: Global, first_token: usize) -> Result<Deliveries, AllocError> {
         Ok(Deliveries {
             under_way: Slab::new(alloc),
-            ready: Vec::new(alloc),
+            lingering: 0,
+            ready: Vec::with_capacity(alloc, MOST_NOTED)?,
+            again: Vec::new(alloc),
             kept: Vec::with_capacity(alloc, 16_384)?,
             first_token,
         })
@@ -48,22 +62,49 @@ impl Deliveries {
     pub(crate) fn add(&mut self, registry: &Registry, mut delivery: Delivery, via: &[u8])
         requires { IsTrue (names_cache via.now) }
     {
-        if delivery.go_on(&mut self.kept, via) == Delivered::Ended
-            || self.under_way.len() >= MOST_DELIVERIES
-        {
+        if self.lingering >= MOST_LINGERING {
+            delivery.set_short();
+        }
+        let delivered = delivery.go_on(&mut self.kept, via);
+        if delivered == Delivered::Ended || self.under_way.len() >= MOST_DELIVERIES {
             return;
         }
+        let lingers = delivery.lingers();
         let Ok(key) = self.under_way.insert(delivery) else {
             return;
         };
+        self.lingering = self.lingering.saturating_add(usize::from(lingers));
+        self.note_more(key, delivered);
         let token = Token(self.first_token.saturating_add(key));
         let is_told = match self.under_way.get_mut(key) {
             Some(delivery) => delivery.register(registry, token).is_ok(),
             None => true,
         };
         if !is_told {
-            let _ = self.under_way.try_remove(key);
+            self.remove(key);
         }
+    }
+
+    /// Closes the connection of the response under this key.
+    fn remove(&mut self, key: usize) {
+        if let Some(delivery) = self.under_way.try_remove(key) {
+            self.lingering = self
+                .lingering
+                .saturating_sub(usize::from(delivery.lingers()));
+        }
+    }
+
+    /// Notes a response that may go on at once. Where there is no room to note it, it waits for its
+    /// deadline.
+    fn note_more(&mut self, key: usize, delivered: Delivered) {
+        if delivered == Delivered::More {
+            let _ = self.again.push(key);
+        }
+    }
+
+    /// Whether some may go on without waiting.
+    pub(crate) fn has_more(&self) -> bool {
+        !self.ready.is_empty()
     }
 
     /// Tells 503 to those whose connections are refused.
@@ -77,12 +118,12 @@ impl Deliveries {
         requires { IsTrue (names_cache via.now) }
     {
         for _ in 0..MOST_REFUSED {
-            let Some(stream) = streams.next_refused() else {
+            let Some((stream, lingers)) = streams.next_refused() else {
                 break;
             };
             self.add(
                 registry,
-                Delivery::new(stream, unavailable(), true, now),
+                Delivery::new(stream, unavailable(), lingers, now),
                 via,
             );
         }
@@ -97,8 +138,9 @@ impl Deliveries {
             None => return,
         };
         if delivered == Delivered::Ended {
-            let _ = self.under_way.try_remove(key);
+            self.remove(key);
         }
+        self.note_more(key, delivered);
     }
 
     /// Goes on with the responses that were noted.
@@ -112,6 +154,7 @@ impl Deliveries {
             self.go_on(key, via);
         }
         self.ready.clear();
+        swap(&mut self.ready, &mut self.again);
     }
 
     /// Closes the connections whose clients take too little.
@@ -125,7 +168,20 @@ impl Deliveries {
                 None => false,
             };
             if is_late {
-                let _ = self.under_way.try_remove(key);
+                self.remove(key);
+            }
+        }
+    }
+
+    /// Closes the connections whose responses are written.
+    pub(crate) fn end_written(&mut self) {
+        for key in 0..MOST_DELIVERIES {
+            let is_written = match self.under_way.get(key) {
+                Some(delivery) => delivery.is_written(),
+                None => false,
+            };
+            if is_written {
+                self.remove(key);
             }
         }
     }

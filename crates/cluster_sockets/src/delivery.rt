@@ -17,7 +17,7 @@ const PATIENCE: u64 = 5;
 /// How many octets a client has to take in each five seconds.
 const LEAST: usize = 5120;
 
-/// How many pieces of what a client sends after its request are read, and dropped, at most.
+/// How many pieces of what a client sends after its request are read, and dropped, at once.
 const MOST_DROPPED: u32 = 64;
 
 /// How a delivery stands.
@@ -25,6 +25,8 @@ const MOST_DROPPED: u32 = 64;
 pub enum Delivered {
     /// The client has not taken all of it yet.
     Waits,
+    /// It may go on at once.
+    More,
     /// It is done, or cannot be: the connection is to be closed.
     Ended,
 }
@@ -109,7 +111,22 @@ impl Delivery {
                 Err(_) => return Delivered::Ended,
             }
         }
-        Delivered::Ended
+        Delivered::More
+    }
+
+    /// Whether the connection stays open behind the response until the client closes its side.
+    pub(crate) fn lingers(&self) -> bool {
+        self.lingers
+    }
+
+    /// Has the connection be closed once the response is written.
+    pub(crate) fn set_short(&mut self) {
+        self.lingers = false;
+    }
+
+    /// Whether all of it is written: it only waits for its client to close its side.
+    pub(crate) fn is_written(&self) -> bool {
+        self.is_written
     }
 
     /// Has a poll tell, under this token, when it may go on.

@@ -18,16 +18,20 @@ use values_plain::Address;
 pub(crate) const MOST_FETCHES: usize = 1024;
 
 /// How many connections to one address are open at most.
-const MOST_CONNECTIONS: usize = 64;
+const MOST_CONNECTIONS: u64 = 64;
 
 /// How many seconds a fetch may take, from the moment at which it begins to connect.
 const PATIENCE: u64 = 5;
+
+/// How many fetches wait for their turn at one address at most. Further ones fail at once, so that
+/// an address that does not answer leaves room for the requests of others.
+const MOST_IN_LINE: usize = 512;
 
 /// The fetches from one address: how many are under way, and those that wait for their turn.
 #[derive(Drop)]
 struct Line {
     at: Address,
-    under_way: usize,
+    under_way: u64,
     waiting: VecDeque<Fetch>,
 }
 
@@ -101,24 +105,30 @@ impl Fetches {
     }
 
     /// Begins a fetch, or has it wait for its turn. It comes back as one that has ended where it
-    /// failed at once, or there is no memory.
-    pub(crate) fn add<R: Net>(
+    /// failed at once, its client was told that it took too long, 512 wait for their turn at its
+    /// address, or there is no memory.
+    pub(crate) fn add<A: AtOnce, R: Net + Wait>(
         &mut self,
-        net: &R,
+        rt: &R,
         registry: &Registry,
+        at_once: &A,
         fetch: Fetch,
         via: &[u8],
         now: Instant,
     ) -> Option<Fetched>
         requires { IsTrue (names_cache via.now) }
     {
+        if !at_once.is_wanted(rt, fetch.serial) {
+            return Some(fetch.into_failed());
+        }
         let Ok(place) = self.line_of(fetch.at) else {
             return Some(fetch.into_failed());
         };
         if self.has_room(place) {
-            return self.begin(net, registry, place, fetch, via, now);
+            return self.begin(rt, registry, place, fetch, via, now);
         }
         match self.lines.get_mut(place) {
+            Some(line) if line.waiting.len() >= MOST_IN_LINE => Some(fetch.into_failed()),
             Some(line) => match line.waiting.push_back(fetch) {
                 Ok(()) => None,
                 Err(failed) => Some(failed.value.into_failed()),
@@ -222,8 +232,8 @@ impl Fetches {
         Some((place, fetch))
     }
 
-    /// Begins a fetch that has waited for its turn. One whose client no longer waits has failed
-    /// instead.
+    /// Begins a fetch that has waited for its turn. One whose client no longer waits, or has gone
+    /// away, has failed instead.
     fn begin_next<A: AtOnce, R: Net + Wait>(
         &mut self,
         rt: &R,
@@ -236,7 +246,7 @@ impl Fetches {
         requires { IsTrue (names_cache via.now) }
     {
         let (place, fetch) = next;
-        if !at_once.is_wanted(rt, fetch.serial) {
+        if !at_once.is_there(rt, fetch.serial) {
             return Some(fetch.into_failed());
         }
         self.begin(rt, registry, place, fetch, via, now)

@@ -96,6 +96,11 @@ impl Head {
         now.saturating_duration_since(self.since).as_secs() >= PATIENCE
     }
 
+    /// Whether it has waited for a second.
+    pub(crate) fn has_waited(&self, now: Instant) -> bool {
+        now.saturating_duration_since(self.since).as_secs() >= 1
+    }
+
     /// Shuts down its reading side: a worker reads no more of it than has come by now.
     pub(crate) fn end(&mut self) {
         // (a stream that its client has reset cannot be shut down; it has ended anyway)

@@ -75,6 +75,8 @@ pub struct NodeLoop {
     fetches: Fetches,
     /// A fetch that has ended, whose job has found no room yet.
     owed: Option<Fetched>,
+    /// Whether the last poll may have left errands in the inbox, or fetches that have ended.
+    has_errands: bool,
     looked: Instant,
     /// The node's name, as it stands in `via`.
     via: Vec<u8>,
@@ -85,7 +87,7 @@ pub struct NodeLoop {
 
 impl NodeLoop {
     /// Opens the sockets of a member at its addresses: UDP for ICP and for HTCP, and a listener for
-    /// HTTP. `via` is its name, as it stands in requests and responses. `Io` comes where an address
+    /// HTTP. `via` is its name, as it stands in requests and responses.`Io` comes where an address
     /// is in use or is not this machine's, or the system refuses in another way. `NoMemory` comes
     /// where there is no memory. After a fault nothing is open.
     pub fn open<N: Net + Clock>(
@@ -114,6 +116,7 @@ impl NodeLoop {
             deliveries: Deliveries::new(alloc, DELIVERIES)?,
             fetches: Fetches::new(alloc, FETCHES),
             owed: None,
+            has_errands: false,
             looked: now,
             via: via.to_vec(alloc)?,
             wait: Duration::from_millis(WAIT),
@@ -133,6 +136,12 @@ impl NodeLoop {
         self.wait = most;
     }
 
+    /// Whether a connection could not be accepted for want of a descriptor since this was last
+    /// called. It waits in the listener's line until there is one.
+    pub fn has_lacked_descriptors(&mut self) -> bool {
+        self.streams.has_lacked()
+    }
+
     /// How long a poll waits at most now.
     fn most_wait(&self) -> Duration {
         if self.has_more {
@@ -148,18 +157,20 @@ impl NodeLoop {
     fn wait_for_sockets(&mut self) -> Result<(), LoopFault> {
         let most = self.most_wait();
         self.poll.poll(&mut self.events, Some(most))?;
+        let mut noted = Ok(());
         for event in &self.events {
-            match event.token() {
-                ICP => self.datagrams.set_ready(Udp::Icp, true),
-                HTCP => self.datagrams.set_ready(Udp::Htcp, true),
-                LISTENER => self.streams.set_ready(),
-                WAKER => {}
-                Token(key) if key >= DELIVERIES => self.deliveries.note(key - DELIVERIES)?,
-                Token(key) if key >= FETCHES => self.fetches.note(key - FETCHES)?,
-                Token(key) => self.streams.note(key)?,
-            }
+            let one = match event.token() {
+                ICP => Ok(self.datagrams.set_ready(Udp::Icp, true)),
+                HTCP => Ok(self.datagrams.set_ready(Udp::Htcp, true)),
+                LISTENER => Ok(self.streams.set_ready()),
+                WAKER => Ok(()),
+                Token(key) if key >= DELIVERIES => self.deliveries.note(key - DELIVERIES),
+                Token(key) if key >= FETCHES => self.fetches.note(key - FETCHES),
+                Token(key) => self.streams.note(key),
+            };
+            noted = noted.and(one);
         }
-        Ok(())
+        Ok(noted?)
     }
 
     /// Polls until something is ready, for the time of a poll at most. Then puts a job for each
@@ -185,7 +196,10 @@ impl NodeLoop {
         let (pass, htcp) = self.datagrams.put_ready(rt, jobs, pass, Udp::Htcp, at_once);
         at_once.finish();
         let (pass, streams) = self.put_rest(rt, jobs, pass, at_once);
-        self.has_more = icp == Ok(true) || htcp == Ok(true) || streams == Ok(true);
+        self.has_more = icp == Ok(true)
+            || htcp == Ok(true)
+            || streams == Ok(true)
+            || self.has_rest();
         (
             pass,
             waited
@@ -211,11 +225,19 @@ impl NodeLoop {
                 let (pass, streams) = self.put_streams(rt, jobs, pass, now);
                 self.go_on(now);
                 let pass = self.put_fetches(rt, jobs, pass, at_once, now);
-                let has_more = self.owed.is_none() && self.fetches.has_more();
-                (pass, streams.map(|more| more || has_more))
+                (pass, streams)
             }
             Err(_) => (pass, Err(LoopFault::Io)),
         }
+    }
+
+    /// Whether there may be more to do that no poll tells of: refused connections, responses,
+    /// errands and fetches.
+    fn has_rest(&self) -> bool {
+        let has_fetches = self.has_errands || self.fetches.has_more();
+        self.streams.has_refused()
+            || self.deliveries.has_more()
+            || (self.owed.is_none() && has_fetches)
     }
 
     /// Puts the connections whose requests have come. Returns whether there may be more to accept.
@@ -252,7 +274,12 @@ impl NodeLoop {
 
     /// Deals with the next errand. Returns a fetch that has failed at once, and whether there was an
     /// errand.
-    fn do_errand<R: Net + Wait>(&mut self, rt: &R, now: Instant) -> (Option<Fetched>, bool) {
+    fn do_errand<A: AtOnce, R: Net + Wait>(
+        &mut self,
+        rt: &R,
+        at_once: &A,
+        now: Instant,
+    ) -> (Option<Fetched>, bool) {
         let registry = self.poll.registry();
         let via = self.via.as_slice();
         match self.inbox.take(rt) {
@@ -261,7 +288,8 @@ impl NodeLoop {
                 (None, true)
             }
             Some(Errand::Fetch(fetch)) => {
-                (self.fetches.add(rt, registry, fetch, via, now), true)
+                let failed = self.fetches.add(rt, registry, at_once, fetch, via, now);
+                (failed, true)
             }
             None => (None, false),
         }
@@ -297,11 +325,13 @@ impl NodeLoop {
     ) -> Pass<Q>
         ensures { HasPut pass result }
     {
+        self.has_errands = true;
         for _ in 0..MOST_ERRANDS {
             let ended = match self.next_ended(rt, at_once, now) {
                 None => {
-                    let (failed, was_there) = self.do_errand(rt, now);
+                    let (failed, was_there) = self.do_errand(rt, at_once, now);
                     if !was_there {
+                        self.has_errands = false;
                         break;
                     }
                     failed
@@ -322,13 +352,14 @@ impl NodeLoop {
     }
 
     /// Writes the responses that are under way or in the inbox on, for five seconds at most, and
-    /// does nothing else. Ends once all are written.
+    /// does nothing else. Ends once all are written; then no connection lingers.
     pub fn finish<R: Wait + Clock>(&mut self, rt: &R) {
         let Ok(begun) = Instant::now(rt) else {
             return;
         };
         for _ in 0..MOST_LAST_POLLS {
             self.take_deliveries(rt);
+            self.deliveries.end_written();
             let is_over = match Instant::now(rt) {
                 Ok(now) => now.saturating_duration_since(begun).as_secs() >= LAST,
                 Err(_) => true,

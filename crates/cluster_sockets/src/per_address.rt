@@ -5,9 +5,6 @@ ghost use Rattle.cluster_sockets.specs.Counts.{count_at};
 use std::alloc::Global;
 use std::collections::BTreeMap;
 
-/// How many connections of one address wait at most.
-const MOST: u32 = 128;
-
 /// How many of the connections that wait come from each IPv4 address.
 #[derive(Drop)]
 pub(crate) struct PerAddress {
@@ -22,16 +19,22 @@ impl PerAddress {
         }
     }
 
-    /// Counts one more connection of an address. Returns false, and counts nothing, where 128 of
-    /// that address wait already, or there is no memory.
+    /// How many connections of an address wait.
+    pub(crate) fn count(&self, ip: u32) -> u32
+        ensures { result ≡ count_at self.now.counts ip }
+    {
+        self.counts.get(&ip).copied().unwrap_or(0)
+    }
+
+    /// Counts one more connection of an address. Returns false, and counts nothing, where there is
+    /// no memory, or no greater number.
     pub(crate) fn add(&mut self, ip: u32) -> bool
-        ensures few { result ≡ true → count_at self.old.counts ip < 128 }
         ensures counted { result ≡ true →
             count_at self.new.counts ip ≡ 1 + count_at self.old.counts ip }
         ensures kept { result ≡ false → self.new.counts.entries ≡ self.old.counts.entries }
     {
-        let count = self.counts.get(&ip).copied().unwrap_or(0);
-        if count >= MOST {
+        let count = self.count(ip);
+        if count == u32::MAX {
             return false;
         }
         match self.counts.insert(ip, count + 1) {

@@ -13,13 +13,17 @@ use mio::net::{TcpListener, TcpStream};
 use slab::Slab;
 use std::alloc::{AllocError, Global};
 use std::collections::VecDeque;
-use std::io::ErrorKind;
+use std::io::{self, ErrorKind};
+use std::mem::replace;
 use std::sync::Wait;
 use std::time::Instant;
 use values_plain::Address;
 
 /// How many connections wait in the loop at most.
 const MOST_HEADS: usize = 1024;
+
+/// How many connections from one address may wait in the loop for longer than a second.
+const MOST_OF_ADDRESS: u32 = 128;
 
 /// How many connections a poll accepts at most, so that each source gets its share of a poll.
 const MOST_ACCEPTED: usize = 256;
@@ -30,6 +34,17 @@ const MOST_LATE: usize = 64;
 
 /// How many milliseconds pass between two looks for connections whose five seconds have passed.
 const BETWEEN_LOOKS: u128 = 100;
+
+/// The errors of the system where the process, or the whole system, has no more descriptors.
+const WANT_OF_DESCRIPTORS: [i32; 2] = [24, 23];
+
+/// Whether a call failed for want of a descriptor.
+fn is_want_of_descriptors(error: &io::Error) -> bool {
+    match error.raw_os_error() {
+        Some(number) => WANT_OF_DESCRIPTORS.contains(&number),
+        None => false,
+    }
+}
 
 /// Accepts a node's connections, and keeps those whose requests have not come.
 #[derive(Drop)]
@@ -42,7 +57,8 @@ pub(crate) struct Streams {
     came: Vec<usize>,
     number: u64,
     looked: Instant,
-    refused: VecDeque<TcpStream>,
+    refused: VecDeque<(TcpStream, bool)>,
+    has_lacked: bool,
 }
 
 impl Streams {
@@ -63,6 +79,7 @@ impl Streams {
             number: 0,
             looked: now,
             refused: VecDeque::new(alloc),
+            has_lacked: false,
         })
     }
 
@@ -99,19 +116,31 @@ impl Streams {
     /// Keeps the connection of a job that is refused until it is told so.
     fn refuse_job(&mut self, job: Job) {
         match job {
-            Job::Stream { stream, .. } => self.refuse(stream),
+            Job::Stream { stream, .. } => self.refuse(stream, true),
             Job::Datagram { .. } | Job::Timer { .. } | Job::Fetched(_) => {}
         }
     }
 
-    /// Keeps a connection that is refused until it is told so. Where there is no memory for it, it
-    /// is closed.
-    fn refuse(&mut self, stream: TcpStream) {
-        let _ = self.refused.push_back(stream);
+    /// Keeps a connection that is refused until it is told so. `lingers` where its client has sent
+    /// something. Where there is no memory for it, it is closed.
+    fn refuse(&mut self, stream: TcpStream, lingers: bool) {
+        let _ = self.refused.push_back((stream, lingers));
     }
 
-    /// Takes out a connection that is refused, and that has not been told so.
-    pub(crate) fn next_refused(&mut self) -> Option<TcpStream> {
+    /// Whether a connection could not be accepted for want of a descriptor since this was last
+    /// called.
+    pub(crate) fn has_lacked(&mut self) -> bool {
+        replace(&mut self.has_lacked, false)
+    }
+
+    /// Whether a connection that is refused has not been told so.
+    pub(crate) fn has_refused(&self) -> bool {
+        !self.refused.is_empty()
+    }
+
+    /// Takes out a connection that is refused, and that has not been told so, and whether its client
+    /// has sent something.
+    pub(crate) fn next_refused(&mut self) -> Option<(TcpStream, bool)> {
         self.refused.pop_front()
     }
 
@@ -135,15 +164,12 @@ impl Streams {
             .map(|(key, _)| key)
     }
 
-    /// Refuses the connection that has waited longest for its request: of those from an IPv4
-    /// address, or of all.
-    fn make_room(&mut self, registry: &Registry, ip: Option<u32>) {
-        let Some(key) = self.oldest(ip) else {
-            return;
-        };
+    /// Refuses the connection under this key.
+    fn refuse_at(&mut self, registry: &Registry, key: usize) {
         if let Some(mut head) = self.remove(key) {
             head.deregister(registry);
-            self.refuse(head.into_stream());
+            let lingers = !head.is_silent();
+            self.refuse(head.into_stream(), lingers);
         }
     }
 
@@ -244,26 +270,46 @@ impl Streams {
         pass
     }
 
-    /// Counts a connection that is to wait. Where 128 wait from its address, the one of them that
-    /// has waited longest is refused; where 1,024 wait, the one of all. Returns false where there is
-    /// no memory.
-    fn count(&mut self, registry: &Registry, ip: u32) -> bool {
+    /// Whether the connection under this key has waited for a second.
+    fn has_waited(&self, key: usize, now: Instant) -> bool {
+        match self.heads.get(key) {
+            Some(head) => head.has_waited(now),
+            None => false,
+        }
+    }
+
+    /// Refuses those connections from an IPv4 address that have waited longest, two at most, if they
+    /// have waited for a second.
+    fn refuse_idle(&mut self, registry: &Registry, ip: u32, now: Instant) {
+        for _ in 0..2 {
+            match self.oldest(Some(ip)) {
+                Some(key) if self.has_waited(key, now) => self.refuse_at(registry, key),
+                _ => break,
+            }
+        }
+    }
+
+    /// Makes room for a connection that is to wait. Where 1,024 wait, the one that has waited
+    /// longest is refused. Where 128 wait from its address, two that have waited for a second are: requests of connections that come at once may take a moment.
+    fn make_room(&mut self, registry: &Registry, ip: u32, now: Instant) {
         if self.heads.len() >= MOST_HEADS {
-            self.make_room(registry, None);
+            if let Some(key) = self.oldest(None) {
+                self.refuse_at(registry, key);
+            }
         }
-        if self.per_address.add(ip) {
-            return true;
+        if self.per_address.count(ip) >= MOST_OF_ADDRESS {
+            self.refuse_idle(registry, ip, now);
         }
-        self.make_room(registry, Some(ip));
-        self.per_address.add(ip)
     }
 
     /// Keeps a connection until more has come of it. It is closed where the poll does not take it,
     /// and refused where there is no memory to count it.
-    fn keep(&mut self, registry: &Registry, head: Head) {
+    fn keep(&mut self, registry: &Registry, head: Head, now: Instant) {
         let ip = head.ip();
-        if !self.count(registry, ip) {
-            self.refuse(head.into_stream());
+        self.make_room(registry, ip, now);
+        if !self.per_address.add(ip) {
+            let lingers = !head.is_silent();
+            self.refuse(head.into_stream(), lingers);
             return;
         }
         let Ok(key) = self.heads.insert(head) else {
@@ -294,7 +340,7 @@ impl Streams {
         match head.read() {
             Reading::Came => Some(head.into_job()),
             Reading::Waits => {
-                self.keep(registry, head);
+                self.keep(registry, head, now);
                 None
             }
             Reading::Gone => None,
@@ -312,7 +358,10 @@ impl Streams {
             }
             Err(error) if error.kind() == ErrorKind::WouldBlock => Ok(Come::Nothing),
             Err(error) if error.kind() == ErrorKind::ConnectionAborted => Ok(Come::Taken(None)),
-            Err(_) => Err(LoopFault::Io),
+            Err(error) => {
+                self.has_lacked = self.has_lacked || is_want_of_descriptors(&error);
+                Err(LoopFault::Io)
+            }
         }
     }
 

@@ -1,5 +1,5 @@
 -- What waits at a node: clients, early answers, rounds of queries, and errands.
-use Rattle.std.specs.Prelude.{◌≡◌, ◌≤◌, ◌<◌, ◌⊎◌, ℕ, Bool, true, false, max, List, [], ◌∷◌, ◌++◌, length, All, Option, Some, None, IsSome, Result, Ok, MatchResult}
+use Rattle.std.specs.Prelude.{◌≡◌, ◌≤◌, ◌<◌, ◌⊎◌, ℕ, Bool, true, false, not, ◌==◌, max, filter, List, [], ◌∷◌, ◌++◌, length, All, Option, Some, None, IsSome, Result, Ok, MatchResult}
 use Rattle.std.specs.Ordering.{nat_cmp}
 use Rattle.std.specs.Map.{lookup, remove_entry}
 use Rattle.std.specs.BTreeMap.{is_at, insert_entry}
@@ -102,6 +102,10 @@ added old until serial = record {
   rounds = old.rounds ++ waiting (max until old.latest) serial ∷ [];
   latest = max until old.latest;
 }
+
+-- the rounds but for those of a serial
+abbrev pub rounds_without : ℕ → List WaitingRound → List WaitingRound
+rounds_without serial rounds = filter (λ w. not (w.serial == serial)) rounds
 
 -- the first round is taken out, and its deadline has come
 abbrev pub IsDue : ℕ → RoundsView → RoundsView → ℕ → Type 0

@@ -38,7 +38,8 @@ mod signals;
 mod threads;
 mod workers;
 
-pub use cluster_service::{CloseCause, Closing, Gate, NoGate};
+pub use cluster_service::{CloseCause, Closing, Gate, NoGate, milliseconds};
 pub use cluster_sockets::LoopFault;
+pub use cluster_waiting::AskedPeer;
 pub use fault::{StartFault, StopFault};
 pub use workers::{Ground, Workers};

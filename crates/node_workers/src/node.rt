@@ -12,7 +12,6 @@ use cluster_sockets::NodeLoop;
 use floor_rules::FloorStore;
 use node_book::{NodeEntry, Record};
 use node_core::Node;
-use values_history::NewHistory;
 use node_seats::{Origin, Places, Retention, Seat, SharedNode};
 use std::alloc::Global;
 use std::marker::Brand;
@@ -20,6 +19,7 @@ use std::net::{Net, TcpListener, TcpStream};
 use std::sync::Wait;
 use std::thread::Threads;
 use std::time::Clock;
+use values_history::NewHistory;
 
 /// What the thread of a node begins with: a node that is opened, and what its threads work with.
 #[derive(Drop)]

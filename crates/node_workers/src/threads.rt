@@ -13,6 +13,7 @@ use node_seats::{AtSeat, Held, Origin, Seat, SharedNode};
 use std::alloc::Global;
 use std::net::{Net, TcpListener, TcpStream};
 use std::sync::Wait;
+use std::sync::atomic::Ordering;
 use std::thread::{self, Scope, Threads};
 use std::time::Clock;
 use std::vec::IntoIter;
@@ -185,10 +186,13 @@ fn poll_until_stopped<
         if halt.is_wanted(rt) {
             hold(rt, halt, shared.node);
         }
-        tell_late(rt, station, &mut kept);
-        pass = put_due(rt, station, jobs, pass, &mut owed);
         let (after, _) = poller.poll_once(rt, jobs, pass, &mut questions);
-        pass = after;
+        // (what came before a deadline is queued before it)
+        pass = put_due(rt, station, jobs, after, &mut owed);
+        tell_late(rt, station, &mut kept);
+        if poller.has_lacked_descriptors() {
+            shared.signals.has_lacked.store(true, Ordering::SeqCst);
+        }
     }
 }
 

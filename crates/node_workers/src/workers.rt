@@ -11,10 +11,11 @@ use crate::node::{Edge, Start, run_node};
 use crate::signals::Signals;
 use cluster_service::{CloseCause, Closing, Gate, Station};
 use cluster_sockets::{Inbox, NodeLoop, Senders};
-use node_http::name_of;
+use cluster_waiting::{AskedPeer, PeerTable};
 use floor_rules::FloorStore;
 use node_book::Record;
 use node_core::{Node, OpenFault};
+use node_http::name_of;
 use node_seats::{Places, Retention};
 use roster::Roster;
 use std::alloc::{AllocError, Global};
@@ -50,6 +51,8 @@ pub struct Workers {
     is_stopped: Arc<AtomicBool, Global>,
     halt: Arc<Halt, Global>,
     closing: Arc<Closing, Global>,
+    peers: Arc<PeerTable, Global>,
+    has_lacked: Arc<AtomicBool, Global>,
 }
 
 /// Opens a node.
@@ -108,9 +111,10 @@ fn station<G: Gate + Drop>(
 {
     let is_stopped = Arc::try_clone(&signals.is_stopped)?;
     let closing = Arc::try_clone(&signals.closing)?;
+    let peers = Arc::try_clone(&signals.peers)?;
     match roster.copy(alloc) {
         Ok(roster) => Ok(Station::new(
-            alloc, roster, id, senders, inbox, is_stopped, closing, gate,
+            alloc, roster, id, peers, senders, inbox, is_stopped, closing, gate,
         )),
         Err(_) => Err(Unready::NoMemory),
     }
@@ -127,7 +131,7 @@ fn edge_of<G: Gate + Drop, R: Net + Clock>(
 ) -> Result<(Edge<G>, Signals), Unready>
     requires { is_member roster.now id ≡ true }
 {
-    let signals = Signals::new(alloc)?;
+    let signals = Signals::new(alloc, roster, id)?;
     let told = signals.try_clone()?;
     let (poller, senders) = sockets(rt, alloc, roster, id)?;
     let inbox = poller.inbox()?;
@@ -163,6 +167,8 @@ fn begin<
         report,
         halt,
         closing,
+        peers,
+        has_lacked,
     } = signals;
     match report.wait(&rt) {
         Ok(()) => Ok(Workers {
@@ -170,6 +176,8 @@ fn begin<
             is_stopped,
             halt,
             closing,
+            peers,
+            has_lacked,
         }),
         Err(fault) => {
             let _ended = node.join(&rt);
@@ -255,6 +263,21 @@ impl Workers {
     /// stays closed.
     pub fn close_cause(&self) -> Option<CloseCause> {
         self.closing.cause()
+    }
+
+    /// The peers that are thought dead: each has left 20 questions in succession unanswered, or a
+    /// fetch from it has failed, and it has not answered since. The node still asks them, and does
+    /// not wait for them. `since` is in milliseconds of a clock that never goes back. `AllocError`
+    /// comes where there is no memory for the list.
+    pub fn dead_peers<R: Wait>(&self, rt: &R, alloc: Global) -> Result<Vec<AskedPeer>, AllocError> {
+        self.peers.dead(rt, alloc)
+    }
+
+    /// What tells another thread that a connection could not be accepted for want of a descriptor:
+    /// true from then on, until that thread clears it. `AllocError` comes where one more owner
+    /// cannot be counted.
+    pub fn has_lacked(&self) -> Result<Arc<AtomicBool, Global>, AllocError> {
+        Arc::try_clone(&self.has_lacked)
     }
 
     /// What tells another thread whether the node is closed, and why. `AllocError` comes where one

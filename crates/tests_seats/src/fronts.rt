@@ -2,10 +2,10 @@
 ghost use Rattle.std.specs.Prelude.{◌≡◌};
 
 use node_book::NodeEntry;
-use values_history::{NewHistory, Run};
 use node_rules::{Event, StepFault};
 use std::marker::Brand;
 use std::test::Fail;
+use values_history::{NewHistory, Run};
 
 /// An entry.
 const ENTRY: NodeEntry = NodeEntry {

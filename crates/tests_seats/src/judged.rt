@@ -5,7 +5,6 @@ ghost use Rattle.node_seats.specs.Beginning.{beginning_of};
 use crate::nodes::{Start, asked, call, share, start_of, take, verdict_on};
 use node_book::{NodeEntry, Record};
 use node_copies::{copy_of_event, copy_of_reply};
-use values_history::NewHistory;
 use node_rules::{Event, Reply, StepFault};
 use node_seats::{Origin, Retention};
 use roster::Listed;
@@ -16,6 +15,7 @@ use std::marker::Brand;
 use std::sync::Wait;
 use std::test::Fail;
 use tests_kit::ONE;
+use values_history::NewHistory;
 
 /// The read fails that the first ask has begun: that is the first fetch of block 1.
 const READ_FAILS: Event<()> = Event::FetchFailed {

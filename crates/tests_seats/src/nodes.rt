@@ -6,7 +6,6 @@ use floor_rules::MemoryFloors;
 use http_messages::{Answer, Ask, Body, Fields};
 use node_book::{NodeEntry, Record};
 use node_core::Node;
-use values_history::NewHistory;
 use node_rules::{Event, Reply, StepFault};
 use node_seats::{Origin, Places, Retention, Seat, SharedNode};
 use roster::Roster;
@@ -15,6 +14,7 @@ use std::alloc::Global;
 use std::hash::RandomState;
 use std::sync::Wait;
 use url_key::Key;
+use values_history::NewHistory;
 
 /// A page of the origin.
 pub(crate) const PAGE: &[u8] = b"http://o/a";

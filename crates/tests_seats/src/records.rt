@@ -7,7 +7,6 @@ use crate::seats::is_unknown;
 use floor_rules::MemoryFloors;
 use node_book::{NodeEntry, Record};
 use node_bytes::Stepper;
-use values_history::NewHistory;
 use node_rules::Event;
 use node_seats::{AtSeat, Origin, Retention, Seat, SharedNode};
 use run_check::Verdict;
@@ -17,6 +16,7 @@ use std::marker::Brand;
 use std::sync::Wait;
 use std::test::Fail;
 use tests_kit::ONE;
+use values_history::NewHistory;
 
 /// What is done with a shared node.
 #[derive(Clone, Copy)]

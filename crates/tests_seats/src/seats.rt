@@ -5,7 +5,6 @@ ghost use Rattle.node_seats.specs.Beginning.{beginning_of};
 use crate::nodes::{Shared, Start, Told, asked, share, start_of, take, verdict_on};
 use floor_rules::MemoryFloors;
 use node_book::{NodeEntry, Record};
-use values_history::NewHistory;
 use node_rules::{Event, Served, StepFault};
 use node_seats::{Origin, Places, Retention, Seat, SharedNode};
 use run_check::Verdict;
@@ -17,6 +16,7 @@ use std::sync::atomic::{AtomicU64, Ordering};
 use std::test::Fail;
 use std::thread::{self, Threads};
 use tests_kit::ONE;
+use values_history::NewHistory;
 
 /// How many calls each of eight seats makes.
 const EACH: u64 = 100;

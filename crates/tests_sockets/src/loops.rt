@@ -588,6 +588,10 @@ impl AtOnce for Counting {
         true
     }
 
+    fn is_there<R: Wait>(&self, _rt: &R, _serial: u32) -> bool {
+        true
+    }
+
     fn finish(&mut self) {
         self.finished = self.finished.saturating_add(1);
         self.before = self.dealt;
