@@ -1,12 +1,12 @@
 -- The octets that are read one after another, up to LF or to the end of the input, are its next line.
-use Rattle.std.proofs.Common.{◌≡◌, ℕ, zero, suc, ◌<◌, ◌≤◌, ◌==◌, true, false, cond, Option, Some, None, List, [], ◌∷◌, ◌++◌, length, take, refl, sym, ap, ◌∙◌, subst, arith, append_assoc, append-nil, length-append, length-take, take_all}
+use Rattle.std.proofs.Common.{◌≡◌, ℕ, zero, suc, ◌+◌, ◌<◌, ◌≤◌, ◌==◌, true, false, cond, Option, Some, None, List, [], ◌∷◌, ◌++◌, length, take, refl, sym, ap, ◌∙◌, subst, arith, append_assoc, append-nil, length-append, length-take, take_all}
 use Rattle.std.proofs.lemmas.Bool.Decides.{nat_tests}
 use Rattle.std.proofs.lemmas.List.{take-append-le}
-use Rattle.std.specs.Io.KnownBytes.{Consumes}
+use Rattle.std.specs.Io.KnownBytes.{Keeps, Consumes, IsAtEnd}
 use Rattle.values_lines.specs.Lines.{newline, lines_of, in_first, is_long}
 use Rattle.cluster_console.specs.declared.input.Taken.{Taken}
 use Rattle.cluster_console.specs.declared.input.Taken.TheVariants as taken
-use Rattle.cluster_console.specs.Taking.{TakesOctet, TakesLine, IsLength, IsLast, HasNoEnd, Taking}
+use Rattle.cluster_console.specs.Taking.{TakesOctet, TakesLine, IsLength, IsLast, HasNoEnd, IsFront, Taking}
 
 -- LF ends a line
 line_ended : (front rest : List ℕ) → HasNoEnd front → lines_of (front ++ newline ∷ rest) ≡ front ∷ lines_of rest

@@ -107,11 +107,7 @@ impl<N: Stepper + Drop, G: Gate + Drop, R: Wait + Clock> Seated<'_, N, G, R> {
     fn serve(&mut self, serve: Serve<()>)
         ensures { self.new.node ≡ self.old.node }
     {
-        let Some(block) = serve.waiter else {
-            return;
-        };
-        if let Ok(Some((client, serve))) = self.station.tables.answer(self.rt, block, serve) {
-            self.station.tables.end_ask(self.rt, block);
+        if let Some((client, serve)) = self.station.answer(self.rt, serve) {
             self.tell_client(client, serve);
         }
     }

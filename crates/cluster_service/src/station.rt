@@ -14,15 +14,26 @@ use node_bytes::{Packet, Turn};
 use node_rules::{Begin, Serve};
 use roster::{Address, Cache, Roster, Udp};
 use std::alloc::Global;
-use std::sync::atomic::{AtomicBool, Ordering};
+use std::sync::atomic::{AtomicBool, AtomicU64, Ordering};
 use std::sync::{Arc, Wait};
-use std::time::{Clock, Instant};
+use std::time::{Clock, Duration, Instant};
+
+/// The response of a request that waits, with its number among all such responses of the node.
+#[derive(Drop)]
+pub struct Numbered {
+    /// Its number.
+    pub(crate) number: u64,
+    /// What is served.
+    pub(crate) serve: Serve<()>,
+}
 
 /// What the threads of a node share beside the node itself.
 #[derive(Drop)]
 pub struct Station<G: Drop> {
     /// The clients that wait, the answers that came before their clients, and the rounds that wait.
-    pub tables: WaitTables<Client, Serve<()>>,
+    pub tables: WaitTables<Client, Numbered>,
+    /// The number of the next response of a request that waits.
+    pub(crate) next: AtomicU64,
     /// How the node's peers answer.
     pub peers: Arc<PeerTable, Global>,
     /// What is left to the event loop.
@@ -63,23 +74,10 @@ pub fn milliseconds<C: Clock>(clock: &C) -> u64 {
 /// The request number or TRANS-ID of the question that octets answer, if they may be an answer.
 fn number_in(udp: Udp, octets: &[u8]) -> Option<u32> {
     match udp {
-        Udp::Icp if icp_wire::is_query(octets) => None,
-        // (RFC 2186, "Request Number": the fifth to the eighth octet)
-        Udp::Icp => number_at(octets, 4),
-        // (RFC 2756, "DATA": RR is set, and TRANS-ID is the ninth to the twelfth octet)
-        Udp::Htcp => match octets.get(7) {
-            Some(flags) if flags % 2 == 1 => number_at(octets, 8),
-            _ => None,
-        },
+        Udp::Icp if !icp_wire::is_query(octets) => icp_wire::number_in(octets),
+        Udp::Htcp if htcp_wire::is_response(octets) => htcp_wire::trans_in(octets),
+        _ => None,
     }
-}
-
-/// The four octets from a place on as a number, the first octet highest.
-fn number_at(octets: &[u8], place: usize) -> Option<u32> {
-    let [first, second, third, fourth, ..] = octets.get(place..)? else {
-        return None;
-    };
-    Some(u32::from_be_bytes([*first, *second, *third, *fourth]))
 }
 
 /// The cache of this id.
@@ -149,6 +147,7 @@ impl<G: Gate + Drop> Station<G> {
     {
         Station {
             tables: WaitTables::new(alloc),
+            next: AtomicU64::new(0),
             peers,
             inbox,
             alloc,
@@ -163,6 +162,11 @@ impl<G: Gate + Drop> Station<G> {
 }
 
 impl<G: Drop> Station<G> {
+    /// After which time a client that is too slow is given up: the roster's `answer_wait`.
+    pub(crate) fn patience(&self) -> Duration {
+        Duration::from_millis(self.roster.limits().answer_wait)
+    }
+
     /// Notes whom a round waits for, before it sends these questions: its peers that are not thought
     /// dead. Where there is no memory for the note, the round waits for all.
     pub(crate) fn ask<R: Wait>(&self, rt: &R, serial: u32, questions: &[Packet]) {
@@ -224,14 +228,58 @@ impl<G: Drop> Station<G> {
         }
     }
 
+    /// The number of the next response. One that has a lesser number answers no request whose step
+    /// is yet to begin.
+    pub(crate) fn next(&self) -> u64 {
+        self.next.load(Ordering::SeqCst)
+    }
+
+    /// Gives a response to the client that waits for it, or keeps it until that client comes.
+    pub(crate) fn answer<R: Wait>(&self, rt: &R, serve: Serve<()>) -> Option<(Client, Serve<()>)> {
+        let block = serve.waiter?;
+        let number = self.next.fetch_add(1, Ordering::SeqCst);
+        match self.tables.answer(rt, block, Numbered { number, serve }) {
+            Ok(Some((client, numbered))) => {
+                self.tables.end_ask(rt, block);
+                Some((client, numbered.serve))
+            }
+            Ok(None) | Err(_) => None,
+        }
+    }
+
+    /// Has a client wait until its request is served, or gives its response where that has come
+    /// already. A response of a number below `since`, that of the next response as the request's
+    /// step began, is dropped: it is another request's, which had the block before. A client that
+    /// is refused comes back.
+    pub(crate) fn leave<R: Wait>(
+        &self,
+        rt: &R,
+        block: u32,
+        client: Client,
+        since: u64,
+    ) -> Result<Option<(Client, Serve<()>)>, Client> {
+        let (client, numbered) = match self.tables.leave(rt, block, client) {
+            Ok(Some(both)) => both,
+            Ok(None) => return Ok(None),
+            Err(handed_back) => return Err(handed_back.back),
+        };
+        if numbered.number >= since {
+            return Ok(Some((client, numbered.serve)));
+        }
+        match self.tables.leave(rt, block, client) {
+            Ok(Some((client, numbered))) => Ok(Some((client, numbered.serve))),
+            Ok(None) => Ok(None),
+            Err(handed_back) => Err(handed_back.back),
+        }
+    }
+
     /// Leaves the response of a client that waits in the inbox.
     fn leave_response<R: Wait + Clock>(&self, rt: &R, serve: Serve<()>) {
-        let (Some(block), Ok(now)) = (serve.waiter, Instant::now(rt)) else {
+        let Ok(now) = Instant::now(rt) else {
             return;
         };
-        self.tables.end_ask(rt, block);
-        if let Ok(Some((Client::Waiting(stream), serve))) = self.tables.answer(rt, block, serve) {
-            let delivery = Delivery::new(stream, serve, false, now);
+        if let Some((Client::Waiting(stream), serve)) = self.answer(rt, serve) {
+            let delivery = Delivery::new(stream, serve, false, self.patience(), now);
             let _ = self.inbox.put(rt, Errand::Deliver(delivery));
         }
     }

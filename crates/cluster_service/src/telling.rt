@@ -10,10 +10,6 @@ use node_rules::{Serve, Served};
 use std::sync::Wait;
 use std::time::{Clock, Instant};
 
-/// How many milliseconds a request may take. Then its client is told 504 (RFC 9110, section
-/// 15.6.5).
-const ASK_WAIT: u64 = 15_000;
-
 /// How many clients are told at one look at most that their requests took too long.
 const MOST_LATE: u32 = 256;
 
@@ -39,7 +35,7 @@ pub(crate) fn tell<G: Gate + Drop, R: Wait + Clock>(
     let Ok(now) = Instant::now(rt) else {
         return;
     };
-    let mut delivery = Delivery::new(stream, serve, lingers, now);
+    let mut delivery = Delivery::new(stream, serve, lingers, station.patience(), now);
     let via = name_of(&station.roster, station.id);
     if delivery.go_on(kept, via) != Delivered::Ended {
         // (where there is no memory for it, its connection is closed)
@@ -61,17 +57,17 @@ pub(crate) fn tell_client<G: Gate + Drop, R: Wait + Clock>(
     }
 }
 
-/// Notes when the request of a block takes too long: after 15 seconds. Where there is no memory
-/// for that, it may take any time.
+/// Notes when the request of a block takes too long: after the roster's `ask_wait`. Where there is no
+/// memory for that, it may take any time.
 pub(crate) fn begin_ask<G: Gate + Drop, R: Wait + Clock>(rt: &R, station: &Station<G>, block: u32) {
-    let until = milliseconds(rt).saturating_add(ASK_WAIT);
+    let until = milliseconds(rt).saturating_add(station.roster.limits().ask_wait);
     match station.tables.begin_ask(rt, until, block) {
         Ok(()) | Err(_) => {}
     }
 }
 
-/// Tells 504 (RFC 9110, section 15.6.5) to clients whose requests have taken 15
-/// seconds, 256 at most. The answers to their requests, which may still come, are dropped then.
+/// Tells 504 (RFC 9110, section 15.6.5) to clients whose requests have taken the roster's
+/// `ask_wait`, 256 at most. The answers to their requests, which may still come, are dropped then.
 pub fn tell_late<G: Gate + Drop, R: Wait + Clock>(
     rt: &R,
     station: &Station<G>,
@@ -97,7 +93,7 @@ fn give_up<G: Gate + Drop, R: Wait + Clock>(
     client: Client,
 ) {
     match station.tables.leave(rt, block, Client::Told) {
-        Ok(Some((_told, answer))) => tell_client(rt, station, kept, client, answer),
+        Ok(Some((_told, answer))) => tell_client(rt, station, kept, client, answer.serve),
         Ok(None) | Err(_) => tell_client(rt, station, kept, client, status(504)),
     }
 }

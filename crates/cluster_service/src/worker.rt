@@ -163,6 +163,7 @@ impl<N: Stepper + Drop, G: Gate + Drop, R: Wait + Clock> Worker<'_, N, G, R> {
     {
         let mut stream = stream;
         let seated = &mut self.seated;
+        let since = seated.station.next();
         match ask(
             seated.rt,
             seated.station,
@@ -175,7 +176,7 @@ impl<N: Stepper + Drop, G: Gate + Drop, R: Wait + Clock> Worker<'_, N, G, R> {
                 None
             }
             Ok(Taken::Waits(block, turn)) => {
-                self.leave(block, stream);
+                self.leave(block, stream, since);
                 Some(turn)
             }
             Err(fault) => {
@@ -199,13 +200,17 @@ impl<N: Stepper + Drop, G: Gate + Drop, R: Wait + Clock> Worker<'_, N, G, R> {
     }
 
     /// Leaves a client in the table until its request is served, or answers it where that has
-    /// happened. Where the node has closed meanwhile, all who wait get 503.
-    fn leave(&mut self, block: u32, stream: TcpStream)
+    /// happened since its step began. One that stands there under the block has lost its answer,
+    /// and gets 503. Where the node has closed meanwhile, all who wait get 503.
+    fn leave(&mut self, block: u32, stream: TcpStream, since: u64)
         ensures { self.new.seated.node ≡ self.old.seated.node }
     {
         let station = self.seated.station;
+        if let Some(lost) = station.tables.take(self.seated.rt, block) {
+            self.seated.tell_client(lost, status(503));
+        }
         let client = Client::Waiting(stream);
-        match station.tables.leave(self.seated.rt, block, client) {
+        match station.leave(self.seated.rt, block, client, since) {
             Ok(Some((client, serve))) => self.seated.tell_client(client, serve),
             Ok(None) => {
                 begin_ask(self.seated.rt, station, block);
@@ -213,7 +218,7 @@ impl<N: Stepper + Drop, G: Gate + Drop, R: Wait + Clock> Worker<'_, N, G, R> {
                     self.seated.refuse_all();
                 }
             }
-            Err(handed_back) => self.seated.tell_client(handed_back.back, status(503)),
+            Err(client) => self.seated.tell_client(client, status(503)),
         }
     }
 

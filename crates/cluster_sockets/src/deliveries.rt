@@ -9,7 +9,7 @@ use node_rules::{Serve, Served};
 use slab::Slab;
 use std::alloc::{AllocError, Global};
 use std::mem::swap;
-use std::time::Instant;
+use std::time::{Duration, Instant};
 
 /// How many responses are under way in the loop at most.
 pub(crate) const MOST_DELIVERIES: usize = 4096;
@@ -35,12 +35,17 @@ pub(crate) struct Deliveries {
     again: Vec<usize>,
     kept: Vec<u8>,
     first_token: usize,
+    patience: Duration,
 }
 
 impl Deliveries {
-    /// No responses yet. Their tokens are `first_token` and up. `AllocError` comes where there is no
-    /// memory for its lists.
-    pub(crate) fn new(alloc: Global, first_token: usize) -> Result<Deliveries, AllocError> {
+    /// No responses yet. Their tokens are `first_token` and up. `patience` is the time of a client
+    /// that is refused. `AllocError` comes where there is no memory for the buffer.
+    pub(crate) fn new(
+        alloc: Global,
+        first_token: usize,
+        patience: Duration,
+    ) -> Result<Deliveries, AllocError> {
         Ok(Deliveries {
             under_way: Slab::new(alloc),
             lingering: 0,
@@ -48,6 +53,7 @@ impl Deliveries {
             again: Vec::new(alloc),
             kept: Vec::with_capacity(alloc, 16_384)?,
             first_token,
+            patience,
         })
     }
 
@@ -123,7 +129,7 @@ impl Deliveries {
             };
             self.add(
                 registry,
-                Delivery::new(stream, unavailable(), lingers, now),
+                Delivery::new(stream, unavailable(), lingers, self.patience, now),
                 via,
             );
         }

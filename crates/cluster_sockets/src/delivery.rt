@@ -11,11 +11,8 @@ use std::io::{self, ErrorKind, Read, Write};
 use std::net::Shutdown;
 use std::time::{Duration, Instant};
 
-/// How many seconds pass between two looks whether a client takes its response fast enough.
-const PATIENCE: u64 = 5;
-
-/// How many octets a client has to take in each five seconds.
-const LEAST: usize = 5120;
+/// How many octets of its response a client has to take in each second, on an average.
+const LEAST: u128 = 1024;
 
 /// How many pieces of what a client sends after its request are read, and dropped, at once.
 const MOST_DROPPED: u32 = 64;
@@ -39,14 +36,22 @@ pub struct Delivery {
     sent: usize,
     lingers: bool,
     is_written: bool,
+    patience: Duration,
     until: Instant,
     sent_before: usize,
 }
 
 impl Delivery {
     /// A response from its beginning, which begins at this moment. `lingers` where its client may
-    /// still send, since its request was not read to the end.
-    pub fn new(stream: TcpStream, serve: Serve<()>, lingers: bool, now: Instant) -> Delivery {
+    /// still send, since its request was not read to the end. After `patience`, and again after each
+    /// such time, a client that has taken fewer than 1,024 octets a second of it is given up.
+    pub fn new(
+        stream: TcpStream,
+        serve: Serve<()>,
+        lingers: bool,
+        patience: Duration,
+        now: Instant,
+    ) -> Delivery {
         // (where the system refuses this, a short piece may wait until the one before it is
         // acknowledged)
         match stream.set_nodelay(true) {
@@ -58,7 +63,8 @@ impl Delivery {
             sent: 0,
             lingers,
             is_written: false,
-            until: later(now),
+            patience,
+            until: now.checked_add(patience).unwrap_or(now),
             sent_before: 0,
         }
     }
@@ -135,21 +141,16 @@ impl Delivery {
         registry.register(&mut self.stream, token, interest)
     }
 
-    /// Whether its client takes it too slowly at this moment: five seconds have passed, since it
-    /// began or since it was last asked so, in which fewer than 5,120 octets were taken.
+    /// Whether its client takes it too slowly at this moment: the time for it has passed, since it
+    /// began or since it was last late, in which fewer than 1,024 octets a second were taken.
     pub(crate) fn is_late(&mut self, now: Instant) -> bool {
         if now < self.until {
             return false;
         }
-        let taken = self.sent.saturating_sub(self.sent_before);
+        let taken = self.sent.saturating_sub(self.sent_before) as u128;
+        let least = self.patience.as_millis().saturating_mul(LEAST) / 1000;
         self.sent_before = self.sent;
-        self.until = later(now);
-        self.is_written || taken < LEAST
+        self.until = now.checked_add(self.patience).unwrap_or(now);
+        self.is_written || taken < least
     }
-}
-
-/// Five seconds after this moment.
-fn later(now: Instant) -> Instant {
-    now.checked_add(Duration::from_secs(PATIENCE))
-        .unwrap_or(now)
 }

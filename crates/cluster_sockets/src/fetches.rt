@@ -13,15 +13,10 @@ use std::net::Net;
 use std::sync::Wait;
 use std::time::{Duration, Instant};
 use values_plain::Address;
+use values_tables::Limits;
 
 /// How many fetches are under way at most.
 pub(crate) const MOST_FETCHES: usize = 1024;
-
-/// How many connections to one address are open at most.
-const MOST_CONNECTIONS: u64 = 64;
-
-/// How many seconds a fetch may take, from the moment at which it begins to connect.
-const PATIENCE: u64 = 5;
 
 /// How many fetches wait for their turn at one address at most. Further ones fail at once, so that
 /// an address that does not answer leaves room for the requests of others.
@@ -57,11 +52,16 @@ pub(crate) struct Fetches {
     /// Where the look for late fetches goes on.
     looked: usize,
     first_token: usize,
+    /// How many connections to one address are open at most.
+    most_of_address: u64,
+    /// How long a fetch may take, from the moment at which it begins to connect.
+    patience: Duration,
 }
 
 impl Fetches {
-    /// No fetches yet. Their tokens are `first_token` and up. It takes no memory.
-    pub(crate) fn new(alloc: Global, first_token: usize) -> Fetches {
+    /// No fetches yet. Their tokens are `first_token` and up. The limits are the roster's. It takes
+    /// no memory.
+    pub(crate) fn new(alloc: Global, first_token: usize, limits: Limits) -> Fetches {
         Fetches {
             alloc,
             under_way: Slab::new(alloc),
@@ -71,6 +71,8 @@ impl Fetches {
             turn: 0,
             looked: MOST_FETCHES,
             first_token,
+            most_of_address: limits.fetches_per_address,
+            patience: Duration::from_millis(limits.fetch_wait),
         }
     }
 
@@ -141,7 +143,7 @@ impl Fetches {
     fn has_room(&self, place: usize) -> bool {
         match self.lines.get(place) {
             Some(line) => {
-                line.under_way < MOST_CONNECTIONS && self.under_way.len() < MOST_FETCHES
+                line.under_way < self.most_of_address && self.under_way.len() < MOST_FETCHES
             }
             None => false,
         }
@@ -159,9 +161,7 @@ impl Fetches {
     ) -> Option<Fetched>
         requires { IsTrue (names_cache via.now) }
     {
-        let until = now
-            .checked_add(Duration::from_secs(PATIENCE))
-            .unwrap_or(now);
+        let until = now.checked_add(self.patience).unwrap_or(now);
         match Fetching::begin(net, self.alloc, fetch, via, until) {
             Ok(fetching) => self.keep(registry, Placed { fetching, line }),
             Err(failed) => Some(failed),

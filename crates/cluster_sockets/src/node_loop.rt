@@ -21,7 +21,7 @@ use std::net::Net;
 use std::sync::{Arc, Wait};
 use std::time::{Clock, Duration, Instant};
 use values_plain::Udp;
-use values_tables::Cache;
+use values_tables::{Cache, Limits};
 
 /// The poll tokens of the node's own sockets. The token of a connection whose request has not come
 /// is its key, which is less than 1,024.
@@ -87,14 +87,16 @@ pub struct NodeLoop {
 
 impl NodeLoop {
     /// Opens the sockets of a member at its addresses: UDP for ICP and for HTCP, and a listener for
-    /// HTTP. `via` is its name, as it stands in requests and responses.`Io` comes where an address
-    /// is in use or is not this machine's, or the system refuses in another way. `NoMemory` comes
-    /// where there is no memory. After a fault nothing is open.
+    /// HTTP. `via` is its name, as it stands in requests and responses. `limits` has its times and
+    /// the numbers of its connections. `Io` comes where an address is in use or is not this
+    /// machine's, or the system refuses in another way. `NoMemory` comes where there is no memory.
+    /// After a fault nothing is open.
     pub fn open<N: Net + Clock>(
         rt: &N,
         alloc: Global,
         cache: &Cache,
         via: &[u8],
+        limits: Limits,
     ) -> Result<(NodeLoop, Senders), LoopFault>
         requires { IsTrue (names_cache via.now) }
     {
@@ -107,14 +109,16 @@ impl NodeLoop {
         let sockets = shared(alloc, sockets)?;
         let senders = Senders::of(Arc::try_clone(&sockets)?);
         let now = Instant::now(rt)?;
+        let patience = Duration::from_millis(limits.answer_wait);
+        let most_of_address = u32::try_from(limits.clients_per_address).unwrap_or(u32::MAX);
         let opened = NodeLoop {
             poll,
             events: Events::with_capacity(alloc, MOST_EVENTS)?,
             datagrams: Datagrams::new(alloc, sockets)?,
-            streams: Streams::new(alloc, listener, now)?,
+            streams: Streams::new(alloc, listener, most_of_address, now)?,
             inbox: shared(alloc, inbox)?,
-            deliveries: Deliveries::new(alloc, DELIVERIES)?,
-            fetches: Fetches::new(alloc, FETCHES),
+            deliveries: Deliveries::new(alloc, DELIVERIES, patience)?,
+            fetches: Fetches::new(alloc, FETCHES, limits),
             owed: None,
             has_errands: false,
             looked: now,

@@ -22,9 +22,6 @@ use values_plain::Address;
 /// How many connections wait in the loop at most.
 const MOST_HEADS: usize = 1024;
 
-/// How many connections from one address may wait in the loop for longer than a second.
-const MOST_OF_ADDRESS: u32 = 128;
-
 /// How many connections a poll accepts at most, so that each source gets its share of a poll.
 const MOST_ACCEPTED: usize = 256;
 
@@ -54,6 +51,7 @@ pub(crate) struct Streams {
     is_ready: bool,
     heads: Slab<Head>,
     per_address: PerAddress,
+    most_of_address: u32,
     came: Vec<usize>,
     number: u64,
     looked: Instant,
@@ -62,11 +60,12 @@ pub(crate) struct Streams {
 }
 
 impl Streams {
-    /// Accepts from this listener. `AllocError` comes where there is no memory for 1,024 waiting
-    /// connections.
+    /// Accepts from this listener. At most `most_of_address` connections of one address wait.
+    /// `AllocError` comes where there is no memory for 1,024 waiting connections.
     pub(crate) fn new(
         alloc: Global,
         listener: TcpListener,
+        most_of_address: u32,
         now: Instant,
     ) -> Result<Streams, AllocError> {
         Ok(Streams {
@@ -75,6 +74,7 @@ impl Streams {
             is_ready: true,
             heads: Slab::with_capacity(alloc, MOST_HEADS)?,
             per_address: PerAddress::new(alloc),
+            most_of_address,
             came: Vec::with_capacity(alloc, MOST_HEADS)?,
             number: 0,
             looked: now,
@@ -290,14 +290,15 @@ impl Streams {
     }
 
     /// Makes room for a connection that is to wait. Where 1,024 wait, the one that has waited
-    /// longest is refused. Where 128 wait from its address, two that have waited for a second are: requests of connections that come at once may take a moment.
+    /// longest is refused. Where as many wait from its address as may, two that have waited for a
+    /// second are: requests of connections that come at once may take a moment.
     fn make_room(&mut self, registry: &Registry, ip: u32, now: Instant) {
         if self.heads.len() >= MOST_HEADS {
             if let Some(key) = self.oldest(None) {
                 self.refuse_at(registry, key);
             }
         }
-        if self.per_address.count(ip) >= MOST_OF_ADDRESS {
+        if self.per_address.count(ip) >= self.most_of_address {
             self.refuse_idle(registry, ip, now);
         }
     }

@@ -56,6 +56,6 @@ pub use message::{
     CLR, Content, Detail, Htcp, LONGEST_WRITTEN, NOT_ALLOWED, NOT_IMPLEMENTED, Specifier, TST,
 };
 pub use numbers::{HeaderKind, number_in};
-pub use questions::is_test;
+pub use questions::{is_response, is_test, trans_in};
 pub use reading::decode;
 pub use writing::{encode, fits};

@@ -41,6 +41,6 @@ pub use decoding::decoded_is_exact;
 pub use fault::IcpFault;
 pub use laws::{grammar_is_exact, written_is_spelled};
 pub use message::{Icp, IcpOp, LONGEST_MESSAGE};
-pub use questions::is_query;
+pub use questions::{is_query, number_in};
 pub use reading::decode;
 pub use writing::{encode, fits};

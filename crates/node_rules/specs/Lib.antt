@@ -17,3 +17,4 @@ pub mod Effect
 pub mod Lawful
 pub mod Good
 pub mod Tags
+pub mod Serials

@@ -92,7 +92,7 @@ fn sockets<R: Net + Clock>(
         unreachable!();
     };
     let via = name_of(roster, id);
-    let (mut poller, senders) = NodeLoop::open(rt, alloc, &member.cache, via)?;
+    let (mut poller, senders) = NodeLoop::open(rt, alloc, &member.cache, via, roster.limits())?;
     poller.set_wait(Duration::from_millis(WAIT));
     Ok((poller, senders))
 }

@@ -1,6 +1,6 @@
 -- What a note makes of the state that is held: the node's standing is taken out and another put in,
 -- all else stays, so the invariant holds and the board is the one that run_rules has.
-use Rattle.std.proofs.Common.{◌≡◌, ℕ, Bool, List, Ok, Err, None, sym, ◌∙◌, ap, subst, inl}
+use Rattle.std.proofs.Common.{◌≡◌, ℕ, Bool, List, Ok, Err, None, sym, ◌∙◌, ap, subst, inl, length}
 use Rattle.floor_rules.specs.Floors.{FloorMap}
 use Rattle.values_tables.specs.declared.plain.Tables.{Tables}
 use Rattle.node_rules.specs.declared.state.NodeState.{NodeState}
@@ -39,11 +39,11 @@ module _ (roster : Tables) (old : Held) (taken : Posts) (id : ℕ) (before : Hel
     is_board : (n : Network) → Holds roster now.network n → IsBoard roster now n
     is_board n holds = record { nodes = nodes; members = ap (λ l. l.members) ledger ∙ board.members; network = holds }
 
-    pub has_opened : (state : NodeState (Unit {0})) → Holds roster now.network (opened_network sent id state.next (standing_of after)) →
+    pub has_opened : (state : NodeState (Unit {0})) → Holds roster now.network (opened_network sent id (length state.pending) (standing_of after)) →
         IsOpened roster id (standing_of before) state (standing_of after) →
         IsJudged roster (board_of old sent) (Opens id state) now None
     has_opened state holds opened =
-        let n : Network = opened_network sent id state.next (standing_of after) in
+        let n : Network = opened_network sent id (length state.pending) (standing_of after) in
         let judged = opening_judged roster (board_of old sent) id state (standing_of after)
         (subst (λ s. IsOpened roster id s state (standing_of after)) stood opened) in
         (n, is_board n holds, inl (tt, subst (λ b. JudgesOpening roster (board_of old sent) id state (Fine b)) (same_board n) judged))

@@ -1,5 +1,5 @@
 -- The judgement on a note, by the definitions of run_rules, case by case.
-use Rattle.std.proofs.Common.{◌≡◌, ℕ, Bool, true, false, cond, not, ◌&&◌, Result, nat_eq, refl, ◌∙◌, ap, inl, inr}
+use Rattle.std.proofs.Common.{◌≡◌, ℕ, Bool, true, false, cond, not, ◌&&◌, Result, nat_eq, refl, ◌∙◌, ap, inl, inr, length}
 use Rattle.floor_rules.specs.Floors.{FloorMap}
 use Rattle.values_tables.specs.declared.plain.Tables.{Tables}
 use Rattle.node_rules.specs.declared.state.NodeState.{NodeState}
@@ -42,19 +42,19 @@ opened_so b id after sent = record { posts = with_standing b.posts id after; mas
 pub opening_judged : (roster : Tables) (b : Board) (id : ℕ) (state : NodeState (Unit {0})) (after : Standing) →
     IsOpened roster id (standing_at b.posts id) state after →
     JudgesOpening roster b id state
-    (Fine (record { posts = with_standing b.posts id after; master = b.master; network = opened_network b.network id state.next after }))
+    (Fine (record { posts = with_standing b.posts id after; master = b.master; network = opened_network b.network id (length state.pending) after }))
 opening_judged roster b id state after (inl (can, is)) =
-    let test : (nat_eq state.next 1 && not (is_astray after)) ≡ nat_eq state.next 1 =
-    ap (λ t. nat_eq state.next 1 && not (is_astray t)) is ∙ ap (λ c. nat_eq state.next 1 && not c) (stands (standing_at b.posts id) state)
-    ∙ and_true (nat_eq state.next 1) in
+    let test : (nat_eq (length state.pending) 0 && not (is_astray after)) ≡ nat_eq (length state.pending) 0 =
+    ap (λ t. nat_eq (length state.pending) 0 && not (is_astray t)) is ∙ ap (λ c. nat_eq (length state.pending) 0 && not c) (stands (standing_at b.posts id) state)
+    ∙ and_true (nat_eq (length state.pending) 0) in
     inl (
       can,
       ap (λ c. Fine (opened_so b id after (cond c (without_waiting b.network id) b.network))) test
-          ∙ ap (λ t. Fine (opened_so b id t (cond (nat_eq state.next 1) (without_waiting b.network id) b.network))) is,
+          ∙ ap (λ t. Fine (opened_so b id t (cond (nat_eq (length state.pending) 0) (without_waiting b.network id) b.network))) is,
     )
 opening_judged roster b id state after (inr (cannot, is)) =
-    let test : (nat_eq state.next 1 && not (is_astray after)) ≡ false = ap (λ t. nat_eq state.next 1 && not (is_astray t)) is
-    ∙ and_false (nat_eq state.next 1) in
+    let test : (nat_eq (length state.pending) 0 && not (is_astray after)) ≡ false = ap (λ t. nat_eq (length state.pending) 0 && not (is_astray t)) is
+    ∙ and_false (nat_eq (length state.pending) 0) in
     inr (cannot, ap (λ c. Fine (opened_so b id after (cond c (without_waiting b.network id) b.network))) test ∙ ap (λ t. Fine (opened_so b id t b.network)) is)
 
 -- An entry of a node

@@ -36,10 +36,10 @@ AreMemberNodes roster p = All (λ q. IsSound roster q.id q.standing) p.posts.ite
 abbrev pub board_of : Held → Network → Board
 board_of b sent = record { posts = posts_of b.posts; master = master_of b.ledger; network = sent }
 
--- the network after a record of a node opens: nothing waits there if the node has taken no block of
--- serials (the next is 1) and is not astray
+-- the network after a record of a node opens: nothing waits there if no request is pending and the node
+-- is not astray
 abbrev pub opened_network : Network → ℕ → ℕ → Standing → Network
-opened_network sent id next after = if (next == 1) && not (is_astray after) then without_waiting sent id else sent
+opened_network sent id pending after = if (pending == 0) && not (is_astray after) then without_waiting sent id else sent
 
 -- the invariant: the nodes and the members are right, and this network is held
 pub record IsBoard (roster : Tables) (b : Held) (sent : Network) : Type 0 where

@@ -182,15 +182,16 @@ impl<'a> Board<'a> {
         }
     }
 
-    /// Drops what waits at a node whose record opens, if the node has taken no block of serials
-    /// (`next` is 1) and is not astray.
-    fn forget(&mut self, node: u8, next: u32, after: &Standing)
+    /// Drops what waits at a node whose record opens, if no request is pending there and the node
+    /// is not astray.
+    fn forget(&mut self, node: u8, pending: usize, after: &Standing)
         ensures network { (roster : Tables) (sent : ANetwork) → Holds roster self.old.network sent →
-            Holds roster self.new.network (opened_network sent node next (standing_of after.now)) }
+            Holds roster self.new.network (opened_network sent node pending
+            (standing_of after.now)) }
         ensures posts { self.new.posts ≡ self.old.posts }
         ensures ledger { self.new.ledger ≡ self.old.ledger }
     {
-        if next == 1 && !is_astray(after) {
+        if pending == 0 && !is_astray(after) {
             self.network.forget(node);
         }
     }
@@ -209,7 +210,7 @@ impl<'a> Board<'a> {
     {
         let before = self.posts.take(node);
         let after = opens(alloc, self.keys, roster, node, before, state)?;
-        self.forget(node, state.next, &after);
+        self.forget(node, state.pending.as_slice().len(), &after);
         self.posts.put(node, after)?;
         Ok(())
     }

@@ -101,13 +101,14 @@ abbrev pub waits_by : ℕ → Event (Unit {0}) → Option Begin → List Waits
 waits_by id (event.PeerAsk asker ask now) (Some b) = record { node = id; block = serial_of b / 32; key = ask.key } ∷ []
 waits_by id _ _ = []
 
--- the network after an entry with this event and this reply
+-- The network after an entry with this event and this reply. A request that has begun to wait stands
+-- before those that did earlier, so the latest of a block is found.
 abbrev pub with_reply : Tables → Network → ℕ → Event (Unit {0}) → Reply (Unit {0}) → Network
 with_reply roster n id e reply = record {
   datagrams = n.datagrams ++ datagrams_from (member_of roster id) reply.send;
   asks = n.asks ++ asks_by id reply.begin;
   answers = n.answers ++ answers_by n.waiting id e reply.serve;
-  waiting = n.waiting ++ waits_by id e reply.begin;
+  waiting = waits_by id e reply.begin ++ n.waiting;
 }
 
 -- the network without what waited at a node

@@ -14,7 +14,7 @@ use std::test::Fail;
 use std::time::{Clock, Duration, Instant};
 use tests_kit::socket_at;
 use values_plain::{Address, Listed, Udp};
-use values_tables::Cache;
+use values_tables::{Cache, Limits};
 
 /// What clients do, and the loop.
 #[derive(Clone, Copy)]
@@ -169,10 +169,23 @@ struct Held {
     clients: Clients,
 }
 
+/// The usual limits.
+const LIMITS: Limits = Limits {
+    default_lifetime: 60,
+    copies: 1000,
+    bytes: 1_048_576,
+    query_wait: 2000,
+    answer_wait: 5000,
+    fetch_wait: 5000,
+    ask_wait: 15_000,
+    fetches_per_address: 64,
+    clients_per_address: 128,
+};
+
 /// The sockets of a node at ports from this one on.
 fn opened(rt: &HostRuntime, ip: u32, port: u16) -> Result<(NodeLoop, Senders), LoopFault> {
     let cache = cache_at(rt.alloc(), ip, port);
-    NodeLoop::open(rt, rt.alloc(), &cache, b"node")
+    NodeLoop::open(rt, rt.alloc(), &cache, b"node", LIMITS)
 }
 
 fn held_at(rt: &HostRuntime, ip: u32, port: u16) -> Result<Held, Fail> {

@@ -50,7 +50,8 @@ pub fn copies_have_sources()
 {}
 
 /// Each step of a node answers what was requested: to the request of its event, or to one that
-/// waits, it serves a copy of that request's key with its age, or a bare status.
+/// waits, it serves a copy of that request's key with its age, or a bare status. A new request gets
+/// a block that no other has which waits there.
 pub fn nodes_answer_what_is_asked<T>()
     ensures { (g : Setting) (s : NodeState T) (e : Event T) (mark : T)
         (outcome : Result (Reply T) StepFault) (next : NodeState T) →

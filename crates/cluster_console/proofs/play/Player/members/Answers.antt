@@ -1,4 +1,4 @@
-use Rattle.std.proofs.Common.{◌≡◌, ◌+◌, ◌++◌, length, refl, subst, arith, add-one}
+use Rattle.std.proofs.Common.{◌≡◌, ℕ, ◌+◌, ◌++◌, length, refl, subst, arith, add-one}
 use Rattle.std.specs.Prelude.{codes, decimal}
 use Rattle.cluster_console.specs.Played.{MembersTell}
 use Rattle.cluster_console.proofs.Rows.{member_more}
