@@ -30,9 +30,10 @@
 mod fault;
 mod floors;
 mod memory;
+mod rows;
 mod store;
 
 pub use fault::FloorFault;
-pub use floors::{Floors, MOST_ROWS};
+pub use floors::{Floors, MOST_ROWS, Raising};
 pub use memory::MemoryFloors;
 pub use store::FloorStore;

@@ -48,7 +48,7 @@ purge_in g (event.Datagram from message now) = purge_in_message g from message
 purge_in g _ = None
 
 -- A node that a purge has closed: no request is pending, copies and next block are as they were,
--- and the raise stands in the floors, if they had room for it, or does not. [Refusal 4]
+-- and the raise stands in the floors, or does not. [Refusal 4]
 pub record IsClosed {X : Type 0} (s : NodeState X) (key : List ℕ) (n : ℕ) (next : NodeState X) : Type 0 where
   pub closed : next.closed ≡ true
   pub pending : next.pending ≡ []
