@@ -9,17 +9,12 @@
 #include <stdlib.h>
 #include <string.h>
 #include <sys/socket.h>
-#include <time.h>
+
+#include "seconds.h"
 
 static unsigned char message[65536], answer[65536];
 static size_t length;
 static uint32_t number;
-
-static double seconds(void) {
-  struct timespec moment;
-  clock_gettime(CLOCK_MONOTONIC, &moment);
-  return moment.tv_sec + moment.tv_nsec * 1e-9;
-}
 
 static struct sockaddr_in address(char *text) {
   struct sockaddr_in it = {.sin_family = AF_INET};

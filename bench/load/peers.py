@@ -11,7 +11,7 @@ import time
 HERE = os.path.dirname(os.path.dirname(os.path.dirname(os.path.abspath(__file__))))
 LOAD = os.path.join(HERE, "bench", "load")
 PROGRAM = os.environ.get("PROGRAM") or subprocess.run([f"{HERE}/release/program"], stdout=subprocess.PIPE, check=True, text=True).stdout.strip()
-NODES, SQUIDS, LOADER = ("127.0.0.1", "127.0.0.2"), ("127.0.0.11", "127.0.0.12"), "127.0.0.9"
+NODES, SQUIDS, LOADER = ("127.0.0.1", "127.0.0.2"), ("127.0.0.11", "127.0.0.12", "127.0.0.13", "127.0.0.14"), "127.0.0.9"
 started = []
 # Where Debian has its servers.
 os.environ["PATH"] += ":/usr/sbin"
@@ -80,6 +80,13 @@ def get(address, port, url):
     return int(answer.split(b" ", 2)[1])
 
 
+ORIGIN = """[[origin]]
+host = "{host}"
+port = 80
+address = "127.0.0.1"
+connect = {origin}
+"""
+
 ROSTER = """default_lifetime = 600
 copies = 2000
 bytes = 16777216
@@ -89,12 +96,7 @@ address = "127.0.0.1"
 htcp = {master}
 {nodes}
 {foreign}
-[[origin]]
-host = "o"
-port = 80
-address = "127.0.0.1"
-connect = {origin}
-"""
+""" + ORIGIN.format(host="o", origin="{origin}")
 
 CACHE = """[[{kind}]]
 id = {id}
@@ -111,21 +113,23 @@ PEER = '[[node.peer]]\nid = {id}\nrole = "sibling"\nby = "icp"\n'
 class Cluster:
     """Two members and their master, in one process that takes lines. Each member has the other and all foreign caches as its siblings by ICP: one at LOADER, of which
     only the ICP port is used, and those that are handed in, each as its address and its ports for HTTP, ICP and HTCP. `data` prepares the folder of their files, and `options` are further
-    words of the command."""
+    words of the command. `further` are origins beside that of the host `o`: their hosts and ports. Of those that a member asks, `asks` may leave out the foreign caches, or all.
+    `limits` are lines that the roster begins with."""
 
-    def __init__(self, work, origin, foreign=(), data=lambda folder: None, options=()):
+    def __init__(self, work, origin, foreign=(), data=lambda folder: None, options=(), further=(), asks=("members", "foreign"), limits=""):
         master, self.own, spare, unused = ports(4)
         self.http, self.icp, htcp = ports(2), ports(2), ports(2)
-        others = [(LOADER, spare, self.own, unused), *foreign]
+        others = [(LOADER, spare, self.own, unused), *foreign] if "foreign" in asks else []
         peers = "".join(PEER.format(id=101 + at) for at in range(len(others)))
         nodes, caches = "", ""
         for at in range(2):
             nodes += CACHE.format(kind="node", id=at + 1, name=f"n{at + 1}", address=NODES[at], http=self.http[at], icp=self.icp[at], htcp=htcp[at])
-            nodes += PEER.format(id=2 - at) + peers
+            nodes += PEER.format(id=2 - at) * ("members" in asks) + peers
         for at, (address, by_http, by_icp, by_htcp) in enumerate(others):
             caches += CACHE.format(kind="foreign", id=101 + at, name=f"f{at}", address=address, http=by_http, icp=by_icp, htcp=by_htcp)
         with open(f"{work}/cluster.toml", "w") as file:
-            file.write(ROSTER.format(master=master, nodes=nodes, foreign=caches, origin=origin))
+            file.write(limits + ROSTER.format(master=master, nodes=nodes, foreign=caches, origin=origin))
+            file.write("".join(ORIGIN.format(host=host, origin=port) for host, port in further))
         os.mkdir(f"{work}/data")
         data(f"{work}/data")
         words = [PROGRAM, "cluster", f"{work}/cluster.toml", "--data", f"{work}/data", *options]
@@ -174,9 +178,15 @@ never_direct allow all
 {peers}
 """
 
+# A peer of Squid that is the origin of a host.
+SQUID_ORIGIN = """cache_peer 127.0.0.1 parent {origin} 0 name={host} no-query no-digest originserver
+acl {host} dstdomain {host}
+cache_peer_access {host} allow {host}
+"""
+
 
 class Squid:
-    """A Squid that keeps copies in memory alone, with these lines of peers; where none are given, its only peer is the origin."""
+    """A Squid that keeps copies in memory alone, with these lines of peers, behind which other lines may stand; where none are given, its only peer is the origin."""
 
     def __init__(self, work, at, origin, places=None, peers=None):
         self.address, self.name, folder = SQUIDS[at], f"sq{at}", f"{work}/squid{at}"
@@ -194,23 +204,27 @@ class Squid:
 
 
 NGINX = """daemon off; worker_processes 1; pid {folder}/pid; error_log {folder}/error.log; user {user};
-events {{ worker_connections 1024; }}
-http {{ access_log off; proxy_cache_path {folder}/cache keys_zone=z:10m; client_body_temp_path {folder}/b; proxy_temp_path {folder}/p;
- fastcgi_temp_path {folder}/f; uwsgi_temp_path {folder}/u; scgi_temp_path {folder}/s;
- server {{ listen 127.0.0.1:{http} backlog=1024; location / {{ proxy_cache z; proxy_cache_key $scheme$host$request_uri; proxy_pass http://127.0.0.1:{origin}; }} }} }}
+events {{ worker_connections 8192; }}
+http {{ access_log off; proxy_cache_path {folder}/cache keys_zone=z:100m; client_body_temp_path {folder}/b; proxy_temp_path {folder}/p;
+ fastcgi_temp_path {folder}/f; uwsgi_temp_path {folder}/u; scgi_temp_path {folder}/s; {options}
+ {servers}}}
 """
+
+NGINX_SERVER = "server {{ listen 127.0.0.1:{http}{listening}; {name} location / {{ proxy_cache z; proxy_cache_key $scheme$host$request_uri; proxy_pass http://127.0.0.1:{origin}; }} }}\n "
 
 
 class Nginx:
-    """An nginx of one worker with a cache of files."""
+    """An nginx of one worker with a cache of files, for the origin of all hosts but `further`, which are other hosts and the ports of their origins. `options` are further lines."""
 
-    def __init__(self, work, origin):
+    def __init__(self, work, origin, further=(), options=""):
         folder = f"{work}/nginx"
         (self.http,) = ports(1)
         os.makedirs(f"{folder}/cache")
         user = "nobody nogroup" if os.geteuid() == 0 else os.environ.get("USER", "nobody")
         with open(f"{folder}/nginx.conf", "w") as file:
-            file.write(NGINX.format(folder=folder, user=user, http=self.http, origin=origin))
+            servers = NGINX_SERVER.format(http=self.http, listening=" backlog=1024", name="", origin=origin)
+            servers += "".join(NGINX_SERVER.format(http=self.http, listening="", name=f"server_name {host};", origin=port) for host, port in further)
+            file.write(NGINX.format(folder=folder, user=user, options=options, servers=servers))
         subprocess.run(["chmod", "-R", "a+rwX", work], check=True)
         self.run = begin(["nginx", "-c", f"{folder}/nginx.conf", "-p", folder], stdout=subprocess.DEVNULL)
         wait_for("127.0.0.1", self.http)

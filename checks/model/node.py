@@ -20,6 +20,10 @@ GONE, NOT_HELD, REFUSED = 0, 2, 5
 FAILED_STATUSES = (502, 503, 504)
 
 
+def block_after(block: int) -> int:
+    return block + 1 if block < LAST_BLOCK else 1
+
+
 @dataclass(frozen=True)
 class Datagram:
     sender: Address
@@ -144,19 +148,26 @@ class Node:
             return Reply(self.serve(copy, now), asker)
         if only_if_cached or asker is not None and self.roster.is_sibling(asker, self.id):
             return Reply(Served(Answer(504)), asker)
-        if len(self.waiting) >= MOST_WAITING or self.next_block > LAST_BLOCK:
+        if len(self.waiting) >= MOST_WAITING:
             raise Fault("Busy")
-        waiting = Waiting(self.next_block, key, asker)
-        self.waiting[waiting.block] = waiting
-        self.next_block += 1
         asked = [peer for peer in self.me.peers if may_be_asked(peer, self.floor(key))]
+        if not asked and origin_of(key) not in self.roster.origins:
+            return Reply(Served(Answer(502)), asker)
+        waiting = Waiting(self.free_block(), key, asker)
+        self.waiting[waiting.block] = waiting
+        self.next_block = block_after(waiting.block)
         if not asked:
-            reply = self.go_on(waiting, now)
-            reply.block = None
-            return reply
+            return self.go_on(waiting, now)
         waiting.round = Round(asked)
         serial = waiting.block * SERIALS_OF_BLOCK
         return Reply(sent=[self.query(peer, serial, key) for peer in asked], begun=BeginRound(serial))
+
+    def free_block(self) -> int:
+        """The first block from the next one on, going round, that no ask which waits has."""
+        block = self.next_block
+        while block in self.waiting:
+            block = block_after(block)
+        return block
 
     def query(self, peer: Peer, serial: int, key: bytes) -> Datagram:
         other = self.roster.cache(peer.id)

@@ -8,7 +8,7 @@ from model.htcp import NUMBER_LINE, ClrAnswer, ClrAsk, TstAsk, number_line, read
 from model.icp import read_icp
 from model.keys import read_key
 from model.lines import BadLine, number_word, split_words
-from model.node import BeginFetch, BeginRead, BeginRound, Datagram, Node, Reply
+from model.node import SERIALS_OF_BLOCK, BeginFetch, BeginRead, BeginRound, Datagram, Node, Reply
 from model.roster import Roster
 from model.store import MAX_AGE_60, Answer
 
@@ -134,7 +134,7 @@ class World:
         """The ask is the one that came in this event from a member: it is answered now, or waits."""
         told = []
         if ask is not None and reply.served is None:
-            self.served_asks[member, self.nodes[member].next_block - 1] = ask
+            self.served_asks[member, reply.begun.serial // SERIALS_OF_BLOCK] = ask
         if reply.served is not None:
             answer = reply.served.answer
             is_copy = reply.served.copy is not None

@@ -79,7 +79,7 @@ fn cluster_command<'a>(alloc: Global) -> Result<Command<'a>, AllocError> {
             "Runs the roster's members and its master in this process, and answers each line of standard input",
         )
         .after_help(
-            "Lines:\n  purge URL    issue a purge: purge P, or the fault's name\n  status P     how far purge P is: pending C (members are missing), done P, or unknown\n  get N URL    ask member N by HTTP: the status and the body in hex (- where empty), or the fault's name\n  check        whether all that was done so far is a run in which purges are safe: yes, no PLACE CAUSE,\n               forgotten, where there was more of it than --history keeps, or Ended, where a\n               member has ended\n  quit         stop, as the end of the input does\nAny other line is answered by: bad line",
+            "Lines:\n  purge URL    issue a purge: purge P, or the fault's name\n  status P     how far purge P is: pending C (members are missing), done P, or unknown\n  pending      the purges that are pending: purges C, and then C lines P URL N N .. (the members missing)\n  members      how each member stands: members C, and then C lines N open or N closed CAUSE\n  peers        which peers a member thinks dead: peers C, and then C lines N P dead SECONDS\n  get N URL    ask member N by HTTP: the status and the body in hex (- where empty), or the fault's name\n  check        whether all that was done so far is a run in which purges are safe: yes, no PLACE CAUSE,\n               forgotten, where there was more of it than --history keeps, or Ended, where a\n               member has ended\n  quit         stop, as the end of the input does\nAny other line is answered by: bad line",
         )
         .arg(file)?
         .arg(data)?

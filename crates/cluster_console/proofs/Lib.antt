@@ -1,5 +1,8 @@
 -- Each file stands alone. Gathering: what is gathered goes on from line to line. Long: lines of no word, and of more
--- than three, are bad. Seen: the answers to the lines, put together.
+-- than three, are bad. Taking: the octets that are read are the lines of the input. Rows: what is written for one after
+-- another is the whole list. Answering: the answers to the lines, put together.
 pub mod Gathering
 pub mod Long
-pub mod Seen
+pub mod Taking
+pub mod Rows
+pub mod Answering

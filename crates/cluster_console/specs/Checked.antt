@@ -3,7 +3,7 @@ use Rattle.std.specs.Prelude.{◌≡◌, List, ◌++◌, Option, Some, None, Mat
 use Rattle.values_tables.specs.declared.plain.Tables.{Tables}
 use Rattle.node_book.specs.declared.record.Record.{Record}
 use Rattle.purge_master.specs.declared.book.MasterEntry.{MasterEntry}
-use Rattle.run_rules.specs.Verdict.{IsVerdictOn}
+use Rattle.run_rules.specs.First.{IsFirstOn}
 use Rattle.cluster_console.specs.declared.check.Checked.{Checked}
 use Rattle.cluster_console.specs.declared.check.Checked.TheVariants as checked
 
@@ -24,6 +24,6 @@ GoesOn (Some old) (Some new) = (records : List Record) × (entries : List Master
 -- records of a member are not given no contract can say, since they are under a lock
 abbrev pub IsChecked : Tables → Option Gathered → Checked → Type 0
 IsChecked roster gathered (checked.Judged verdict) = MatchOption gathered ⊥
-    (λ g. IsVerdictOn roster g.records g.entries verdict)
+    (λ g. IsFirstOn roster g.records g.entries verdict)
 IsChecked roster gathered checked.Forgotten = gathered ≡ None
 IsChecked roster gathered checked.Ended = Unit {0}

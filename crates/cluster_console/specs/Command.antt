@@ -10,6 +10,9 @@ pub data Command : Type 0 where
   StatusLine : (number : ℕ) → Command
   GetLine : (node : ℕ) (url : List ℕ) → Command
   CheckLine : Command
+  PendingLine : Command
+  MembersLine : Command
+  PeersLine : Command
   BadLine : Command
 
 -- a line as the code has it
@@ -18,11 +21,18 @@ command_text (lines.Purge url) = PurgeLine url.now
 command_text (lines.Status number) = StatusLine number
 command_text (lines.Get node url) = GetLine node url.now
 command_text lines.Check = CheckLine
+command_text lines.Pending = PendingLine
+command_text lines.Members = MembersLine
+command_text lines.Peers = PeersLine
 command_text lines.Bad = BadLine
 
--- `check`
+-- `check`, `pending`, `members` and `peers`
 abbrev pub alone : List ℕ → Command
-alone keyword = if bytes_eq keyword (codes "check") then CheckLine else BadLine
+alone keyword =
+    if bytes_eq keyword (codes "check") then CheckLine
+    else if bytes_eq keyword (codes "pending") then PendingLine
+    else if bytes_eq keyword (codes "members") then MembersLine
+    else if bytes_eq keyword (codes "peers") then PeersLine else BadLine
 
 -- `purge URL`
 abbrev pub purge_of : List ℕ → Command

@@ -1,5 +1,5 @@
 -- Which text may answer a line of a cluster's script.
-use Rattle.std.specs.Prelude.{◌≡◌, ◌≢◌, ◌⊎◌, ℕ, true, false, List, codes, Result, Ok, Err, IfOk, IfErr, IsTrue, option_map, Option}
+use Rattle.std.specs.Prelude.{◌≡◌, ◌≢◌, ◌⊎◌, ℕ, zero, suc, true, false, List, [], ◌++◌, length, codes, decimal, Result, Ok, Err, IfOk, IfErr, IsTrue, MatchBool, option_map, Option}
 use Rattle.url_key.specs.declared.fault.KeyFault.{KeyFault}
 use Rattle.url_key.specs.Fault.{key_fault_name}
 use Rattle.url_key.specs.Key.{HasKey}
@@ -8,16 +8,18 @@ use Rattle.http_messages.specs.declared.fault.FetchFault.{FetchFault}
 use Rattle.purge_rules.specs.declared.calls.Status.{Status}
 use Rattle.purge_rules.specs.declared.fault.MasterFault.{MasterFault}
 use Rattle.purge_rules.specs.declared.fault.MasterFault.TheVariants.{ShiftFull}
+use Rattle.purge_rules.specs.Purges.{PurgeList, AreNumbered}
 use Rattle.roster.specs.Lookups.{member_of, is_member}
 use Rattle.values_plain.specs.declared.address.Address.{Address}
 use Rattle.values_tables.specs.declared.plain.Tables.{Tables}
-use Rattle.values_lines.specs.declared.fault.RunFault.{RunFault}
-use Rattle.values_lines.specs.Script.{HasPlayedUntil}
+use Rattle.values_lines.specs.Lines.{is_long}
 use Rattle.values_lines.specs.Words.{words_of}
 use Rattle.cluster_console.specs.declared.check.Checked.{Checked}
+use Rattle.cluster_console.specs.declared.check.DeadPeer.{DeadPeer}
+use Rattle.cluster_console.specs.declared.check.MemberState.{MemberState}
 use Rattle.cluster_console.specs.Checked.{Gathered, GoesOn, IsChecked}
-use Rattle.cluster_console.specs.Command.{quit, Command, PurgeLine, StatusLine, GetLine, CheckLine, BadLine, command_of}
-use Rattle.cluster_console.specs.Shown.{purge_shown, asked_shown, got_shown, checked_shown}
+use Rattle.cluster_console.specs.Command.{Command, PurgeLine, StatusLine, GetLine, CheckLine, PendingLine, MembersLine, PeersLine, BadLine, command_of}
+use Rattle.cluster_console.specs.Shown.{purge_shown, asked_shown, got_shown, checked_shown, pending_shown, member_line, peers_shown}
 
 -- the fault of a URL that has no key, or what is told of a URL that has one
 abbrev pub IsSaidOf : (List ℕ → Type 0) → Result (List ℕ) KeyFault → List ℕ → Type 0
@@ -56,32 +58,49 @@ abbrev pub TellsCheck : Tables → Option Gathered → List ℕ → Type 0
 TellsCheck roster gathered text = (checked : Checked) × IsChecked roster gathered checked
     × (text ≡ checked_shown checked)
 
+-- the pending purges of a master, which no contract sees
+abbrev pub TellsPending : Tables → List ℕ → Type 0
+TellsPending roster text = (purges : PurgeList) × AreNumbered purges × (text ≡ pending_shown roster purges.pending)
+
+-- the lines of the members with an id of at most this one, by id; how a member stands no contract can say
+abbrev pub MembersTell : Tables → ℕ → List ℕ → Type 0
+MembersTell roster zero text = text ≡ []
+MembersTell roster (suc id) text = (before : List ℕ) × MembersTell roster id before
+    × MatchBool (is_member roster (suc id)) ((s : MemberState) × (text ≡ before ++ member_line (suc id) s))
+    (text ≡ before)
+
+-- how many members there are, and then each of them
+abbrev pub TellsMembers : Tables → List ℕ → Type 0
+TellsMembers roster text = (lines : List ℕ) × MembersTell roster 16 lines
+    × (text ≡ codes "members " ++ decimal (length roster.members) ++ lines)
+
+-- some peers that members think dead; which, no contract can say
+abbrev pub TellsPeers : List ℕ → Type 0
+TellsPeers text = (dead : List DeadPeer) × (text ≡ peers_shown dead)
+
 -- the text may answer what a line asks for
 abbrev pub CommandTells : Tables → Option Gathered → Command → List ℕ → Type 0
 CommandTells roster gathered (PurgeLine url) text = IsSaid TellsPurge url text
 CommandTells roster gathered (StatusLine number) text = TellsStatus number text
 CommandTells roster gathered (GetLine node url) text = GetTells roster node url text
 CommandTells roster gathered CheckLine text = TellsCheck roster gathered text
+CommandTells roster gathered PendingLine text = TellsPending roster text
+CommandTells roster gathered MembersLine text = TellsMembers roster text
+CommandTells roster gathered PeersLine text = TellsPeers text
 CommandTells roster gathered BadLine text = text ≡ codes "bad line"
 
 -- the text may answer the line, where this is gathered of the run
 abbrev pub LineTells : Tables → Option Gathered → List ℕ → List ℕ → Type 0
 LineTells roster gathered line text = CommandTells roster gathered (command_of (words_of line)) text
 
--- what was gathered goes on, and the text may answer the line
-abbrev pub GatheredAnswers : Tables → Option Gathered → List ℕ → List ℕ → Option Gathered → Type 0
-GatheredAnswers roster old line text new = LineTells roster new line text × GoesOn old new
+-- what is said of a line: a line that is too long, or for which there is no memory, is at fault alone
+abbrev pub LineSays : Tables → Option Gathered → List ℕ → List ℕ → Type 0
+LineSays roster gathered line text = MatchBool (is_long line) (text ≡ codes "LineTooLong")
+    ((text ≡ codes "NoMemory") ⊎ LineTells roster gathered line text)
 
--- the same for lines that are answered one after another; the roster stays
-abbrev pub LineAnswers : Tables → Option Gathered → List ℕ → List ℕ → Tables → Option Gathered → Type 0
-LineAnswers roster before line text new after = GatheredAnswers roster before line text after × (new ≡ roster)
-
--- the lines before the first `quit` are answered one after another, each by a text that may answer it, while what is
--- gathered of the run goes on from the first to the last
-abbrev pub HasAnswered : Tables → Option Gathered → Option (List ℕ) → Option (List ℕ) → Option (List ℕ) →
-    Result (Unit {0}) RunFault → Option Gathered → Type 0
-HasAnswered roster before input old new r after = HasPlayedUntil (GatheredAnswers roster) quit before input old new r
-    after
+-- the text is said of the line, and what was gathered goes on
+abbrev pub LineAnswers : Tables → Option Gathered → List ℕ → List ℕ → Option Gathered → Type 0
+LineAnswers roster old line text new = LineSays roster new line text × GoesOn old new
 
 -- where the member of an id serves HTTP
 abbrev pub http_of : Tables → ℕ → Option Address

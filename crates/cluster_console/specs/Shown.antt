@@ -1,5 +1,5 @@
 -- How the answers of a cluster's script read.
-use Rattle.std.specs.Prelude.{ℕ, List, [], ◌∷◌, ◌++◌, codes, decimal, Result, Ok, Err}
+use Rattle.std.specs.Prelude.{ℕ, zero, suc, Bool, not, ◌&&◌, List, [], ◌∷◌, ◌++◌, length, codes, decimal, if◌then◌else◌, Result, Ok, Err}
 use Rattle.hex.specs.Hex.{encode_lower}
 use Rattle.http_messages.specs.Answer.{AnswerText}
 use Rattle.http_messages.specs.declared.fault.FetchFault.{FetchFault}
@@ -8,12 +8,20 @@ use Rattle.purge_rules.specs.declared.calls.Status.{Status}
 use Rattle.purge_rules.specs.declared.calls.Status.TheVariants as status
 use Rattle.purge_rules.specs.declared.fault.MasterFault.{MasterFault}
 use Rattle.purge_rules.specs.Names.{master_fault_name}
+use Rattle.purge_rules.specs.declared.purges.Purge.{Purge}
+use Rattle.purge_rules.specs.Members.{is_among}
+use Rattle.roster.specs.Lookups.{is_member}
+use Rattle.values_tables.specs.declared.plain.Tables.{Tables}
+use Rattle.values_lines.specs.Lines.{newline}
 use Rattle.run_rules.specs.declared.verdict.Cause.{Cause}
 use Rattle.run_rules.specs.declared.verdict.Cause.TheVariants.{DoublePlace, NotSent, OtherReply, OtherState}
 use Rattle.run_rules.specs.declared.verdict.Verdict.{Verdict}
 use Rattle.run_rules.specs.declared.verdict.Verdict.TheVariants.{Yes, No}
 use Rattle.cluster_console.specs.declared.check.Checked.{Checked}
 use Rattle.cluster_console.specs.declared.check.Checked.TheVariants as checked
+use Rattle.cluster_console.specs.declared.check.DeadPeer.{DeadPeer}
+use Rattle.cluster_console.specs.declared.check.MemberState.{MemberState}
+use Rattle.cluster_console.specs.declared.check.MemberState.TheVariants as state
 
 -- the number of a purge that was issued, or the fault's name
 abbrev pub purge_shown : Result ℕ MasterFault → List ℕ
@@ -62,3 +70,57 @@ abbrev pub checked_shown : Checked → List ℕ
 checked_shown (checked.Judged verdict) = verdict_shown verdict
 checked_shown checked.Forgotten = codes "forgotten"
 checked_shown checked.Ended = codes "Ended"
+
+-- the id, behind a space, if it is told
+abbrev pub id_shown : Bool → ℕ → List ℕ
+id_shown is_told id = if is_told then codes " " ++ decimal id else []
+
+-- the ids from 1 to this one that are told, in order, each behind a space
+abbrev pub ids_shown : (ℕ → Bool) → ℕ → List ℕ
+ids_shown is_told zero = []
+ids_shown is_told (suc id) = ids_shown is_told id ++ id_shown (is_told (suc id)) (suc id)
+
+-- the member has not acknowledged the purge
+abbrev pub is_missing : Tables → Purge → ℕ → Bool
+is_missing roster p id = is_member roster id && not (is_among id p.marked)
+
+-- the ids of the members that have not acknowledged the purge, in order, each behind a space
+unfoldable pub missing_shown : Tables → Purge → List ℕ
+missing_shown roster p = ids_shown (is_missing roster p) 16
+
+-- a pending purge, on a line of its own behind others: its number, its URL, and the ids of the members that have not
+-- acknowledged it
+abbrev pub pending_line : Tables → Purge → List ℕ
+pending_line roster p = newline ∷ decimal p.number ++ codes " " ++ p.key ++ missing_shown roster p
+
+-- what is shown of each, one after another
+abbrev pub all_shown : {A : Type 0} → (A → List ℕ) → List A → List ℕ
+all_shown shown [] = []
+all_shown shown (x ∷ xs) = shown x ++ all_shown shown xs
+
+-- pending purges, each on a line of its own
+abbrev pub pending_lines : Tables → List Purge → List ℕ
+pending_lines roster ps = all_shown (pending_line roster) ps
+
+-- how many purges are pending, and then each of them
+abbrev pub pending_shown : Tables → List Purge → List ℕ
+pending_shown roster ps = codes "purges " ++ decimal (length ps) ++ pending_lines roster ps
+
+-- how a member stands
+abbrev pub state_shown : MemberState → List ℕ
+state_shown state.Open = codes "open"
+state_shown state.StoreFault = codes "closed StoreFault"
+state_shown state.NoMemory = codes "closed NoMemory"
+
+-- a member, on a line of its own behind others: its id, and how it stands
+abbrev pub member_line : ℕ → MemberState → List ℕ
+member_line id s = newline ∷ decimal id ++ codes " " ++ state_shown s
+
+-- a peer that a member thinks dead, on a line of its own behind others: the member's id, the peer's, and for how many
+-- seconds
+abbrev pub peer_line : DeadPeer → List ℕ
+peer_line d = newline ∷ decimal d.member ++ codes " " ++ decimal d.peer ++ codes " dead " ++ decimal d.seconds
+
+-- how many peers are thought dead, and then each of them
+abbrev pub peers_shown : List DeadPeer → List ℕ
+peers_shown dead = codes "peers " ++ decimal (length dead) ++ all_shown peer_line dead

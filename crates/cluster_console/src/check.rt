@@ -6,6 +6,7 @@ use roster::Roster;
 use run_rules::Verdict;
 use std::alloc::{AllocError, Global};
 use std::sync::Wait;
+use std::time::Clock;
 
 /// What is said of a run so far.
 #[derive(Clone, Copy, Debug, PartialEq, Eq)]
@@ -18,7 +19,29 @@ pub enum Checked {
     Ended,
 }
 
-/// Judges the run of a hierarchy.
+/// How a member stands.
+#[derive(Clone, Copy, Debug, PartialEq, Eq)]
+pub enum MemberState {
+    /// It serves, and takes purges.
+    Open,
+    /// It serves nothing and takes no purge until a restart: its store failed.
+    StoreFault,
+    /// The same, since its store lacked memory.
+    NoMemory,
+}
+
+/// A peer that a member thinks dead: it asks the peer, and does not wait for it.
+#[derive(Clone, Copy, Debug, PartialEq, Eq)]
+pub struct DeadPeer {
+    /// The member.
+    pub member: u8,
+    /// The peer that it asks.
+    pub peer: u8,
+    /// For how many seconds.
+    pub seconds: u64,
+}
+
+/// Judges the run of a hierarchy, and tells how its members stand.
 pub trait Checker {
     /// What was gathered of the run; none, where some of it is lost.
     ghost gathered: { Self → Option Gathered };
@@ -33,4 +56,14 @@ pub trait Checker {
     ) -> Result<Checked, AllocError>
         ensures said { IfOk result (IsChecked roster.now (gathered self.new)) }
         ensures goes_on { GoesOn (gathered self.old) (gathered self.new) };
+
+    /// How the member of this id stands.
+    fn state(&self, id: u8) -> MemberState;
+
+    /// Which peers the members think dead. `AllocError` comes where there is no memory for the list.
+    fn dead_peers<R: Wait + Clock>(
+        &self,
+        rt: &R,
+        alloc: Global,
+    ) -> Result<Vec<DeadPeer>, AllocError>;
 }

@@ -17,9 +17,10 @@
 #![tactic(auto)]
 
 mod check;
+mod input;
 mod line;
 mod play;
 mod show;
 
-pub use check::{Checked, Checker};
-pub use play::answer_lines;
+pub use check::{Checked, Checker, DeadPeer, MemberState};
+pub use play::{Ended, answer_lines};

@@ -14,6 +14,12 @@ pub(crate) enum Line<'a> {
     Get { node: u8, url: &'a [u8] },
     /// `check`: judge what was done so far.
     Check,
+    /// `pending`: ask the master which purges are pending.
+    Pending,
+    /// `members`: ask how each member stands.
+    Members,
+    /// `peers`: ask which peers the members think dead.
+    Peers,
     /// Anything else.
     Bad,
 }
@@ -37,6 +43,12 @@ fn line_alone<'a>(keyword: &[u8]) -> Line<'a>
 {
     if keyword == b"check".as_slice() {
         Line::Check
+    } else if keyword == b"pending".as_slice() {
+        Line::Pending
+    } else if keyword == b"members".as_slice() {
+        Line::Members
+    } else if keyword == b"peers".as_slice() {
+        Line::Peers
     } else {
         Line::Bad
     }

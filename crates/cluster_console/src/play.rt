@@ -1,33 +1,61 @@
 //! The lines of an input, answered by a running hierarchy.
-ghost use Rattle.std.specs.Prelude.{◌≡◌, ◌++◌, ℕ, List, OnOk, IfErr};
-ghost use Rattle.cluster_console.specs.Command.{command_text};
-ghost use Rattle.cluster_console.specs.Played.{IsSaid, IsTold, TellsPurge, TellsStatus, TellsAnswer, TellsCheck, GetTells, CommandTells, LineAnswers, HasAnswered, http_of as http_of_member};
+ghost use Rattle.std.specs.Prelude.{◌≡◌, ◌≤◌, ◌&&◌, ◌++◌, [], ◌∷◌, ℕ, List, OnOk, IfErr, false, MatchBool, vec_capacity};
+ghost use Rattle.roster.specs.Lookups.{is_member as is_member_of};
+ghost use Rattle.values_lines.specs.Lines.{is_long};
+ghost use Rattle.cluster_console.specs.Answering.{AppendsText, AnswersLine, AnswersTaken, HasAnswered, is_over as is_over_by, ending_of};
 ghost use Rattle.cluster_console.specs.Checked.{GoesOn};
+ghost use Rattle.cluster_console.specs.Command.{command_text};
+ghost use Rattle.cluster_console.specs.Played.{IsSaid, IsTold, TellsPurge, TellsStatus, TellsAnswer, TellsCheck, TellsPending, TellsMembers, TellsPeers, GetTells, CommandTells, LineTells, http_of as http_of_member};
+ghost use Rattle.cluster_console.specs.Shown.{member_line};
+ghost use Rattle.cluster_console.specs.declared.check.MemberState.{MemberState as AnyState};
 
 use crate::check::Checker;
+use crate::input::{InputFailed, LONGEST_LINE, Taken, next_line};
 use crate::line::{Line, line_of};
-use crate::show::{push_asked, push_checked, push_got, push_purge};
+use crate::show::{
+    push_asked, push_checked, push_got, push_member, push_number, push_peers, push_pending,
+    push_purge,
+};
 use cluster_fetch::exchange;
 use cluster_master::{MasterSender, SharedMaster};
 use cluster_streams::StreamPoll;
 use http_messages::{Answer, Ask, FetchFault};
 use http_writing::AskForm;
 use purge_rules::{MasterAnswer, MasterCall, MasterFault, PurgeStore, Status};
-use roster::Roster;
+use roster::{LAST_MEMBER, Roster};
 use std::alloc::{AllocError, Global};
-use std::io::{Read, Write};
+use std::io::{BufReader, Read, Write};
 use std::net::Net;
 use std::sync::Wait;
 use std::time::Clock;
 use url_key::{Key, KeyFault};
-use values_lines::{RunFault, Script, play_until, words_of};
-use values_plain::Address;
+use values_lines::words_of;
+use values_plain::{Address, write_text};
 
 /// The line that ends the input: no line after it is answered.
 const QUIT: &[u8] = b"quit";
 
 /// The name under which a member is asked.
 const CLIENT: &[u8] = b"client";
+
+/// For how many octets of an answer there is memory from the start. The number of a purge that was
+/// issued needs no more.
+const SHORT_ANSWER: usize = 4_096;
+
+/// How the answering of an input ended.
+#[derive(Clone, Copy, Debug, PartialEq, Eq)]
+pub enum Ended {
+    /// There was no memory to begin with. No line was read.
+    NoMemory,
+    /// The input was at its end before the first line.
+    NoLine,
+    /// Each line was answered, and each answer written.
+    Answered,
+    /// Each line was answered, and not each answer could be written.
+    OutputFailed,
+    /// The input could not be read any more. The lines before that were answered.
+    InputFailed,
+}
 
 /// What answers the lines: the master, its sender, who judges the run, and the poll of a client.
 #[derive(Drop)]
@@ -40,22 +68,33 @@ struct Player<'a, S: PurgeStore, C, R> {
     poll: StreamPoll,
 }
 
-/// Answers the lines of an input before its first line `quit`, each by one line, by the running
-/// master and members of a roster. Where there is no such line, all lines are answered. Nothing is
-/// read from the input once that line was read.
+/// Answers the lines of an input before its first line `quit`, by the running master and members of
+/// a roster. Where there is no such line, all lines are answered. Each is answered before the next
+/// one is taken. There may be any number of lines.
 ///
 /// The lines: `purge URL` issues a purge and prints `purge P`, the fault of a URL that has no key,
 /// or that of the master; `status P` prints `pending C`, `done P` or `unknown`, or the fault of the
 /// master; `get N URL` asks member N over HTTP, as a client, and prints the status and the body in
 /// hex (`-` where it is empty), or the name of the fault; `check` has the run so far judged, and
-/// prints `yes`, `no PLACE CAUSE`, `forgotten`, or why the records of a member are not given. Any
-/// other line, also one that names no member, prints `bad line`. Numbers are decimal, without
-/// leading zeros.
+/// prints `yes`, `no PLACE CAUSE`, `forgotten`, or why the records of a member are not given;
+/// `pending` prints `purges C`, and then a line for each pending purge: its number, its URL, and
+/// the ids of the members that have not acknowledged it; `members` prints `members C`, and then a
+/// line for each: its id, and `open`, `closed StoreFault` or `closed NoMemory`; `peers` prints `peers
+/// C`, and then a line `N P dead S` for each peer P that member N has thought dead for S seconds. Any
+/// other line, also one that names no member, prints `bad line`. Numbers are decimal, without leading zeros.
 ///
-/// Faults: `Io` where the input or the output fails, `LineTooLong`, `TooManyTurns` after 70,000
-/// reads, and `NoMemory`. A front of the answers is written then. The checker comes back with what
-/// it has gathered.
-pub fn answer_lines<S: PurgeStore, C: Checker + Drop, R: Wait + Clock + Net, I: Read, O: Write>(
+/// A line of more than 140,000 octets prints `LineTooLong`, and one for which there is no memory
+/// `NoMemory`: a purge may have been issued then. An answer that the output does not take is lost.
+/// After each of these the next line is answered. A read that the system puts off is made again.
+///
+/// The checker comes back with what it has gathered, also where nothing was answered.
+pub fn answer_lines<
+    S: PurgeStore,
+    C: Checker + Drop,
+    R: Wait + Clock + Net,
+    I: Read + Drop,
+    O: Write,
+>(
     rt: &R,
     alloc: Global,
     roster: &Roster,
@@ -63,10 +102,10 @@ pub fn answer_lines<S: PurgeStore, C: Checker + Drop, R: Wait + Clock + Net, I: 
     sender: &MasterSender,
     checker: C,
     poll: StreamPoll,
-    input: &mut I,
+    input: I,
     output: &mut O,
-) -> (C, Result<(), RunFault>)
-    ensures { HasAnswered roster.now (C.gathered checker) (I.remaining input.old)
+) -> (C, Ended)
+    ensures { HasAnswered roster.now (C.gathered checker) (I.remaining input)
         (O.contents output.old) (O.contents output.new) result.1 (C.gathered result.0) }
 {
     let mut player = Player {
@@ -77,16 +116,165 @@ pub fn answer_lines<S: PurgeStore, C: Checker + Drop, R: Wait + Clock + Net, I: 
         checker,
         poll,
     };
-    let answered = play_until(alloc, &mut player, QUIT, input, output);
-    (player.checker, answered)
+    let ended = player.answer_input(alloc, input, output);
+    (player.checker, ended)
 }
 
-impl<S: PurgeStore, C: Checker, R: Wait + Clock + Net> Script for Player<'_, S, C, R> {
-    ghost answers = { λ old line text new. LineAnswers old.roster.now (C.gathered old.checker) line text new.roster.now (C.gathered new.checker) };
+/// Writes a text, and returns whether the output took all of it.
+fn write_answer<O: Write>(output: &mut O, text: &[u8]) -> bool
+    ensures { AppendsText (O.contents output.old) (O.contents output.new) result text.now }
+{
+    write_text(output, text).is_ok()
+}
 
-    fn answer(&mut self, alloc: Global, line: &[u8], text: &mut Vec<u8>) -> Result<(), AllocError> {
+/// Whether both hold.
+fn both(first: bool, second: bool) -> bool
+    ensures { result ≡ first && second }
+{
+    first && second
+}
+
+/// Whether what was taken ends the lines: the end of the input, or `quit`.
+fn is_over(taken: Taken, line: &[u8]) -> bool
+    ensures { result ≡ is_over_by taken line.now }
+{
+    match taken {
+        Taken::Line => line == QUIT,
+        Taken::TooLong => false,
+        Taken::End => true,
+    }
+}
+
+/// How a run ended whose lines this has ended.
+fn ending(taken: Taken, is_first: bool, is_whole: bool) -> Ended
+    ensures { result ≡ ending_of taken is_first is_whole }
+{
+    match taken {
+        Taken::End if is_first => Ended::NoLine,
+        Taken::Line | Taken::TooLong | Taken::End => {
+            if is_whole {
+                Ended::Answered
+            } else {
+                Ended::OutputFailed
+            }
+        }
+    }
+}
+
+impl<S: PurgeStore, C: Checker, R: Wait + Clock + Net> Player<'_, S, C, R> {
+    /// Answers the lines of an input, as [`answer_lines`] says.
+    fn answer_input<I: Read + Drop, O: Write>(
+        &mut self,
+        alloc: Global,
+        input: I,
+        output: &mut O,
+    ) -> Ended
+        ensures { HasAnswered self.old.roster.now (C.gathered self.old.checker) (I.remaining input)
+            (O.contents output.old) (O.contents output.new) result (C.gathered self.new.checker) }
+    {
+        let Ok(mut input) = BufReader::new(alloc, input) else {
+            return Ended::NoMemory;
+        };
+        let Ok(mut line) = Vec::with_capacity(alloc, LONGEST_LINE + 1) else {
+            return Ended::NoMemory;
+        };
+        let Ok(mut text) = Vec::with_capacity(alloc, SHORT_ANSWER) else {
+            return Ended::NoMemory;
+        };
+        self.answer_all(alloc, &mut input, &mut line, &mut text, output)
+    }
+
+    /// Answers the lines of an input. `line` and `text` are where a line and its answer stand.
+    fn answer_all<I: Read, O: Write>(
+        &mut self,
+        alloc: Global,
+        input: &mut I,
+        line: &mut Vec<u8>,
+        text: &mut Vec<u8>,
+        output: &mut O,
+    ) -> Ended
+        requires { 140001 ≤ vec_capacity line.old }
+        ensures { HasAnswered self.old.roster.now (C.gathered self.old.checker)
+            (I.remaining input.old) (O.contents output.old) (O.contents output.new) result
+            (C.gathered self.new.checker) }
+    {
+        let rt = self.rt;
+        let mut is_whole = true;
+        let mut is_first = true;
+        'lines: for _ in rt.forever() {
+            let taken = match next_line(rt, input, line) {
+                Ok(taken) => taken,
+                Err(InputFailed) => return Ended::InputFailed,
+            };
+            if is_over(taken, line.as_slice()) {
+                return ending(taken, is_first, is_whole);
+            }
+            let written = self.answer_taken(alloc, taken, line.as_slice(), text, output);
+            is_whole = both(is_whole, written);
+            is_first = false;
+        }
+        unreachable!()
+    }
+
+    /// Answers what was taken, and returns whether the output took the whole answer.
+    fn answer_taken<O: Write>(
+        &mut self,
+        alloc: Global,
+        taken: Taken,
+        line: &[u8],
+        text: &mut Vec<u8>,
+        output: &mut O,
+    ) -> bool
+        ensures answered { AnswersTaken self.old.roster.now (C.gathered self.old.checker) taken
+            line.now (O.contents output.old) (O.contents output.new) result
+            (C.gathered self.new.checker) }
+        ensures roster { self.new.roster.now ≡ self.old.roster.now }
+    {
+        match taken {
+            Taken::Line => self.answer_line(alloc, line, text, output),
+            Taken::TooLong => write_answer(output, b"LineTooLong\n"),
+            Taken::End => true,
+        }
+    }
+
+    /// Answers a line, and returns whether the output took the whole answer.
+    fn answer_line<O: Write>(
+        &mut self,
+        alloc: Global,
+        line: &[u8],
+        text: &mut Vec<u8>,
+        output: &mut O,
+    ) -> bool
+        ensures answered { is_long line.now ≡ false → AnswersLine self.old.roster.now (C.gathered self.old.checker) line.now
+            (O.contents output.old) (O.contents output.new) result
+            (C.gathered self.new.checker) }
+        ensures roster { self.new.roster.now ≡ self.old.roster.now }
+    {
+        text.clear();
+        match self.tell_line(alloc, line, text) {
+            Ok(()) => write_answer(output, text.as_slice()),
+            Err(AllocError) => write_answer(output, b"NoMemory\n"),
+        }
+    }
+
+    /// Appends the answer to a line, with LF behind it.
+    #[tactic(auto, using(crate::proofs::Gathering::goes_on))]
+    fn tell_line(
+        &mut self,
+        alloc: Global,
+        line: &[u8],
+        text: &mut Vec<u8>,
+    ) -> Result<(), AllocError>
+        ensures told { OnOk result ((answer : List ℕ)
+            × LineTells self.old.roster.now (C.gathered self.new.checker) line.now answer
+            × (text.new.items ≡ text.old.items ++ (answer ++ 10 ∷ []))) }
+        ensures goes_on { GoesOn (C.gathered self.old.checker) (C.gathered self.new.checker) }
+        ensures roster { self.new.roster.now ≡ self.old.roster.now }
+    {
         let words = words_of(alloc, line)?;
-        self.tell(alloc, line_of(words.as_slice()), text)
+        self.tell(alloc, line_of(words.as_slice()), text)?;
+        text.push(b'\n')?;
+        Ok(())
     }
 }
 
@@ -105,6 +293,9 @@ impl<S: PurgeStore, C: Checker, R: Wait + Clock + Net> Player<'_, S, C, R> {
             Line::Status { number } => self.status(number, text),
             Line::Get { node, url } => self.get(alloc, node, url, text),
             Line::Check => self.check(alloc, text),
+            Line::Pending => self.pending(text),
+            Line::Members => self.members(text),
+            Line::Peers => self.peers(alloc, text),
             Line::Bad => text.extend_from_slice(b"bad line"),
         }
     }
@@ -153,6 +344,49 @@ impl<S: PurgeStore, C: Checker, R: Wait + Clock + Net> Player<'_, S, C, R> {
     {
         let checked = self.checker.check(self.rt, alloc, self.roster)?;
         push_checked(checked, text)
+    }
+
+    /// Answers `pending`.
+    fn pending(&self, text: &mut Vec<u8>) -> Result<(), AllocError>
+        ensures { OnOk result ((answer : List ℕ) × TellsPending self.now.roster.now answer
+            × (text.new.items ≡ text.old.items ++ answer)) }
+    {
+        let purges = self.master.purges(self.rt)?;
+        push_pending(self.roster, &purges, text)
+    }
+
+    /// Answers `members`.
+    fn members(&self, text: &mut Vec<u8>) -> Result<(), AllocError>
+        ensures { OnOk result ((answer : List ℕ) × TellsMembers self.now.roster.now answer
+            × (text.new.items ≡ text.old.items ++ answer)) }
+    {
+        text.extend_from_slice(b"members ")?;
+        push_number(self.roster.members().len() as u64, text)?;
+        for place in 0..LAST_MEMBER {
+            self.member(place + 1, text)?;
+        }
+        Ok(())
+    }
+
+    /// Writes how the member of this id stands, if there is one.
+    fn member(&self, id: u8, text: &mut Vec<u8>) -> Result<(), AllocError>
+        ensures { OnOk result (MatchBool (is_member_of self.now.roster.now id)
+            ((s : AnyState) × (text.new.items ≡ text.old.items ++ member_line id s))
+            (text.new.items ≡ text.old.items)) }
+    {
+        if !self.roster.is_member(id) {
+            return Ok(());
+        }
+        push_member(id, self.checker.state(id), text)
+    }
+
+    /// Answers `peers`.
+    fn peers(&self, alloc: Global, text: &mut Vec<u8>) -> Result<(), AllocError>
+        ensures { OnOk result ((answer : List ℕ) × TellsPeers answer
+            × (text.new.items ≡ text.old.items ++ answer)) }
+    {
+        let dead = self.checker.dead_peers(self.rt, alloc)?;
+        push_peers(dead.as_slice(), text)
     }
 
     /// Answers `get N URL`.

@@ -1,17 +1,18 @@
 //! How the answer to a line reads.
-ghost use Rattle.std.specs.Prelude.{◌≡◌, ◌++◌, OnOk, IfOk, IsTrue, decimal};
+ghost use Rattle.std.specs.Prelude.{◌≡◌, ◌++◌, ◌≤◌, OnOk, IfOk, IsTrue, decimal};
 ghost use Rattle.http_messages.specs.Answer.{is_writable};
-ghost use Rattle.cluster_console.specs.Shown.{purge_shown, status_shown, asked_shown, got_shown, body_shown, answer_shown, cause_name as name_of_cause, verdict_shown, checked_shown};
+ghost use Rattle.cluster_console.specs.Shown.{purge_shown, status_shown, asked_shown, got_shown, body_shown, answer_shown, cause_name as name_of_cause, verdict_shown, checked_shown, id_shown, missing_shown, pending_line, pending_shown, state_shown, member_line, peer_line, peers_shown};
 
-use crate::check::Checked;
+use crate::check::{Checked, DeadPeer, MemberState};
 use http_messages::{Answer, FetchFault};
 use itoa::Buffer;
-use purge_rules::{MasterFault, Status};
+use purge_rules::{MasterFault, Purge, Purges, Status};
+use roster::{LAST_MEMBER, Roster};
 use run_rules::{Cause, Verdict};
 use std::alloc::{AllocError, Global};
 
 /// Writes a number.
-fn push_number(number: u64, text: &mut Vec<u8>) -> Result<(), AllocError>
+pub(crate) fn push_number(number: u64, text: &mut Vec<u8>) -> Result<(), AllocError>
     ensures { OnOk result (text.new.items ≡ text.old.items ++ decimal number) }
 {
     let mut buffer = Buffer::new();
@@ -137,4 +138,103 @@ pub(crate) fn push_checked(checked: Checked, text: &mut Vec<u8>) -> Result<(), A
         Checked::Forgotten => text.extend_from_slice(b"forgotten"),
         Checked::Ended => text.extend_from_slice(b"Ended"),
     }
+}
+
+/// Writes an id behind a space, if it is told.
+fn push_id(is_told: bool, id: u8, text: &mut Vec<u8>) -> Result<(), AllocError>
+    ensures { OnOk result (text.new.items ≡ text.old.items ++ id_shown is_told id) }
+{
+    if !is_told {
+        return Ok(());
+    }
+    text.extend_from_slice(b" ")?;
+    push_number(u64::from(id), text)
+}
+
+/// Writes the ids of the members that have not acknowledged a purge, each behind a space.
+#[tactic(auto, unfolding(crate::specs::Shown::missing_shown))]
+fn push_missing(roster: &Roster, purge: &Purge, text: &mut Vec<u8>) -> Result<(), AllocError>
+    ensures { OnOk result (text.new.items
+        ≡ text.old.items ++ missing_shown roster.now purge.now) }
+{
+    for place in 0..LAST_MEMBER {
+        let id = place + 1;
+        let is_missing = roster.is_member(id) && !purge.marked.has(id);
+        push_id(is_missing, id, text)?;
+    }
+    Ok(())
+}
+
+/// Writes a pending purge on a line of its own, behind others.
+fn push_pending_line(roster: &Roster, purge: &Purge, text: &mut Vec<u8>) -> Result<(), AllocError>
+    ensures { OnOk result (text.new.items
+        ≡ text.old.items ++ pending_line roster.now purge.now) }
+{
+    text.extend_from_slice(b"\n")?;
+    push_number(u64::from(purge.number), text)?;
+    text.extend_from_slice(b" ")?;
+    text.extend_from_slice(purge.key.text())?;
+    push_missing(roster, purge, text)
+}
+
+/// Writes how many purges are pending, and then each of them.
+pub(crate) fn push_pending(
+    roster: &Roster,
+    purges: &Purges,
+    text: &mut Vec<u8>,
+) -> Result<(), AllocError>
+    ensures { OnOk result (text.new.items
+        ≡ text.old.items ++ pending_shown roster.now purges.now.pending) }
+{
+    text.extend_from_slice(b"purges ")?;
+    push_number(purges.len() as u64, text)?;
+    for purge in purges.pending() {
+        push_pending_line(roster, purge, text)?;
+    }
+    Ok(())
+}
+
+/// How a member stands.
+const fn state_name(state: MemberState) -> &'static str
+    ensures { result.now ≡ state_shown state }
+{
+    match state {
+        MemberState::Open => "open",
+        MemberState::StoreFault => "closed StoreFault",
+        MemberState::NoMemory => "closed NoMemory",
+    }
+}
+
+/// Writes a member on a line of its own, behind others.
+pub(crate) fn push_member(id: u8, state: MemberState, text: &mut Vec<u8>) -> Result<(), AllocError>
+    ensures { OnOk result (text.new.items ≡ text.old.items ++ member_line id state) }
+{
+    text.extend_from_slice(b"\n")?;
+    push_number(u64::from(id), text)?;
+    text.extend_from_slice(b" ")?;
+    text.extend_from_slice(state_name(state).as_bytes())
+}
+
+/// Writes a peer that a member thinks dead on a line of its own, behind others.
+fn push_peer(dead: &DeadPeer, text: &mut Vec<u8>) -> Result<(), AllocError>
+    ensures { OnOk result (text.new.items ≡ text.old.items ++ peer_line dead.now) }
+{
+    text.extend_from_slice(b"\n")?;
+    push_number(u64::from(dead.member), text)?;
+    text.extend_from_slice(b" ")?;
+    push_number(u64::from(dead.peer), text)?;
+    text.extend_from_slice(b" dead ")?;
+    push_number(dead.seconds, text)
+}
+
+/// Writes how many peers are thought dead, and then each of them.
+pub(crate) fn push_peers(dead: &[DeadPeer], text: &mut Vec<u8>) -> Result<(), AllocError>
+    ensures { OnOk result (text.new.items ≡ text.old.items ++ peers_shown dead.now) }
+{
+    text.extend_from_slice(b"peers ")?;
+    push_number(dead.len() as u64, text)?;
+    for peer in dead {
+        push_peer(peer, text)?;
+    }
+    Ok(())
 }

@@ -16,7 +16,12 @@
 #![tactic(auto)]
 
 mod asking;
+mod ended;
 mod events;
+mod received;
+mod under_way;
 
 pub use asking::exchange;
+pub use ended::Fetched;
 pub use events::{ResponseSource, fetched};
+pub use under_way::{Fetch, Fetching};

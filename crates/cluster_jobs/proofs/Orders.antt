@@ -37,26 +37,6 @@ begins_snoc (e ∷ early) (x ∷ xs) s h =
     let t = tail_begins e x early (xs ++ s ∷ []) h in
     ⊎_elim (λ (b : Begins early xs). inl (b.0, λ i. t.0 i ∷ b.1 i)) (λ (same : early ≡ xs ++ s ∷ []). inr (λ i. t.0 i ∷ same i)) (begins_snoc early xs s t.1)
 
--- of two beginnings of one list, the longer is a beginning too
-pub longer_begins : (xs ys all : List Step) → Begins xs all → Begins ys all → Begins (longer xs ys) all
-longer_begins [] ys all h k = k
-longer_begins (x ∷ xs) [] all h k = h
-longer_begins (x ∷ xs) (y ∷ ys) [] h k = let e = h.1 in absurd (let no : ⊥ = cc in no)
-longer_begins (x ∷ xs) (y ∷ ys) (a ∷ all) h k =
-    let s = tail_begins x a xs all h in let t = tail_begins y a ys all k in let r = longer_begins xs ys all s.1 t.1 in (r.0, λ i. s.0 i ∷ r.1 i)
-
--- where one of the two is the whole list, it is the longer
-pub longer_left : (all ys : List Step) → Begins ys all → longer all ys ≡ all
-longer_left [] ys h = begins_none ys h
-longer_left (a ∷ all) [] h = refl
-longer_left (a ∷ all) (y ∷ ys) h = let t = tail_begins y a ys all h in ap (λ l. a ∷ l) (longer_left all ys t.1)
-
--- the same, with the two in the other order
-pub longer_right : (xs all : List Step) → Begins xs all → longer xs all ≡ all
-longer_right [] all h = refl
-longer_right (x ∷ xs) [] h = let e = h.1 in absurd (let no : ⊥ = cc in no)
-longer_right (x ∷ xs) (a ∷ all) h = let t = tail_begins x a xs all h in let r = longer_right xs all t.1 in λ i. t.0 i ∷ r i
-
 -- the jobs put by some steps and then others
 put_in-append : (xs ys : List Step) → put_in (xs ++ ys) ≡ put_in xs ++ put_in ys
 put_in-append [] ys = refl

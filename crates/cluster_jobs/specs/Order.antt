@@ -1,20 +1,21 @@
--- The rule of the queue: the order of its steps, and what a pass knows of it.
-use Rattle.std.specs.Prelude.{◌≡◌, ℕ, ◌+◌, ◌-◌, List, [], ◌∷◌, ◌++◌, length, map}
-use mathlib.Core.Option.{some}
-use lib.ListN.{get_elem?}
+-- The order of the queue's steps, and what a pass knows of it.
+use Rattle.std.specs.Prelude.{◌≡◌, ℕ, Bool, List, [], ◌∷◌, ◌++◌, length, nat_le, if◌then◌else◌}
 use Rattle.cluster_jobs.specs.declared.job.Job.{Job}
 use Rattle.cluster_jobs.specs.declared.job.Job.TheVariants as job
+use Rattle.cluster_jobs.specs.declared.job.Lane.{Lane}
 use Rattle.cluster_jobs.specs.declared.order.Sight.{Sight}
 use Rattle.cluster_jobs.specs.declared.order.Sight.TheVariants as sight
 use Rattle.cluster_jobs.specs.declared.order.Step.{Step}
 use Rattle.cluster_jobs.specs.declared.order.Step.TheVariants.{Put, Took}
 use Rattle.cluster_jobs.specs.declared.order.View.{View}
+use Rattle.cluster_jobs.specs.Lanes.{in_lane}
 
 -- a job as contracts see it: a stream is its number alone
 abbrev pub sight_of : Job → Sight
-sight_of (job.Datagram udp from octets) = sight.Datagram udp from octets.items
+sight_of (job.Datagram sender udp from octets) = sight.Datagram sender udp from octets.items
 sight_of (job.Stream number stream octets) = sight.Stream number
 sight_of (job.Timer serial) = sight.Timer serial
+sight_of (job.Fetched f) = sight.Fetched f
 
 -- the step by which a job is put
 abbrev pub put : Job → Step
@@ -52,84 +53,51 @@ IsInOrder steps = (early : List Step) → Begins early steps → Begins (taken_i
 abbrev pub Leaves : List Step → List Sight → Type 0
 Leaves steps waiting = put_in steps ≡ taken_in steps ++ waiting
 
--- the parts of the first pass, and so of all passes together
-abbrev pub all_parts : ℕ
-all_parts = 1024
+-- after these steps no job waits
+abbrev pub IsEmpty : List Step → Type 0
+IsEmpty steps = Leaves steps []
 
--- a view by its fields
-abbrev pub view : ℕ → List Step → List Step → View
-view parts seen own = record { parts = parts; seen = seen; own = own }
+-- after these steps the lane holds 256 jobs
+abbrev pub IsFull : Lane → List Step → Type 0
+IsFull lane steps = (waiting : List Sight) × Leaves steps waiting × (length (in_lane lane waiting) ≡ 256)
 
--- the first pass of a queue: it has every part, and nothing was put or taken yet
+-- the queue under its lock: all steps so far, and whether it is ended
+pub record BacklogView : Type 0 where
+  pub seen : List Step
+  pub over : Bool
+
+-- one step more, in the queue and among the own steps of a pass
+pub record Adds (step : Step) (before : BacklogView) (own : List Step) (after : BacklogView) (owned : List Step) :
+    Type 0 where
+  pub seen : after.seen ≡ before.seen ++ step ∷ []
+  pub over : after.over ≡ before.over
+  pub own_is : owned ≡ own ++ step ∷ []
+
+-- the pass that has seen no step
 abbrev pub newcomer : View
-newcomer = view all_parts [] []
+newcomer = record { seen = []; own = [] }
 
--- what is left of a pass that was joined to another: no part, and no knowledge
-abbrev pub nobody : View
-nobody = view 0 [] []
-
--- the pass that stays after a split: one part fewer; it keeps what it has seen, and its own steps
-abbrev pub kept_part : View → View
-kept_part v = view (v.parts - 1) v.seen v.own
-
--- the pass that a split cuts off: one part; it has seen the same, and has no step of its own
-abbrev pub cut_part : View → View
-cut_part v = view 1 v.seen []
+-- the pass that a split gives to another thread: it has seen the same, and has no step of its own
+abbrev pub cut : View → View
+cut v = record { seen = v.seen; own = [] }
 
 -- the longer of two beginnings of one list
 abbrev pub longer : List Step → List Step → List Step
-longer [] ys = ys
-longer (x ∷ xs) [] = x ∷ xs
-longer (x ∷ xs) (y ∷ ys) = x ∷ longer xs ys
+longer xs ys = if nat_le (length xs) (length ys) then ys else xs
 
--- two passes in one: it has the parts and own steps of both, and has seen what either had
+-- two passes in one: it has seen what either had, and has the own steps of the first
 abbrev pub joined : View → View → View
-joined v w = view (v.parts + w.parts) (longer v.seen w.seen) (v.own ++ w.own)
+joined v w = record { seen = longer v.seen w.seen; own = v.own }
 
--- the sum of the weights of the items of a list
-abbrev pub weigh : {A : Type 0} → (A → ℕ) → List A → ℕ
-weigh weight [] = 0
-weigh weight (x ∷ xs) = weight x + weigh weight xs
-
--- a pass without a part knows nothing
-abbrev pub IdleKnowsNothing : List View → Type 0
-IdleKnowsNothing views = (pass : ℕ) (v : View) → get_elem? views pass ≡ some v → v.parts ≡ 0 → v ≡ nobody
-
--- the rule: one list has all steps; the jobs that it leaves are those in the queue; each pass has seen a beginning of
--- it, and some pass all of it; each step is the own step of one pass, once
-pub record IsKept (items : List Job) (views : List View) (steps : List Step) : Type 0 where
-  pub in_order : IsInOrder steps
-  pub leaves : Leaves steps (map sight_of items)
-  pub parts : weigh (λ v. v.parts) views ≡ all_parts
-  pub begins : (pass : ℕ) (v : View) → get_elem? views pass ≡ some v → Begins v.seen steps
-  pub known : (pass : ℕ) × (v : View) × (get_elem? views pass ≡ some v) × (v.seen ≡ steps)
-  pub owned : (weight : Step → ℕ) → weigh (λ v. weigh weight v.own) views ≡ weigh weight steps
-  pub idle : IdleKnowsNothing views
-
--- the rule holds of the jobs in the queue and the views of its passes, for some list of steps
-abbrev pub Kept : List Job → List View → Type 0
-Kept items views = (steps : List Step) × IsKept items views steps
-
--- a pass after a step of its own: it has seen more steps of others, and then this one; with every part there were no
--- others
+-- a pass after a step of its own: it has seen more steps of others, and then this one, the last of all so far
 pub record Follows (v : View) (step : Step) (w : View) : Type 0 where
-  pub parts : w.parts ≡ v.parts
-  pub seen : (between : List Step) × (w.seen ≡ (v.seen ++ between) ++ step ∷ []) × (v.parts ≡ all_parts → between ≡ [])
+  pub seen : (between : List Step) × (w.seen ≡ (v.seen ++ between) ++ step ∷ [])
   pub own : w.own ≡ v.own ++ step ∷ []
   pub in_order : IsInOrder w.seen
 
--- at one moment these were all steps: they begin with what the pass has seen, and leave what the queue then held; a
--- pass with every part has seen them all, and all are its own
-pub record FindsAt (v : View) (waiting : List Sight) (steps : List Step) : Type 0 where
-  pub begins : Begins v.seen steps
-  pub in_order : IsInOrder steps
-  pub leaves : Leaves steps waiting
-  pub alone : v.parts ≡ all_parts → (steps ≡ v.seen) × ((weight : Step → ℕ) → weigh weight v.own ≡ weigh weight steps)
-
--- what a pass learns from a look at the queue, which then held these jobs
-abbrev pub Finds : View → List Job → Type 0
-Finds v items = (steps : List Step) × FindsAt v (map sight_of items) steps
-
--- at some moment of the call the queue held this many jobs
-abbrev pub HeldOnce : View → ℕ → Type 0
-HeldOnce v count = (steps : List Step) × (waiting : List Sight) × (length waiting ≡ count) × FindsAt v waiting steps
+-- a pass after a look at the queue: it has seen all steps up to that moment, and they are so
+pub record Finds (v : View) (are : List Step → Type 0) (w : View) : Type 0 where
+  pub seen : Begins v.seen w.seen
+  pub own : w.own ≡ v.own
+  pub in_order : IsInOrder w.seen
+  pub found : are w.seen

@@ -9,7 +9,7 @@ ghost use Rattle.cluster_master.specs.Answers.{IsToldOf, IsClearOf};
 use htcp_wire::Htcp;
 use node_seats::Places;
 use purge_master::{MOST_ENTRIES, MasterBook, MasterEntry};
-use purge_rules::{MasterAnswer, MasterCall, MasterFault, PurgeStore};
+use purge_rules::{MasterAnswer, MasterCall, MasterFault, PurgeStore, Purges};
 use std::alloc::{AllocError, Global};
 use std::marker::Model;
 use std::mem::replace;
@@ -162,6 +162,13 @@ impl<S: PurgeStore> LockedBook<S> {
         ensures fits { IfOk result (λ message. IfSome message Fits) }
     {
         self.book.message(number)
+    }
+
+    /// A copy of the pending purges, with the last number.
+    pub(crate) fn purges(&self) -> Result<Purges, AllocError>
+        ensures { IfOk result (λ purges. purges ≡ self.now.book.master.state.purges) }
+    {
+        self.book.purges().copy(self.alloc)
     }
 
     /// Takes the entries since they were last taken, in their order. Where there is no memory to

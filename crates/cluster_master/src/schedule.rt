@@ -13,6 +13,14 @@ const LONGEST_WAIT: u64 = 1_000;
 /// how many datagrams are sent again in all.
 const PACE: u64 = 10;
 
+/// How many milliseconds after its first CLRs a pending purge is young: its members are taken to be
+/// at work on it.
+const YOUTH: u64 = 100;
+
+/// How many CLRs of young purges may be unacknowledged where another purge is sent for the first
+/// time by the loop, so that a start with many pending purges does not fill the members' buffers.
+const MOST_YOUNG: u32 = 256;
+
 /// When the CLR of a pending purge is sent again.
 #[derive(Clone, Copy, Drop)]
 struct Again {
@@ -22,6 +30,8 @@ struct Again {
     at: u64,
     /// How many milliseconds pass until the time after that.
     wait: u64,
+    /// Until when it is young.
+    young: u64,
 }
 
 impl Again {
@@ -31,6 +41,7 @@ impl Again {
             number,
             at: now.saturating_add(FIRST_WAIT),
             wait: longer(FIRST_WAIT),
+            young: now.saturating_add(YOUTH),
         }
     }
 
@@ -71,6 +82,9 @@ pub(crate) struct Schedule {
     look: u64,
     /// When something is sent again, at the earliest.
     paced: u64,
+    /// Up to this number a pending purge may lack an entry. One with a greater number that lacks
+    /// one is being issued: who issues it enters it, and sends its first CLRs.
+    old: u32,
 }
 
 impl Schedule {
@@ -80,14 +94,26 @@ impl Schedule {
             row: Vec::new(alloc),
             look: 0,
             paced: 0,
+            old: u32::MAX,
         }
+    }
+
+    /// Forgets when CLRs were sent: each pending purge up to this number, that of the last purge, is
+    /// due at once.
+    pub(crate) fn restart(&mut self, last: u32) {
+        self.row.clear();
+        self.look = 0;
+        self.paced = 0;
+        self.old = last;
     }
 
     /// Enters a purge whose CLR was sent for the first time now. Where there is no memory, it is
     /// sent again within a second.
     pub(crate) fn add(&mut self, number: u32, now: u64) {
         if let Err(place) = place_of(self.row.as_slice(), number) {
-            let _ = self.row.insert(place, Again::first(number, now));
+            if self.row.insert(place, Again::first(number, now)).is_err() {
+                self.old = self.old.max(number);
+            }
         }
     }
 
@@ -119,17 +145,52 @@ impl Schedule {
         self.paced = now.saturating_add(PACE);
     }
 
-    /// Whether the CLR of this pending purge is sent again now. If so, the next time is set. A
-    /// purge that is not entered is sent, and entered.
-    pub(crate) fn takes(&mut self, number: u32, now: u64) -> bool {
+    /// How many CLRs may be sent now with a purge for the first time among them: 256 less those of
+    /// young purges that are not acknowledged.
+    pub(crate) fn room(&self, pending: &[(u32, u8)], now: u64) -> u32
+        ensures { result ≤ 256 }
+    {
+        let mut room = MOST_YOUNG;
+        for (number, _) in pending {
+            if self.is_young(*number, now) {
+                room = room.saturating_sub(1);
+            }
+        }
+        room
+    }
+
+    /// Whether the purge of this number is entered and young.
+    fn is_young(&self, number: u32, now: u64) -> bool {
+        match place_of(self.row.as_slice(), number) {
+            Ok(place) => match self.row.get(place) {
+                Some(again) => now < again.young,
+                None => false,
+            },
+            Err(_) => false,
+        }
+    }
+
+    /// Has the master be asked again as soon as the pace allows: some of what is due was left out.
+    pub(crate) fn hurry(&mut self) {
+        self.look = self.paced;
+    }
+
+    /// Whether the CLR of this pending purge is sent now. If so, the next time is set. A purge that
+    /// is not entered is sent, and entered, where there is room for it, unless it is being issued.
+    pub(crate) fn takes(&mut self, number: u32, now: u64, has_room: bool) -> bool {
         match place_of(self.row.as_slice(), number) {
             Ok(place) => match self.row.get_mut(place) {
                 Some(again) => again.takes(now),
                 None => false,
             },
-            Err(_) => {
+            Err(_) if number > self.old => false,
+            Err(_) if has_room => {
                 self.add(number, now);
                 true
+            }
+            Err(_) => {
+                self.hurry();
+                false
             }
         }
     }

@@ -98,11 +98,21 @@ impl MasterSender {
         }
     }
 
-    /// Enters a purge whose CLRs were sent, so that they are sent again, and has the loop look.
+    /// Enters a new purge, so that its CLRs are sent again from 20 milliseconds on, and has the loop
+    /// look.
     fn enter<R: Wait + Clock>(&self, rt: &R, number: u32) {
         // (without a clock the CLRs are sent again at once)
         let now = moment(rt).unwrap_or(0);
         self.line.schedule.lock(rt).add(number, now);
+        // (a loop that is not woken looks within 100 milliseconds)
+        let _ = self.line.waker.wake();
+    }
+
+    /// Has the loop send the CLR of each pending purge up to this number, that of the last purge, as
+    /// soon as it may, whenever it was sent before. The owner calls it once the members run, while
+    /// nobody issues a purge: what was sent to the members before is lost.
+    pub fn send_afresh<R: Wait>(&self, rt: &R, last: u32) {
+        self.line.schedule.lock(rt).restart(last);
         // (a loop that is not woken looks within 100 milliseconds)
         let _ = self.line.waker.wake();
     }
@@ -124,12 +134,12 @@ impl MasterSender {
     {
         match master.call(rt, MasterCall::Issue(key)) {
             Ok(MasterAnswer::Issue(number)) => {
+                self.enter(rt, number);
                 if let Some(octets) = clear_of(rt, self.alloc, master, number) {
                     for id in 1..=LAST_MEMBER {
                         self.send(roster, id, octets.as_slice());
                     }
                 }
-                self.enter(rt, number);
                 Ok(number)
             }
             Ok(_) => unreachable!(),
@@ -137,24 +147,26 @@ impl MasterSender {
         }
     }
 
-    /// The CLR of a pending purge, if it is to be sent again now.
+    /// The CLR of a pending purge, if it is to be sent now.
     fn clear_again<S: PurgeStore, R: Wait>(
         &self,
         rt: &R,
         master: &SharedMaster<S>,
         number: u32,
         now: u64,
+        has_room: bool,
     ) -> Option<Vec<u8>>
         ensures { IfSome result (λ octets. AreClearOf number octets.items) }
     {
-        if !self.line.schedule.lock(rt).takes(number, now) {
+        if !self.line.schedule.lock(rt).takes(number, now, has_room) {
             return None;
         }
         clear_of(rt, self.alloc, master, number)
     }
 
-    /// Sends the CLRs of these pending purges to these members, where they are to be sent again
-    /// now: of the first 256, and of the other members of the last purge among them.
+    /// Sends the CLRs of these pending purges to these members, where they are to be sent now: of
+    /// the first 256, and of the other members of the last purge among them. A purge that was not
+    /// sent before waits while 256 CLRs of young purges are not acknowledged.
     fn send_pairs<S: PurgeStore, R: Wait>(
         &self,
         rt: &R,
@@ -164,19 +176,22 @@ impl MasterSender {
         now: u64,
     ) {
         let mut left = MOST_AGAIN;
+        let mut room = self.line.schedule.lock(rt).room(pairs, now);
         let mut known = 0;
         let mut clear = None;
         for (number, member) in pairs {
             if *number != known {
                 if left == 0 {
+                    self.line.schedule.lock(rt).hurry();
                     break;
                 }
                 known = *number;
-                clear = self.clear_again(rt, master, *number, now);
+                clear = self.clear_again(rt, master, *number, now, 0 < room);
             }
             if let Some(octets) = &clear {
                 self.send(roster, *member, octets.as_slice());
                 left = left.saturating_sub(1);
+                room = room.saturating_sub(1);
             }
         }
     }

@@ -7,7 +7,7 @@ use crate::locked_book::{KeptEntries, LockedBook};
 use htcp_wire::Htcp;
 use node_seats::Places;
 use purge_master::{MasterBook, MasterEntry};
-use purge_rules::{MasterAnswer, MasterCall, MasterFault, PurgeStore};
+use purge_rules::{MasterAnswer, MasterCall, MasterFault, PurgeStore, Purges};
 use std::alloc::{AllocError, Global};
 use std::sync::{Mutex, MutexGuard, Wait};
 
@@ -66,6 +66,13 @@ impl<S: PurgeStore> SharedMaster<S> {
         ensures fits { IfOk result (λ message. IfSome message Fits) }
     {
         self.locked_book.lock(rt).message(number)
+    }
+
+    /// A copy of the pending purges, as they are at one moment, with the last number. A closed
+    /// master gives it too. This is no call, and makes no entry. `AllocError` comes where there is
+    /// no memory for it.
+    pub fn purges<R: Wait>(&self, rt: &R) -> Result<Purges, AllocError> {
+        self.locked_book.lock(rt).purges()
     }
 
     /// Holds the master: no call is made until what is returned is dropped.

@@ -1,3 +1,4 @@
 -- The files stand alone: read them in any order.
 mod Gathering
+mod Numbers
 mod Sending

@@ -5,7 +5,6 @@ use Rattle.purge_rules.specs.Names.{purge_fault_name}
 use Rattle.purge_master.specs.Names.{open_fault_name}
 use Rattle.cluster_master.specs.Names as master
 use Rattle.node_workers.specs.Names as node
-use Rattle.values_lines.specs.Fault.{run_fault_name}
 use Rattle.cluster_process.specs.declared.fault.ClusterFault.{ClusterFault}
 use Rattle.cluster_process.specs.declared.fault.ClusterFault.TheVariants as cluster
 
@@ -21,6 +20,8 @@ cluster_fault_name (cluster.MasterStart fault) = master.start_fault_name fault
 cluster_fault_name (cluster.Node id fault) = node.start_fault_name fault
 cluster_fault_name cluster.NoThread = codes "NoThread"
 cluster_fault_name cluster.System = codes "Io"
-cluster_fault_name (cluster.Run fault) = run_fault_name fault
+cluster_fault_name (cluster.MasterBehind dir last id number) = codes "MasterBehind"
+cluster_fault_name cluster.Input = codes "Io"
+cluster_fault_name cluster.Output = codes "Io"
 cluster_fault_name (cluster.Stop id fault) = node.stop_fault_name fault
 cluster_fault_name cluster.NoMemory = codes "NoMemory"

@@ -8,8 +8,10 @@ use crate::fault::ClusterFault;
 use crate::judge::Judge;
 use crate::kept::{Kept, Memory};
 use crate::master_thread::MasterThread;
-use crate::stores::{NodeFloors, Stores};
-use cluster_console::answer_lines;
+use crate::node_floors::NodeFloors;
+use crate::stores::Stores;
+use crate::watch::Watch;
+use cluster_console::{Ended, answer_lines};
 use cluster_streams::StreamPoll;
 use floor_rules::FloorStore;
 use node_seats::{Places, Retention};
@@ -35,7 +37,7 @@ pub fn is_worker_count(workers: u8) -> bool
 /// A member that runs.
 #[derive(Drop)]
 pub(crate) struct Running {
-    id: u8,
+    pub(crate) id: u8,
     pub(crate) workers: Workers,
 }
 
@@ -51,42 +53,41 @@ struct Common<'a> {
 }
 
 /// Runs the hierarchy of a roster in this process, over stores that
-/// [`open_stores`](crate::open_stores) has opened, until the input ends or has a line `quit`: one
-/// thread for the master, and `workers` workers for each member. Each line is answered by one line.
+/// [`open_stores`](crate::open_stores) has opened, until the input ends, cannot be read, or has a line
+/// `quit`: one thread for the master, and `workers` workers for each member.
 ///
-/// The lines: `purge URL` issues a purge and prints `purge P`, the fault of a URL that has no key,
-/// or that of the master; `status P` prints `pending C`, `done P` or `unknown`, or the fault of the
-/// master; `get N URL` asks member N over HTTP, as a client, and prints the status and the body in
-/// hex (`-` where it is empty), or the name of the fault; `check` has all that the members and the
-/// master did so far judged, and prints `yes`, `no PLACE CAUSE`, `forgotten`, or why the record of a
-/// member is not given; `quit` prints nothing. Any other line, also one that names no member,
-/// prints `bad line`.
+/// The lines are those of [`answer_lines`](cluster_console::answer_lines). Once the members run, the
+/// master sends afresh what is pending, and a thread says on standard error which members close.
+/// Where the input has no line, standard error says so.
 ///
-/// For `check`, what the members and the master did is kept in memory: `history` pages of each member
-/// and of the master, of 4,096 steps or calls each. A member's page is shorter where its events have
-/// brought 4 MiB along. All that is kept may not be more than so many steps and
-/// calls; four floors, copies or pending requests in the opening or closing state of a record count
-/// as one, and so do 1,024 octets that its events brought along. Where there would be more, all of
-/// it is dropped, and `check` prints `forgotten` from then on. With 0 nothing is kept.
+/// For `check`, what the members and the master did is kept in memory: `history` pages of each
+/// member and of the master, of 4,096 steps or calls each. A member's page is shorter where its
+/// events have brought 4 MiB along. All that is kept may not be more than so many steps and calls;
+/// four floors, copies or pending requests in the opening or closing state of a record count as
+/// one, and so do 1,024 octets that its events brought along. Where there would be more, all of it
+/// is dropped, and `check` prints `forgotten` from then on. With 0 nothing is kept.
 ///
 /// What is kept at the end is returned, if it is all that was done until then; each verdict that
 /// was printed is the one on a front of it, which was gathered when that line came.
 ///
 /// Faults, the first that comes: those of the master's purges, its socket and its thread; of the
-/// members' floors, sockets and threads, by ascending id; and of the input. After any of them every
-/// thread has ended, and every socket and store is closed.
+/// members' floors, sockets and threads, by ascending id, and of the thread that watches them;
+/// `Input` where the input could not be read, and `Output` where some answer could not be written,
+/// once each line was answered. After any of them every thread has ended, and every socket and store
+/// is closed.
 pub fn run_cluster<
     R: Threads
         + Wait
         + Clock
         + RandomSource
+        + Eprint
         + Net<Listener = TcpListener, Stream = TcpStream>
         + Copy
         + Drop
         + Send
         + Sync
         + 'static,
-    I: Read,
+    I: Read + Drop,
     O: Write,
 >(
     rt: R,
@@ -95,11 +96,11 @@ pub fn run_cluster<
     stores: Stores,
     workers: u8,
     history: u32,
-    input: &mut I,
+    input: I,
     output: &mut O,
 ) -> Result<Option<Kept>, ClusterFault>
     requires { (2 ≤ workers) × (workers ≤ 8) }
-    ensures { IfOk result (HasRun roster.now history (I.remaining input.old) (O.contents output.old)
+    ensures { IfOk result (HasRun roster.now history (I.remaining input) (O.contents output.old)
         (O.contents output.new)) }
 {
     let places = Places::new(alloc)?;
@@ -125,13 +126,14 @@ fn run_nodes<
         + Wait
         + Clock
         + RandomSource
+        + Eprint
         + Net<Listener = TcpListener, Stream = TcpStream>
         + Copy
         + Drop
         + Send
         + Sync
         + 'static,
-    I: Read,
+    I: Read + Drop,
     O: Write,
 >(
     rt: R,
@@ -139,21 +141,48 @@ fn run_nodes<
     common: Common<'_>,
     nodes: Vec<NodeFloors<F>>,
     master: &MasterThread<P>,
-    input: &mut I,
+    input: I,
     output: &mut O,
 ) -> Result<Option<Kept>, ClusterFault>
     ensures { IfOk result (HasRun common.entry.roster.now common.entry.history
-        (I.remaining input.old) (O.contents output.old) (O.contents output.new)) }
+        (I.remaining input) (O.contents output.old) (O.contents output.new)) }
 {
     let mut running = Vec::with_capacity(alloc, nodes.len())?;
     let ended = match start_nodes(rt, alloc, &common, nodes, &mut running) {
-        Ok(()) => answer(&rt, alloc, &common, &running, master, input, output),
+        Ok(()) => answer_watched(rt, alloc, &common, &running, master, input, output),
         Err(fault) => Err(fault),
     };
     let stopped = stop_nodes(&rt, running);
     let kept = ended?;
     stopped?;
     Ok(kept)
+}
+
+/// Has the master begin to send, and answers the lines while the members are watched.
+fn answer_watched<
+    P: PurgeStore,
+    R: Threads + Wait + Clock + RandomSource + Eprint + Net + Copy + Drop + Send + Sync + 'static,
+    I: Read + Drop,
+    O: Write,
+>(
+    rt: R,
+    alloc: Global,
+    common: &Common<'_>,
+    running: &[Running],
+    master: &MasterThread<P>,
+    input: I,
+    output: &mut O,
+) -> Result<Option<Kept>, ClusterFault>
+    ensures { IfOk result (HasRun common.now.roster.now common.now.history (I.remaining input)
+        (O.contents output.old) (O.contents output.new)) }
+{
+    // (what was sent to members before they ran is lost)
+    master.sender.send_afresh(&rt, master.last(&rt));
+    let watch = Watch::start(rt, alloc, running)?;
+    let ended = answer(&rt, alloc, common, running, master, input, output);
+    begin_stop(&rt, running);
+    watch.stop(&rt);
+    ended
 }
 
 /// Starts the members in the order of their stores. Those that run are in the row, also after a
@@ -177,7 +206,7 @@ fn start_nodes<
     nodes: Vec<NodeFloors<F>>,
     running: &mut Vec<Running>,
 ) -> Result<(), ClusterFault> {
-    for NodeFloors { id, floors } in nodes {
+    for NodeFloors { id, floors, .. } in nodes {
         running.reserve(1)?;
         let workers = start_node(rt, alloc, common, id, floors)?;
         if running.push(Running { id, workers }).is_err() {
@@ -263,16 +292,16 @@ fn stop_nodes<R: Threads + Wait>(rt: &R, running: Vec<Running>) -> Result<(), Cl
 }
 
 /// Answers the lines of the input, and returns what is kept of the run.
-fn answer<I: Read, O: Write, S: PurgeStore, R: Wait + Clock + RandomSource + Net>(
+fn answer<I: Read + Drop, O: Write, S: PurgeStore, R: Wait + Clock + RandomSource + Eprint + Net>(
     rt: &R,
     alloc: Global,
     common: &Common<'_>,
     nodes: &[Running],
     running: &MasterThread<S>,
-    input: &mut I,
+    input: I,
     output: &mut O,
 ) -> Result<Option<Kept>, ClusterFault>
-    ensures { IfOk result (HasRun common.now.roster.now common.now.history (I.remaining input.old)
+    ensures { IfOk result (HasRun common.now.roster.now common.now.history (I.remaining input)
         (O.contents output.old) (O.contents output.new)) }
 {
     let (Ok(poll), Ok(keys)) = (StreamPoll::new(rt, alloc), RandomState::new(rt)) else {
@@ -286,11 +315,18 @@ fn answer<I: Read, O: Write, S: PurgeStore, R: Wait + Clock + RandomSource + Net
         memory: Memory::new(alloc, nodes.len(), common.history),
         keys,
     };
-    let (judge, answered) = answer_lines(
+    let (judge, ended) = answer_lines(
         rt, alloc, roster, master, sender, judge, poll, input, output,
     );
-    match answered {
-        Ok(()) => Ok(judge.into_kept(rt)),
-        Err(fault) => Err(ClusterFault::Run(fault)),
+    match ended {
+        Ended::Answered => Ok(judge.into_kept(rt)),
+        Ended::NoLine => {
+            // (a standard error that takes nothing ends nothing)
+            let _ = eprintln!(rt; "the input was at its end from the start: the cluster stops");
+            Ok(judge.into_kept(rt))
+        }
+        Ended::NoMemory => Err(ClusterFault::NoMemory),
+        Ended::OutputFailed => Err(ClusterFault::Output),
+        Ended::InputFailed => Err(ClusterFault::Input),
     }
 }

@@ -9,7 +9,6 @@ use purge_master::MasterOpenFault;
 use purge_rules::PurgeFault;
 use std::alloc::AllocError;
 use thiserror::Error;
-use values_lines::RunFault;
 
 /// Why a cluster does not start, or ends before its input. No thread of it runs then, and no socket
 /// of it is open.
@@ -77,9 +76,25 @@ pub enum ClusterFault {
     /// The system gave no random hash keys, or no poll instance for the client of `get`.
     #[error("the system gave no random keys, or nothing to wait on")]
     System,
-    /// The run over the input stopped before its end.
-    #[error("the input: {0}")]
-    Run(RunFault),
+    /// The folder's master has not given a number that a member has stored: the master's file is
+    /// missing or too old. The next purges would have numbers that were given before.
+    #[error("{dir}/master.db is missing or too old: its last purge is {last}, and node {id} has stored purge {number}; put back the newest one, or begin with an empty folder")]
+    MasterBehind {
+        /// The folder.
+        dir: String,
+        /// The last number that the master has given; 0 if it has given none.
+        last: u32,
+        /// The id of the member.
+        id: u8,
+        /// The greatest number that the member has stored.
+        number: u32,
+    },
+    /// The input could not be read, before its end. All lines before that were answered.
+    #[error("the input could not be read")]
+    Input,
+    /// The output did not take each answer. All lines were answered.
+    #[error("an answer could not be written")]
+    Output,
     /// A member ran, and its records are not given.
     #[error("node {id}, at its end: {fault}")]
     Stop {
@@ -100,15 +115,19 @@ impl ClusterFault {
         ensures { result.now ≡ cluster_fault_name self.now }
     {
         match self {
-            ClusterFault::File { .. } | ClusterFault::Ports { .. } | ClusterFault::System => "Io",
+            ClusterFault::File { .. }
+            | ClusterFault::Ports { .. }
+            | ClusterFault::System
+            | ClusterFault::Input
+            | ClusterFault::Output => "Io",
             ClusterFault::OtherRoster { .. } => "OtherRoster",
+            ClusterFault::MasterBehind { .. } => "MasterBehind",
             ClusterFault::Floors { fault, .. } => fault.name(),
             ClusterFault::Purges { fault, .. } => fault.name(),
             ClusterFault::MasterOpen(fault) => fault.name(),
             ClusterFault::MasterStart(fault) => fault.name(),
             ClusterFault::Node { fault, .. } => fault.name(),
             ClusterFault::NoThread => "NoThread",
-            ClusterFault::Run(fault) => fault.name(),
             ClusterFault::Stop { fault, .. } => fault.name(),
             ClusterFault::NoMemory => "NoMemory",
         }

@@ -5,15 +5,16 @@ ghost use Rattle.cluster_process.specs.Kept.{gathered_in};
 
 use crate::cluster::Running;
 use crate::kept::{Kept, Memory};
-use cluster_console::{Checked, Checker};
+use cluster_console::{Checked, Checker, DeadPeer, MemberState};
 use cluster_master::{HeldMaster, SharedMaster};
-use node_workers::StopFault;
+use node_workers::{AskedPeer, CloseCause, StopFault, milliseconds};
 use purge_rules::PurgeStore;
 use roster::Roster;
 use run_check::check_run;
 use std::alloc::{AllocError, Global};
 use std::hash::RandomState;
 use std::sync::Wait;
+use std::time::Clock;
 
 /// What was gathered of what the members and the master did, and where the rest of it comes from.
 #[derive(Drop)]
@@ -69,8 +70,8 @@ impl<S: PurgeStore> Judge<'_, S> {
         Ok(())
     }
 
-    /// Holds all members and the master, gathers what they did since the last time, and lets them go
-    /// on. So nothing is done between the first record that is taken and the last entry.
+    /// Holds all members and the master, gathers what they did since the last time, and lets them
+    /// go on. So nothing is done between the first record that is taken and the last entry.
     ///
     /// Faults: those of [`Workers::record`](node_workers::Workers::record). What was gathered
     /// before such a fault stays, and the rest is gathered the next time. Where there is no memory
@@ -132,4 +133,53 @@ impl<S: PurgeStore> Checker for Judge<'_, S> {
             Err(StopFault::Ended) => Ok(Checked::Ended),
         }
     }
+
+    fn state(&self, id: u8) -> MemberState {
+        for node in self.nodes {
+            if node.id == id {
+                return state_of(node.workers.close_cause());
+            }
+        }
+        MemberState::Open
+    }
+
+    fn dead_peers<R: Wait + Clock>(
+        &self,
+        rt: &R,
+        alloc: Global,
+    ) -> Result<Vec<DeadPeer>, AllocError> {
+        let now = milliseconds(rt);
+        let mut dead = Vec::new(alloc);
+        for node in self.nodes {
+            let peers = node.workers.dead_peers(rt, alloc)?;
+            push_dead(node.id, peers.as_slice(), now, &mut dead)?;
+        }
+        Ok(dead)
+    }
+}
+
+/// How a member stands that is closed for this cause, if it is closed.
+fn state_of(cause: Option<CloseCause>) -> MemberState {
+    match cause {
+        None => MemberState::Open,
+        Some(CloseCause::StoreFault) => MemberState::StoreFault,
+        Some(CloseCause::NoMemory) => MemberState::NoMemory,
+    }
+}
+
+/// Adds the peers that a member thinks dead to the list, at this moment in milliseconds.
+fn push_dead(
+    member: u8,
+    peers: &[AskedPeer],
+    now: u64,
+    dead: &mut Vec<DeadPeer>,
+) -> Result<(), AllocError> {
+    for peer in peers {
+        dead.push(DeadPeer {
+            member,
+            peer: peer.id,
+            seconds: now.saturating_sub(peer.since) / 1000,
+        })?;
+    }
+    Ok(())
 }

@@ -7,10 +7,12 @@
 //! `check` it holds all members, gathers their records and the master's entries, lets them go on,
 //! and has `run_check` judge all that is kept.
 //!
-//! Order of reading: `src/cluster.rt` (start, answer, stop); `src/stores.rt` and `src/files.rt`
-//! (the files); `src/master_thread.rt`; `src/judge.rt`, `src/kept.rt` and `specs/Kept.antt` (what
-//! is gathered, and how much of it is kept); `src/fault.rt` and `specs/Names.antt` (which file,
-//! port or member is at fault); `proofs/Gathering.antt`, `proofs/Sending.antt`.
+//! Order of reading: `src/cluster.rt` (start, answer, stop); `src/stores.rt`, `src/node_floors.rt`
+//! and `src/files.rt` (the files), `specs/Numbers.antt` (when a master is behind);
+//! `src/master_thread.rt`; `src/watch.rt` (who says that a member has closed); `src/judge.rt`,
+//! `src/kept.rt` and `specs/Kept.antt` (what is gathered, and how much of it is kept);
+//! `src/fault.rt` and `specs/Names.antt` (which file, port or member is at fault);
+//! `proofs/Gathering.antt`, `proofs/Sending.antt`, `proofs/Numbers.antt`.
 //!
 //! The crate opens files and sockets, starts threads, reads the clock, and draws random hash keys.
 //!
@@ -25,7 +27,9 @@ mod files;
 mod judge;
 mod kept;
 mod master_thread;
+mod node_floors;
 mod stores;
+mod watch;
 
 pub use cluster::{is_worker_count, run_cluster};
 pub use fault::ClusterFault;

@@ -24,6 +24,16 @@ pub(crate) struct MasterThread<S: PurgeStore> {
     thread: JoinHandle<()>,
 }
 
+impl<S: PurgeStore> MasterThread<S> {
+    /// The number of the last purge; the greatest number where there is no memory to tell it.
+    pub(crate) fn last<R: Wait>(&self, rt: &R) -> u32 {
+        match self.master.purges(rt) {
+            Ok(purges) => purges.last(),
+            Err(_) => u32::MAX,
+        }
+    }
+}
+
 /// What the master's thread has.
 #[derive(Drop)]
 struct Polling<S: PurgeStore> {

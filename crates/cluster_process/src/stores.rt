@@ -1,21 +1,18 @@
 //! The files of a cluster, in one folder: `node-N.db` for each member N, and `master.db`.
+ghost use Rattle.std.specs.Prelude.{◌≡◌, find, map, nat_lt, option_map, IfOk};
+ghost use Rattle.cluster_process.specs.Numbers.{IsJudged};
+
 use crate::fault::ClusterFault;
 use crate::files::{MasterStore, NodeStore};
+use crate::node_floors::NodeFloors;
+use floor_rules::{FloorFault, FloorStore};
 use purge_numbers::SqliteFloors;
 use purge_records::SqlitePurges;
+use purge_rules::{PurgeFault, PurgeStore};
 use roster::{LAST_MEMBER, Roster};
 use sqlite::{Connection, Error, ErrorCode, File, FileStore};
 use std::alloc::{AllocError, Global};
 use std::fs;
-
-/// A member's floors, in a store.
-#[derive(Drop)]
-pub(crate) struct NodeFloors<F> {
-    /// The member's id.
-    pub(crate) id: u8,
-    /// Its floors.
-    pub(crate) floors: F,
-}
 
 /// The stores of a cluster, each over a file: those of the members by ascending id, and the
 /// master's.
@@ -30,7 +27,9 @@ pub struct Stores {
 ///
 /// Faults: `OtherRoster`, before any file is opened, where the folder has a master's file and the
 /// members that have a file there are not those of the roster. For the first file that is not
-/// opened, `File` or `NoMemory`, or the fault of its tables. After a fault no file is open.
+/// opened, `File` or `NoMemory`, or the fault of its tables. `MasterBehind`, where a member has
+/// stored a number that is greater than the last one of the master; no master's file is made then.
+/// After a fault no file is open.
 pub fn open_stores(
     files: &HostRuntime,
     alloc: Global,
@@ -43,9 +42,89 @@ pub fn open_stores(
         });
     }
     let nodes = open_nodes(files, alloc, roster, dir)?;
-    match open_master(files, alloc, dir) {
+    match open_level_master(files, alloc, dir, nodes.as_slice()) {
         Ok(purges) => Ok(Stores { nodes, purges }),
         Err(fault) => Err(fault),
+    }
+}
+
+/// Opens the master's file over those of these members, if it has given each number that they have
+/// stored. A file that does not exist is made only then.
+fn open_level_master<F: FloorStore>(
+    files: &HostRuntime,
+    alloc: Global,
+    dir: &str,
+    nodes: &[NodeFloors<F>],
+) -> Result<MasterStore, ClusterFault> {
+    if !is_there(files, master_path(alloc, dir)?)? {
+        judge_numbers(String::from_str(alloc, dir)?, 0, nodes)?;
+    }
+    match open_master(files, alloc, dir) {
+        Ok(purges) => level(alloc, dir, purges, nodes),
+        Err(fault) => Err(fault),
+    }
+}
+
+/// The master's store, if it has given each number that the members have stored.
+fn level<F: FloorStore>(
+    alloc: Global,
+    dir: &str,
+    mut purges: MasterStore,
+    nodes: &[NodeFloors<F>],
+) -> Result<MasterStore, ClusterFault> {
+    let last = match last_of(alloc, &mut purges) {
+        Ok(last) => last,
+        Err(fault) => return Err(unread(master_path(alloc, dir)?, fault)),
+    };
+    match judge_numbers(String::from_str(alloc, dir)?, last, nodes) {
+        Ok(()) => Ok(purges),
+        Err(fault) => Err(fault),
+    }
+}
+
+/// Why the purges of the master's file were not read.
+fn unread(path: String, fault: PurgeFault) -> ClusterFault {
+    match fault {
+        PurgeFault::NoMemory => ClusterFault::NoMemory,
+        fault => ClusterFault::Purges { path, fault },
+    }
+}
+
+/// The last number that a master has given.
+fn last_of<P: PurgeStore>(alloc: Global, purges: &mut P) -> Result<u32, PurgeFault>
+    ensures { IfOk result (λ last. P.is_honest purges.new → last ≡ (P.content purges.new).last) }
+{
+    match purges.load(alloc) {
+        Ok(purges) => Ok(purges.last()),
+        Err(fault) => Err(fault),
+    }
+}
+
+/// The first member that has stored a number greater than this one.
+fn first_ahead<F: FloorStore>(last: u32, nodes: &[NodeFloors<F>]) -> Option<&NodeFloors<F>>
+    ensures { option_map (λ n. n.now) result ≡ find (λ n. nat_lt last n.seen) nodes.now }
+{
+    nodes.iter().find(|node| last < node.seen)
+}
+
+/// Refuses a folder whose master has given no number greater than this one, where a member has
+/// stored a greater one: the next purges would have numbers that were given before, and the members
+/// would keep their copies.
+fn judge_numbers<F: FloorStore>(
+    dir: String,
+    last: u32,
+    nodes: &[NodeFloors<F>],
+) -> Result<(), ClusterFault>
+    ensures { IsJudged last (map (λ n. n.seen) nodes.now) result }
+{
+    match first_ahead(last, nodes) {
+        Some(node) => Err(ClusterFault::MasterBehind {
+            dir,
+            last,
+            id: node.id,
+            number: node.seen,
+        }),
+        None => Ok(()),
     }
 }
 
@@ -112,14 +191,19 @@ fn open_node(
     id: u8,
     nodes: &mut Vec<NodeFloors<NodeStore>>,
 ) -> Result<(), ClusterFault> {
-    match node_store(rt, alloc, dir, id) {
-        Ok(floors) => put_node(nodes, NodeFloors { id, floors }),
-        Err(fault) => Err(fault),
+    let floors = node_store(rt, alloc, dir, id)?;
+    match NodeFloors::of(alloc, id, floors) {
+        Ok(node) => put_node(nodes, node),
+        Err(FloorFault::NoMemory) => Err(ClusterFault::NoMemory),
+        Err(fault) => Err(ClusterFault::Floors {
+            path: node_path(alloc, dir, id)?,
+            fault,
+        }),
     }
 }
 
 /// Puts a member's floors behind those that are there.
-fn put_node<F: Drop>(
+fn put_node<F: FloorStore + Drop>(
     nodes: &mut Vec<NodeFloors<F>>,
     node: NodeFloors<F>,
 ) -> Result<(), ClusterFault> {

@@ -1,17 +1,19 @@
-//! What workers and fetchers do with the steps of a node.
+//! What workers do with the steps of a node.
+ghost use Rattle.std.specs.Prelude.{◌≡◌};
+ghost use Rattle.cluster_service.specs.Steps.{TakesOne, BeginsAtMost, BeginsRound, EndsRound, FailsFetch};
+
+use crate::client::Client;
 use crate::gate::Gate;
 use crate::station::{Station, milliseconds, seconds};
-use crate::telling::{refuse_all, tell};
-use cluster_streams::StreamPolls;
+use crate::telling::{refuse_all, tell, tell_client};
 use mio::net::TcpStream;
 use node_bytes::{Stepper, Turn};
 use node_rules::{Begin, Event, Serve, StepFault};
 use std::sync::Wait;
-use std::sync::atomic::Ordering;
 use std::time::Clock;
 
-/// How many steps follow the first step of a job or an errand at most: one for the end of each of
-/// the 26 fetches of a request, and one for a round whose time is over at once.
+/// How many steps follow the first step of a job at most: one for the failure of each of the 26
+/// fetches of a request, and one for a round whose time is over at once.
 pub(crate) const MOST_FURTHER_STEPS: u32 = 31;
 
 /// A thread that takes the steps of a node by a seat of its own, with what it needs to do what they
@@ -24,13 +26,15 @@ pub struct Seated<'a, N: Stepper + Drop, G: Gate + Drop, R> {
     pub station: &'a Station<G>,
     /// What takes its steps.
     pub node: N,
-    /// What it polls its streams with.
-    pub polls: StreamPolls,
+    /// Where short pieces of a response are kept while it is written.
+    pub kept: Vec<u8>,
 }
 
 impl<N: Stepper + Drop, G: Gate + Drop, R: Wait + Clock> Seated<'_, N, G, R> {
     /// Takes a step, and returns what is to be done then.
-    pub(crate) fn step(&mut self, event: Event<()>) -> Option<Turn> {
+    pub(crate) fn step(&mut self, event: Event<()>) -> Option<Turn>
+        ensures { TakesOne N.takes event self.old.node self.new.node result }
+    {
         match self.node.step(event) {
             Ok(reply) => Turn::of(self.station.alloc, reply).ok(),
             Err(fault) => {
@@ -41,27 +45,53 @@ impl<N: Stepper + Drop, G: Gate + Drop, R: Wait + Clock> Seated<'_, N, G, R> {
     }
 
     /// Notes a fault of a step. Where the node has closed, those who wait get 503.
-    pub(crate) fn note(&mut self, fault: StepFault) {
+    pub(crate) fn note(&mut self, fault: StepFault)
+        ensures { self.new.node ≡ self.old.node }
+    {
         if fault == StepFault::Closed || fault == StepFault::StoreFault {
-            self.station.is_closed.store(true, Ordering::SeqCst);
+            self.station.closing.note(fault);
             self.refuse_all();
         }
     }
 
     /// Answers 503 to all who wait.
-    pub(crate) fn refuse_all(&mut self) {
-        refuse_all(self.rt, self.station, &mut self.polls);
+    pub(crate) fn refuse_all(&mut self)
+        ensures { self.new.node ≡ self.old.node }
+    {
+        refuse_all(self.rt, self.station, &mut self.kept);
     }
 
-    /// Writes what a client is served.
-    pub(crate) fn tell(&mut self, stream: TcpStream, serve: &Serve<()>) {
-        tell(self.rt, self.station, &mut self.polls, stream, serve);
+    /// Writes what a client is served. `lingers` where it may still send.
+    pub(crate) fn tell(&mut self, stream: TcpStream, serve: Serve<()>, lingers: bool)
+        ensures { self.new.node ≡ self.old.node }
+    {
+        tell(
+            self.rt,
+            self.station,
+            &mut self.kept,
+            stream,
+            serve,
+            lingers,
+        );
     }
 
-    /// Sends and serves what a step asks for, and returns what it begins. At a node that is to
-    /// stop, nothing more begins.
-    pub(crate) fn carry_out(&mut self, turn: Turn) -> Option<Begin> {
+    /// Writes what a client that waits is served.
+    pub(crate) fn tell_client(&mut self, client: Client, serve: Serve<()>)
+        ensures { self.new.node ≡ self.old.node }
+    {
+        tell_client(self.rt, self.station, &mut self.kept, client, serve);
+    }
+
+    /// Sends and serves what a step asks for, and returns what it begins. Whom a round waits for is
+    /// noted before its questions are sent. At a node that is to stop, nothing more begins.
+    pub(crate) fn carry_out(&mut self, turn: Turn) -> Option<Begin>
+        ensures node { self.new.node ≡ self.old.node }
+        ensures begins { BeginsAtMost turn result }
+    {
         let Turn { serve, send, begin } = turn;
+        if let Some(Begin::Round { serial }) = &begin {
+            self.station.ask(self.rt, *serial, send.as_slice());
+        }
         self.station.send_all(send.as_slice());
         if let Some(serve) = serve {
             self.serve(serve);
@@ -74,18 +104,22 @@ impl<N: Stepper + Drop, G: Gate + Drop, R: Wait + Clock> Seated<'_, N, G, R> {
 
     /// Answers the client whose request is served, or keeps the answer until that client comes to
     /// the tables.
-    fn serve(&mut self, serve: Serve<()>) {
-        let Some(block) = serve.waiter else {
-            return;
-        };
-        if let Ok(Some((stream, serve))) = self.station.tables.answer(self.rt, block, serve) {
-            self.tell(stream, &serve);
+    fn serve(&mut self, serve: Serve<()>)
+        ensures { self.new.node ≡ self.old.node }
+    {
+        if let Some((client, serve)) = self.station.answer(self.rt, serve) {
+            self.tell_client(client, serve);
         }
     }
 
-    /// Has a round wait for `query_wait` milliseconds (of the roster). Where it cannot wait, its
-    /// time is over at once.
-    pub(crate) fn begin_round(&mut self, serial: u32) -> Option<Turn> {
+    /// Has a round wait for `query_wait` milliseconds (of the roster). Where it cannot wait, or all
+    /// its peers are thought dead, its time is over at once.
+    pub(crate) fn begin_round(&mut self, serial: u32) -> Option<Turn>
+        ensures { BeginsRound N.takes serial self.old.node self.new.node result }
+    {
+        if self.station.tables.waits_for_none(self.rt, serial) {
+            return self.end_round(serial);
+        }
         let wait = self.station.roster.limits().query_wait;
         let until = milliseconds(self.rt).saturating_add(wait);
         match self.station.tables.begin(self.rt, until, serial) {
@@ -94,14 +128,31 @@ impl<N: Stepper + Drop, G: Gate + Drop, R: Wait + Clock> Seated<'_, N, G, R> {
         }
     }
 
+    /// Takes the step of a round whose deadline has come. The peers that it still waited for have
+    /// left a question unanswered.
+    pub(crate) fn expire(&mut self, serial: u32) -> Option<Turn>
+        ensures { EndsRound N.takes serial self.old.node self.new.node result }
+    {
+        let peers = self.station.tables.left(self.rt, serial);
+        self.station
+            .peers
+            .missed(self.rt, peers, milliseconds(self.rt));
+        self.end_round(serial)
+    }
+
     /// Takes the step of a round whose time is over (RFC 2187, section 5.3.3).
-    pub(crate) fn end_round(&mut self, serial: u32) -> Option<Turn> {
+    pub(crate) fn end_round(&mut self, serial: u32) -> Option<Turn>
+        ensures { EndsRound N.takes serial self.old.node self.new.node result }
+    {
+        self.station.tables.end(self.rt, serial);
         let now = seconds(self.rt);
         self.step(Event::Expired { serial, now })
     }
 
     /// Takes the step of a fetch that failed.
-    pub(crate) fn fail(&mut self, serial: u32) -> Option<Turn> {
+    pub(crate) fn fail(&mut self, serial: u32) -> Option<Turn>
+        ensures { FailsFetch N.takes serial self.old.node self.new.node result }
+    {
         let now = seconds(self.rt);
         self.step(Event::FetchFailed { serial, now })
     }

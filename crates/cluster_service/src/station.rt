@@ -1,39 +1,52 @@
 //! What the threads of a node share beside the node itself.
-ghost use Rattle.std.specs.Prelude.{◌≡◌, ◌==◌, true, find, option_map};
+ghost use Rattle.std.specs.Prelude.{◌≡◌, ◌==◌, true, find, option_map, IfSome, Some, None};
 ghost use Rattle.roster.specs.Lookups.{is_member};
-ghost use Rattle.cluster_service.specs.Addresses.{peer_source};
+ghost use Rattle.cluster_service.specs.Addresses.{fetch_at, fetch_for, peer_source};
 
+use crate::client::Client;
+use crate::closing::Closing;
 use crate::gate::Gate;
-use cluster_fetch::ResponseSource;
-use cluster_sockets::Senders;
-use cluster_waiting::{Bell, Errands, WaitTables};
-use mio::net::TcpStream;
+use cluster_fetch::{Fetch, ResponseSource};
+use cluster_sockets::{Delivery, Errand, Inbox, Senders};
+use cluster_waiting::{PeerTable, WaitTables};
+use http_messages::Ask;
 use node_bytes::{Packet, Turn};
-use node_rules::Serve;
-use roster::{Address, Cache, Roster};
+use node_rules::{Begin, Serve};
+use roster::{Address, Cache, Roster, Udp};
 use std::alloc::Global;
-use std::sync::Arc;
-use std::sync::atomic::{AtomicBool, Ordering};
-use std::time::Clock;
+use std::sync::atomic::{AtomicBool, AtomicU64, Ordering};
+use std::sync::{Arc, Wait};
+use std::time::{Clock, Duration, Instant};
+
+/// The response of a request that waits, with its number among all such responses of the node.
+#[derive(Drop)]
+pub struct Numbered {
+    /// Its number.
+    pub(crate) number: u64,
+    /// What is served.
+    pub(crate) serve: Serve<()>,
+}
 
 /// What the threads of a node share beside the node itself.
 #[derive(Drop)]
 pub struct Station<G: Drop> {
     /// The clients that wait, the answers that came before their clients, and the rounds that wait.
-    pub tables: WaitTables<TcpStream, Serve<()>>,
-    /// Where workers wait for jobs.
-    pub bell: Bell,
-    /// What is left to the fetchers.
-    pub errands: Errands<Turn>,
+    pub tables: WaitTables<Client, Numbered>,
+    /// The number of the next response of a request that waits.
+    pub(crate) next: AtomicU64,
+    /// How the node's peers answer.
+    pub peers: Arc<PeerTable, Global>,
+    /// What is left to the event loop.
+    pub(crate) inbox: Arc<Inbox, Global>,
     pub(crate) alloc: Global,
     /// Who takes part.
-    pub(crate) roster: Roster,
+    pub roster: Roster,
     /// The member's id.
-    pub(crate) id: u8,
+    pub id: u8,
     /// The node's UDP sockets, for sending.
     pub(crate) senders: Senders,
-    /// Whether a step has answered that the node is closed, or that its store has failed.
-    pub(crate) is_closed: AtomicBool,
+    /// Whether the node is closed, and why.
+    pub(crate) closing: Arc<Closing, Global>,
     /// Whether the node is to stop.
     pub(crate) is_stopped: Arc<AtomicBool, Global>,
     /// What is told of each read of an origin.
@@ -58,8 +71,17 @@ pub fn milliseconds<C: Clock>(clock: &C) -> u64 {
     }
 }
 
+/// The request number or TRANS-ID of the question that octets answer, if they may be an answer.
+fn number_in(udp: Udp, octets: &[u8]) -> Option<u32> {
+    match udp {
+        Udp::Icp if !icp_wire::is_query(octets) => icp_wire::number_in(octets),
+        Udp::Htcp if htcp_wire::is_response(octets) => htcp_wire::trans_in(octets),
+        _ => None,
+    }
+}
+
 /// The cache of this id.
-fn cache_in(caches: &[Cache], id: u8) -> Option<&Cache>
+pub(crate) fn cache_in(caches: &[Cache], id: u8) -> Option<&Cache>
     ensures { option_map (λ c. c.now) result ≡ find (λ c. c.id == id) caches.now }
 {
     caches.iter().find(|cache| cache.id == id)
@@ -78,28 +100,61 @@ pub(crate) fn source_of(roster: &Roster, peer: u8) -> Option<(ResponseSource, Ad
     }
 }
 
+/// The fetch that begins: whom it asks, and where. None begins with a round, nor where the roster
+/// has no such peer or origin.
+pub(crate) fn fetch_of(roster: &Roster, begin: Begin) -> Option<Fetch>
+    ensures { result ≡ fetch_for roster.now begin }
+{
+    match begin {
+        Begin::Round { .. } => None,
+        Begin::Peer { serial, peer, ask } => fetch_from(source_of(roster, peer)?, serial, ask),
+        Begin::Read { serial, ask } => {
+            let at = roster.origin(ask.key.host(), ask.key.port())?;
+            fetch_from((ResponseSource::Origin, at), serial, ask)
+        }
+    }
+}
+
+/// A fetch from this source at this address.
+fn fetch_from(from: (ResponseSource, Address), serial: u32, ask: Ask) -> Option<Fetch>
+    ensures { result ≡ Some (fetch_at from serial ask) }
+{
+    let (source, at) = from;
+    Some(Fetch {
+        source,
+        serial,
+        at,
+        ask,
+    })
+}
+
 impl<G: Gate + Drop> Station<G> {
-    /// The station of a member of the roster, with the senders of its sockets; nobody waits yet.
-    /// `is_stopped` is set once the node is to stop. `gate` is told of each read of an origin.
+    /// The station of a member of the roster, with its peers, the senders of its sockets and the
+    /// inbox of its event loop; nobody waits yet. `is_stopped` is set once the node is to stop.
+    /// `closing` is told of a fault that closes the node, and `gate` of each read of an origin.
     pub fn new(
         alloc: Global,
         roster: Roster,
         id: u8,
+        peers: Arc<PeerTable, Global>,
         senders: Senders,
+        inbox: Arc<Inbox, Global>,
         is_stopped: Arc<AtomicBool, Global>,
+        closing: Arc<Closing, Global>,
         gate: Arc<G, Global>,
     ) -> Station<G>
         requires { is_member roster id ≡ true }
     {
         Station {
             tables: WaitTables::new(alloc),
-            bell: Bell::new(),
-            errands: Errands::new(alloc),
+            next: AtomicU64::new(0),
+            peers,
+            inbox,
             alloc,
             roster,
             id,
             senders,
-            is_closed: AtomicBool::new(false),
+            closing,
             is_stopped,
             gate,
         }
@@ -107,6 +162,48 @@ impl<G: Gate + Drop> Station<G> {
 }
 
 impl<G: Drop> Station<G> {
+    /// After which time a client that is too slow is given up: the roster's `answer_wait`.
+    pub(crate) fn patience(&self) -> Duration {
+        Duration::from_millis(self.roster.limits().answer_wait)
+    }
+
+    /// Notes whom a round waits for, before it sends these questions: its peers that are not thought
+    /// dead. Where there is no memory for the note, the round waits for all.
+    pub(crate) fn ask<R: Wait>(&self, rt: &R, serial: u32, questions: &[Packet]) {
+        let mut peers = 0;
+        for question in questions {
+            peers |= self.peers.waits_for(rt, question.by, question.to);
+        }
+        match self.tables.ask(rt, serial, peers) {
+            Ok(()) | Err(_) => {}
+        }
+    }
+
+    /// Notes what a peer has sent by this protocol from this address, after the step that these
+    /// octets led to. Returns the round that still waits, but for no peer that is not thought dead.
+    pub(crate) fn hear<R: Wait>(
+        &self,
+        rt: &R,
+        udp: Udp,
+        from: Address,
+        octets: &[u8],
+        turn: &Turn,
+    ) -> Option<u32>
+        ensures { IfSome result (λ serial. (turn.now.begin ≡ None) × (turn.now.serve ≡ None)) }
+    {
+        let serial = number_in(udp, octets)?;
+        let peer = self.peers.answered(rt, udp, from)?;
+        if turn.begin.is_some() || turn.serve.is_some() {
+            self.tables.end(rt, serial);
+            return None;
+        }
+        if self.tables.heard(rt, serial, !peer) {
+            Some(serial)
+        } else {
+            None
+        }
+    }
+
     /// Sends datagrams on the node's sockets.
     pub(crate) fn send_all(&self, packets: &[Packet]) {
         for packet in packets {
@@ -114,6 +211,87 @@ impl<G: Drop> Station<G> {
             let _ = self
                 .senders
                 .send(packet.by, packet.to, packet.octets.as_slice());
+        }
+    }
+
+    /// Sends, serves and begins what a turn asks for, on the thread of the event loop: a round waits,
+    /// a fetch is left in the inbox, and so is a response. Where there is no memory for that, it is
+    /// lost, as a reply is for which there is none.
+    pub(crate) fn carry_out<R: Wait + Clock>(&self, rt: &R, turn: Turn) {
+        let Turn { serve, send, begin } = turn;
+        self.send_all(send.as_slice());
+        if let Some(serve) = serve {
+            self.leave_response(rt, serve);
+        }
+        if let Some(begin) = begin {
+            self.leave_begin(rt, begin);
+        }
+    }
+
+    /// The number of the next response. One that has a lesser number answers no request whose step
+    /// is yet to begin.
+    pub(crate) fn next(&self) -> u64 {
+        self.next.load(Ordering::SeqCst)
+    }
+
+    /// Gives a response to the client that waits for it, or keeps it until that client comes.
+    pub(crate) fn answer<R: Wait>(&self, rt: &R, serve: Serve<()>) -> Option<(Client, Serve<()>)> {
+        let block = serve.waiter?;
+        let number = self.next.fetch_add(1, Ordering::SeqCst);
+        match self.tables.answer(rt, block, Numbered { number, serve }) {
+            Ok(Some((client, numbered))) => {
+                self.tables.end_ask(rt, block);
+                Some((client, numbered.serve))
+            }
+            Ok(None) | Err(_) => None,
+        }
+    }
+
+    /// Has a client wait until its request is served, or gives its response where that has come
+    /// already. A response of a number below `since`, that of the next response as the request's
+    /// step began, is dropped: it is another request's, which had the block before. A client that
+    /// is refused comes back.
+    pub(crate) fn leave<R: Wait>(
+        &self,
+        rt: &R,
+        block: u32,
+        client: Client,
+        since: u64,
+    ) -> Result<Option<(Client, Serve<()>)>, Client> {
+        let (client, numbered) = match self.tables.leave(rt, block, client) {
+            Ok(Some(both)) => both,
+            Ok(None) => return Ok(None),
+            Err(handed_back) => return Err(handed_back.back),
+        };
+        if numbered.number >= since {
+            return Ok(Some((client, numbered.serve)));
+        }
+        match self.tables.leave(rt, block, client) {
+            Ok(Some((client, numbered))) => Ok(Some((client, numbered.serve))),
+            Ok(None) => Ok(None),
+            Err(handed_back) => Err(handed_back.back),
+        }
+    }
+
+    /// Leaves the response of a client that waits in the inbox.
+    fn leave_response<R: Wait + Clock>(&self, rt: &R, serve: Serve<()>) {
+        let Ok(now) = Instant::now(rt) else {
+            return;
+        };
+        if let Some((Client::Waiting(stream), serve)) = self.answer(rt, serve) {
+            let delivery = Delivery::new(stream, serve, false, self.patience(), now);
+            let _ = self.inbox.put(rt, Errand::Deliver(delivery));
+        }
+    }
+
+    /// Has a round wait, or leaves a fetch in the inbox.
+    fn leave_begin<R: Wait + Clock>(&self, rt: &R, begin: Begin) {
+        if let Begin::Round { serial } = &begin {
+            let until = milliseconds(rt).saturating_add(self.roster.limits().query_wait);
+            let _ = self.tables.begin(rt, until, *serial);
+        }
+        if let Some(fetch) = fetch_of(&self.roster, begin) {
+            let _ = self.inbox.put(rt, Errand::Fetch(fetch));
         }
     }
 

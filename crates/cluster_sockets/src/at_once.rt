@@ -1,4 +1,5 @@
-//! Datagrams that are answered without a job.
+//! What the event loop asks of the layer above it.
+use cluster_jobs::Sender;
 use std::sync::Wait;
 use std::time::Clock;
 use values_plain::{Address, Udp};
@@ -18,13 +19,23 @@ pub trait AtOnce {
         octets: &[u8],
     ) -> bool;
 
+    /// Whose a datagram is that came by this protocol from this address.
+    fn sender_of(&self, udp: Udp, from: Address) -> Sender;
+
+    /// Whether a client waits for what the fetch with this serial ends, and was not told that it
+    /// took too long.
+    fn is_wanted<R: Wait>(&self, rt: &R, serial: u32) -> bool;
+
+    /// The same, and the client has not gone away. It must not wait for its connection.
+    fn is_there<R: Wait>(&self, rt: &R, serial: u32) -> bool;
+
     /// Sends what was held back since the last call, such as answers that are sent together. The
     /// loop calls it once in each poll, after it has read the datagrams that were ready. It waits
     /// for no more than `deals_with` does.
     fn finish(&mut self);
 }
 
-/// Answers no datagram: each is queued.
+/// Answers no datagram: each is queued, as a stranger's. All fetches are wanted.
 #[derive(Clone, Copy, Debug, PartialEq, Eq)]
 pub struct Never;
 
@@ -37,6 +48,18 @@ impl AtOnce for Never {
         _octets: &[u8],
     ) -> bool {
         false
+    }
+
+    fn sender_of(&self, _udp: Udp, _from: Address) -> Sender {
+        Sender::Stranger
+    }
+
+    fn is_wanted<R: Wait>(&self, _rt: &R, _serial: u32) -> bool {
+        true
+    }
+
+    fn is_there<R: Wait>(&self, _rt: &R, _serial: u32) -> bool {
+        true
     }
 
     fn finish(&mut self) {}

@@ -4,12 +4,11 @@ ghost use Rattle.cluster_sockets.specs.Polls.{HasPut, IsSound};
 
 use crate::at_once::AtOnce;
 use crate::fault::LoopFault;
-use crate::putting::{Come, put};
+use crate::putting::{Come, put_or_drop};
 use crate::sockets::Sockets;
-use cluster_jobs::{Job, Jobs, Pass, QueueName};
+use cluster_jobs::{Job, Jobs, Pass, Run};
 use std::alloc::{AllocError, Global};
 use std::io::ErrorKind;
-use std::mem::replace;
 use std::sync::{Arc, Wait};
 use std::time::Clock;
 use values_plain::{Address, Udp};
@@ -29,7 +28,6 @@ pub(crate) struct Datagrams {
     buffer: Vec<u8>,
     icp_is_ready: bool,
     htcp_is_ready: bool,
-    had_jobs: bool,
 }
 
 impl Datagrams {
@@ -45,7 +43,6 @@ impl Datagrams {
             buffer: vec![in alloc; 0; LONGEST_DATAGRAM]?,
             icp_is_ready: true,
             htcp_is_ready: true,
-            had_jobs: false,
         })
     }
 
@@ -55,11 +52,6 @@ impl Datagrams {
             Udp::Icp => self.icp_is_ready = is_ready,
             Udp::Htcp => self.htcp_is_ready = is_ready,
         }
-    }
-
-    /// Whether a datagram has had a job since this was last called.
-    pub(crate) fn had_jobs(&mut self) -> bool {
-        replace(&mut self.had_jobs, false)
     }
 
     /// Whether the socket of a protocol may have datagrams to read.
@@ -88,8 +80,13 @@ impl Datagrams {
                 }
                 let mut octets = Vec::with_capacity(self.alloc, length)?;
                 octets.extend_from_slice(came)?;
-                self.had_jobs = true;
-                Ok(Come::Taken(Some(Job::Datagram { udp, from, octets })))
+                let sender = at_once.sender_of(udp, from);
+                Ok(Come::Taken(Some(Job::Datagram {
+                    sender,
+                    udp,
+                    from,
+                    octets,
+                })))
             }
             Err(error) if error.kind() == ErrorKind::WouldBlock => Ok(Come::Nothing),
             Err(_) => Err(LoopFault::Io),
@@ -98,7 +95,7 @@ impl Datagrams {
 
     /// Reads what is ready of a protocol, 256 datagrams at most, and puts the jobs. Returns whether
     /// there may be more.
-    pub(crate) fn put_ready<Q: QueueName, A: AtOnce, R: Wait + Clock>(
+    pub(crate) fn put_ready<Q: Run, A: AtOnce, R: Wait + Clock>(
         &mut self,
         rt: &R,
         jobs: &Jobs<Q>,
@@ -113,7 +110,7 @@ impl Datagrams {
         }
         for _ in 0..MOST_DATAGRAMS {
             match self.next(rt, udp, at_once) {
-                Ok(Come::Taken(job)) => pass = put(rt, jobs, pass, job),
+                Ok(Come::Taken(job)) => pass = put_or_drop(rt, jobs, pass, job),
                 Ok(Come::Nothing) => {
                     self.set_ready(udp, false);
                     return (pass, Ok(false));

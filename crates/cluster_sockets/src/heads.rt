@@ -27,6 +27,7 @@ pub(crate) enum Reading {
 #[derive(Drop)]
 pub(crate) struct Head {
     number: u64,
+    ip: u32,
     stream: TcpStream,
     octets: Vec<u8>,
     end: HeadEnd,
@@ -34,10 +35,18 @@ pub(crate) struct Head {
 }
 
 impl Head {
-    /// A connection that was accepted at this moment, before anything is read of it.
-    pub(crate) fn new(alloc: Global, number: u64, stream: TcpStream, since: Instant) -> Head {
+    /// A connection from an IPv4 address that was accepted at this moment, before anything is read
+    /// of it.
+    pub(crate) fn new(
+        alloc: Global,
+        number: u64,
+        ip: u32,
+        stream: TcpStream,
+        since: Instant,
+    ) -> Head {
         Head {
             number,
+            ip,
             stream,
             octets: Vec::new(alloc),
             end: HeadEnd::new(0, true),
@@ -87,6 +96,11 @@ impl Head {
         now.saturating_duration_since(self.since).as_secs() >= PATIENCE
     }
 
+    /// Whether it has waited for a second.
+    pub(crate) fn has_waited(&self, now: Instant) -> bool {
+        now.saturating_duration_since(self.since).as_secs() >= 1
+    }
+
     /// Shuts down its reading side: a worker reads no more of it than has come by now.
     pub(crate) fn end(&mut self) {
         // (a stream that its client has reset cannot be shut down; it has ended anyway)
@@ -100,12 +114,28 @@ impl Head {
         let _ = registry.deregister(&mut self.stream);
     }
 
+    /// How many connections were accepted before it.
+    pub(crate) fn number(&self) -> u64 {
+        self.number
+    }
+
+    /// The IPv4 address that it comes from.
+    pub(crate) fn ip(&self) -> u32 {
+        self.ip
+    }
+
+    /// The connection alone.
+    pub(crate) fn into_stream(self) -> TcpStream {
+        self.stream
+    }
+
     /// Makes it a job for a worker.
     pub(crate) fn into_job(self) -> Job
         ensures { HasCome (sight_of result) }
     {
         let Head {
             number,
+            ip: _,
             stream,
             octets,
             end: _,

@@ -1,9 +1,9 @@
 //! How a job is put into the queue.
-ghost use Rattle.std.specs.Prelude.{IfSome};
+ghost use Rattle.std.specs.Prelude.{◌≡◌, IfSome};
 ghost use Rattle.cluster_jobs.specs.Order.{sight_of};
 ghost use Rattle.cluster_sockets.specs.Polls.{HasCome, HasPut};
 
-use cluster_jobs::{Job, Jobs, Pass, QueueName};
+use cluster_jobs::{Job, Jobs, Pass, Run};
 use std::sync::Wait;
 
 /// What one read of a socket, or one accept, gave.
@@ -15,9 +15,25 @@ pub(crate) enum Come {
     Nothing,
 }
 
-/// Puts a job that came over a socket, if there is one. Where the queue is full the job is dropped,
-/// which closes its stream.
-pub(crate) fn put<Q: QueueName, R: Wait>(
+/// Puts a job that came over a socket, if there is one. Where its lane is full it comes back.
+pub(crate) fn put<Q: Run, R: Wait>(
+    rt: &R,
+    jobs: &Jobs<Q>,
+    pass: Pass<Q>,
+    job: Option<Job>,
+) -> (Pass<Q>, Option<Job>)
+    requires { IfSome job (λ job. HasCome (sight_of job)) }
+    ensures put { HasPut pass result.0 }
+    ensures back { IfSome result.1 (λ job. HasCome (sight_of job)) }
+{
+    match job {
+        Some(job) => put_one(rt, jobs, pass, job),
+        None => (pass, None),
+    }
+}
+
+/// Puts a job that came over a socket, if there is one. Where its lane is full it is dropped.
+pub(crate) fn put_or_drop<Q: Run, R: Wait>(
     rt: &R,
     jobs: &Jobs<Q>,
     pass: Pass<Q>,
@@ -26,17 +42,21 @@ pub(crate) fn put<Q: QueueName, R: Wait>(
     requires { IfSome job (λ job. HasCome (sight_of job)) }
     ensures { HasPut pass result }
 {
-    match job {
-        Some(job) => put_one(rt, jobs, pass, job),
-        None => pass,
-    }
+    let (pass, _) = put(rt, jobs, pass, job);
+    pass
 }
 
-/// Puts one job, or drops it where the queue is full.
-fn put_one<Q: QueueName, R: Wait>(rt: &R, jobs: &Jobs<Q>, pass: Pass<Q>, job: Job) -> Pass<Q>
+/// Puts one job. Where its lane is full it comes back.
+pub(crate) fn put_one<Q: Run, R: Wait>(
+    rt: &R,
+    jobs: &Jobs<Q>,
+    pass: Pass<Q>,
+    job: Job,
+) -> (Pass<Q>, Option<Job>)
     requires { HasCome (sight_of job) }
-    ensures { HasPut pass result }
+    ensures put { HasPut pass result.0 }
+    ensures back { IfSome result.1 (λ back. back ≡ job) }
 {
-    let (pass, _) = jobs.put(rt, pass, job);
-    pass
+    let (pass, answer) = jobs.put(rt, pass, job);
+    (pass, answer.err())
 }

@@ -5,16 +5,19 @@ ghost use Rattle.cluster_sockets.specs.Polls.{HasCome, HasPut, IsSound};
 
 use crate::fault::LoopFault;
 use crate::heads::{Head, Reading};
+use crate::per_address::PerAddress;
 use crate::putting::{Come, put};
-use cluster_jobs::{Job, Jobs, Pass, QueueName};
+use cluster_jobs::{Job, Jobs, Pass, Run};
 use mio::Registry;
 use mio::net::{TcpListener, TcpStream};
 use slab::Slab;
 use std::alloc::{AllocError, Global};
-use std::io::ErrorKind;
+use std::collections::VecDeque;
+use std::io::{self, ErrorKind};
 use std::mem::replace;
 use std::sync::Wait;
 use std::time::Instant;
+use values_plain::Address;
 
 /// How many connections wait in the loop at most.
 const MOST_HEADS: usize = 1024;
@@ -29,6 +32,17 @@ const MOST_LATE: usize = 64;
 /// How many milliseconds pass between two looks for connections whose five seconds have passed.
 const BETWEEN_LOOKS: u128 = 100;
 
+/// The errors of the system where the process, or the whole system, has no more descriptors.
+const WANT_OF_DESCRIPTORS: [i32; 2] = [24, 23];
+
+/// Whether a call failed for want of a descriptor.
+fn is_want_of_descriptors(error: &io::Error) -> bool {
+    match error.raw_os_error() {
+        Some(number) => WANT_OF_DESCRIPTORS.contains(&number),
+        None => false,
+    }
+}
+
 /// Accepts a node's connections, and keeps those whose requests have not come.
 #[derive(Drop)]
 pub(crate) struct Streams {
@@ -36,18 +50,22 @@ pub(crate) struct Streams {
     listener: TcpListener,
     is_ready: bool,
     heads: Slab<Head>,
+    per_address: PerAddress,
+    most_of_address: u32,
     came: Vec<usize>,
     number: u64,
     looked: Instant,
-    had_jobs: bool,
+    refused: VecDeque<(TcpStream, bool)>,
+    has_lacked: bool,
 }
 
 impl Streams {
-    /// Accepts from this listener. `AllocError` comes where there is no memory for 1,024 waiting
-    /// connections.
+    /// Accepts from this listener. At most `most_of_address` connections of one address wait.
+    /// `AllocError` comes where there is no memory for 1,024 waiting connections.
     pub(crate) fn new(
         alloc: Global,
         listener: TcpListener,
+        most_of_address: u32,
         now: Instant,
     ) -> Result<Streams, AllocError> {
         Ok(Streams {
@@ -55,10 +73,13 @@ impl Streams {
             listener,
             is_ready: true,
             heads: Slab::with_capacity(alloc, MOST_HEADS)?,
+            per_address: PerAddress::new(alloc),
+            most_of_address,
             came: Vec::with_capacity(alloc, MOST_HEADS)?,
             number: 0,
             looked: now,
-            had_jobs: false,
+            refused: VecDeque::new(alloc),
+            has_lacked: false,
         })
     }
 
@@ -67,24 +88,97 @@ impl Streams {
         self.is_ready = true;
     }
 
-    /// Whether a connection has had a job since this was last called.
-    pub(crate) fn had_jobs(&mut self) -> bool {
-        replace(&mut self.had_jobs, false)
-    }
-
     /// Notes that more has come of the connection under this key. `AllocError` comes where there is
     /// no room to note it; the connection then waits for more octets, or for its five seconds.
     pub(crate) fn note(&mut self, key: usize) -> Result<(), AllocError> {
         Ok(self.came.push(key)?)
     }
 
+    /// Puts the job of a connection, if there is one. Where its lane is full the connection is
+    /// refused.
+    fn put_job<Q: Run, R: Wait>(
+        &mut self,
+        rt: &R,
+        jobs: &Jobs<Q>,
+        pass: Pass<Q>,
+        job: Option<Job>,
+    ) -> Pass<Q>
+        requires { IfSome job (λ job. HasCome (sight_of job)) }
+        ensures { HasPut pass result }
+    {
+        let (pass, back) = put(rt, jobs, pass, job);
+        if let Some(job) = back {
+            self.refuse_job(job);
+        }
+        pass
+    }
+
+    /// Keeps the connection of a job that is refused until it is told so.
+    fn refuse_job(&mut self, job: Job) {
+        match job {
+            Job::Stream { stream, .. } => self.refuse(stream, true),
+            Job::Datagram { .. } | Job::Timer { .. } | Job::Fetched(_) => {}
+        }
+    }
+
+    /// Keeps a connection that is refused until it is told so. `lingers` where its client has sent
+    /// something. Where there is no memory for it, it is closed.
+    fn refuse(&mut self, stream: TcpStream, lingers: bool) {
+        let _ = self.refused.push_back((stream, lingers));
+    }
+
+    /// Whether a connection could not be accepted for want of a descriptor since this was last
+    /// called.
+    pub(crate) fn has_lacked(&mut self) -> bool {
+        replace(&mut self.has_lacked, false)
+    }
+
+    /// Whether a connection that is refused has not been told so.
+    pub(crate) fn has_refused(&self) -> bool {
+        !self.refused.is_empty()
+    }
+
+    /// Takes out a connection that is refused, and that has not been told so, and whether its client
+    /// has sent something.
+    pub(crate) fn next_refused(&mut self) -> Option<(TcpStream, bool)> {
+        self.refused.pop_front()
+    }
+
+    /// Takes out the connection under this key, if it waits.
+    fn remove(&mut self, key: usize) -> Option<Head> {
+        let head = self.heads.try_remove(key)?;
+        self.per_address.remove(head.ip());
+        Some(head)
+    }
+
+    /// The key of the connection that has waited longest for its request: of those from an IPv4
+    /// address, or of all.
+    fn oldest(&self, ip: Option<u32>) -> Option<usize> {
+        self.heads
+            .iter()
+            .filter(|(_, head)| match ip {
+                Some(ip) => head.ip() == ip,
+                None => true,
+            })
+            .min_by_key(|(_, head)| head.number())
+            .map(|(key, _)| key)
+    }
+
+    /// Refuses the connection under this key.
+    fn refuse_at(&mut self, registry: &Registry, key: usize) {
+        if let Some(mut head) = self.remove(key) {
+            head.deregister(registry);
+            let lingers = !head.is_silent();
+            self.refuse(head.into_stream(), lingers);
+        }
+    }
+
     /// Takes out the connection under this key, as a job.
     fn take(&mut self, registry: &Registry, key: usize) -> Option<Job>
         ensures { IfSome result (λ job. HasCome (sight_of job)) }
     {
-        let mut head = self.heads.try_remove(key)?;
+        let mut head = self.remove(key)?;
         head.deregister(registry);
-        self.had_jobs = true;
         Some(head.into_job())
     }
 
@@ -101,14 +195,14 @@ impl Streams {
             Reading::Waits => None,
             Reading::Came => self.take(registry, key),
             Reading::Gone => {
-                let _ = self.heads.try_remove(key);
+                let _ = self.remove(key);
                 None
             }
         }
     }
 
     /// Puts the connections that were noted and whose requests have come.
-    pub(crate) fn put_noted<Q: QueueName, R: Wait>(
+    pub(crate) fn put_noted<Q: Run, R: Wait>(
         &mut self,
         rt: &R,
         registry: &Registry,
@@ -122,7 +216,7 @@ impl Streams {
                 break;
             };
             let job = self.read_on(registry, key);
-            pass = put(rt, jobs, pass, job);
+            pass = self.put_job(rt, jobs, pass, job);
         }
         self.came.clear();
         pass
@@ -141,7 +235,7 @@ impl Streams {
             _ => return None,
         };
         if is_silent {
-            let _ = self.heads.try_remove(key);
+            let _ = self.remove(key);
             return None;
         }
         self.take(registry, key)
@@ -149,7 +243,7 @@ impl Streams {
 
     /// Puts the connections whose five seconds have passed, 64 at most, at intervals of 100
     /// milliseconds.
-    pub(crate) fn put_late<Q: QueueName, R: Wait>(
+    pub(crate) fn put_late<Q: Run, R: Wait>(
         &mut self,
         rt: &R,
         registry: &Registry,
@@ -168,7 +262,7 @@ impl Streams {
         for key in 0..MOST_HEADS {
             let job = self.take_late(registry, key, now);
             late = late.saturating_add(usize::from(job.is_some()));
-            pass = put(rt, jobs, pass, job);
+            pass = self.put_job(rt, jobs, pass, job);
             if late >= MOST_LATE {
                 break;
             }
@@ -176,13 +270,51 @@ impl Streams {
         pass
     }
 
-    /// Keeps a connection until more has come of it, or closes it where 1,024 wait or the poll does
-    /// not take it.
-    fn keep(&mut self, registry: &Registry, head: Head) {
+    /// Whether the connection under this key has waited for a second.
+    fn has_waited(&self, key: usize, now: Instant) -> bool {
+        match self.heads.get(key) {
+            Some(head) => head.has_waited(now),
+            None => false,
+        }
+    }
+
+    /// Refuses those connections from an IPv4 address that have waited longest, two at most, if they
+    /// have waited for a second.
+    fn refuse_idle(&mut self, registry: &Registry, ip: u32, now: Instant) {
+        for _ in 0..2 {
+            match self.oldest(Some(ip)) {
+                Some(key) if self.has_waited(key, now) => self.refuse_at(registry, key),
+                _ => break,
+            }
+        }
+    }
+
+    /// Makes room for a connection that is to wait. Where 1,024 wait, the one that has waited
+    /// longest is refused. Where as many wait from its address as may, two that have waited for a
+    /// second are: requests of connections that come at once may take a moment.
+    fn make_room(&mut self, registry: &Registry, ip: u32, now: Instant) {
         if self.heads.len() >= MOST_HEADS {
+            if let Some(key) = self.oldest(None) {
+                self.refuse_at(registry, key);
+            }
+        }
+        if self.per_address.count(ip) >= self.most_of_address {
+            self.refuse_idle(registry, ip, now);
+        }
+    }
+
+    /// Keeps a connection until more has come of it. It is closed where the poll does not take it,
+    /// and refused where there is no memory to count it.
+    fn keep(&mut self, registry: &Registry, head: Head, now: Instant) {
+        let ip = head.ip();
+        self.make_room(registry, ip, now);
+        if !self.per_address.add(ip) {
+            let lingers = !head.is_silent();
+            self.refuse(head.into_stream(), lingers);
             return;
         }
         let Ok(key) = self.heads.insert(head) else {
+            self.per_address.remove(ip);
             return;
         };
         let is_told = match self.heads.get_mut(key) {
@@ -190,23 +322,26 @@ impl Streams {
             None => true,
         };
         if !is_told {
-            let _ = self.heads.try_remove(key);
+            let _ = self.remove(key);
         }
     }
 
     /// Reads a connection that was just accepted. Returns its job, if its request is there.
-    fn begin(&mut self, registry: &Registry, stream: TcpStream, now: Instant) -> Option<Job>
+    fn begin(
+        &mut self,
+        registry: &Registry,
+        stream: TcpStream,
+        from: Address,
+        now: Instant,
+    ) -> Option<Job>
         ensures { IfSome result (λ job. HasCome (sight_of job)) }
     {
-        let mut head = Head::new(self.alloc, self.number, stream, now);
+        let mut head = Head::new(self.alloc, self.number, from.ip, stream, now);
         self.number = self.number.wrapping_add(1);
         match head.read() {
-            Reading::Came => {
-                self.had_jobs = true;
-                Some(head.into_job())
-            }
+            Reading::Came => Some(head.into_job()),
             Reading::Waits => {
-                self.keep(registry, head);
+                self.keep(registry, head, now);
                 None
             }
             Reading::Gone => None,
@@ -218,16 +353,22 @@ impl Streams {
         ensures { IfOk result IsSound }
     {
         match self.listener.accept() {
-            Ok((stream, _)) => Ok(Come::Taken(self.begin(registry, stream, now))),
+            Ok((stream, from)) => {
+                let from = Address::of_socket(from);
+                Ok(Come::Taken(self.begin(registry, stream, from, now)))
+            }
             Err(error) if error.kind() == ErrorKind::WouldBlock => Ok(Come::Nothing),
             Err(error) if error.kind() == ErrorKind::ConnectionAborted => Ok(Come::Taken(None)),
-            Err(_) => Err(LoopFault::Io),
+            Err(error) => {
+                self.has_lacked = self.has_lacked || is_want_of_descriptors(&error);
+                Err(LoopFault::Io)
+            }
         }
     }
 
     /// Accepts what is there, 256 connections at most, and puts those whose requests have come.
     /// Returns whether there may be more.
-    pub(crate) fn put_accepted<Q: QueueName, R: Wait>(
+    pub(crate) fn put_accepted<Q: Run, R: Wait>(
         &mut self,
         rt: &R,
         registry: &Registry,
@@ -242,7 +383,7 @@ impl Streams {
         }
         for _ in 0..MOST_ACCEPTED {
             match self.accept(registry, now) {
-                Ok(Come::Taken(job)) => pass = put(rt, jobs, pass, job),
+                Ok(Come::Taken(job)) => pass = self.put_job(rt, jobs, pass, job),
                 Ok(Come::Nothing) => {
                     self.is_ready = false;
                     return (pass, Ok(false));

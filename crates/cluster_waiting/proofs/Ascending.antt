@@ -1,10 +1,12 @@
 -- Rounds stay in the order of their deadlines: one that is added gets the latest deadline so far or a later one, and
 -- only the first is taken out.
-use Rattle.std.proofs.Common.{◌≡◌, ◌≤◌, ◌<◌, ℕ, List, [], ◌∷◌, ◌++◌, length, get_or, length-append, arith}
+use Rattle.std.proofs.Common.{◌≡◌, ◌≤◌, ◌<◌, ℕ, Bool, true, false, cond, List, [], ◌∷◌, ◌++◌, length, get_or, length-append, arith}
 use Rattle.std.specs.List.{All}
-use Rattle.std.proofs.lemmas.List.Elements.{All-nil, All-push, All-head, All-tail, All-weaker}
+use Rattle.std.specs.Prelude.{filter, not, ◌==◌}
+use Rattle.std.proofs.lemmas.List.Elements.{All-nil, All-push, All-head, All-tail, All-weaker, All-filter}
+use Rattle.std.proofs.lemmas.List.Sums.{length-filter, count_by-le-length}
 use Rattle.cluster_waiting.specs.declared.rounds.WaitingRound.{WaitingRound}
-use Rattle.cluster_waiting.specs.Waiting.{Ascend}
+use Rattle.cluster_waiting.specs.Waiting.{Ascend, rounds_without}
 
 -- a round with the latest deadline so far may stand last
 ascend_push : (rounds : List WaitingRound) (w : WaitingRound) → Ascend rounds → All (λ v. v.until ≤ w.until) rounds → Ascend (rounds ++ w ∷ [])
@@ -39,3 +41,25 @@ pub front_is_over : (old rest : List WaitingRound) (w v : WaitingRound) (now : �
 front_is_over old rest w v now e seen late =
     let same : v ≡ w = rw e at seen in
     rw same at late
+
+-- a round before some of those that were behind it
+ascend_case : (kept : Bool) (w : WaitingRound) (rounds : List WaitingRound) → All (λ later. w.until ≤ later.until) rounds → Ascend rounds →
+    Ascend (cond kept (w ∷ rounds) rounds)
+ascend_case true w rounds low up = (low, up)
+ascend_case false w rounds low up = up
+
+-- some of the rounds, in the same order
+ascend_some : (test : WaitingRound → Bool) (rounds : List WaitingRound) → Ascend rounds → Ascend (filter test rounds)
+ascend_some test [] up = tt
+ascend_some test (w ∷ rounds) up =
+    ascend_case (test w) w (filter test rounds) (All-filter test (λ later. w.until ≤ later.until) rounds up.0) (ascend_some test rounds up.1)
+
+-- the rounds but for those of a serial: still in order, none later than the latest, 65,536 at most
+pub some_fewer : (rounds : List WaitingRound) (serial latest : ℕ) → Ascend rounds × All (λ v. v.until ≤ latest) rounds × (length rounds ≤ 65536)
+    → Ascend (rounds_without serial rounds) × All (λ v. v.until ≤ latest) (rounds_without serial rounds) × (length (rounds_without serial rounds) ≤ 65536)
+some_fewer rounds serial latest h =
+    let test : WaitingRound → Bool = λ w. not (w.serial == serial) in (
+      ascend_some test rounds h.0,
+      All-filter test (λ v. v.until ≤ latest) rounds h.1,
+      omega (arith, length-filter test rounds, count_by-le-length test rounds),
+    )

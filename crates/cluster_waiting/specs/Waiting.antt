@@ -1,5 +1,5 @@
--- What waits at a node: clients, early answers, rounds of queries, and errands; and the count of a bell.
-use Rattle.std.specs.Prelude.{◌≡◌, ◌≢◌, ◌≤◌, ◌<◌, ◌⊎◌, ℕ, Bool, true, false, max, List, [], ◌∷◌, ◌++◌, length, All, Option, Some, None, IsSome, Result, Ok, MatchResult}
+-- What waits at a node: clients, early answers, rounds of queries, and errands.
+use Rattle.std.specs.Prelude.{◌≡◌, ◌≤◌, ◌<◌, ◌⊎◌, ℕ, Bool, true, false, not, ◌==◌, max, filter, List, [], ◌∷◌, ◌++◌, length, All, Option, Some, None, IsSome, Result, Ok, MatchResult}
 use Rattle.std.specs.Ordering.{nat_cmp}
 use Rattle.std.specs.Map.{lookup, remove_entry}
 use Rattle.std.specs.BTreeMap.{is_at, insert_entry}
@@ -7,7 +7,6 @@ use Rattle.cluster_waiting.specs.declared.fault.TableFault.{TableFault}
 use Rattle.cluster_waiting.specs.declared.fault.TableFault.TheVariants.{Taken, Full, NoMemory}
 use Rattle.cluster_waiting.specs.declared.fault.HandedBack.{HandedBack}
 use Rattle.cluster_waiting.specs.declared.rounds.WaitingRound.{WaitingRound}
-use Rattle.cluster_waiting.specs.declared.bell.Rings.{Rings}
 
 -- Clients and answers
 
@@ -104,6 +103,10 @@ added old until serial = record {
   latest = max until old.latest;
 }
 
+-- the rounds but for those of a serial
+abbrev pub rounds_without : ℕ → List WaitingRound → List WaitingRound
+rounds_without serial rounds = filter (λ w. not (w.serial == serial)) rounds
+
 -- the first round is taken out, and its deadline has come
 abbrev pub IsDue : ℕ → RoundsView → RoundsView → ℕ → Type 0
 IsDue now old new serial = (until : ℕ) × (old.rounds ≡ waiting until serial ∷ new.rounds) × (until ≤ now)
@@ -132,9 +135,3 @@ ended queue = record { items = queue.items; over = true }
 abbrev pub Takes : {T : Type 0} → QueueView T → Option T → QueueView T → Type 0
 Takes old None new = (new ≡ old) × ((old.over ≡ true) ⊎ (old.items ≡ []))
 Takes old (Some item) new = (old.over ≡ false) × (old.items ≡ item ∷ new.items) × (new.over ≡ false)
-
--- Rings
-
--- the count is no longer this one, or no job comes any more
-abbrev pub HasMovedPast : Rings → ℕ → Type 0
-HasMovedPast rings seen = (rings.count ≢ seen) ⊎ (rings.is_over ≡ true)

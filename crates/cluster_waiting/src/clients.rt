@@ -1,6 +1,6 @@
 //! Clients that wait for their answers, and answers that came before their clients.
-ghost use Rattle.std.specs.Prelude.{◌≡◌, ◌≤◌, [], length, MatchOption, MatchResult};
-ghost use Rattle.cluster_waiting.specs.Waiting.{Answers, IsPut, IsHandedBack, Leaves, TakesClient};
+ghost use Rattle.std.specs.Prelude.{◌≡◌, ◌≤◌, [], length, option_map, MatchOption, MatchResult};
+ghost use Rattle.cluster_waiting.specs.Waiting.{Answers, IsPut, IsHandedBack, Leaves, TakesClient, found_at, without};
 
 use crate::fault::{HandedBack, TableFault};
 use std::alloc::Global;
@@ -81,6 +81,22 @@ impl<C: Drop, A: Drop> WaitingClients<C, A> {
             Ok(()) => Ok(None),
             Err(handed_back) => Err(handed_back),
         }
+    }
+
+    /// Takes out the client that waits under a block, if one does.
+    pub fn take(&mut self, block: u32) -> Option<C>
+        ensures client { result ≡ found_at self.old.clients block }
+        ensures others { self.new.clients ≡ without self.old.clients block }
+        ensures answers { self.new.answers ≡ self.old.answers }
+    {
+        self.clients.remove(&block)
+    }
+
+    /// The client that waits under a block, if one does.
+    pub fn get(&self, block: u32) -> Option<&C>
+        ensures { option_map (λ c. c.now) result ≡ found_at self.now.clients block }
+    {
+        self.clients.get(&block)
     }
 
     /// Takes out the waiting client with the least block, if a client waits.

@@ -1,6 +1,6 @@
 //! Rounds of queries that wait for their answers.
 ghost use Rattle.std.specs.Prelude.{◌≡◌, ◌≤◌, ◌<◌, ◌++◌, ◌∷◌, [], length, max, MatchOption, OnOk, OnErr};
-ghost use Rattle.cluster_waiting.specs.Waiting.{IsDue, NoneIsDue, added};
+ghost use Rattle.cluster_waiting.specs.Waiting.{IsDue, NoneIsDue, added, rounds_without};
 
 use std::alloc::{AllocError, Global};
 use std::collections::VecDeque;
@@ -65,6 +65,14 @@ impl Rounds {
         self.rounds.push_back(WaitingRound { until, serial })?;
         self.latest = until;
         Ok(())
+    }
+
+    /// Takes out the round with this serial, if it waits.
+    pub fn end(&mut self, serial: u32)
+        ensures rounds { self.new.rounds ≡ rounds_without serial self.old.rounds }
+        ensures latest { self.new.latest ≡ self.old.latest }
+    {
+        self.rounds.retain(|round| round.serial != serial);
     }
 
     /// Takes out the first round if its deadline has come at this moment, in milliseconds, and

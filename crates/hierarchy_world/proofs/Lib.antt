@@ -1,7 +1,7 @@
 -- To read: Runs (why whole runs are safe) and Happening (one event) first. Then the events by kind:
 -- Taking (a node's step and what it sends; over Places, Steps, Changing, Serving), Reaching (what
 -- arrives), Restarting (faults and restarts), Numbers (CLRs to all members), Starting (a new world).
--- MemberNodes, Answerable, Writing and Outcomes are lemmas; Refusing and Applying are about faults.
+-- MemberNodes, Writing and Outcomes are lemmas; Refusing and Applying are about faults.
 pub mod Places
 pub mod Steps
 pub mod Serving
@@ -12,7 +12,6 @@ pub mod Runs
 pub mod Changing
 pub mod Taking
 pub mod Restarting
-pub mod Answerable
 pub mod Numbers
 pub mod Starting
 pub mod Happening

@@ -10,7 +10,7 @@ use Rattle.values_tables.specs.Ranges.{is_foreign_id}
 use Rattle.values_plain.specs.declared.address.Address.{Address}
 use Rattle.values_plain.specs.declared.address.Udp.{Udp}
 use Rattle.values_tables.specs.declared.plain.Tables.{Tables}
-use Rattle.roster.specs.Lookups.{is_member, is_master, member_at, is_own}
+use Rattle.roster.specs.Lookups.{is_member, is_master, member_at}
 use Rattle.node_rules.specs.declared.message.Message.{Message}
 use Rattle.node_rules.specs.declared.message.Message.TheVariants as message
 use Rattle.node_rules.specs.declared.state.Fetch.{Fetch}
@@ -23,8 +23,9 @@ use Rattle.node_rules.specs.declared.event.Event.TheVariants as event
 use Rattle.world_rules.specs.declared.outcome.WorldFault.{WorldFault}
 use Rattle.world_rules.specs.declared.outcome.WorldFault.TheVariants as fault
 use Rattle.node_rules.specs.Messages.{protocol_of as udp_of, clear_answer, clear_answer_in}
+use Rattle.node_rules.specs.Spelled.{decoded_by}
 use Rattle.world_rules.specs.World.{World, Datagram, PeerAsk, PeerAnswer}
-use Rattle.world_rules.specs.Consequence.{Nothing, Consequence, NodeSteps, Ends, Refused, at_member, master_hears_htcp, master_hears, delivered_to, delivered, ask_delivered, answer_delivered, strange_comes, origin_by, origin_to, foreign_by, foreign_to, fetching_at}
+use Rattle.world_rules.specs.Consequence.{Nothing, Consequence, NodeSteps, Ends, Refused, at_member, master_hears_htcp, master_hears, delivered_to, delivered, octets_reach, ask_delivered, answer_delivered, origin_by, origin_to, foreign_by, foreign_to, fetching_at}
 use Rattle.hierarchy_world.specs.declared.parts.Parts.{Parts}
 use Rattle.hierarchy_world.specs.declared.telling.Seen.{Seen as SeenHere}
 use Rattle.hierarchy_world.specs.declared.telling.Seen.TheVariants as here
@@ -85,18 +86,6 @@ to_member t w o d found is master at =
     ap (λ (x : Option Datagram). delivered t w x) is
     ∙ ap (λ (b : Bool). cond b (master_hears t w d.sender d.message) (delivered_to w d.sender d.message (member_at t d.receiver (udp_of d.message)))) master
     ∙ ap (λ (x : Option ℕ). delivered_to w d.sender d.message x) (sym at)
-
--- a stranger's datagram reaches a member, or nobody
-pub strange_to : (t : Tables) (w : World) (to sender : Address) (m : Message) (found : Option ℕ) → is_own t sender ≡ false → found ≡ member_at t to (udp_of m) →
-    strange_comes t w to sender m ≡ delivered_to w sender m found
-strange_to t w to sender m found own at =
-    ap (λ (b : Bool). cond b (Refused fault.NoSuchPacket) (delivered_to w sender m (member_at t to (udp_of m)))) own
-    ∙ ap (λ (x : Option ℕ). delivered_to w sender m x) (sym at)
-
--- its source is the address of a member or of the master
-pub own_refused : (t : Tables) (w : World) (to sender : Address) (m : Message) → is_own t sender ≡ true →
-    strange_comes t w to sender m ≡ Refused fault.NoSuchPacket
-own_refused t w to sender m own = ap (λ (b : Bool). cond b (Refused fault.NoSuchPacket) (delivered_to w sender m (member_at t to (udp_of m)))) own
 
 -- a request arrives
 pub ask_comes : (t : Tables) (w : World) (o : Option PeerAsk) (a : PeerAsk) → o ≡ Some a → ask_delivered t w o ≡ at_member t a.receiver
@@ -248,12 +237,15 @@ not_foreign f peer asked b at is none p q e foreign =
 abbrev mail : Address → Address → Message → Datagram
 mail sender receiver m = record { sender = sender; receiver = receiver; message = m }
 
--- a datagram that was sent reaches a member
-pub mail_comes : (t : Tables) (w : World) (o : Option Datagram) (d : Datagram) (sender receiver : Address) (m said copy : Message) (by : Udp) (id : ℕ) →
+-- a datagram that was sent reaches a member, as the octets that spell it
+pub mail_comes : (t : Tables) (w : World) (o : Option Datagram) (d : Datagram) (sender receiver : Address) (m said : Message) (by : Udp) (id : ℕ)
+    (octets : List ℕ) →
     Some d ≡ o → mail sender receiver m ≡ d → said ≡ m →
-    is_master t receiver ≡ false → by ≡ udp_of said → Some id ≡ member_at t receiver by → copy ≡ said → delivered t w o ≡ delivered_to w sender copy (Some id)
-mail_comes t w o d sender receiver m said copy by id is view same master by_is at copied =
+    is_master t receiver ≡ false → by ≡ udp_of said → Some id ≡ member_at t receiver by → decoded_by (udp_of m) octets ≡ Some m →
+    delivered t w o ≡ octets_reach w sender id (decoded_by by octets)
+mail_comes t w o d sender receiver m said by id octets is view same master by_is at spelled =
+    let by_m : by ≡ udp_of m = by_is ∙ ap (λ (x : Message). udp_of x) same in
     ap (λ (x : Option Datagram). delivered t w x) (sym is) ∙ ap (λ (x : Datagram). delivered t w (Some x)) (sym view)
     ∙ to_member t w (Some (mail sender receiver m)) (mail sender receiver m) (Some id) refl master
-    (at ∙ ap (λ (u : Udp). member_at t receiver u) by_is ∙ ap (λ (x : Message). member_at t receiver (udp_of x)) same)
-    ∙ ap (λ (x : Message). delivered_to w sender x (Some id)) (sym (copied ∙ same))
+    (at ∙ ap (λ (u : Udp). member_at t receiver u) by_m)
+    ∙ ap (λ (x : Option Message). octets_reach w sender id x) (sym (ap (λ (u : Udp). decoded_by u octets) by_m ∙ spelled))

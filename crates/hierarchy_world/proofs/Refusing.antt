@@ -22,8 +22,9 @@ use Rattle.world_rules.specs.declared.event.WorldEvent.TheVariants as world
 use Rattle.world_rules.specs.declared.outcome.WorldFault.{WorldFault}
 use Rattle.world_rules.specs.declared.outcome.WorldFault.TheVariants as fault
 use Rattle.node_rules.specs.Messages.{protocol_of as udp_of}
+use Rattle.node_rules.specs.Spelled.{decoded_by}
 use Rattle.world_rules.specs.World.{World, Datagram, PeerAsk, PeerAnswer, item}
-use Rattle.world_rules.specs.Consequence.{Consequence, NodeSteps, Ends, Refused, at_member, acknowledged_by, master_hears_htcp, master_hears, delivered_to, delivered, ask_delivered, answer_delivered, origin_by, origin_to, foreign_by, foreign_to, fetching_at, issue_by, consequence}
+use Rattle.world_rules.specs.Consequence.{Consequence, NodeSteps, Ends, Refused, at_member, acknowledged_by, master_hears_htcp, master_hears, delivered_to, delivered, octets_reach, octets_come, ask_delivered, answer_delivered, origin_by, origin_to, foreign_by, foreign_to, fetching_at, issue_by, consequence}
 
 -- the two faults of refused events
 abbrev IsOfEvents : WorldFault → Type 0
@@ -75,6 +76,15 @@ datagram_right t w (Some d) =
     either_right (is_master t d.receiver) (master_hears t w d.sender d.message) (delivered_to w d.sender d.message (member_at t d.receiver (udp_of d.message)))
     (hears_right t w d.sender d.message) (found_right w d.sender d.message (member_at t d.receiver (udp_of d.message)))
 
+reach_right : (w : World) (sender : Address) (id : ℕ) (o : Option Message) → IsRight (octets_reach w sender id o)
+reach_right w sender id None = tt
+reach_right w sender id (Some m) = tt
+
+octets_right : (w : World) (sender : Address) (octets : List ℕ) (icp htcp : Option ℕ) → IsRight (octets_come w sender octets icp htcp)
+octets_right w sender octets (Some id) htcp = reach_right w sender id (decoded_by udp.Icp octets)
+octets_right w sender octets None (Some id) = reach_right w sender id (decoded_by udp.Htcp octets)
+octets_right w sender octets None None = tt
+
 ask_right : (t : Tables) (w : World) (o : Option PeerAsk) → IsRight (ask_delivered t w o)
 ask_right t w None = tt
 ask_right t w (Some a) = member_right t a.receiver (NodeSteps a.receiver (event.PeerAsk a.sender a.ask w.clock) a.serial) tt
@@ -114,8 +124,9 @@ consequence_right t w (world.Ask number) = ask_right t w (item w.asks number)
 consequence_right t w (world.Answer number serial) = answer_right t w serial (item w.answers number)
 consequence_right t w (world.Origin id serial answer) = member_right t id _ (origin_right w id serial answer (fetching_at w id serial))
 consequence_right t w (world.Foreign id serial answer) = member_right t id _ (foreign_right w id serial answer (fetching_at w id serial))
-consequence_right t w (world.Strange to sender m) = either_right (is_own t sender) (Refused fault.NoSuchPacket) (delivered_to w sender m (member_at t to (udp_of m)))
-    tt (found_right w sender m (member_at t to (udp_of m)))
+consequence_right t w (world.Strange to sender octets) =
+    either_right (is_own t sender) (Refused fault.NoSuchPacket) (octets_come w sender octets (member_at t to udp.Icp) (member_at t to udp.Htcp)) tt
+    (octets_right w sender octets (member_at t to udp.Icp) (member_at t to udp.Htcp))
 consequence_right t w (world.Fail id serial) = member_right t id _ tt
 consequence_right t w (world.Expire id serial) = member_right t id _ tt
 consequence_right t w (world.Fault id) = member_right t id _ tt

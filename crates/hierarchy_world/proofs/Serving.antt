@@ -8,6 +8,7 @@ use Rattle.node_rules.specs.declared.event.Event.TheVariants as event
 use Rattle.node_rules.specs.declared.reply.Served.{Served}
 use Rattle.node_rules.specs.declared.reply.Served.TheVariants.{Copy, Status}
 use Rattle.node_rules.specs.declared.reply.Serve.{Serve}
+use Rattle.node_rules.specs.declared.reply.Begin.{Begin}
 use Rattle.node_rules.specs.declared.reply.Reply.{Reply}
 use Rattle.node_rules.specs.declared.reply.StepFault.{StepFault}
 use Rattle.node_rules.specs.State.{Setting}
@@ -15,20 +16,21 @@ use Rattle.node_rules.specs.Relation.{Steps}
 use Rattle.node_rules.specs.Effect.{IsBareStatus, IsBareInServe}
 use Rattle.node_rules.proofs.Lawful.{steps_are_lawful}
 use Rattle.world_rules.specs.World.{asked_now, waits_now}
-use Rattle.world_rules.specs.Asked.{IsServedRightly, IsRightlyIn}
+use Rattle.world_rules.specs.Asked.{block_begun, IsServedRightly, IsRightlyIn}
 use Rattle.world_rules.proofs.Asked.{steps_answer_asks}
 use Rattle.hierarchy_world.specs.Posted.{IsWritten, IsWrittenIn, IsWrittenBy, waits_by}
 
 -- what begins to wait, by the member's request that the event is
-pub waits_here : (e : Event ℕ) (id serial : ℕ) (old new : NodeState ℕ) → waits_now id e serial old new ≡ waits_by id (asked_now e serial) old.next new.next
-waits_here (event.Client ask now) id serial old new = refl
-waits_here (event.Datagram from m now) id serial old new = refl
-waits_here (event.PeerAsk asker ask now) id serial old new = refl
-waits_here (event.PeerAnswer at peer key answer tag now) id serial old new = refl
-waits_here (event.OriginAnswer at key answer now) id serial old new = refl
-waits_here (event.ForeignAnswer at peer key answer tag now) id serial old new = refl
-waits_here (event.FetchFailed at now) id serial old new = refl
-waits_here (event.Expired at now) id serial old new = refl
+pub waits_here : (e : Event ℕ) (id serial : ℕ) (b : Option Begin) → waits_now id e serial b ≡ waits_by id (asked_now e serial) (block_begun b)
+waits_here (event.Client ask now) id serial b = refl
+waits_here (event.Datagram from m now) id serial b = refl
+waits_here (event.PeerAsk asker ask now) id serial None = refl
+waits_here (event.PeerAsk asker ask now) id serial (Some b) = refl
+waits_here (event.PeerAnswer at peer key answer tag now) id serial b = refl
+waits_here (event.OriginAnswer at key answer now) id serial b = refl
+waits_here (event.ForeignAnswer at peer key answer tag now) id serial b = refl
+waits_here (event.FetchFailed at now) id serial b = refl
+waits_here (event.Expired at now) id serial b = refl
 
 at_most : (n most : ℕ) → min n most ≤ most
 at_most n most = search rules

@@ -16,7 +16,6 @@ use Rattle.node_core.specs.Closing.{KeepsStore, FailsWithCause}
 use Rattle.node_core.specs.View.{IsSameMember, IsTied, setting_of}
 use Rattle.values_keys.specs.KeyOf.{GivesKeys, key_of}
 use Rattle.values_keys.proofs.Outcomes.{gives_keys}
-use Rattle.hierarchy_world.specs.declared.members.Stepped.{Stepped as SteppedHere}
 use Rattle.hierarchy_world.specs.Parts.{MemberNode, IsStored, IsStep}
 
 closed_step : {X : Type 0} (g : Setting) (s : NodeState X) (e : Event X) (mark : X) → s.closed ≡ true → step g s e mark ≡ refuses s fault.Closed
@@ -70,19 +69,17 @@ pub never_fails : (outcome : Result (Reply ℕ) StepFault) → FailsWithCause (U
 never_fails outcome cause is = elim (cause is tt) [ inl less ↦ absurd (omega arith) | inr most ↦ absurd (omega arith) ]
 
 -- the contract of a node's step, for a node over floors in memory
-pub is_step : (before after : MemberNode) (e : Event ℕ) (mark : ℕ) (s : SteppedHere) → IsStored before → IsSameMember before after →
-    Keeps before after s.outcome → FailsWithCause (Unit {0}) (HaveRisen 0 0) s.outcome →
-    ((key_of : List ℕ → Option (List ℕ)) → GivesKeys key_of → Steps (setting_of before key_of) before.state e mark s.outcome after.state) →
+pub is_step : (before after : MemberNode) (e : Event ℕ) (mark : ℕ) (outcome : Result (Reply ℕ) StepFault) → IsStored before → IsSameMember before after →
+    Keeps before after outcome → FailsWithCause (Unit {0}) (HaveRisen 0 0) outcome →
+    ((key_of : List ℕ → Option (List ℕ)) → GivesKeys key_of → Steps (setting_of before key_of) before.state e mark outcome after.state) →
     IsTied after.state.closed after.state.floors true (Unit {0}) after.store →
-    s.outcome ≢ Err fault.NoMemory → s.before ≡ before.state.next → s.after ≡ after.state.next → IsStep before mark e s after
-is_step before after e mark s stored same keeps cause steps tied memory first last = record {
+    outcome ≢ Err fault.NoMemory → IsStep before mark e outcome after
+is_step before after e mark outcome stored same keeps cause steps tied memory = record {
   roster = same.roster;
   id = same.id;
-  stored = stored_after before after (setting before.roster before.id) e mark s.outcome stored (λ still. (tied still).1 tt) memory (never_fails s.outcome cause)
+  stored = stored_after before after (setting before.roster before.id) e mark outcome stored (λ still. (tied still).1 tt) memory (never_fails outcome cause)
       (steps key_of gives_keys) keeps;
   steps = steps key_of gives_keys;
   memory = memory;
-  store = never_fails s.outcome cause;
-  next_before = first;
-  next_after = last;
+  store = never_fails outcome cause;
 }

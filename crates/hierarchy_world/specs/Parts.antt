@@ -1,6 +1,6 @@
 -- The parts of a world: the world that they are, their invariant (IsSound), and what an event does to
 -- them (IsTaken).
-use Rattle.std.specs.Prelude.{◌≡◌, ◌≢◌, ℕ, suc, Bool, ◌==◌, false, List, [], ◌∷◌, ◌++◌, map, option_map, Option, Some, None, Result, Ok, Err, if◌then◌else◌}
+use Rattle.std.specs.Prelude.{◌≡◌, ◌≢◌, ℕ, zero, suc, ◌^◌, Bool, ◌==◌, false, List, [], ◌∷◌, ◌++◌, map, option_map, Option, Some, None, Result, Ok, Err, if◌then◌else◌}
 use Rattle.std.specs.List.{AllByRecursion}
 use Rattle.floor_rules.specs.Floors.{FloorMap}
 use Rattle.values_tables.specs.declared.plain.Tables.{Tables}
@@ -9,6 +9,8 @@ use Rattle.purge_rules.specs.Purges.{PurgeList}
 use Rattle.purge_master.specs.View.{MasterView}
 use Rattle.node_rules.specs.declared.state.NodeState.{NodeState}
 use Rattle.node_rules.specs.declared.event.Event.{Event}
+use Rattle.node_rules.specs.declared.reply.Reply.{Reply}
+use Rattle.node_rules.specs.declared.reply.StepFault.{StepFault}
 use Rattle.node_rules.specs.declared.reply.StepFault.TheVariants as step_fault
 use Rattle.node_rules.specs.Relation.{Steps}
 use Rattle.node_core.specs.View.{NodeText}
@@ -21,7 +23,6 @@ use Rattle.world_rules.specs.World.{MemberState, Datagram, PeerAsk, PeerAnswer, 
 use Rattle.world_rules.specs.Consequence.{Seen, Replied, Issued, NotIssued, Reported, Nothing, Consequence, Refused, consequence}
 use Rattle.world_rules.specs.Run.{Takes, IsOfKey}
 use Rattle.hierarchy_world.specs.declared.parts.Parts.{Parts}
-use Rattle.hierarchy_world.specs.declared.members.Stepped.{Stepped}
 use Rattle.hierarchy_world.specs.declared.telling.Seen.{Seen as SeenHere}
 use Rattle.hierarchy_world.specs.declared.telling.Seen.TheVariants as here
 use Rattle.hierarchy_world.specs.View.{WorldView, TellsNoLack, HasHappened}
@@ -50,9 +51,14 @@ world_of p = record {
   waiting = p.waiting.items;
 }
 
+-- the place of the next event; 0 stands for 2 ^ 64, which is left when all places are taken
+abbrev pub next_place : ℕ → ℕ
+next_place zero = 2 ^ 64
+next_place (suc place) = suc place
+
 -- what a contract sees of the world, by whether an allocation has failed
 abbrev pub view_of : Parts → Bool → WorldView
-view_of p spoilt = record { roster = p.roster; place = p.place; spoilt = spoilt; world = world_of p }
+view_of p spoilt = record { roster = p.roster; place = next_place p.place; spoilt = spoilt; world = world_of p }
 
 -- the store has the node's floors, whether it is open or closed
 abbrev pub IsStored : MemberNode → Type 0
@@ -93,31 +99,29 @@ seen_of here.Nothing = Nothing
 
 -- A node has taken this step under this mark. The step lacked no memory, and its store did not
 -- fail.
-pub record IsStep (before : MemberNode) (mark : ℕ) (e : Event ℕ) (s : Stepped) (after : MemberNode) : Type 0 where
+pub record IsStep (before : MemberNode) (mark : ℕ) (e : Event ℕ) (outcome : Result (Reply ℕ) StepFault)
+    (after : MemberNode) : Type 0 where
   pub roster : after.roster ≡ before.roster
   pub id : after.id ≡ before.id
   pub stored : IsStored after
-  pub steps : Steps (setting before.roster before.id) before.state e mark s.outcome after.state
-  pub memory : s.outcome ≢ Err step_fault.NoMemory
-  pub store : s.outcome ≢ Err step_fault.StoreFault
-  pub next_before : s.before ≡ before.state.next
-  pub next_after : s.after ≡ after.state.next
+  pub steps : Steps (setting before.roster before.id) before.state e mark outcome after.state
+  pub memory : outcome ≢ Err step_fault.NoMemory
+  pub store : outcome ≢ Err step_fault.StoreFault
 
 -- the world in which the member's node has this state, and all else is the same
 abbrev pub with_state : World → ℕ → NodeState ℕ → World
 with_state w id next = record w { states = with_node w.states id next }
 
 -- the member's node has taken this step at the run's place, and nothing is sent yet
-pub record HasStepped (old : Parts) (id : ℕ) (e : Event ℕ) (s : Stepped) (new : Parts) : Type 0 where
+pub record HasStepped (old : Parts) (id : ℕ) (e : Event ℕ) (outcome : Result (Reply ℕ) StepFault)
+    (new : Parts) : Type 0 where
   pub sound : IsSound new
   pub roster : new.roster ≡ old.roster
   pub place : new.place ≡ old.place
   pub next : NodeState ℕ
-  pub steps : Steps (setting old.roster id) (node_at (world_of old).states id) e old.place s.outcome next
-  pub memory : s.outcome ≢ Err step_fault.NoMemory
-  pub store : s.outcome ≢ Err step_fault.StoreFault
-  pub next_before : s.before ≡ (node_at (world_of old).states id).next
-  pub next_after : s.after ≡ next.next
+  pub steps : Steps (setting old.roster id) (node_at (world_of old).states id) e old.place outcome next
+  pub memory : outcome ≢ Err step_fault.NoMemory
+  pub store : outcome ≢ Err step_fault.StoreFault
   pub world : world_of new ≡ with_state (world_of old) id next
 
 -- what was seen is no step that lacked memory or met a failing store
@@ -139,7 +143,7 @@ IsTaken old t (Ok seen) new = HasTaken old t seen new
 IsTaken old t (Err fault.NoMemory) new = Unit {0}
 IsTaken old t (Err f) new = (t ≡ Refused f) × (new ≡ old)
 
--- only these items are added to what was sent and to what waits
+-- only these items are added: to what was sent behind the others, to what waits before them
 pub record Adds (old new : Parts) (more_datagrams : List Datagram) (more_asks : List PeerAsk)
     (more_answers : List PeerAnswer) (more_waiting : List Waiting) : Type 0 where
   pub roster : new.roster ≡ old.roster
@@ -150,7 +154,7 @@ pub record Adds (old new : Parts) (more_datagrams : List Datagram) (more_asks : 
   pub datagrams : new.datagrams.items ≡ old.datagrams.items ++ more_datagrams
   pub asks : new.asks.items ≡ old.asks.items ++ more_asks
   pub answers : new.answers.items ≡ old.answers.items ++ more_answers
-  pub waiting : new.waiting.items ≡ old.waiting.items ++ more_waiting
+  pub waiting : new.waiting.items ≡ more_waiting ++ old.waiting.items
 
 -- only the nodes and what waits have changed, to these
 pub record IsMemberChanged (old new : Parts) (nodes_now : List MemberNode) (waiting_now : List Waiting) : Type 0 where

@@ -1,5 +1,5 @@
 -- What a step sends, by the member's request that its event is; and what may be served.
-use Rattle.std.specs.Prelude.{◌≡◌, ℕ, ◌≤◌, ◌==◌, true, List, [], ◌∷◌, Option, Some, None, Result, if◌then◌else◌}
+use Rattle.std.specs.Prelude.{◌≡◌, ℕ, ◌≤◌, true, List, [], ◌∷◌, Option, Some, None, Result}
 use Rattle.values_plain.specs.declared.address.Address.{Address}
 use Rattle.values_plain.specs.declared.address.Udp.TheVariants as udp
 use Rattle.values_tables.specs.declared.plain.Tables.{Tables}
@@ -49,8 +49,7 @@ abbrev pub serial_of : Option Answered → ℕ
 serial_of None = 0
 serial_of (Some a) = a.serial
 
--- the member's request that has begun to wait: the event's, if the node has taken a block
-abbrev pub waits_by : ℕ → Option Answered → ℕ → ℕ → List Waiting
-waits_by id None before after = []
-waits_by id (Some a) before after = if before == after then []
-    else record { node = id; block = before; serial = a.serial; key = a.key } ∷ []
+-- the member's request that has begun to wait: the event's, as the block that a reply begins
+abbrev pub waits_by : ℕ → Option Answered → Option ℕ → List Waiting
+waits_by id (Some a) (Some block) = record { node = id; block = block; serial = a.serial; key = a.key } ∷ []
+waits_by id _ _ = []

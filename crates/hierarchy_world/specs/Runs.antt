@@ -1,6 +1,6 @@
 -- A run: events that were applied one after the other, their outcomes, and the safety of purges in
 -- it. HasRun and HasStopped are the contract of World::run.
-use Rattle.std.specs.Prelude.{◌≡◌, ℕ, ◌+◌, ◌-◌, ◌^◌, ◌≤◌, false, All, List, [], ◌∷◌, ◌++◌, length, map}
+use Rattle.std.specs.Prelude.{◌≡◌, ℕ, ◌+◌, ◌^◌, ◌≤◌, false, All, List, [], ◌∷◌, ◌++◌, length, map}
 use Rattle.values_tables.specs.declared.plain.Tables.{Tables}
 use Rattle.world_rules.specs.declared.event.WorldEvent.{WorldEvent}
 use Rattle.world_rules.specs.declared.outcome.Outcome.{Outcome}
@@ -55,5 +55,5 @@ IsRefusedAfter roster events f =
 -- why the events were not all applied; of NoMemory nothing is said
 abbrev pub HasStopped : Tables → List WorldEvent → WorldFault → Type 0
 HasStopped roster events fault.NoMemory = Unit {0}
-HasStopped roster events fault.PlacesSpent = 2 ^ 64 - 1 ≤ length events
+HasStopped roster events fault.PlacesSpent = 2 ^ 64 ≤ length events
 HasStopped roster events f = IsRefusedAfter roster events f

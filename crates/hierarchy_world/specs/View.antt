@@ -1,5 +1,5 @@
 -- What a contract sees of a world, and what applying an event does to it.
-use Rattle.std.specs.Prelude.{◌≡◌, ◌≢◌, ℕ, ◌+◌, ◌-◌, ◌^◌, Bool, Some, Result, Ok, Err}
+use Rattle.std.specs.Prelude.{◌≡◌, ◌≢◌, ℕ, ◌+◌, ◌^◌, Bool, Some, Result, Ok, Err}
 use Rattle.values_tables.specs.declared.plain.Tables.{Tables}
 use Rattle.node_rules.specs.declared.reply.StepFault.TheVariants as step_fault
 use Rattle.world_rules.specs.declared.event.WorldEvent.{WorldEvent}
@@ -12,8 +12,8 @@ use Rattle.world_rules.specs.Consequence.{Seen, Refused, consequence}
 use Rattle.world_rules.specs.Run.{Happens}
 use Rattle.world_rules.specs.Apply.{outcome_of}
 
--- the roster, the place of the next event, whether an allocation has failed, and the world after
--- the events so far
+-- the roster, the place of the next event (2 ^ 64 if none is left), whether an allocation has
+-- failed, and the world after the events so far
 pub record WorldView : Type 0 where
   pub roster : Tables
   pub place : ℕ
@@ -41,5 +41,5 @@ IsApplied old event (Err fault.NoSuchPacket) new = (consequence old.roster old.w
     × (new ≡ old)
 IsApplied old event (Err fault.NotPending) new = (consequence old.roster old.world event ≡ Refused fault.NotPending)
     × (new ≡ old)
-IsApplied old event (Err fault.PlacesSpent) new = (old.place ≡ 2 ^ 64 - 1) × (new ≡ old)
+IsApplied old event (Err fault.PlacesSpent) new = (old.place ≡ 2 ^ 64) × (new ≡ old)
 IsApplied old event (Err fault.NoMemory) new = Unit {0}

@@ -1,7 +1,8 @@
 //! What arrives at a member or at the master, and a member's faults and restarts. Each function
 //! returns `NoSuchPacket` if what the event names does not exist.
-ghost use Rattle.std.specs.Prelude.{◌≡◌, true, Some};
+ghost use Rattle.std.specs.Prelude.{◌≡◌, true};
 ghost use Rattle.node_rules.specs.declared.event.Event.TheVariants as events;
+ghost use Rattle.node_rules.specs.Spelled.{decoded_by};
 ghost use Rattle.node_rules.specs.State.{opened, closed_node};
 ghost use Rattle.roster.specs.Lookups.{is_member};
 ghost use Rattle.world_rules.specs.World.{item as item_of, node_at};
@@ -10,11 +11,11 @@ ghost use Rattle.hierarchy_world.specs.Parts.{IsSound, IsTaken, world_of};
 
 use crate::network::Arrived;
 use crate::parts::{Parts, item};
-use crate::posting::copy_of_message;
 use crate::telling::Seen;
 use http_messages::{Answer, Ask};
-use node_rules::{Event, Fetch, Received};
-use roster::{Address, is_foreign};
+use node_bytes::{encode, event_of};
+use node_rules::{Event, Fetch};
+use roster::{Address, Udp, is_foreign};
 use world_rules::WorldFault;
 
 impl Parts {
@@ -31,22 +32,25 @@ impl Parts {
         self.step(place, id, Event::Client { ask, now }, None)
     }
 
-    /// A datagram reaches a member.
-    fn hear(&mut self, id: u8, from: Address, message: Received) -> Result<Seen, WorldFault>
+    /// Octets reach a member by a protocol. If they spell a message, the member's node takes a step
+    /// with it; else nothing changes.
+    fn hear(&mut self, id: u8, by: Udp, from: Address, octets: &[u8]) -> Result<Seen, WorldFault>
         requires sound { IsSound self.old }
         requires member { is_member self.old.roster id ≡ true }
-        ensures { IsTaken self.old (consequences.delivered_to (world_of self.old) from message (Some id))
-            result self.new }
+        ensures { IsTaken self.old (consequences.octets_reach (world_of self.old) from id
+            (decoded_by by octets.now)) result self.new }
     {
         let Some(place) = self.place_of(id) else {
             return Err(WorldFault::NoSuchPacket);
         };
-        let now = self.clock;
-        self.step(place, id, Event::Datagram { from, message, now }, None)
+        match event_of(self.alloc, by, from, octets, self.clock)? {
+            Some(event) => self.step(place, id, event, None),
+            None => Ok(Seen::Nothing),
+        }
     }
 
     /// A datagram that was sent arrives at the master, or at the member that answers its protocol.
-    #[tactic(auto, using(crate::proofs::MemberNodes::reached_member, crate::proofs::Answerable::sendable_answerable))]
+    #[tactic(auto, using(crate::proofs::MemberNodes::reached_member))]
     pub(crate) fn datagram(&mut self, number: u64) -> Result<Seen, WorldFault>
         requires { IsSound self.old }
         ensures { IsTaken self.old (consequences.delivered self.old.roster (world_of self.old)
@@ -61,30 +65,35 @@ impl Parts {
             let answer = message.clear_answer();
             return self.master_hears(sender, answer);
         }
-        let Some(id) = self.roster.member_at(datagram.receiver, message.protocol()) else {
+        let by = message.protocol();
+        let Some(id) = self.roster.member_at(datagram.receiver, by) else {
             return Err(WorldFault::NoSuchPacket);
         };
-        let message = Received::new(copy_of_message(self.alloc, message)?);
-        self.hear(id, sender, message)
+        let octets = encode(self.alloc, &datagram.message)?;
+        self.hear(id, by, sender, octets.as_slice())
     }
 
-    /// A datagram arrives at a member from an address that is neither a member's nor the master's.
+    /// Octets arrive at a member from an address that is neither a member's nor the master's. They
+    /// are read by the protocol of the member's address.
     #[tactic(auto, using(crate::proofs::MemberNodes::reached_member))]
     pub(crate) fn strange(
         &mut self,
         to: Address,
         from: Address,
-        message: Received,
+        octets: &[u8],
     ) -> Result<Seen, WorldFault>
         requires { IsSound self.old }
         ensures { IsTaken self.old (consequences.strange_comes self.old.roster
-            (world_of self.old) to from message) result self.new }
+            (world_of self.old) to from octets.now) result self.new }
     {
         if self.roster.is_own(from) {
             return Err(WorldFault::NoSuchPacket);
         }
-        match self.roster.member_at(to, message.message().protocol()) {
-            Some(id) => self.hear(id, from, message),
+        if let Some(id) = self.roster.member_at(to, Udp::Icp) {
+            return self.hear(id, Udp::Icp, from, octets);
+        }
+        match self.roster.member_at(to, Udp::Htcp) {
+            Some(id) => self.hear(id, Udp::Htcp, from, octets),
             None => Err(WorldFault::NoSuchPacket),
         }
     }

@@ -1,5 +1,5 @@
 //! One event of a world.
-ghost use Rattle.std.specs.Prelude.{◌≡◌, ◌<◌, ◌-◌, ◌^◌};
+ghost use Rattle.std.specs.Prelude.{◌≡◌, ◌≢◌};
 ghost use Rattle.world_rules.specs.Consequence.{consequence as consequence_of};
 ghost use Rattle.hierarchy_world.specs.Parts.{IsSound, IsTaken, world_of, IsKeyed, IsMade};
 ghost use Rattle.hierarchy_world.specs.Outcomes.{AreCounts};
@@ -46,7 +46,7 @@ impl Parts {
                 serial,
                 answer,
             } => self.foreign(node, serial, answer),
-            WorldEvent::Strange { to, from, message } => self.strange(to, from, message),
+            WorldEvent::Strange { to, from, octets } => self.strange(to, from, octets.as_slice()),
             WorldEvent::Fail { node, serial } => self.fail(node, serial),
             WorldEvent::Expire { node, serial } => self.expire(node, serial),
             WorldEvent::Fault { node } => self.fault(node),
@@ -58,16 +58,16 @@ impl Parts {
         }
     }
 
-    /// Applies an event at the next place, which must be below 2^64 - 1.
+    /// Applies an event at the next place, if one is left. After place 2^64 - 1 none is.
     pub(crate) fn happen(&mut self, event: WorldEvent) -> Result<Outcome, WorldFault>
         requires sound { IsSound self.old }
-        requires place { self.old.place < 2 ^ 64 - 1 }
+        requires place { self.old.place ≢ 0 }
         ensures { IsMade self.old event result self.new }
     {
         let before = self.counts();
         let seen = self.follow(event)?;
         let outcome = tell(self.alloc, before, self.counts(), seen)?;
-        self.place += 1;
+        self.place = self.place.wrapping_add(1);
         Ok(outcome)
     }
 }

@@ -7,8 +7,8 @@
 //! the model. `World::run` applies a list of events to a new world; its contract (`run`) says that
 //! the run is one of the model, and that purges are safe in it. `World::datagrams` lists what was
 //! sent (`Datagram`). Nodes are those of `node_core` and the master that of `purge_master`, with
-//! floors and purges in memory, so no store ever fails. The crate touches no file, socket, clock or
-//! thread.
+//! floors and purges in memory, so no store ever fails. A datagram reaches a node as octets, by the
+//! codecs of `node_bytes`. The crate touches no file, socket, clock or thread.
 //!
 //! A contract sees a `World` as a `WorldView`: the roster, the place of the next event, whether an
 //! allocation has failed (`spoilt`), and the world of the model. After a failed allocation nothing

@@ -14,39 +14,23 @@ use node_rules::{Event, Reply, StepFault};
 use std::alloc::AllocError;
 use world_rules::WorldFault;
 
-/// What a step of a node returns.
-#[derive(Drop)]
-pub(crate) struct Stepped {
-    /// The node's next block of serials before the step.
-    pub before: u32,
-    /// The step's reply, or why it was refused.
-    pub outcome: Result<Reply<u64>, StepFault>,
-    /// The node's next block of serials after the step.
-    pub after: u32,
-}
-
 /// A node takes a step. The only fault is `NoMemory`; nothing is promised of the node then.
 #[tactic(auto, using(crate::proofs::Steps::is_step))]
 fn step_of(
     node: &mut Node<u64, MemoryFloors>,
     event: Event<u64>,
     mark: u64,
-) -> Result<Stepped, WorldFault>
+) -> Result<Result<Reply<u64>, StepFault>, WorldFault>
     requires { IsStored node.old }
-    ensures stepped { IfOk result (λ stepped. IsStep node.old mark event stepped node.new) }
+    ensures stepped { IfOk result (λ outcome. IsStep node.old mark event outcome node.new) }
     ensures fault { IfErr result (λ fault. fault ≡ NoMemory) }
 {
-    let before = node.next();
     let outcome = node.step(event, mark);
     let _closed = node.is_closed();
     if let Err(StepFault::NoMemory) = &outcome {
         return Err(WorldFault::NoMemory);
     }
-    Ok(Stepped {
-        before,
-        outcome,
-        after: node.next(),
-    })
+    Ok(outcome)
 }
 
 /// The index of the node with this id, if there is one.
@@ -96,11 +80,11 @@ impl Parts {
         place: usize,
         id: u8,
         event: Event<u64>,
-    ) -> Result<Stepped, WorldFault>
+    ) -> Result<Result<Reply<u64>, StepFault>, WorldFault>
         requires sound { IsSound self.old }
         requires place { IsPlace self.old.nodes.items id place }
         requires below { place < length self.old.nodes.items }
-        ensures stepped { IfOk result (λ stepped. HasStepped self.old id event stepped self.new) }
+        ensures stepped { IfOk result (λ outcome. HasStepped self.old id event outcome self.new) }
         ensures fault { IfErr result (λ fault. fault ≡ NoMemory) }
     {
         let mark = self.place;

@@ -30,7 +30,7 @@ pub(crate) struct Parts {
     pub answers: Vec<PeerAnswer>,
     /// The members' requests that have begun to wait at a node, since it last started.
     pub waiting: Vec<Waiting>,
-    /// The place of the next event, from 1.
+    /// The place of the next event, from 1; 0 if no place is left.
     pub place: u64,
 }
 

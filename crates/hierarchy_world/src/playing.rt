@@ -1,7 +1,8 @@
 //! `World`, and whole runs of it.
-ghost use Rattle.std.specs.Prelude.{◌≡◌, ◌≢◌, ◌↔◌, ◌^◌, ◌-◌, map, true, false, IsTrue, IfOk, IfErr, OnOk, Err};
+ghost use Rattle.std.specs.Prelude.{◌≡◌, ◌≢◌, ◌↔◌, ◌^◌, map, true, false, IsTrue, IfOk, IfErr, OnOk, Err};
 ghost use Rattle.world_rules.specs.declared.outcome.WorldFault.TheVariants.{NoMemory, PlacesSpent};
 ghost use Rattle.world_rules.specs.World.{new_world};
+ghost use Rattle.world_rules.specs.Noise.{IsNoise};
 ghost use Rattle.node_rules.specs.State.{opened};
 ghost use Rattle.std.specs.FinMap.{empty};
 ghost use Rattle.roster.specs.Judged.{IsRoster};
@@ -23,8 +24,8 @@ use world_rules::{Outcome, WorldEvent, WorldFault};
 /// A hierarchy: each member's node, the master, a clock, and the network, which is all that was
 /// ever sent.
 ///
-/// A contract sees the roster, the place of the next event, whether an allocation has failed
-/// (`spoilt`), and the world of `world_rules`.
+/// A contract sees the roster, the place of the next event (2^64 if none is left), whether an
+/// allocation has failed (`spoilt`), and the world of `world_rules`.
 #[derive(Drop)]
 pub struct World {
     parts: Parts,
@@ -38,13 +39,13 @@ impl Model for World {
     ghost use Rattle.std.specs.Ordering.{nat_cmp};
     ghost use Rattle.std.specs.Cmp.Lexicographic.{slice_cmp};
     ghost use Rattle.hierarchy_world.specs.View.{WorldView};
-    ghost use Rattle.hierarchy_world.specs.Parts.{IsSound, world_of};
+    ghost use Rattle.hierarchy_world.specs.Parts.{IsSound, world_of, next_place};
 
     ghost Value = { WorldView };
 
     ghost coded = { Prim.hlevel (codes, map_code {R = slice_cmp nat_cmp} (coded_list coded_ℕ) coded_ℕ) };
 
-    ghost view = { λ w. record { roster = w.parts.roster; place = w.parts.place; spoilt = w.spoilt; world = world_of w.parts } };
+    ghost view = { λ w. record { roster = w.parts.roster; place = next_place w.parts.place; spoilt = w.spoilt; world = world_of w.parts } };
 
     ghost invariant = { λ w. w.spoilt ≡ false → IsSound w.parts };
 }
@@ -144,21 +145,24 @@ impl World {
     ///
     /// Faults, of which only `NoMemory` changes anything:
     ///
-    /// - `PlacesSpent`, before all others: no place is left. This is so after 2^64 - 2 events.
+    /// - `PlacesSpent`, before all others: no place is left. This is so after 2^64 - 1 events.
     /// - `NoSuchPacket`: the event names something that does not exist.
     /// - `NotPending`: no such read or fetch is pending.
     /// - `NoMemory`: an allocation failed. The world must be made anew; it returns `NoMemory` from
     ///   then on.
     pub fn apply(&mut self, event: WorldEvent) -> Result<Outcome, WorldFault>
         ensures applied { IsApplied self.old event result self.new }
-        ensures spent { self.old.place ≡ 2 ^ 64 - 1 → result ≡ Err PlacesSpent }
+        ensures spent { self.old.place ≡ 2 ^ 64 → result ≡ Err PlacesSpent }
         ensures spoilt { self.old.spoilt ≡ true → (self.new ≡ self.old)
-            × (self.old.place ≢ 2 ^ 64 - 1 → result ≡ Err NoMemory) }
+            × (self.old.place ≢ 2 ^ 64 → result ≡ Err NoMemory) }
         ensures spoils { result ≡ Err NoMemory → self.new.spoilt ≡ true }
         ensures usable { OnOk result (self.new.spoilt ≡ false) }
         ensures lack { IfOk result TellsNoLack }
+        // Octets of a stranger that spell no message change no state, and nothing is sent.
+        ensures noise { IsNoise self.old.roster event →
+            OnOk result (self.new.world ≡ self.old.world) }
     {
-        if self.parts.place == u64::MAX {
+        if self.parts.place == 0 {
             return Err(WorldFault::PlacesSpent);
         }
         if self.spoilt {

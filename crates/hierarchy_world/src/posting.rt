@@ -5,16 +5,16 @@ ghost use Rattle.http_messages.specs.Field.{field_text};
 ghost use Rattle.roster.specs.Lookups.{member_of as member_by_id};
 ghost use Rattle.node_rules.specs.Arrivals.{is_gateway_fault};
 ghost use Rattle.world_rules.specs.World as world;
+ghost use Rattle.world_rules.specs.Asked.{block_begun as begun_block};
 ghost use Rattle.world_rules.specs.Consequence.{NodeSteps};
 ghost use Rattle.hierarchy_world.specs.Parts.{IsSound, IsPlace, IsTaken, Adds};
 ghost use Rattle.hierarchy_world.specs.Posted.{IsWritten, IsWrittenIn, IsWrittenBy, answered as answered_by, answers_by, waits_by, serial_of};
 
-use crate::members::Stepped;
 use crate::network::{Arrived, Datagram, PeerAnswer, PeerAsk, Waiting};
 use crate::parts::Parts;
 use crate::telling::Seen;
 use http_messages::{Answer, Body, Field, Fields};
-use node_rules::{Begin, Event, Message, Outgoing, Reply, Sent, Serve, Served, StepFault};
+use node_rules::{Begin, Event, Message, Outgoing, Reply, SERIALS, Sent, Serve, Served, StepFault};
 use object_store::WebCopy;
 use roster::{Cache, address_by, is_foreign};
 use std::alloc::{AllocError, Global};
@@ -22,7 +22,7 @@ use url_key::Key;
 use world_rules::WorldFault;
 
 /// A copy of a message.
-pub(crate) fn copy_of_message(alloc: Global, message: &Message) -> Result<Message, AllocError>
+fn copy_of_message(alloc: Global, message: &Message) -> Result<Message, AllocError>
     ensures { IfOk result (λ copy. copy ≡ message.now) }
 {
     Ok(match message {
@@ -118,7 +118,21 @@ fn mark_of(served: &Served<u64>) -> u64
     }
 }
 
-/// The member's request that waited at the node as this block, if any.
+/// The block of the serial that an outcome begins, if it begins something.
+fn block_begun(outcome: &Result<Reply<u64>, StepFault>) -> Option<u32>
+    ensures { result ≡ begun_block (world.reply_in outcome.now).begin }
+{
+    let Ok(reply) = outcome else {
+        return None;
+    };
+    match &reply.begin {
+        Some(Begin::Round { serial } | Begin::Peer { serial, .. } | Begin::Read { serial, .. }) =>
+            Some(*serial / SERIALS),
+        None => None,
+    }
+}
+
+/// The latest member's request that waited at the node as this block, if any.
 fn asked_before(
     alloc: Global,
     waiting: &[Waiting],
@@ -296,25 +310,21 @@ impl Parts {
         }
     }
 
-    /// Notes that the event's request waits, if the node has taken a block.
-    fn wait(
-        &mut self,
-        id: u8,
-        asked: Option<Arrived>,
-        before: u32,
-        after: u32,
-    ) -> Result<(), AllocError>
-        ensures { OnOk result (Adds self.old self.new [] [] [] (waits_by id asked before after)) }
+    /// Notes that the event's request waits as this block, if there are both. It stands before
+    /// those that began to wait earlier.
+    fn wait(&mut self, id: u8, asked: Option<Arrived>, block: Option<u32>) -> Result<(), AllocError>
+        ensures { OnOk result (Adds self.old self.new [] [] [] (waits_by id asked block)) }
     {
-        if let Some(asked) = asked {
-            if before != after {
-                self.waiting.push(Waiting {
+        if let (Some(asked), Some(block)) = (asked, block) {
+            self.waiting.insert(
+                0,
+                Waiting {
                     node: id,
-                    block: before,
+                    block,
                     serial: asked.serial,
                     key: asked.key,
-                })?;
-            }
+                },
+            )?;
         }
         Ok(())
     }
@@ -335,13 +345,9 @@ impl Parts {
         requires asked { asked ≡ world.asked_now event (serial_of asked) }
         ensures { IsTaken self.old (NodeSteps id event (serial_of asked)) result self.new }
     {
-        let Stepped {
-            before,
-            outcome,
-            after,
-        } = self.step_at(place, id, event)?;
+        let outcome = self.step_at(place, id, event)?;
         self.post_outcome(id, &asked, &outcome)?;
-        self.wait(id, asked, before, after)?;
+        self.wait(id, asked, block_begun(&outcome))?;
         Ok(Seen::Replied { node: id, outcome })
     }
 }

@@ -19,7 +19,7 @@ abbrev made : ℕ → ℕ → Content → Htcp
 made minor trans content = record { minor = minor; trans = trans; content = content }
 
 -- two messages that stand at the offsets of the same octets
-same_message : (octets : List ℕ) (m n : Htcp) → Holds octets m → Holds octets n → m ≡ n
+pub same_message : (octets : List ℕ) (m n : Htcp) → Holds octets m → Holds octets n → m ≡ n
 same_message octets m n a b =
     let minor : m.minor ≡ n.minor = a.minor ∙ sym b.minor in
     let trans : m.trans ≡ n.trans = a.trans ∙ sym b.trans in

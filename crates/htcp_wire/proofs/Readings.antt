@@ -12,6 +12,7 @@ use Rattle.htcp_wire.specs.declared.message.Htcp.{Htcp}
 use Rattle.htcp_wire.specs.declared.fault.HtcpFault.{HtcpFault}
 use Rattle.htcp_wire.specs.Grammar.{auth, header, data_text, Spells}
 use Rattle.htcp_wire.specs.Faults.{is_bad_data, is_bad_auth, first_fault}
+use Rattle.htcp_wire.specs.Questions.{trans_at}
 use Rattle.htcp_wire.specs.Reading.{length_field, major_field, data_length_field, trans_field, data_field, auth_field, content_at, Holds}
 use Rattle.htcp_wire.proofs.Contents.{content_takes, content_again}
 use Rattle.htcp_wire.proofs.Offsets.{reserved_in, signature_in, behind_in, CanCut, octets_cut, parts_again}
@@ -87,6 +88,13 @@ auth_again signature behind small =
     let size : big_number 2 left ≡ 2 + length signature = big_number-big_bytes 2 (2 + length signature) (signature ++ behind) (omega arith) in
     let long : length left ≡ 2 + (length signature + length behind) = simp length-append (omega arith) in
     or_from _ _ (le-ltb (big_number 2 left) 2 (omega arith)) (le-ltb (length left) (big_number 2 left) (omega arith))
+
+-- the TRANS-ID that is read at its offset
+pub trans_of : (octets : List ℕ) (message : Htcp) → Spells octets message → trans_at octets ≡ Some message.trans
+trans_of octets message s =
+    let left = auth s.signature ++ s.behind in
+    let p = parts_again octets message.minor s.reserved message.trans s.section left s.short s.trans s.response s.parts in
+    rw (le-ltb (length octets) 12 (omega (arith, p.size_is)), p.trans_is) refl
 
 pub read_of : (octets : List ℕ) (message : Htcp) → Spells octets message → IsReadAs octets message
 unfolding first_fault

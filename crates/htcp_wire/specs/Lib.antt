@@ -3,9 +3,11 @@ pub mod Names
 pub mod Grammar
 pub mod Clearing
 pub mod Reading
+pub mod Questions
 pub mod Faults
 pub mod Written
 pub mod Laws
+pub mod Decoded
 pub mod Cut
 pub mod Numbers
 pub mod Lines

@@ -21,7 +21,7 @@ abbrev made : IcpOp → ℕ → List ℕ → List ℕ → Icp
 made op number url object = record { op = op; number = number; url = url; object = object }
 
 -- two messages that stand at the offsets of the same octets
-same_message : (octets : List ℕ) (m n : Icp) → Holds octets m → Holds octets n → m ≡ n
+pub same_message : (octets : List ℕ) (m n : Icp) → Holds octets m → Holds octets n → m ≡ n
 same_message octets m n a b =
     let op : m.op ≡ n.op = cc in
     let number : m.number ≡ n.number = a.number ∙ sym b.number in

@@ -2,6 +2,8 @@
 pub mod Names
 pub mod Grammar
 pub mod Reading
+pub mod Questions
 pub mod Faults
 pub mod Written
 pub mod Laws
+pub mod Decoded

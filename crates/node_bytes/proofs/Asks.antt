@@ -16,9 +16,8 @@ use Rattle.node_rules.specs.declared.reply.Reply.{Reply}
 use Rattle.node_rules.specs.declared.reply.StepFault.{StepFault}
 use Rattle.node_rules.specs.declared.reply.StepFault.TheVariants.{Busy}
 use Rattle.node_rules.specs.State.{Setting, Stepped, replies, refuses, serving}
-use Rattle.node_rules.specs.Fetching.{begin_read, read_origin, give_up}
 use Rattle.node_rules.specs.Known.{has_origin}
-use Rattle.node_rules.specs.Asks.{is_cached_only, is_busy, begin_round, ask_around, begin_ask, not_held, by_copy, ask_comes}
+use Rattle.node_rules.specs.Asks.{is_cached_only, begin_round, begin_with_read, ask_around, begin_ask, begin_if_free, not_held, by_copy, ask_comes}
 use Rattle.node_rules.specs.Step.{open_step, step_if, step}
 use Rattle.node_rules.specs.Relation.{Steps}
 use Rattle.node_bytes.specs.Stepping.{AnswersAsker, AnswersAsk}
@@ -39,34 +38,30 @@ module _ {X : Type 0} (g : Setting) where
   serves : (asker : Option ℕ) (served : Served X) → AnswersAsker asker (serving None asker served)
   serves asker served = inl (record { served = served; alone = refl })
 
-  begin_read_fits : (s : NodeState X) (p : Pending X) (now : ℕ) (mark : X) → Answers p.asker (begin_read s p now mark).outcome
-  unfolding begin_read
-  begin_read_fits s p now mark = begins p.asker _ _ refl refl
-
-  read_origin_fits : (s : NodeState X) (p : Pending X) (now : ℕ) (mark : X) → Answers p.asker (read_origin g s p None now mark).outcome
-  unfolding read_origin
-  read_origin_fits s p now mark =
-      either (λ (r : Stepped X). Answers p.asker r.outcome) (nat_le 3 p.reads) (give_up s p None 503) _ (serves p.asker (Status 503))
-      (either (λ (r : Stepped X). Answers p.asker r.outcome) (has_origin g.roster p.ask.key) (begin_read s p now mark) (give_up s p None 502)
-      (begin_read_fits s p now mark) (serves p.asker (Status 502)))
+  with_read_fits : (s : NodeState X) (asker : Option ℕ) (ask : Ask) (block now : ℕ) (mark : X) → Answers asker
+      (begin_with_read g s asker ask block now mark).outcome
+  unfolding begin_with_read
+  with_read_fits s asker ask block now mark =
+      either (λ (r : Stepped X). Answers asker r.outcome) (has_origin g.roster ask.key) _ (replies s (serving None asker (Status 502)))
+      (begins asker _ _ refl refl) (serves asker (Status 502))
 
   ask_around_fits : (s : NodeState X) (asker : Option ℕ) (ask : Ask) (block now : ℕ) (mark : X) (round : RoundText) (peers : List Peer) →
       Answers asker (ask_around g s asker ask block now mark round peers).outcome
   unfolding ask_around begin_round
-  ask_around_fits s asker ask block now mark round [] = read_origin_fits _ _ now mark
+  ask_around_fits s asker ask block now mark round [] = with_read_fits s asker ask block now mark
   ask_around_fits s asker ask block now mark round (peer ∷ peers) = begins asker _ _ refl refl
 
-  begin_ask_fits : (s : NodeState X) (asker : Option ℕ) (ask : Ask) (now : ℕ) (mark : X) → Answers asker (begin_ask g s asker ask now mark).outcome
-  unfolding begin_ask
-  begin_ask_fits s asker ask now mark = ask_around_fits _ asker ask _ now mark _ _
+  begin_if_free_fits : (s : NodeState X) (asker : Option ℕ) (ask : Ask) (now : ℕ) (mark : X) (o : Option ℕ) → Answers asker
+      (begin_if_free g s asker ask now mark o).outcome
+  unfolding begin_if_free begin_ask
+  begin_if_free_fits s asker ask now mark None = tt
+  begin_if_free_fits s asker ask now mark (Some block) = ask_around_fits s asker ask block now mark _ _
 
   not_held_fits : (s : NodeState X) (asker : Option ℕ) (ask : Ask) (now : ℕ) (mark : X) → Answers asker (not_held g s asker ask now mark).outcome
   unfolding not_held
   not_held_fits s asker ask now mark =
       either (λ (r : Stepped X). Answers asker r.outcome) (is_cached_only g asker ask) (replies s (serving None asker (Status 504))) _
-      (serves asker (Status 504))
-      (either (λ (r : Stepped X). Answers asker r.outcome) (is_busy s) (refuses s Busy) (begin_ask g s asker ask now mark) tt
-      (begin_ask_fits s asker ask now mark))
+      (serves asker (Status 504)) (begin_if_free_fits s asker ask now mark _)
 
   by_copy_fits : (s : NodeState X) (asker : Option ℕ) (ask : Ask) (now : ℕ) (mark : X) (c : Option (WebCopy X)) →
       Answers asker (by_copy g s asker ask now mark c).outcome

@@ -1,3 +1,3 @@
 -- The files stand alone: read them in any order.
-pub mod Answerable
+pub mod Decoding
 pub mod Asks

@@ -1,5 +1,5 @@
 -- What octets say to a node, and the octets of what a node sends.
-use Rattle.std.specs.Prelude.{◌≡◌, ℕ, List, Option, Some, None}
+use Rattle.std.specs.Prelude.{◌≡◌, ℕ, List, Option, Some, None, option_map}
 use Rattle.icp_wire.specs.declared.message.Icp.{Icp}
 use Rattle.icp_wire.specs.declared.fault.IcpFault.{IcpFault}
 use Rattle.icp_wire.specs.Grammar as icp_grammar
@@ -15,6 +15,7 @@ use Rattle.values_plain.specs.declared.address.Udp.{Udp}
 use Rattle.values_plain.specs.declared.address.Udp.TheVariants as udp
 use Rattle.node_rules.specs.declared.message.Message.{Message}
 use Rattle.node_rules.specs.declared.message.Message.TheVariants as message
+use Rattle.node_rules.specs.Spelled.{decoded_by}
 use Rattle.node_rules.specs.declared.event.Event.{Event}
 use Rattle.node_rules.specs.declared.event.Event.TheVariants as event
 
@@ -46,3 +47,7 @@ HasFault udp.Htcp octets = (fault : HtcpFault) × (htcp_faults.first_fault octet
 abbrev pub IsEventOf : {X : Type 0} → Udp → Address → List ℕ → ℕ → Option (Event X) → Type 0
 IsEventOf by from octets now None = HasFault by octets
 IsEventOf by from octets now (Some e) = (m : Message) × SpellsBy by octets m × (e ≡ event.Datagram from m now)
+
+-- The same event, as a function.
+abbrev pub event_in : {X : Type 0} → Udp → Address → List ℕ → ℕ → Option (Event X)
+event_in by from octets now = option_map (λ m. event.Datagram from m now) (decoded_by by octets)

@@ -4,7 +4,7 @@
 //! - [`on_datagram`] is the whole way: octets that arrive take one step, and what to do after it
 //!   comes back as a [`Turn`], in octets. Octets that are no message take no step.
 //! - [`event_of`] decodes a datagram by the protocol at whose address it arrived; [`read_icp`] and
-//!   [`read_htcp`] do so by one protocol. [`octets_of`] encodes a message.
+//!   [`read_htcp`] do so by one protocol. [`encode`] and [`octets_of`] encode a message.
 //! - [`Stepper`] is what takes a step: a node, or a handle on a node that threads share. The same
 //!   code serves both.
 //! - [`master_call_of`] decodes what arrives at the master's address: an acknowledgement, or
@@ -19,8 +19,7 @@
 //! - `specs/Calls`: the master's calls; `src/calls.rt`
 //! - `src/reading.rt`, `src/writing.rt`: the codecs of `icp_wire` and `htcp_wire` as a node uses
 //!   them
-//! - `proofs/Answerable`: why every message that a codec decodes can be answered; `proofs/Asks`:
-//!   the law on requests
+//! - `proofs/Decoding`: the codecs' laws for either protocol; `proofs/Asks`: the law on requests
 //!
 //! Pure: no socket and no clock; the caller passes octets, sender and time. A contract sees a
 //! `Stepper` by its own relation `takes`. Any call that allocates may fail with `NoMemory` or
@@ -38,4 +37,4 @@ pub use calls::master_call_of;
 pub use reading::{event_of, read_htcp, read_icp};
 pub use stepper::Stepper;
 pub use turns::{Packet, Turn, on_datagram};
-pub use writing::octets_of;
+pub use writing::{encode, octets_of};

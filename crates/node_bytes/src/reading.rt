@@ -2,7 +2,9 @@
 ghost use Rattle.std.specs.Prelude.{◌≡◌, ◌≢◌, Some, IfOk, IfErr};
 ghost use Rattle.icp_wire.specs.Faults as icp_faults;
 ghost use Rattle.htcp_wire.specs.Faults as htcp_faults;
-ghost use Rattle.node_bytes.specs.Bytes.{IsIcp, IsHtcp, HasFault, IsEventOf};
+ghost use Rattle.values_plain.specs.declared.address.Udp.TheVariants as udp;
+ghost use Rattle.node_rules.specs.Spelled.{decoded_by};
+ghost use Rattle.node_bytes.specs.Bytes.{IsIcp, IsHtcp, HasFault, IsEventOf, event_in};
 
 use htcp_wire::HtcpFault;
 use icp_wire::IcpFault;
@@ -15,6 +17,7 @@ use std::alloc::{AllocError, Global};
 /// `NoMemory` comes only if the octets spell a message.
 pub fn read_icp(alloc: Global, octets: &[u8]) -> Result<Received, IcpFault>
     ensures ok { IfOk result (IsIcp octets.now) }
+    ensures decoded { IfOk result (λ message. decoded_by udp.Icp octets.now ≡ Some message) }
     ensures err { IfErr result (λ fault. fault ≢ IcpFault.NoMemory →
         icp_faults.first_fault octets.now ≡ Some fault) }
     ensures memory { result ≡ Err IcpFault.NoMemory → icp_faults.first_fault octets.now ≡ None }
@@ -30,6 +33,7 @@ pub fn read_icp(alloc: Global, octets: &[u8]) -> Result<Received, IcpFault>
 /// `NoMemory` comes only if the octets spell a message.
 pub fn read_htcp(alloc: Global, octets: &[u8]) -> Result<Received, HtcpFault>
     ensures ok { IfOk result (IsHtcp octets.now) }
+    ensures decoded { IfOk result (λ message. decoded_by udp.Htcp octets.now ≡ Some message) }
     ensures err { IfErr result (λ fault. fault ≢ HtcpFault.NoMemory →
         htcp_faults.first_fault octets.now ≡ Some fault) }
     ensures memory { result ≡ Err HtcpFault.NoMemory → htcp_faults.first_fault octets.now ≡ None }
@@ -52,6 +56,7 @@ pub fn event_of<T>(
     now: u64,
 ) -> Result<Option<Event<T>>, AllocError>
     ensures event { IfOk result (IsEventOf by from octets.now now) }
+    ensures decoded { IfOk result (λ event. event ≡ event_in by from octets.now now) }
     ensures memory { IfErr result (λ _. HasFault by octets.now → ⊥) }
 {
     let message = match by {

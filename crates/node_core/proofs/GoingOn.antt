@@ -1,9 +1,8 @@
 -- What a node keeps as a pending request changes or ends, and where a request goes. A changed
 -- request keeps its block and can go on, so the invariant holds; each rule of going on comes to
 -- what the code does in its case.
-use Rattle.std.proofs.Common.{◌≡◌, ℕ, ◌<◌, ◌≤◌, true, false, Bool, List, Option, Some, None, Result, slice_get, refl, ap, sym, subst, nat_le, arith}
+use Rattle.std.proofs.Common.{◌≡◌, ℕ, ◌<◌, ◌≤◌, true, false, Bool, List, Option, Some, None, Result, refl, ap, sym, subst, nat_le, arith}
 use Rattle.std.proofs.lemmas.Bool.Decides.{nat_tests}
-use Rattle.std.proofs.lemmas.Option.{slice_get_within, get_or_from_slice_get}
 use Rattle.object_store.specs.Held.{Held}
 use Rattle.values_tables.specs.declared.plain.Tables.{Tables}
 use Rattle.node_rules.specs.declared.state.Pending.{Pending}
@@ -21,7 +20,6 @@ use Rattle.node_rules.specs.State.{Setting, Stepped, changed, ended, is_idle}
 use Rattle.node_rules.specs.Known.{has_origin}
 use Rattle.node_rules.specs.Fetching.{fetching, choice_of, go_on, go_to, read_origin, begin_read, give_up}
 use Rattle.node_waiting.specs.CanGoOn.{CanGoOn}
-use Rattle.node_waiting.proofs.Changing.{all_changed, all_ended}
 use Rattle.node_waiting.proofs.Counting.{one_less}
 use Rattle.node_core.specs.View.{IsNode}
 use Rattle.node_core.specs.Leads.{Leads}
@@ -32,27 +30,18 @@ module _ {X : Type 0} {roster : Tables} {id : ℕ} {held : Held X} {pending : Li
   ended_node block is = record {
     member = is.member;
     limits = is.limits;
-    first = is.first;
-    last = is.last;
-    taken = all_ended pending block next is.taken;
+    block = is.block;
     none_waits = λ e. ap (ended block) (is.none_waits e);
   }
 
-  -- and after the request at a place has become another of its block
-  pub changed_node : (place : ℕ) (p q : Pending X) → slice_get pending place ≡ Some p → q.block ≡ p.block → IsNode roster id held pending next closed →
-      IsNode roster id held (changed q pending) next closed
-  changed_node place p q there same is =
-      let read = get_or_from_slice_get pending place p p there in
-      let taken = is.taken place p (slice_get_within pending place p there) in
-      let below : p.block < next = subst (λ (x : Pending X). x.block < next) read taken in
-      record {
-        member = is.member;
-        limits = is.limits;
-        first = is.first;
-        last = is.last;
-        taken = all_changed pending q next is.taken (subst (λ b. b < next) (sym same) below);
-        none_waits = λ e. ap (changed q) (is.none_waits e);
-      }
+  -- and after a request has changed
+  pub changed_node : (q : Pending X) → IsNode roster id held pending next closed → IsNode roster id held (changed q pending) next closed
+  changed_node q is = record {
+    member = is.member;
+    limits = is.limits;
+    block = is.block;
+    none_waits = λ e. ap (changed q) (is.none_waits e);
+  }
 
 -- What the rules of a request that goes on come to
 

@@ -1,6 +1,6 @@
 -- The rule takes what an answer says as a function of the peer, the code as a pair
 -- (`SaidWithStamp`). If both say the same of each peer, the rule leads to the same.
-use Rattle.std.proofs.Common.{◌≡◌, ℕ, Bool, true, false, cond, List, Option, Some, None, Result, refl, sym, ap, subst, ◌∙◌, ◌==◌}
+use Rattle.std.proofs.Common.{◌≡◌, ℕ, Bool, true, false, cond, List, Option, Some, None, Result, refl, ap, subst, ◌∙◌, ◌==◌}
 use Rattle.htcp_wire.specs.declared.message.Detail.{Detail}
 use Rattle.htcp_wire.specs.declared.message.Content.TheVariants as content
 use Rattle.values_plain.specs.declared.address.Address.{Address}

@@ -1,11 +1,11 @@
 -- What a method of a node does by a rule: the words of the methods' contracts.
-use Rattle.std.specs.Prelude.{◌≡◌, ◌⊎◌, ℕ, List, Option, Some, None, Result, Ok, Err}
+use Rattle.std.specs.Prelude.{◌≡◌, ◌⊎◌, ℕ, List, Option, Result, Ok, Err}
 use Rattle.node_rules.specs.declared.state.NodeState.{NodeState}
 use Rattle.node_rules.specs.declared.reply.Reply.{Reply}
 use Rattle.node_rules.specs.declared.reply.StepFault.{StepFault}
 use Rattle.node_rules.specs.declared.reply.StepFault.TheVariants as fault
 use Rattle.node_rules.specs.State.{Stepped}
-use Rattle.node_rules.specs.Relation.{IsClosed, ClosesOn}
+use Rattle.node_rules.specs.Relation.{ClosesOn}
 
 -- The method does what the rule says, or an allocation failed and the state is as it was.
 abbrev pub Leads : {X : Type 0} → Stepped X → NodeState X → Result (Reply X) StepFault → NodeState X → Type 0

@@ -1,5 +1,5 @@
 -- What an answer to a round says, where a member's word and a foreign cache's may differ.
-use Rattle.std.specs.Prelude.{Bool, true, false, if◌then◌else◌}
+use Rattle.std.specs.Prelude.{if◌then◌else◌}
 use Rattle.values_tables.specs.Ranges.{is_foreign_id}
 use Rattle.values_tables.specs.declared.plain.Peer.{Peer}
 use Rattle.peer_chooser.specs.declared.said.Said.{Said}

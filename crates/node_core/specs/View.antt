@@ -1,5 +1,5 @@
 -- A node as contracts see it, and the invariant of every node.
-use Rattle.std.specs.Prelude.{◌≡◌, ℕ, ◌<◌, ◌≤◌, All, IsTrue, Bool, true, false, List, [], Option, Some, None, Result, Ok, Err}
+use Rattle.std.specs.Prelude.{◌≡◌, ℕ, IsTrue, Bool, true, false, List, [], Option, Result}
 use Rattle.url_key.specs.declared.fault.KeyFault.{KeyFault}
 use Rattle.url_key.specs.Key.{HasKey}
 use Rattle.values_keys.specs.KeyOf.{key_in}
@@ -11,6 +11,7 @@ use Rattle.roster.specs.Lookups.{is_member}
 use Rattle.node_rules.specs.declared.state.Pending.{Pending}
 use Rattle.node_rules.specs.declared.state.NodeState.{NodeState}
 use Rattle.node_rules.specs.State.{Setting}
+use Rattle.node_rules.specs.Asks.{IsBlock}
 
 -- The roster, the node's id in it, its state, and the store of its floors.
 pub record NodeText (X S : Type 0) : Type 0 where
@@ -27,15 +28,13 @@ setting_of v key_of = record { roster = v.roster; id = v.id; key_of = key_of }
 abbrev pub HasLimits : {X : Type 0} → Held X → Limits → Type 0
 HasLimits held limits = (held.limit_count ≡ limits.copies) × (held.limit_bytes ≡ limits.bytes)
 
--- The id is a member's; the store of copies has the roster's limits; each block is taken once; a
--- closed node has no pending request.
+-- The id is a member's; the store of copies has the roster's limits; the next block is one; a closed
+-- node has no pending request.
 pub record IsNode {X : Type 0} (roster : Tables) (id : ℕ) (held : Held X) (pending : List (Pending X)) (next : ℕ)
     (closed : Bool) : Type 0 where
   pub member : is_member roster id ≡ true
   pub limits : HasLimits held roster.limits
-  pub first : 1 ≤ next
-  pub last : next ≤ 134217728
-  pub taken : All (λ p. p.block < next) pending
+  pub block : IsBlock next
   pub none_waits : closed ≡ true → pending ≡ []
 
 -- While the node is open, no call of its store has failed, and an honest store has committed its

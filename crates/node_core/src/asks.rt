@@ -4,8 +4,9 @@ ghost use Rattle.roster.specs.Lookups.{is_member};
 ghost use Rattle.object_store.specs.Listed.{to_front};
 ghost use Rattle.node_rules.specs.State as state;
 ghost use Rattle.node_rules.specs.Asks as asks;
-ghost use Rattle.node_rules.specs.Fetching.{read_origin as read_origin_rule};
+ghost use Rattle.node_rules.specs.Asks.{IsBlock};
 ghost use Rattle.node_waiting.specs.CanGoOn.{CanGoOn};
+ghost use Rattle.node_waiting.specs.Found.{IsAbsent};
 ghost use Rattle.node_core.specs.View.{IsSameNode, setting_of};
 ghost use Rattle.node_core.specs.Leads.{Leads};
 
@@ -17,17 +18,12 @@ use floor_rules::FloorStore;
 use http_messages::Ask;
 use node_messages::{has_origin, queries};
 use node_rules::{Begin, Fetch, Pending, Reply, Served, StepFault};
+use node_waiting::block_after;
 use object_store::WebCopy;
 use peer_chooser::Round;
 use roster::{Listed, Roster};
 use std::alloc::AllocError;
 use url_key::Key;
-
-/// The most pending requests.
-const MOST_ASKS: usize = 1_024;
-
-/// The last block of serials.
-const LAST_BLOCK: u32 = 134_217_727;
 
 /// Whether a member sent the request whose entry names this node a sibling.
 fn is_siblings_ask(roster: &Roster, id: u8, asker: Option<u8>) -> bool
@@ -95,10 +91,10 @@ impl<T: Copy + Drop, S: FloorStore> Node<T, S> {
         if self.is_cached_only(asker, &ask) {
             return Ok(serves(self.alloc, None, asker, Served::Status(504)));
         }
-        if self.is_busy() {
+        let Some(block) = self.pending.free_block(self.next) else {
             return Err(StepFault::Busy);
-        }
-        self.begin_ask(asker, ask, now, mark)
+        };
+        self.begin_ask(asker, ask, block, now, mark)
     }
 
     /// Whether a request is answered from the store alone: it bears `only-if-cached` (RFC 9111,
@@ -110,92 +106,86 @@ impl<T: Copy + Drop, S: FloorStore> Node<T, S> {
         ask.only_if_cached || is_siblings_ask(&self.roster, self.id, asker)
     }
 
-    /// Whether no new request can wait: 1,024 are pending, or no block of serials is left.
-    fn is_busy(&self) -> bool
-        ensures { result ≡ asks.is_busy self.now.state }
-    {
-        self.pending.len() >= MOST_ASKS || self.next > LAST_BLOCK
-    }
-
-    /// Begins a round or an origin read for a new request.
+    /// Begins a round or an origin read for a new request, with this block.
     fn begin_ask(
         &mut self,
         asker: Option<u8>,
         ask: Ask,
+        block: u32,
         now: u64,
         mark: T,
     ) -> Result<Reply<T>, StepFault>
         requires open { self.old.state.closed ≡ false }
-        requires block { self.old.state.next ≤ 134217727 }
+        requires block { IsBlock block }
+        requires absent { IsAbsent self.old.state.pending block }
         ensures same { IsSameNode self.old self.new }
         ensures leads { (key_of : List ℕ → Option (List ℕ)) →
-            Leads (asks.begin_ask (setting_of self.old key_of) self.old.state asker ask now mark)
-            self.old.state result self.new.state }
+            Leads (asks.begin_ask (setting_of self.old key_of) self.old.state asker ask now mark
+            block) self.old.state result self.new.state }
     {
         if ask.no_cache {
-            return self.begin_with_read(asker, ask, now, mark);
+            return self.begin_with_read(asker, ask, block, now, mark);
         }
         let round = Round::start(&self.roster, self.id, self.floors.floor(&ask.key));
         if round.asked().is_empty() {
-            self.begin_with_read(asker, ask, now, mark)
+            self.begin_with_read(asker, ask, block, now, mark)
         } else {
-            self.begin_with_round(asker, ask, round)
+            self.begin_with_round(asker, ask, block, round)
         }
     }
 
-    /// Begins an origin read for a new request, or serves 502 if the roster has no such origin. The
-    /// block is taken in both cases.
+    /// Begins an origin read for a new request, with this block. If the roster has no such origin,
+    /// serves 502, and takes no block.
     fn begin_with_read(
         &mut self,
         asker: Option<u8>,
         ask: Ask,
+        block: u32,
         now: u64,
         mark: T,
     ) -> Result<Reply<T>, StepFault>
         requires open { self.old.state.closed ≡ false }
-        requires block { self.old.state.next ≤ 134217727 }
+        requires block { IsBlock block }
+        requires absent { IsAbsent self.old.state.pending block }
         ensures same { IsSameNode self.old self.new }
         ensures leads { (key_of : List ℕ → Option (List ℕ)) →
-            Leads (read_origin_rule (setting_of self.old key_of)
-            (state.adding (asks.takes_block self.old.state)
-            (asks.new_ask self.old.state.next asker ask None))
-            (asks.new_ask self.old.state.next asker ask None) None now mark)
-            self.old.state result self.new.state }
+            Leads (asks.begin_with_read (setting_of self.old key_of) self.old.state asker ask block
+            now mark) self.old.state result self.new.state }
     {
         if !has_origin(&self.roster, &ask.key) {
-            self.next += 1;
             return Ok(serves(self.alloc, None, asker, Served::Status(502)));
         }
         let asked = origin_ask(self.alloc, &ask)?;
-        let serial = serial_of(self.next, 1);
+        let serial = serial_of(block, 1);
         let fetch = Fetch::AtOrigin {
             stamp: self.floors.seen(),
             asked: now,
             mark,
         };
-        self.wait(asker, ask, None, 1, 1, fetch)?;
+        self.wait(asker, ask, block, None, 1, 1, fetch)?;
         Ok(begins(self.alloc, Begin::Read { serial, ask: asked }))
     }
 
-    /// Begins a round for a new request, with queries in the roster's order.
+    /// Begins a round for a new request, with this block and with queries in the roster's order.
     fn begin_with_round(
         &mut self,
         asker: Option<u8>,
         ask: Ask,
+        block: u32,
         round: Round,
     ) -> Result<Reply<T>, StepFault>
         requires open { self.old.state.closed ≡ false }
-        requires block { self.old.state.next ≤ 134217727 }
+        requires block { IsBlock block }
+        requires absent { IsAbsent self.old.state.pending block }
         requires answers { round.answers ≡ [] }
         ensures same { IsSameNode self.old self.new }
         ensures leads { (key_of : List ℕ → Option (List ℕ)) →
-            Leads (asks.begin_round (setting_of self.old key_of)
-            (asks.takes_block self.old.state) asker ask self.old.state.next round)
-            self.old.state result self.new.state }
+            Leads (asks.begin_round (setting_of self.old key_of) self.old.state asker ask block
+            round) self.old.state result self.new.state }
     {
-        let serial = serial_of(self.next, 0);
+        let serial = serial_of(block, 0);
         let send = queries(self.alloc, &self.roster, serial, &ask.key, round.asked())?;
-        self.wait(asker, ask, Some(round), 0, 0, Fetch::Nowhere)?;
+        self.wait(asker, ask, block, Some(round), 0, 0, Fetch::Nowhere)?;
         Ok(Reply {
             serve: None,
             send,
@@ -203,20 +193,22 @@ impl<T: Copy + Drop, S: FloorStore> Node<T, S> {
         })
     }
 
-    /// Adds a new pending request, with the next block.
+    /// Adds a new pending request, with this block.
     fn wait(
         &mut self,
         asker: Option<u8>,
         ask: Ask,
+        block: u32,
         round: Option<Round>,
         fetches: u8,
         reads: u8,
         fetch: Fetch<T>,
     ) -> Result<(), AllocError>
         requires open { self.old.state.closed ≡ false }
-        requires block { self.old.state.next ≤ 134217727 }
+        requires block { IsBlock block }
+        requires absent { IsAbsent self.old.state.pending block }
         requires can_go_on { CanGoOn (record {
-          block = self.old.state.next;
+          block = block;
           asker = asker;
           ask = ask;
           round = round;
@@ -227,8 +219,8 @@ impl<T: Copy + Drop, S: FloorStore> Node<T, S> {
         }) }
         ensures same { IsSameNode self.old self.new }
         ensures ok { OnOk result (self.new.state
-            ≡ state.adding (asks.takes_block self.old.state) (record {
-              block = self.old.state.next;
+            ≡ asks.taking self.old.state (record {
+              block = block;
               asker = asker;
               ask = ask;
               round = round;
@@ -240,7 +232,7 @@ impl<T: Copy + Drop, S: FloorStore> Node<T, S> {
         ensures err { OnErr result (self.new.state ≡ self.old.state) }
     {
         let pending = Pending {
-            block: self.next,
+            block,
             asker,
             ask,
             round,
@@ -251,7 +243,7 @@ impl<T: Copy + Drop, S: FloorStore> Node<T, S> {
         };
         match self.pending.add(pending) {
             Ok(()) => {
-                self.next += 1;
+                self.next = block_after(block);
                 Ok(())
             }
             Err((_, error)) => Err(error),

@@ -71,7 +71,7 @@ impl<T, S: FloorStore> Node<T, S> {
         self.id
     }
 
-    /// The next block of serials, or 134217728 if none is left.
+    /// The block of serials from which the next request's is looked for.
     pub fn next(&self) -> u32
         ensures { result ≡ self.now.state.next }
     {

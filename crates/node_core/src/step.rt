@@ -59,10 +59,9 @@ impl<T: Copy + Drop, S: FloorStore> Node<T, S> {
     ///
     /// These faults change nothing: `Closed` (the node is closed), `UnknownSerial` (no pending
     /// request waits at this serial, with this key and this source), `Busy` (1,024 requests are
-    /// pending, or no block of serials is left). `StoreFault` (the floor store failed) closes the
-    /// node. `NoMemory` (an allocation failed) changes nothing, but closes the node if the floor
-    /// store gave it. A node that closes has no pending request left, and keeps its copies and its
-    /// next block.
+    /// pending). `StoreFault` (the floor store failed) closes the node. `NoMemory` (an allocation
+    /// failed) changes nothing, but closes the node if the floor store gave it. A node that closes
+    /// has no pending request left, and keeps its copies and its next block.
     #[tactic(auto, using(crate::proofs::Outcomes::closed_steps))]
     pub fn step(&mut self, event: Event<T>, mark: T) -> Result<Reply<T>, StepFault>
         ensures same { IsSameMember self.old self.new }

@@ -1,30 +1,41 @@
 -- What a reply to a request leads to. By the law on requests (`AnswersAsk` of node_bytes) a step
 -- serves the sender or nobody, so whoever is served is the sender.
-use Rattle.std.proofs.Common.{◌≡◌, ℕ, inl, inr, List, Option, Some, None, Result, sym, ap, ◌∙◌, subst}
+use Rattle.std.proofs.Common.{◌≡◌, ◌⊎◌, ℕ, inl, inr, Option, Some, None, Result, Ok, Err, sym, ap, ◌∙◌, subst}
 use Rattle.std.proofs.lemmas.Option.{none-some, same_Some}
 use Rattle.http_messages.specs.declared.ask.Ask.{Ask}
+use Rattle.node_rules.specs.declared.reply.Begin.{Begin}
 use Rattle.node_rules.specs.declared.reply.Serve.{Serve}
 use Rattle.node_rules.specs.declared.reply.Reply.{Reply}
+use Rattle.node_rules.specs.declared.reply.StepFault.TheVariants.{NoMemory}
 use Rattle.node_bytes.specs.Stepping.{AnswersAsker, AnswersAsk}
-use Rattle.node_http.specs.declared.asking.Asked.{Asked}
+use Rattle.node_bytes.specs.Turns.{turn_of}
 use Rattle.node_http.specs.declared.fault.ServeFault.{ServeFault}
-use Rattle.node_http.specs.Serving.{serve_text}
-use Rattle.node_http.specs.Asking.{IsTold, AfterReply, event_by}
+use Rattle.node_http.specs.declared.fault.ServeFault.TheVariants.{Step}
+use Rattle.node_http.specs.declared.taking.Taken.{Taken}
+use Rattle.node_http.specs.declared.taking.Taken.TheVariants.{Serves, Waits}
+use Rattle.node_http.specs.Asking.{IsTaken, block_of, event_by}
 
--- a reply to a request that serves somebody serves the sender
-pub told_at_once : (old new : Option (List ℕ)) (via : List ℕ) (asker : Option ℕ) (reply : Reply (Unit {0})) (serve : Serve (Unit {0}))
-    (result : Result Asked ServeFault) → reply.serve ≡ Some serve →
-    IsTold old new (serve_text serve.asker serve.served via) result → AnswersAsker asker reply → AfterReply old new via asker reply result
-told_at_once old new via asker reply serve result is told (inl once) =
+-- a reply to a request that begins nothing serves the sender
+pub serves_at_once : (asker : Option ℕ) (reply : Reply (Unit {0})) (serve : Serve (Unit {0})) → reply.begin ≡ None → reply.serve ≡ Some serve →
+    AnswersAsker asker reply → IsTaken asker (Ok reply) (Ok (Serves serve))
+serves_at_once asker reply serve none is (inl once) =
     let same : serve ≡ record { waiter = None; asker = asker; served = once.served } =
     same_Some _ _ (sym is ∙ ap (λ (r : Reply (Unit {0})). r.serve) once.alone) in
-    inl (record {
-      served = once.served;
-      alone = once.alone;
-      told = subst (λ (s : Serve (Unit {0})). IsTold old new (serve_text s.asker s.served via) result)
-          same told;
-    })
-told_at_once old new via asker reply serve result is told (inr begins) = absurd (none-some serve (sym begins.serves ∙ is))
+    inl (record { served = once.served; alone = once.alone; is = ap (λ s. Ok (Serves s)) same })
+serves_at_once asker reply serve none is (inr begins) = absurd (none-some serve (sym begins.serves ∙ is))
+
+-- a reply to a request that begins something serves nobody
+pub leaves_waiting : (asker : Option ℕ) (reply : Reply (Unit {0})) (begun : Begin) (block : ℕ) (result : Result Taken ServeFault) → reply.begin ≡ Some begun →
+    block ≡ block_of begun → (result ≡ Ok (Waits block (turn_of reply))) ⊎ (result ≡ Err (Step NoMemory)) → AnswersAsker asker reply →
+    IsTaken asker (Ok reply) result
+leaves_waiting asker reply begun block result is at handed (inl once) =
+    absurd (none-some begun (sym (ap (λ (r : Reply (Unit {0})). r.begin) once.alone) ∙ is))
+leaves_waiting asker reply begun block result is at handed (inr begins) = inr (record {
+  begun = begun;
+  begins = is;
+  serves = begins.serves;
+  is = subst (λ b. (result ≡ Ok (Waits b (turn_of reply))) ⊎ (result ≡ Err (Step NoMemory))) at handed;
+})
 
 -- what a step makes of the event of a request
 pub asks_by : (asker : Option ℕ) (ask : Ask) (now : ℕ) (reply : Reply (Unit {0})) → AnswersAsk (event_by asker ask now) reply → AnswersAsker asker reply

@@ -20,10 +20,13 @@ use Rattle.node_rules.specs.State.{serving, serial_of}
 use Rattle.node_bytes.specs.Turns.{turn_of}
 use Rattle.node_http.specs.declared.asking.Asked.{Asked}
 use Rattle.node_http.specs.declared.asking.Asked.TheVariants.{Answered, Waits}
+use Rattle.node_http.specs.declared.taking.Taken.{Taken}
+use Rattle.node_http.specs.declared.taking.Taken.TheVariants.{Serves}
+use Rattle.node_http.specs.declared.taking.Taken.TheVariants as taken
 use Rattle.node_http.specs.declared.fault.ServeFault.{ServeFault}
 use Rattle.node_http.specs.declared.fault.ServeFault.TheVariants.{Fetch, Step}
-use Rattle.node_http.specs.Statuses.{refusal_of, unavailable}
-use Rattle.node_http.specs.Serving.{serve_text, status_text, refusal_text}
+use Rattle.node_http.specs.Statuses.{status_for}
+use Rattle.node_http.specs.Serving.{serve_text, refusal_text}
 
 -- Who sends the request
 
@@ -57,6 +60,48 @@ event_by (Some asker) ask now = event.PeerAsk asker ask now
 abbrev pub block_of : Begin → ℕ
 block_of begun = serial_of begun / 32
 
+-- What a request leads to
+
+-- The reply serves the sender and does nothing else.
+pub record ServesAtOnce (asker : Option ℕ) (reply : Reply (Unit {0})) (result : Result Taken ServeFault) : Type 0 where
+  pub served : Served (Unit {0})
+  pub alone : reply ≡ serving None asker served
+  pub is : result ≡ Ok (Serves (record { waiter = None; asker = asker; served = served }))
+
+-- The reply serves nobody, and the sender waits for what begins; or memory is lacking for its datagrams.
+pub record LeavesWaiting (reply : Reply (Unit {0})) (result : Result Taken ServeFault) : Type 0 where
+  pub begun : Begin
+  pub begins : reply.begin ≡ Some begun
+  pub serves : reply.serve ≡ None
+  pub is : (result ≡ Ok (taken.Waits (block_of begun) (turn_of reply))) ⊎ (result ≡ Err (Step NoMemory))
+
+-- After a step: one of the two, or it was refused.
+abbrev pub IsTaken : Option ℕ → Result (Reply (Unit {0})) StepFault → Result Taken ServeFault → Type 0
+IsTaken asker (Ok reply) result = ServesAtOnce asker reply result ⊎ LeavesWaiting reply result
+IsTaken asker (Err fault) result = result ≡ Err (Step fault)
+
+-- One step with the request, taken by this relation between what stood before and after it.
+abbrev pub TakesFor : {N : Type 0} → (N → Event (Unit {0}) → Result (Reply (Unit {0})) StepFault → N → Type 0) →
+    Option ℕ → Ask → ℕ → N → N → Result Taken ServeFault → Type 0
+TakesFor takes asker ask now before after result =
+    (outcome : Result (Reply (Unit {0})) StepFault) × takes before (event_by asker ask now) outcome after
+    × IsTaken asker outcome result
+
+-- After reading: one step with the request; or it was not read, and no step is taken.
+abbrev pub AfterRead : {N : Type 0} → (N → Event (Unit {0}) → Result (Reply (Unit {0})) StepFault → N → Type 0) →
+    Tables → ℕ → ℕ → Result Ask FetchFault → N → N → Result Taken ServeFault → Type 0
+AfterRead takes roster id now (Ok ask) before after result =
+    TakesFor takes (asker_of roster id ask.member) ask now before after result
+AfterRead takes roster id now (Err fault) before after result = (after ≡ before) × (result ≡ Err (Fetch fault))
+
+-- The node of this id reads a request, and takes at most one step with it.
+pub record TakesAsk {N : Type 0} (takes : N → Event (Unit {0}) → Result (Reply (Unit {0})) StepFault → N → Type 0)
+    (roster : Tables) (id now : ℕ) (before after : N) (reader_old reader_new : Option (List ℕ))
+    (result : Result Taken ServeFault) : Type 0 where
+  pub read : Result Ask FetchFault
+  pub reads : ReadsAsk reader_old reader_new read
+  pub steps : AfterRead takes roster id now read before after result
+
 -- What is written and returned. The writer held the first text, and holds the second.
 
 -- The response is written; or the writer failed, and a proper front of it is.
@@ -65,65 +110,19 @@ IsTold old new text result =
     MatchResult result (λ asked. (asked ≡ Answered) × Appends old new text)
     (λ fault. (fault ≡ Fetch Io) × AppendsProperFront old new text)
 
--- This fault is returned, and a front of the refusal is written. All of it unless the writer
--- failed, but no clause can say that: a writer counts no failures.
-abbrev pub IsRefused : Option (List ℕ) → Option (List ℕ) → List ℕ → ServeFault → Result Asked ServeFault → Type 0
-IsRefused old new text fault result = (result ≡ Err fault) × AppendsFront old new text
-
--- The reply serves the sender and does nothing else, and the response is written.
-pub record ToldAtOnce (old new : Option (List ℕ)) (via : List ℕ) (asker : Option ℕ) (reply : Reply (Unit {0}))
-    (result : Result Asked ServeFault) : Type 0 where
-  pub served : Served (Unit {0})
-  pub alone : reply ≡ serving None asker served
-  pub told : IsTold old new (serve_text asker served via) result
-
--- Nothing is written, and what the reply says is handed on; or memory is lacking for its datagrams.
-abbrev pub HandsOn : Option (List ℕ) → Option (List ℕ) → List ℕ → Reply (Unit {0}) → ℕ → Result Asked ServeFault →
+-- What is served is written; who waits is told nothing yet; of a refusal a front is written, all of it unless the
+-- writer failed, but no clause can say that: a writer counts no failures.
+abbrev pub Tells : Option (List ℕ) → Option (List ℕ) → List ℕ → Result Taken ServeFault → Result Asked ServeFault →
     Type 0
-HandsOn old new via reply block result =
-    ((result ≡ Ok (Waits block (turn_of reply))) × (new ≡ old))
-    ⊎ IsRefused old new (status_text unavailable via) (Step NoMemory) result
+Tells old new via (Ok (Serves serve)) result = IsTold old new (serve_text serve.asker serve.served via) result
+Tells old new via (Ok (taken.Waits block turn)) result = (result ≡ Ok (Waits block turn)) × (new ≡ old)
+Tells old new via (Err fault) result =
+    (result ≡ Err fault) × AppendsFront old new (refusal_text (status_for fault) via)
 
--- The reply serves nobody, and the sender waits for what begins.
-pub record WaitsFor (old new : Option (List ℕ)) (via : List ℕ) (reply : Reply (Unit {0}))
-    (result : Result Asked ServeFault) : Type 0 where
-  pub begun : Begin
-  pub begins : reply.begin ≡ Some begun
-  pub serves : reply.serve ≡ None
-  pub hands_on : HandsOn old new via reply (block_of begun) result
-
--- One of the two.
-abbrev pub AfterReply : Option (List ℕ) → Option (List ℕ) → List ℕ → Option ℕ → Reply (Unit {0}) →
-    Result Asked ServeFault → Type 0
-AfterReply old new via asker reply result = ToldAtOnce old new via asker reply result
-    ⊎ WaitsFor old new via reply result
-
--- After a step: what its reply says is done, or it was refused.
-abbrev pub AfterStep : Option (List ℕ) → Option (List ℕ) → List ℕ → Option ℕ → Result (Reply (Unit {0})) StepFault →
-    Result Asked ServeFault → Type 0
-AfterStep old new via asker (Ok reply) result = AfterReply old new via asker reply result
-AfterStep old new via asker (Err fault) result = IsRefused old new (status_text unavailable via) (Step fault) result
-
--- One step with the request, taken by this relation between what stood before and after it.
-abbrev pub StepsFor : {N : Type 0} → (N → Event (Unit {0}) → Result (Reply (Unit {0})) StepFault → N → Type 0) →
-    Option ℕ → Ask → ℕ → N → N → Option (List ℕ) → Option (List ℕ) → List ℕ → Result Asked ServeFault → Type 0
-StepsFor takes asker ask now before after old new via result =
-    (outcome : Result (Reply (Unit {0})) StepFault) × takes before (event_by asker ask now) outcome after
-    × AfterStep old new via asker outcome result
-
--- After reading: one step with the request; or it was not read, and no step is taken.
-abbrev pub AfterRead : {N : Type 0} → (N → Event (Unit {0}) → Result (Reply (Unit {0})) StepFault → N → Type 0) →
-    Tables → ℕ → ℕ → Result Ask FetchFault → N → N → Option (List ℕ) → Option (List ℕ) → Result Asked ServeFault →
-    Type 0
-AfterRead takes roster id now (Ok ask) before after old new result =
-    StepsFor takes (asker_of roster id ask.member) ask now before after old new (name_of roster id) result
-AfterRead takes roster id now (Err fault) before after old new result =
-    (after ≡ before) × IsRefused old new (refusal_text (refusal_of fault) (name_of roster id)) (Fetch fault) result
-
--- The node of this id reads a request, takes at most one step with it, and writes what it is told.
+-- The node of this id reads a request, takes at most one step with it, and writes what is served.
 pub record ServesAsk {N : Type 0} (takes : N → Event (Unit {0}) → Result (Reply (Unit {0})) StepFault → N → Type 0)
     (roster : Tables) (id now : ℕ) (before after : N) (reader_old reader_new writer_old writer_new : Option (List ℕ))
     (result : Result Asked ServeFault) : Type 0 where
-  pub read : Result Ask FetchFault
-  pub reads : ReadsAsk reader_old reader_new read
-  pub answers : AfterRead takes roster id now read before after writer_old writer_new result
+  pub taken : Result Taken ServeFault
+  pub takes_ask : TakesAsk takes roster id now before after reader_old reader_new taken
+  pub tells : Tells writer_old writer_new (name_of roster id) taken result

@@ -26,6 +26,11 @@ refusal_of NoMemory = Some 503
 abbrev pub unavailable : ℕ
 unavailable = 503
 
+-- The status for a request that was not served.
+abbrev pub status_for : ServeFault → Option ℕ
+status_for (Fetch fault) = refusal_of fault
+status_for (Step fault) = Some unavailable
+
 -- The name of the fault inside, as scripts print it.
 abbrev pub serve_fault_name : ServeFault → List ℕ
 serve_fault_name (Fetch fault) = fetch_fault_name fault

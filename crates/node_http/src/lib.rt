@@ -1,6 +1,8 @@
 //! The edge of a node over HTTP (RFC 9112): reads a request, takes one step with it, and writes
 //! what is served.
 //!
+//! - [`take_ask`] reads a request and takes its step. It returns [`Taken`]: what is served now, or
+//!   that the request waits. [`status_for`] is the status of a refusal.
 //! - [`serve_ask`] is the whole way. It returns [`Asked`]: the response is written, or the request
 //!   waits as the pending request of a block, with a `Turn` to carry out until then.
 //! - [`finish`] writes what a later step serves to a client that waited.
@@ -12,7 +14,8 @@
 //!
 //! Where to read:
 //!
-//! - `specs/Asking`: what becomes of a request, in order from reading to writing; `src/asking.rt`
+//! - `specs/Asking`: what becomes of a request, in order from reading to writing; `src/taking.rt`,
+//!   `src/asking.rt`
 //! - `specs/Serving`: the octets of a response; `src/serving.rt`
 //! - `specs/Statuses`: the status of each refusal; `src/refusing.rt`
 //! - `src/roster_names.rt`: which member sends a request, and names; `src/fault.rt`: the fault
@@ -33,8 +36,11 @@ mod fault;
 mod refusing;
 mod roster_names;
 mod serving;
+mod taking;
 
 pub use asking::{Asked, serve_ask};
 pub use fault::ServeFault;
+pub use refusing::status_for;
 pub use roster_names::name_of;
 pub use serving::finish;
+pub use taking::{Taken, take_ask};

@@ -2,19 +2,20 @@
 ghost use Rattle.std.specs.Prelude.{◌≡◌, IsTrue};
 ghost use Rattle.values_plain.specs.Writing.{AppendsFront};
 ghost use Rattle.http_writing.specs.Name.{is_name as names_cache};
-ghost use Rattle.node_http.specs.Statuses.{refusal_of as status_refusing};
+ghost use Rattle.node_http.specs.Statuses.{refusal_of as status_refusing, status_for as status_told};
 ghost use Rattle.node_http.specs.Serving.{refusal_text};
 
+use crate::fault::ServeFault;
 use http_messages::FetchFault;
 use http_writing::write_status;
 use std::io::Write;
 
 /// The status if a step was refused (RFC 9110, section 15.6.4).
-pub(crate) const UNAVAILABLE: u16 = 503;
+const UNAVAILABLE: u16 = 503;
 
 /// The status for a request that was not read (RFC 9110, section 15; 431: RFC 6585, section 5).
 /// None if nothing is written. `read_ask` never gives `BodyTooLong`.
-pub(crate) fn refusal_of(fault: FetchFault) -> Option<u16>
+fn refusal_of(fault: FetchFault) -> Option<u16>
     ensures { result ≡ status_refusing fault }
 {
     match fault {
@@ -24,6 +25,21 @@ pub(crate) fn refusal_of(fault: FetchFault) -> Option<u16>
         FetchFault::MethodNotServed | FetchFault::Credentials => Some(501),
         FetchFault::BodyTooLong => Some(413),
         FetchFault::NoMemory => Some(503),
+    }
+}
+
+/// The status for a request that was not served; none if nothing is written.
+///
+/// - of `Fetch`: 400 for `BadHead`, `BadTarget` and `BadBody`; 413 for `BodyTooLong`; 431 for
+///   `HeadTooLong`; 501 for `MethodNotServed` and `Credentials`; 503 for `NoMemory`; none for `Io`,
+///   `EndOfInput` and `TooManyTurns`
+/// - of `Step`: 503
+pub fn status_for(fault: ServeFault) -> Option<u16>
+    ensures { result ≡ status_told fault }
+{
+    match fault {
+        ServeFault::Fetch(fault) => refusal_of(fault),
+        ServeFault::Step(_) => Some(UNAVAILABLE),
     }
 }
 

@@ -1,6 +1,6 @@
 -- Each rule of the step has one of the five effects, and keeps what each keeps. The proof goes over
 -- the rules in the order of specs/: each lemma NAME_does is about the rule NAME.
-use Rattle.std.proofs.Common.{◌≡◌, ℕ, ◌*◌, ◌≤◌, Bool, true, false, cond, not, ◌&&◌, ◌||◌, max, List, [], ◌∷◌, ◌++◌, option_map, find, map, filter, Option, Some, None, Result, Ok, Err, refl, sym, ◌∙◌, ap, inr, nat_le, nat_eq, subst, arith, rules}
+use Rattle.std.proofs.Common.{◌≡◌, ℕ, ◌*◌, ◌≤◌, Bool, true, false, cond, not, ◌&&◌, ◌||◌, max, List, [], ◌∷◌, option_map, find, map, filter, Option, Some, None, Result, Ok, Err, refl, sym, ◌∙◌, ap, inr, nat_le, nat_eq, subst, arith, rules}
 use Rattle.std.specs.List.{AllByRecursion, Contains, cons_option, filter_map}
 use Rattle.std.specs.Prelude.{bytes_eq}
 use Rattle.node_rules.specs.declared.message.Outgoing.{Outgoing}
@@ -16,7 +16,7 @@ use Rattle.htcp_wire.specs.declared.message.Content.{Content}
 use Rattle.htcp_wire.specs.declared.message.Content.TheVariants as content
 use Rattle.node_rules.specs.declared.message.Message.{Message}
 use Rattle.node_rules.specs.declared.message.Message.TheVariants as message
-use Rattle.floor_rules.specs.Floors.{FloorMap}
+use Rattle.floor_rules.specs.Floors.{FloorMap, seen}
 use Rattle.object_store.specs.declared.copy.WebCopy.{WebCopy}
 use Rattle.http_messages.specs.declared.ask.Ask.{Ask}
 use Rattle.http_messages.specs.Answer.{AnswerText}
@@ -43,16 +43,17 @@ use Rattle.reuse_rules.specs.Lifetime.{lifetime}
 use Rattle.htcp_wire.specs.declared.fault.HtcpFault.{HtcpFault}
 use Rattle.values_plain.specs.declared.address.Udp.TheVariants as udp
 use Rattle.node_rules.specs.Effect.{copy_served, sent, IsOwnFault, ServesBareStatus, ComesFrom, HasRaised, IsObedient, IsUnderWay, IsReadOf, IsAt, IsFromOrigin, IsFromPeer, IsAnswerTo, IsAnswerOf, Effect, Stays, Serves, Brings, Purges, Drops, IsHeldAbove, state_of}
-use Rattle.node_rules.specs.State.{Setting, Stepped, replies, refuses, quiet, fetch_serial, is_idle, is_of_block, age_of, is_good, if_good, good_copy}
+use Rattle.node_rules.specs.State.{Setting, Stepped, replies, refuses, quiet, fetch_serial, is_idle, is_of_block, inserted, age_of, is_good, if_good, good_copy}
 use Rattle.reuse_rules.specs.Freshness.{is_fresh}
-use Rattle.node_rules.specs.Fetching.{ask_peer, begin_read, read_origin, go_to, go_on}
-use Rattle.node_rules.specs.Asks.{new_ask, question_to, is_cached_only, is_busy, begin_round, ask_around, begin_ask, not_held, by_copy, copy_for, ask_comes}
+use Rattle.node_rules.specs.Fetching.{fetching, ask_peer, begin_read, read_origin, go_to, go_on}
+use Rattle.node_rules.specs.Asks.{new_ask, question_to, is_cached_only, begin_round, begin_with_read, ask_around, begin_ask, begin_if_free, not_held, by_copy, copy_for, ask_comes}
 use Rattle.node_rules.specs.Arrivals.{new_copy, is_fetch, with_round, use_answer, try_on, is_gateway_fault, peer_gave, origin_gave, from_peer, peer_answer_to, peer_answer, foreign_answer, from_origin, origin_answer_to, origin_answer, fails, failure_of, fetch_failed, round_moves, expires, expiry_of, round_expired}
 use Rattle.node_rules.specs.Datagrams.{is_full, sends_back, tst_answer, copy_meant, purged, purge_of, if_desired, icp_query, htcp_tst, hears, told_by, told_to, icp_told, htcp_told, clr_done, purge, numbered_clr, dropped, plain_clr, clr_by_line, htcp_clr, icp_comes, tst_refused, htcp_comes, datagram}
 use Rattle.node_rules.specs.Step.{open_step, step_if, step}
 use Rattle.node_rules.proofs.Cases.{branches, both_true, test_le, unless_refused, same_Some, true_not_false}
 use Rattle.node_rules.proofs.FloorLaws.{floor-raise, same_text, text_same}
-use Rattle.node_rules.proofs.Pendings.{all_mapped, all_joined, all_contained, found, found_passes, all_changed, all_left, under_way, all_under_way, read_of}
+use Rattle.node_rules.proofs.Pendings.{all_mapped, all_contained, found, found_passes, all_changed, all_left, under_way, all_under_way, read_of}
+use Rattle.node_rules.proofs.Blocks.{all_inserted}
 use Rattle.std.proofs.lemmas.Option.{cond_some, none-some}
 
 -- Small facts
@@ -198,23 +199,44 @@ module _ {X : Type 0} (g : Setting) (s : NodeState X) (e : Event X) (mark : X) w
   queries_obey serial key (p ∷ asked) = query_first (question_to g.roster serial key p) _ (query_to_obeys serial key p (cache_of g.roster p.id))
       (queries_obey serial key asked)
 
-  -- a new request, which is not fetching, comes behind the others
-  one_more : (block : ℕ) (asker : Option ℕ) (ask : Ask) (round : Option RoundText) → AllByRecursion MayStay (s.pending ++ new_ask block asker ask round ∷ [])
-  one_more block asker ask round = all_joined MayStay s.pending (new_ask block asker ask round ∷ []) all_stay ((λ outcome. tt), tt)
+  -- a request more waits, which reads the origin from now on or is not fetching
+  one_more : (next : ℕ) (p : Pending X) (outcome : Outcome) → copy_served outcome ≡ None → IsReadOf s mark outcome p → ServesBareStatus outcome →
+      AllByRecursion (IsObedient g e s.floors) (sent outcome) → IsOwnFault outcome →
+      Does record { state = at (inserted p s.pending) next; outcome = outcome }
+  one_more next p outcome none read bare obeys plain =
+      Stays (inserted p s.pending) next outcome none
+      (record {
+        reads = all_inserted (IsReadOf s mark outcome) p s.pending read (reads_of s.pending outcome all_stay);
+        statuses = bare;
+        acknowledges = obeys;
+        faults = plain;
+      })
 
-  ask_around_does : (next : ℕ) (asker : Option ℕ) (ask : Ask) (block now : ℕ) (round : RoundText) (peers : List Peer) →
-      Does (ask_around g (at s.pending next) asker ask block now mark round peers)
+  with_read_does : (asker : Option ℕ) (ask : Ask) (block now : ℕ) → Does (begin_with_read g s asker ask block now mark)
+  unfolding begin_with_read
+  with_read_does asker ask block now =
+      branches Does (has_origin g.roster ask.key) _ _
+      (λ _. one_more _ (fetching (new_ask block asker ask None) 1 (AtOrigin (seen s.floors) now mark)) _ refl
+      (inr record { stamp_seen = refl; mark_same = refl; begins = refl }) tt tt tt)
+      (λ _. stays s.pending s.next _ refl all_stay refl tt tt)
+
+  ask_around_does : (asker : Option ℕ) (ask : Ask) (block now : ℕ) (round : RoundText) (peers : List Peer) →
+      Does (ask_around g s asker ask block now mark round peers)
   unfolding ask_around begin_round
-  ask_around_does next asker ask block now round [] = read_origin_does (s.pending ++ new_ask block asker ask None ∷ []) next (one_more block asker ask None) _
-      None now
-  ask_around_does next asker ask block now round (p ∷ peers) = stays (s.pending ++ new_ask block asker ask (Some round) ∷ []) next _ refl
-      (one_more block asker ask (Some round)) tt (queries_obey (32 * block) ask.key round.asked) tt
+  ask_around_does asker ask block now round [] = with_read_does asker ask block now
+  ask_around_does asker ask block now round (p ∷ peers) =
+      one_more _ (new_ask block asker ask (Some round)) _ refl tt tt (queries_obey (32 * block) ask.key round.asked) tt
+
+  begin_if_free_does : (asker : Option ℕ) (ask : Ask) (now : ℕ) (o : Option ℕ) → Does (begin_if_free g s asker ask now mark o)
+  unfolding begin_if_free begin_ask
+  begin_if_free_does asker ask now None = refused _ tt
+  begin_if_free_does asker ask now (Some block) = ask_around_does asker ask block now _ _
 
   not_held_does : (asker : Option ℕ) (ask : Ask) (now : ℕ) → Does (not_held g s asker ask now mark)
-  unfolding not_held begin_ask
+  unfolding not_held
   not_held_does asker ask now =
       branches Does (is_cached_only g asker ask) _ _ (λ _. stays s.pending s.next _ refl all_stay refl tt tt)
-      (λ _. branches Does (is_busy s) _ _ (λ _. refused _ tt) (λ _. ask_around_does _ asker ask s.next now _ _))
+      (λ _. begin_if_free_does asker ask now _)
 
   by_copy_does : s.closed ≡ false → (asker : Option ℕ) (ask : Ask) (now : ℕ) (o : Option (WebCopy X)) →
       ((c : WebCopy X) → o ≡ Some c → IsHeldAbove s.floors s.copies ask.key c) → Does (by_copy g s asker ask now mark o)

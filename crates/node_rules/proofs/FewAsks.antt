@@ -1,6 +1,6 @@
--- No step leaves more than 1,024 requests pending. Only a new request adds one, and only where the
--- node is not busy; all other rules change or end requests. One lemma for each rule.
-use Rattle.std.proofs.Common.{◌≡◌, ℕ, ◌+◌, ◌<◌, ◌≤◌, Bool, true, false, cond, not, ◌&&◌, ◌||◌, List, [], ◌∷◌, length, Option, Some, None, Result, Ok, Err, refl, sym, subst, nat_le, nat_lt, nat_eq, arith, length-append, leb-false}
+-- No step leaves more than 1,024 requests pending, and the next block stays a block. Only a new
+-- request adds one, and only where there is a block for it; all other rules change or end requests. One lemma for each rule.
+use Rattle.std.proofs.Common.{◌≡◌, ℕ, ◌+◌, ◌<◌, ◌≤◌, Bool, true, false, cond, not, ◌&&◌, ◌||◌, List, [], ◌∷◌, length, Option, Some, None, Result, Ok, Err, refl, sym, subst, nat_le, nat_eq, arith}
 use Rattle.std.proofs.lemmas.List.{length-map}
 use Rattle.icp_wire.specs.declared.message.IcpOp.{IcpOp}
 use Rattle.icp_wire.specs.declared.message.IcpOp.TheVariants as op
@@ -33,55 +33,62 @@ use Rattle.node_rules.specs.declared.event.Event.TheVariants as event
 use Rattle.node_rules.specs.declared.reply.Reply.{Reply}
 use Rattle.node_rules.specs.declared.reply.StepFault.{StepFault}
 use Rattle.node_rules.specs.Known.{has_origin, is_known}
-use Rattle.node_rules.specs.State.{Setting, Stepped, adding, changing, ending, is_idle, is_of_block}
+use Rattle.node_rules.specs.State.{Setting, Stepped, changing, ending, is_idle, is_of_block}
 use Rattle.node_rules.specs.Fetching.{fetching, ask_peer, begin_read, read_origin, go_to, go_on}
-use Rattle.node_rules.specs.Asks.{new_ask, is_cached_only, is_busy, takes_block, begin_round, ask_around, begin_ask, not_held, by_copy, ask_comes}
+use Rattle.node_rules.specs.Asks.{IsBlock, new_ask, is_cached_only, free_block, taking, begin_round, begin_with_read, ask_around, begin_ask, begin_if_free, not_held, by_copy, ask_comes}
 use Rattle.node_rules.specs.Arrivals.{with_round, use_answer, try_on, is_gateway_fault, peer_gave, origin_gave, from_peer, peer_answer_to, peer_answer, foreign_answer, from_origin, origin_answer_to, origin_answer, fails, failure_of, fetch_failed, round_moves, expires, expiry_of, round_expired}
 use Rattle.node_rules.specs.Datagrams.{is_full, purged, if_desired, icp_query, htcp_tst, hears, told_by, told_to, icp_told, htcp_told, purge, numbered_clr, dropped, plain_clr, clr_by_line, htcp_clr, icp_comes, tst_refused, htcp_comes, datagram}
 use Rattle.node_rules.specs.Step.{open_step, step_if, step}
 use Rattle.node_rules.specs.Relation.{Steps, ClosesOn, purge_in}
 use Rattle.node_rules.proofs.Cases.{branches}
 use Rattle.node_rules.proofs.Stores.{length_filter}
+use Rattle.node_rules.proofs.Blocks.{length_inserted, after_is_block, room_of}
 use Rattle.node_rules.proofs.Stepping.{steps_case}
 
--- at most 1,024 requests are pending
-pub record FewWait {X : Type 0} (s : NodeState X) : Type 0 where
-  pub most : length s.pending ≤ 1024
+-- If at most 1,024 requests are pending before, at most 1,024 are after. If the next block is a block
+-- before, it is one after.
+pub record FewWait {X : Type 0} (s t : NodeState X) : Type 0 where
+  pub most : length s.pending ≤ 1024 → length t.pending ≤ 1024
+  pub next : IsBlock s.next → IsBlock t.next
 
-changed_few : {X : Type 0} (s : NodeState X) (p : Pending X) → FewWait s → FewWait (changing s p)
-changed_few {X} s p h = record { most = subst (λ (n : ℕ). n ≤ 1024) (sym (length-map s.pending (λ (q : Pending X). cond (is_of_block p.block q) p q))) h.most }
+same_few : {X : Type 0} (s : NodeState X) → FewWait s s
+same_few s = record { most = λ few. few; next = λ is. is }
 
-ended_few : {X : Type 0} (s : NodeState X) (block : ℕ) → FewWait s → FewWait (ending s block)
-ended_few {X} s block h = record { most = omega (arith, length_filter (λ (q : Pending X). not (is_of_block block q)) s.pending, h.most) }
+changed_few : {X : Type 0} (s t : NodeState X) (p : Pending X) → FewWait s t → FewWait s (changing t p)
+changed_few {X} s t p h = record {
+  most = λ few. subst (λ (n : ℕ). n ≤ 1024) (sym (length-map t.pending (λ (q : Pending X). cond (is_of_block p.block q) p q))) (h.most few);
+  next = h.next;
+}
 
-added_few : {X : Type 0} (s : NodeState X) (p : Pending X) → length s.pending < 1024 → FewWait (adding s p)
-added_few s p room = record { most = omega (arith, length-append s.pending (p ∷ []), room) }
+ended_few : {X : Type 0} (s t : NodeState X) (block : ℕ) → FewWait s t → FewWait s (ending t block)
+ended_few {X} s t block h = record {
+  most = λ few. omega (arith, length_filter (λ (q : Pending X). not (is_of_block block q)) t.pending, h.most few);
+  next = h.next;
+}
 
-neither : (a b : Bool) → (a || b) ≡ false → a ≡ false
-neither true b h = h
-neither false b h = refl
+taken_few : {X : Type 0} (s : NodeState X) (p : Pending X) → length s.pending < 1024 → FewWait s (taking s p)
+taken_few s p room = record { most = λ few. omega (arith, length_inserted p s.pending, room); next = λ is. after_is_block p.block }
 
--- a node that is not busy has room for one request more
-room_of : {X : Type 0} (s : NodeState X) → is_busy s ≡ false → length s.pending < 1024
-room_of s h = leb-false 1024 (length s.pending) (neither (nat_le 1024 (length s.pending)) (nat_lt 134217727 s.next) h)
-
-module _ {X : Type 0} (g : Setting) (s : NodeState X) (mark : X) (few : FewWait s) where
+module _ {X : Type 0} (g : Setting) (s : NodeState X) (mark : X) where
   abbrev pub Few : Stepped X → Type 0
-  Few r = FewWait r.state
+  Few r = FewWait s r.state
+
+  few : FewWait s s
+  few = same_few s
 
   -- Going on
 
-  read_origin_few : (t : NodeState X) → FewWait t → (p : Pending X) (waiter : Option ℕ) (now : ℕ) → Few (read_origin g t p waiter now mark)
+  read_origin_few : (t : NodeState X) → FewWait s t → (p : Pending X) (waiter : Option ℕ) (now : ℕ) → Few (read_origin g t p waiter now mark)
   unfolding read_origin begin_read
   read_origin_few t h p waiter now =
-      branches Few (nat_le 3 p.reads) _ _ (λ _. ended_few t p.block h)
-      (λ _. branches Few (has_origin g.roster p.ask.key) _ _ (λ _. changed_few t (fetching p (p.reads + 1) (AtOrigin (seen t.floors) now mark)) h)
-      (λ _. ended_few t p.block h))
+      branches Few (nat_le 3 p.reads) _ _ (λ _. ended_few s t p.block h)
+      (λ _. branches Few (has_origin g.roster p.ask.key) _ _ (λ _. changed_few s t (fetching p (p.reads + 1) (AtOrigin (seen t.floors) now mark)) h)
+      (λ _. ended_few s t p.block h))
 
   go_to_few : (p : Pending X) (now : ℕ) (to : Source) → Few (go_to g s p now mark to)
   unfolding go_to ask_peer
-  go_to_few p now source.Wait = changed_few s p few
-  go_to_few p now (source.Peer peer cached) = changed_few s (fetching p p.reads (AtPeer peer now)) few
+  go_to_few p now source.Wait = changed_few s s p few
+  go_to_few p now (source.Peer peer cached) = changed_few s s (fetching p p.reads (AtPeer peer now)) few
   go_to_few p now source.Origin = read_origin_few s few p (Some p.block) now
 
   go_on_few : (p : Pending X) (now : ℕ) → Few (go_on g s p now mark)
@@ -90,24 +97,32 @@ module _ {X : Type 0} (g : Setting) (s : NodeState X) (mark : X) (few : FewWait 
 
   -- Requests
 
+  with_read_few : length s.pending < 1024 → (asker : Option ℕ) (ask : Ask) (block now : ℕ) → Few (begin_with_read g s asker ask block now mark)
+  unfolding begin_with_read
+  with_read_few room asker ask block now =
+      branches Few (has_origin g.roster ask.key) _ _
+      (λ _. taken_few s (fetching (new_ask block asker ask None) 1 (AtOrigin (seen s.floors) now mark)) room) (λ _. few)
+
   ask_around_few : length s.pending < 1024 → (asker : Option ℕ) (ask : Ask) (block now : ℕ) (round : RoundText) (peers : List Peer) →
-      Few (ask_around g (takes_block s) asker ask block now mark round peers)
+      Few (ask_around g s asker ask block now mark round peers)
   unfolding ask_around begin_round
-  ask_around_few room asker ask block now round [] =
-      let p : Pending X = new_ask block asker ask None in
-      read_origin_few (adding (takes_block s) p) (added_few (takes_block s) p room) p None now
-  ask_around_few room asker ask block now round (peer ∷ peers) = added_few (takes_block s) (new_ask block asker ask (Some round)) room
+  ask_around_few room asker ask block now round [] = with_read_few room asker ask block now
+  ask_around_few room asker ask block now round (peer ∷ peers) = taken_few s (new_ask block asker ask (Some round)) room
+
+  begin_if_free_few : (asker : Option ℕ) (ask : Ask) (now : ℕ) (o : Option ℕ) → free_block s ≡ o → Few (begin_if_free g s asker ask now mark o)
+  unfolding begin_if_free begin_ask
+  begin_if_free_few asker ask now None is = few
+  begin_if_free_few asker ask now (Some block) is = ask_around_few (room_of s block is) asker ask block now _ _
 
   not_held_few : (asker : Option ℕ) (ask : Ask) (now : ℕ) → Few (not_held g s asker ask now mark)
-  unfolding not_held begin_ask
+  unfolding not_held
   not_held_few asker ask now =
-      branches Few (is_cached_only g asker ask) _ _ (λ _. few)
-      (λ _. branches Few (is_busy s) _ _ (λ _. few) (λ free. ask_around_few (room_of s free) asker ask s.next now _ _))
+      branches Few (is_cached_only g asker ask) _ _ (λ _. few) (λ _. begin_if_free_few asker ask now (free_block s) refl)
 
   by_copy_few : (asker : Option ℕ) (ask : Ask) (now : ℕ) (o : Option (WebCopy X)) → Few (by_copy g s asker ask now mark o)
   unfolding by_copy
   by_copy_few asker ask now None = not_held_few asker ask now
-  by_copy_few asker ask now (Some c) = record { most = few.most }
+  by_copy_few asker ask now (Some c) = record { most = few.most; next = few.next }
 
   ask_comes_few : (asker : Option ℕ) (ask : Ask) (now : ℕ) → Few (ask_comes g s asker ask now mark)
   unfolding ask_comes
@@ -117,7 +132,7 @@ module _ {X : Type 0} (g : Setting) (s : NodeState X) (mark : X) (few : FewWait 
 
   use_answer_few : (p : Pending X) (stamp asked : ℕ) (answer : AnswerText) (tag : X) (now : ℕ) → Few (use_answer g s p stamp asked answer tag now)
   unfolding use_answer
-  use_answer_few p stamp asked answer tag now = record { most = (ended_few s p.block few).most }
+  use_answer_few p stamp asked answer tag now = record { most = (ended_few s s p.block few).most; next = few.next }
 
   peer_gave_few : (p : Pending X) (peer asked stamp : ℕ) (answer : AnswerText) (tag : X) (now : ℕ) → Few (peer_gave g s p peer asked stamp answer tag now mark)
   unfolding peer_gave try_on
@@ -160,7 +175,7 @@ module _ {X : Type 0} (g : Setting) (s : NodeState X) (mark : X) (few : FewWait 
   fails_few : (p : Pending X) (now : ℕ) (fetch : Fetch X) → Few (fails g s p now mark fetch)
   unfolding fails try_on
   fails_few p now (AtPeer peer asked) = go_on_few _ now
-  fails_few p now (AtOrigin stamp asked read_mark) = ended_few s p.block few
+  fails_few p now (AtOrigin stamp asked read_mark) = ended_few s s p.block few
   fails_few p now Nowhere = few
 
   failure_of_few : (now : ℕ) (o : Option (Pending X)) → Few (failure_of g s now mark o)
@@ -170,7 +185,7 @@ module _ {X : Type 0} (g : Setting) (s : NodeState X) (mark : X) (few : FewWait 
 
   round_moves_few : (p : Pending X) (now : ℕ) → Few (round_moves g s p now mark)
   unfolding round_moves
-  round_moves_few p now = branches Few (is_idle p.fetch) _ _ (λ _. go_on_few p now) (λ _. changed_few s p few)
+  round_moves_few p now = branches Few (is_idle p.fetch) _ _ (λ _. go_on_few p now) (λ _. changed_few s s p few)
 
   expires_few : (p : Pending X) (now : ℕ) (o : Option RoundText) → Few (expires g s p now mark o)
   unfolding expires
@@ -184,7 +199,7 @@ module _ {X : Type 0} (g : Setting) (s : NodeState X) (mark : X) (few : FewWait 
 
   -- Datagrams
 
-  if_desired_few : (t : NodeState X) → FewWait t → (desired : Bool) (from : Address) (m : Message) → Few (if_desired t desired from m)
+  if_desired_few : (t : NodeState X) → FewWait s t → (desired : Bool) (from : Address) (m : Message) → Few (if_desired t desired from m)
   if_desired_few t h true from m = h
   if_desired_few t h false from m = h
 
@@ -212,16 +227,16 @@ module _ {X : Type 0} (g : Setting) (s : NodeState X) (mark : X) (few : FewWait 
   unfolding purge
   purge_few from trans desired key n =
       branches Few (is_full s.floors key) _ _ (λ _. if_desired_few s few desired from _)
-      (λ _. if_desired_few (purged s key n) (record { most = few.most }) desired from _)
+      (λ _. if_desired_few (purged s key n) (record { most = few.most; next = few.next }) desired from _)
 
   numbered_clr_few : (from : Address) (trans : ℕ) (desired : Bool) (o : Option (List ℕ × ℕ)) → Few (numbered_clr s from trans desired o)
   unfolding numbered_clr
   numbered_clr_few from trans desired None = if_desired_few s few desired from _
   numbered_clr_few from trans desired (Some x) = purge_few from trans desired x.0 x.1
 
-  dropped_few : (key : Option (List ℕ)) → FewWait (dropped s key)
+  dropped_few : (key : Option (List ℕ)) → FewWait s (dropped s key)
   dropped_few None = few
-  dropped_few (Some key) = record { most = few.most }
+  dropped_few (Some key) = record { most = few.most; next = few.next }
 
   plain_clr_few : (from : Address) (trans : ℕ) (desired : Bool) (key : Option (List ℕ)) → Few (plain_clr g s from trans desired key)
   unfolding plain_clr
@@ -288,14 +303,14 @@ module _ {X : Type 0} (g : Setting) (s : NodeState X) (mark : X) (few : FewWait 
   step_few e = step_if_few e s.closed
 
 -- no request is pending at a node that has closed
-closed_few : {X : Type 0} (s : NodeState X) (o : Option (List ℕ × ℕ)) (next : NodeState X) → ClosesOn s o next → FewWait next
+closed_few : {X : Type 0} (s : NodeState X) (o : Option (List ℕ × ℕ)) (next : NodeState X) → ClosesOn s o next → FewWait s next
 closed_few s None next h = absurd h
-closed_few {X} s (Some x) next h = record { most = subst (λ (asks : List (Pending X)). length asks ≤ 1024) (sym h.pending) (omega arith) }
+closed_few {X} s (Some x) next h = record {
+  most = λ few. subst (λ (asks : List (Pending X)). length asks ≤ 1024) (sym h.pending) (omega arith);
+  next = λ is. subst IsBlock (sym h.block) is;
+}
 
 pub asks_stay_few : {X : Type 0} (g : Setting) (s : NodeState X) (e : Event X) (mark : X) (outcome : Result (Reply X) StepFault) (next : NodeState X) →
-    length s.pending ≤ 1024 → Steps g s e mark outcome next → length next.pending ≤ 1024
-asks_stay_few g s e mark outcome next h steps =
-    let few : FewWait s = record { most = h } in
-    let after : FewWait next = steps_case g s e mark (λ r. FewWait r.state) (step_few g s mark few e) few (λ n f closes. closed_few s (purge_in g e) n closes.1)
-    outcome next steps in
-    after.most
+    Steps g s e mark outcome next → FewWait s next
+asks_stay_few g s e mark outcome next steps =
+    steps_case g s e mark (λ r. FewWait s r.state) (step_few g s mark e) (same_few s) (λ n f closes. closed_few s (purge_in g e) n closes.1) outcome next steps

@@ -1,7 +1,8 @@
 -- Another tag in the place of each tag, through lists and stores: no operation of the store looks
 -- at tags, so it gives the same with other tags.
-use Rattle.std.proofs.Common.{◌≡◌, ℕ, ◌-◌, Bool, true, false, cond, not, ◌&&◌, List, [], ◌∷◌, ◌++◌, map, filter, find, Option, Some, None, refl, ◌∙◌, ap, nat_lt, nat_le}
+use Rattle.std.proofs.Common.{◌≡◌, ℕ, zero, suc, ◌-◌, Bool, true, false, cond, not, ◌&&◌, ◌||◌, List, [], ◌∷◌, length, map, filter, find, Option, Some, None, refl, ◌∙◌, ap, nat_lt, nat_le}
 use Rattle.std.specs.Prelude.{option_map}
+use Rattle.std.proofs.lemmas.List.{length-map}
 use Rattle.object_store.specs.declared.copy.WebCopy.{WebCopy}
 use Rattle.http_messages.specs.declared.ask.Ask.{Ask}
 use Rattle.values_tables.specs.declared.plain.Limits.{Limits}
@@ -13,8 +14,8 @@ use Rattle.object_store.specs.declared.store.Put.TheVariants.{TooLarge, Kept, St
 use Rattle.object_store.specs.Copy.{size, is_of}
 use Rattle.object_store.specs.Listed.{copy_of, without, in_front, to_front, fitting, without_below, is_below}
 use Rattle.object_store.specs.Held.{is_outdone_by, put_answer, copies_after}
-use Rattle.node_rules.specs.State.{is_of_block, is_good, if_good, good_copy}
-use Rattle.node_rules.specs.Asks.{copy_for}
+use Rattle.node_rules.specs.State.{is_of_block, inserted, is_good, if_good, good_copy}
+use Rattle.node_rules.specs.Asks.{block_after, is_taken, first_free, free_block, copy_for}
 use Rattle.node_rules.specs.Arrivals.{stored, store_of}
 use Rattle.node_rules.specs.Tags.{retag_copy, retag_pending, retag_state}
 
@@ -22,10 +23,6 @@ use Rattle.node_rules.specs.Tags.{retag_copy, retag_pending, retag_state}
 pub both_ways : {A B : Type 0} (h : A → B) (b : Bool) (x y : A) (x' y' : B) → x' ≡ h x → y' ≡ h y → cond b x' y' ≡ h (cond b x y)
 both_ways h true x y x' y' p q = p
 both_ways h false x y x' y' p q = q
-
-pub map_at_end : {A B : Type 0} (h : A → B) (xs : List A) (x : A) → map h xs ++ h x ∷ [] ≡ map h (xs ++ x ∷ [])
-map_at_end h [] x = refl
-map_at_end h (y ∷ xs) x = ap (λ ys. h y ∷ ys) (map_at_end h xs x)
 
 pub filter_of_map : {A B : Type 0} (h : A → B) (test : B → Bool) (xs : List A) → filter test (map h xs) ≡ map h (filter (λ x. test (h x)) xs)
 filter_of_map h test [] = refl
@@ -107,9 +104,28 @@ module _ {X Y : Type 0} (f : X → Y) where
 
   -- pending requests
 
-  pub adding-retag : (pending : List (Pending X)) (p : Pending X) → map (retag_pending f) pending ++ retag_pending f p
-      ∷ [] ≡ map (retag_pending f) (pending ++ p ∷ [])
-  adding-retag pending p = map_at_end (retag_pending f) pending p
+  pub inserted-retag : (p : Pending X) (pending : List (Pending X)) → inserted (retag_pending f p) (map (retag_pending f) pending) ≡ map (retag_pending f)
+      (inserted p pending)
+  inserted-retag p [] = refl
+  inserted-retag p (q ∷ pending) =
+      both_ways (map (retag_pending f)) (nat_lt p.block q.block) (p ∷ q ∷ pending) (q ∷ inserted p pending) _ _ refl
+      (ap (λ (ps : List (Pending Y)). retag_pending f q ∷ ps) (inserted-retag p pending))
+
+  is_taken-retag : (pending : List (Pending X)) (block : ℕ) → is_taken (map (retag_pending f) pending) block ≡ is_taken pending block
+  is_taken-retag [] block = refl
+  is_taken-retag (p ∷ pending) block = ap (λ b. is_of_block block p || b) (is_taken-retag pending block)
+
+  first_free-retag : (pending : List (Pending X)) (tries block : ℕ) → first_free (map (retag_pending f) pending) tries block ≡ first_free pending tries block
+  unfolding first_free
+  first_free-retag pending zero block = refl
+  first_free-retag pending (suc tries) block =
+      ap (λ b. cond b (first_free (map (retag_pending f) pending) tries (block_after block)) (Some block)) (is_taken-retag pending block)
+      ∙ ap (λ o. cond (is_taken pending block) o (Some block)) (first_free-retag pending tries (block_after block))
+
+  pub free_block-retag : (s : NodeState X) → free_block (retag_state f s) ≡ free_block s
+  free_block-retag s =
+      ap (λ n. cond (nat_le 1024 n) None (first_free (map (retag_pending f) s.pending) 1024 s.next)) (length-map s.pending (retag_pending f))
+      ∙ ap (λ o. cond (nat_le 1024 (length s.pending)) None o) (first_free-retag s.pending 1024 s.next)
 
   one-retag : (block : ℕ) (p q : Pending X) → cond (is_of_block block q) (retag_pending f p) (retag_pending f q) ≡ retag_pending f
       (cond (is_of_block block q) p q)

@@ -41,29 +41,27 @@ use Rattle.htcp_wire.specs.Numbers.{number_in_text}
 use Rattle.values_plain.specs.declared.address.Udp.TheVariants as udp
 use Rattle.node_rules.specs.State.{Setting, Stepped, is_idle, good_copy, served_age, round_serial, fetch_serial}
 use Rattle.node_rules.specs.Fetching.{ask_peer, begin_read, read_origin, go_to, go_on, choice_of}
-use Rattle.node_rules.specs.Asks.{is_cached_only, is_busy, begin_round, ask_around, begin_ask, not_held, by_copy, copy_for, ask_comes, peers_to_ask}
+use Rattle.node_rules.specs.Asks.{is_cached_only, free_block, block_after, begin_round, begin_with_read, ask_around, begin_ask, begin_if_free, not_held, by_copy, copy_for, ask_comes, peers_to_ask}
 use Rattle.node_rules.specs.Arrivals.{stored, not_fetching, use_answer, try_on, is_gateway_fault, peer_gave, origin_gave, is_fetch, from_peer, peer_answer_to, peer_answer, foreign_answer, from_origin, origin_answer_to, origin_answer, fails, failure_of, fetch_failed, with_round, round_moves, expires, expiry_of, round_expired}
 use Rattle.node_rules.specs.Datagrams.{if_desired, icp_query, htcp_tst, hears, told_by, told_to, peer_at, icp_told, icp_said, is_key, htcp_told, clr_done, purge, purge_of, numbered_clr, held, dropped, is_full, plain_clr, clr_by_line, htcp_clr, icp_comes, tst_refused, htcp_comes, datagram}
 use Rattle.node_rules.specs.Step.{open_step, step_if, step}
 use Rattle.std.specs.Prelude.{option_map, is_some}
-use Rattle.std.proofs.Common.{◌∙◌, nat_lt}
+use Rattle.std.proofs.Common.{◌∙◌}
 use Rattle.node_rules.specs.Arrivals.{new_copy}
 use Rattle.std.specs.Prelude.{codes, map, find, Result, Ok, Err}
 use Rattle.std.specs.List.{filter_map}
 use Rattle.std.proofs.Common.{◌*◌}
-use Rattle.std.proofs.lemmas.List.{length-map}
 use Rattle.node_rules.specs.declared.reply.Reply.{Reply}
 use Rattle.node_rules.specs.declared.reply.Begin.TheVariants as begin
 use Rattle.node_rules.specs.declared.reply.Served.TheVariants.{Copy, Status}
-use Rattle.node_rules.specs.declared.reply.StepFault.TheVariants.{Busy}
 use Rattle.node_rules.specs.Messages.{icp, htcp, overall}
 use Rattle.node_rules.specs.Fetching.{fetching, origin_ask, peer_ask, own_id}
-use Rattle.node_rules.specs.Asks.{new_ask, question_to, takes_block}
+use Rattle.node_rules.specs.Asks.{new_ask, question_to, taking}
 use Rattle.node_rules.specs.Datagrams.{sends_back, icp_answer, hit_or_miss, tst_answer, copy_at, copy_meant, purged, clr_code}
 use Rattle.node_rules.specs.Effect.{state_of}
-use Rattle.node_rules.specs.State.{replies, refuses, with_copies, with_pending, adding, changing, ending, serving, beginning, quiet}
+use Rattle.node_rules.specs.State.{replies, with_copies, with_pending, changing, ending, serving, beginning, quiet}
 use Rattle.node_rules.specs.Tags.{retag_copy, retag_fetch, retag_pending, retag_state, retag_event, retag_reply, retag_stepped}
-use Rattle.node_rules.proofs.TagLists.{both_ways, copy_of-retag, without-retag, without_below-retag, to_front-retag, stored-retag, good_copy-retag, copy_for-retag, adding-retag, changing-retag, ending-retag, find-retag}
+use Rattle.node_rules.proofs.TagLists.{both_ways, copy_of-retag, without-retag, without_below-retag, to_front-retag, stored-retag, good_copy-retag, copy_for-retag, inserted-retag, free_block-retag, changing-retag, ending-retag, find-retag}
 
 some-retag : {A B : Type 0} (h : A → B) (o : Option A) → is_some (option_map h o) ≡ is_some o
 some-retag h None = refl
@@ -120,35 +118,43 @@ module _ {X Y : Type 0} (f : X → Y) (g : Setting) where
 
   -- Requests
 
+  takes-retag : (s : NodeState X) (p : Pending X) (reply : Reply X) → replies (taking (retag_state f s) (retag_pending f p)) (retag_reply f reply) ≡ to
+      (replies (taking s p) reply)
+  takes-retag s p reply =
+      ap (λ ps. replies (with_pending (record (retag_state f s) { next = block_after p.block }) ps) (retag_reply f reply)) (inserted-retag f p s.pending)
+
+  with_read-retag : (s : NodeState X) (asker : Option ℕ) (ask : Ask) (block now : ℕ) (mark : X) →
+      begin_with_read g (retag_state f s) asker ask block now (f mark) ≡ to (begin_with_read g s asker ask block now mark)
+  unfolding begin_with_read
+  with_read-retag s asker ask block now mark =
+      let q : Pending X = fetching (new_ask block asker ask None) 1 (AtOrigin (seen s.floors) now mark) in
+      both_ways (retag_stepped f) (has_origin g.roster ask.key) _ _ _ _ (takes-retag s q (beginning (begin.Read (fetch_serial q) (origin_ask ask)))) refl
+
   ask_around-retag : (s : NodeState X) (asker : Option ℕ) (ask : Ask) (block now : ℕ) (mark : X) (round : RoundText) (peers : List Peer) →
       ask_around g (retag_state f s) asker ask block now (f mark) round peers ≡ to (ask_around g s asker ask block now mark round peers)
   unfolding ask_around begin_round
-  ask_around-retag s asker ask block now mark round [] =
-      let p : Pending X = new_ask block asker ask None in
-      ap (λ ps. read_origin g (with_pending (retag_state f s) ps) (retag_pending f p) None now (f mark)) (adding-retag f s.pending p)
-      ∙ read_origin-retag (adding s p) p None now mark
+  ask_around-retag s asker ask block now mark round [] = with_read-retag s asker ask block now mark
   ask_around-retag s asker ask block now mark round (peer ∷ peers) =
-      ap (λ ps. replies (with_pending (retag_state f s) ps) record {
+      takes-retag s (new_ask block asker ask (Some round)) record {
         serve = None;
         send = filter_map (question_to g.roster (32 * block) ask.key) round.asked;
         begin = Some (begin.Round (32 * block));
-      })
-      (adding-retag f s.pending (new_ask block asker ask (Some round)))
+      }
 
-  busy-retag : (s : NodeState X) → is_busy (retag_state f s) ≡ is_busy s
-  busy-retag s = ap (λ n. nat_le 1024 n || nat_lt 134217727 s.next) (length-map s.pending (retag_pending f))
+  begin_if_free-retag : (s : NodeState X) (asker : Option ℕ) (ask : Ask) (now : ℕ) (mark : X) (o : Option ℕ) →
+      begin_if_free g (retag_state f s) asker ask now (f mark) o ≡ to (begin_if_free g s asker ask now mark o)
+  unfolding begin_if_free begin_ask
+  begin_if_free-retag s asker ask now mark None = refl
+  begin_if_free-retag s asker ask now mark (Some block) =
+      let round : RoundText = started (peers_to_ask g ask) (floor s.floors ask.key) in
+      ask_around-retag s asker ask block now mark round round.asked
 
   not_held-retag : (s : NodeState X) (asker : Option ℕ) (ask : Ask) (now : ℕ) (mark : X) → not_held g (retag_state f s) asker ask now (f mark) ≡ to
       (not_held g s asker ask now mark)
-  unfolding not_held begin_ask
+  unfolding not_held
   not_held-retag s asker ask now mark =
-      let round : RoundText = started (peers_to_ask g ask) (floor s.floors ask.key) in
-      let block : Stepped Y = ask_around g (takes_block (retag_state f s)) asker ask s.next now (f mark) round round.asked in
-      ap (λ b. cond (is_cached_only g asker ask) (replies (retag_state f s) (serving None asker (Status 504))) (cond b (refuses (retag_state f s) Busy) block))
-      (busy-retag s)
-      ∙ both_ways (retag_stepped f) (is_cached_only g asker ask) _ _ _ _ refl
-      (both_ways (retag_stepped f) (is_busy s) _ _ _ _ refl
-      (ask_around-retag (takes_block s) asker ask s.next now mark round round.asked))
+      both_ways (retag_stepped f) (is_cached_only g asker ask) _ _ _ _ refl
+      (ap (begin_if_free g (retag_state f s) asker ask now (f mark)) (free_block-retag f s) ∙ begin_if_free-retag s asker ask now mark (free_block s))
 
   by_copy-retag : (s : NodeState X) (asker : Option ℕ) (ask : Ask) (now : ℕ) (mark : X) (o : Option (WebCopy X)) →
       by_copy g (retag_state f s) asker ask now (f mark) (option_map (retag_copy f) o) ≡ to (by_copy g s asker ask now mark o)

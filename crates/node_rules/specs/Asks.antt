@@ -1,25 +1,25 @@
 -- A client's or a member's request arrives. The rule is `ask_comes`, at the end.
-use Rattle.std.specs.Prelude.{ℕ, ◌+◌, Bool, false, ◌||◌, nat_le, nat_lt, List, [], ◌∷◌, length, Option, Some, None, option_map, if◌then◌else◌}
-use Rattle.std.specs.List.{filter_map}
+use Rattle.std.specs.Prelude.{ℕ, zero, suc, ◌+◌, ◌≤◌, Bool, false, ◌||◌, nat_le, nat_lt, List, [], ◌∷◌, length, Option, Some, None, option_map, if◌then◌else◌}
+use Rattle.std.specs.List.{filter_map, list_any}
 use Rattle.http_messages.specs.declared.ask.Ask.{Ask}
 use Rattle.object_store.specs.declared.copy.WebCopy.{WebCopy}
 use Rattle.object_store.specs.Listed.{to_front}
-use Rattle.floor_rules.specs.Floors.{floor}
+use Rattle.floor_rules.specs.Floors.{floor, seen}
 use Rattle.values_tables.specs.declared.plain.Peer.{Peer}
 use Rattle.values_tables.specs.declared.plain.Tables.{Tables}
 use Rattle.roster.specs.Lookups.{peers_of, names_sibling, address_by}
 use Rattle.peer_chooser.specs.Round.{RoundText, started}
 use Rattle.node_rules.specs.declared.message.Outgoing.{Outgoing}
-use Rattle.node_rules.specs.declared.state.Fetch.TheVariants.{Nowhere}
+use Rattle.node_rules.specs.declared.state.Fetch.TheVariants.{Nowhere, AtOrigin}
 use Rattle.node_rules.specs.declared.state.Pending.{Pending}
 use Rattle.node_rules.specs.declared.state.NodeState.{NodeState}
 use Rattle.node_rules.specs.declared.reply.Served.TheVariants.{Copy, Status}
 use Rattle.node_rules.specs.declared.reply.Begin.TheVariants as begin
 use Rattle.node_rules.specs.declared.reply.StepFault.TheVariants.{Busy}
 use Rattle.node_rules.specs.Messages.{to, query}
-use Rattle.node_rules.specs.Known.{cache_of}
-use Rattle.node_rules.specs.State.{Setting, Stepped, replies, refuses, serving, with_copies, adding, good_copy, served_age, round_serial}
-use Rattle.node_rules.specs.Fetching.{read_origin}
+use Rattle.node_rules.specs.Known.{cache_of, has_origin}
+use Rattle.node_rules.specs.State.{Setting, Stepped, replies, refuses, beginning, serving, with_copies, is_of_block, adding, good_copy, served_age, round_serial, fetch_serial}
+use Rattle.node_rules.specs.Fetching.{fetching, origin_ask}
 
 -- The entry of the member that sent the request names this node a sibling.
 abbrev pub is_siblings_ask : Setting → Option ℕ → Bool
@@ -39,13 +39,37 @@ most_pending = 1024
 abbrev pub last_block : ℕ
 last_block = 134217727
 
--- `most_pending` requests are pending, or no block of serials is left. [Ask 3]
-abbrev pub is_busy : {X : Type 0} → NodeState X → Bool
-is_busy s = nat_le most_pending (length s.pending) || nat_lt last_block s.next
+-- A block is used. Block 0 is not.
+pub record IsBlock (block : ℕ) : Type 0 where
+  pub first : 1 ≤ block
+  pub last : block ≤ last_block
 
--- The next block is taken.
-abbrev pub takes_block : {X : Type 0} → NodeState X → NodeState X
-takes_block s = record s { next = s.next + 1 }
+-- The block after this one. Blocks go round: after the last one comes block 1. [Node 2]
+abbrev pub block_after : ℕ → ℕ
+block_after block = if nat_lt block last_block then block + 1 else 1
+
+-- A pending request has this block.
+abbrev pub is_taken : {X : Type 0} → List (Pending X) → ℕ → Bool
+is_taken asks block = list_any (is_of_block block) asks
+
+-- The first of so many blocks, going round from this one, that no pending request has.
+unfoldable pub first_free : {X : Type 0} → List (Pending X) → ℕ → ℕ → Option ℕ
+first_free asks zero block = None
+first_free asks (suc tries) block =
+    if is_taken asks block then first_free asks tries (block_after block) else Some block
+
+-- The block for one request more beside these, going round from this one: none if `most_pending`
+-- requests are pending. [Ask 3]
+abbrev pub free_from : {X : Type 0} → List (Pending X) → ℕ → Option ℕ
+free_from asks block = if nat_le most_pending (length asks) then None else first_free asks most_pending block
+
+-- The block for a new request.
+abbrev pub free_block : {X : Type 0} → NodeState X → Option ℕ
+free_block s = free_from s.pending s.next
+
+-- A new request waits. Its block is taken, and the next one is looked for behind it. [Ask 4]
+abbrev pub taking : {X : Type 0} → NodeState X → Pending X → NodeState X
+taking s p = adding (record s { next = block_after p.block }) p
 
 -- A new pending request, for which nothing has begun.
 abbrev pub new_ask : {X : Type 0} → ℕ → Option ℕ → Ask → Option RoundText → Pending X
@@ -71,7 +95,7 @@ question_to roster serial key p = option_map (λ c. to (address_by p.by c) (quer
 unfoldable pub begin_round : {X : Type 0} → Setting → NodeState X → Option ℕ → Ask → ℕ → RoundText → Stepped X
 begin_round g s asker ask block round =
     let p = new_ask block asker ask (Some round) in
-    replies (adding s p)
+    replies (taking s p)
     record {
       serve = None;
       send = filter_map (question_to g.roster (round_serial p) ask.key) round.asked;
@@ -79,29 +103,42 @@ begin_round g s asker ask block round =
           Some (begin.Round (round_serial p));
     }
 
+-- An origin read begins at once. If the roster has no such origin, 502 is served, and no block is
+-- taken. [Ask 4, Fetch 2]
+unfoldable pub begin_with_read : {X : Type 0} → Setting → NodeState X → Option ℕ → Ask → ℕ → ℕ → X → Stepped X
+begin_with_read g s asker ask block now mark =
+    let q = fetching (new_ask block asker ask None) 1 (AtOrigin (seen s.floors) now mark) in
+    if has_origin g.roster ask.key
+    then replies (taking s q) (beginning (begin.Read (fetch_serial q) (origin_ask ask)))
+    else replies s (serving None asker (Status 502))
+
 -- A round begins. If nobody is to be queried, the origin is read instead. [Ask 4]
 unfoldable pub ask_around : {X : Type 0} → Setting → NodeState X → Option ℕ → Ask → ℕ → ℕ → X → RoundText → List Peer →
     Stepped X
-ask_around g s asker ask block now mark round [] =
-    let p = new_ask block asker ask None in read_origin g (adding s p) p None now mark
+ask_around g s asker ask block now mark round [] = begin_with_read g s asker ask block now mark
 ask_around g s asker ask block now mark round (peer ∷ peers) = begin_round g s asker ask block round
 
 -- Nobody is asked for a stored response if the request bears `no-cache`.
 abbrev pub peers_to_ask : Setting → Ask → List Peer
 peers_to_ask g ask = if ask.no_cache then [] else peers_of g.roster g.id
 
--- A new request takes the next block, and a round or an origin read begins. [Ask 4]
-unfoldable pub begin_ask : {X : Type 0} → Setting → NodeState X → Option ℕ → Ask → ℕ → X → Stepped X
-begin_ask g s asker ask now mark =
+-- A round or an origin read begins for a new request, with this block. [Ask 4]
+unfoldable pub begin_ask : {X : Type 0} → Setting → NodeState X → Option ℕ → Ask → ℕ → X → ℕ → Stepped X
+begin_ask g s asker ask now mark block =
     let round = started (peers_to_ask g ask) (floor s.floors ask.key) in
-    ask_around g (takes_block s) asker ask s.next now mark round round.asked
+    ask_around g s asker ask block now mark round round.asked
+
+-- The same if there is a block for it, else `Busy`. [Ask 3]
+unfoldable pub begin_if_free : {X : Type 0} → Setting → NodeState X → Option ℕ → Ask → ℕ → X → Option ℕ → Stepped X
+begin_if_free g s asker ask now mark None = refuses s Busy
+begin_if_free g s asker ask now mark (Some block) = begin_ask g s asker ask now mark block
 
 -- No copy may be served: 504 for a request to the store alone, else `Busy`, else a fetch begins. [Ask 2]
 unfoldable pub not_held : {X : Type 0} → Setting → NodeState X → Option ℕ → Ask → ℕ → X → Stepped X
 not_held g s asker ask now mark =
     if is_cached_only g asker ask
     then replies s (serving None asker (Status 504))
-    else (if is_busy s then refuses s Busy else begin_ask g s asker ask now mark)
+    else begin_if_free g s asker ask now mark (free_block s)
 
 -- The copy is served, if there is one, and becomes the most recent. [Ask 1]
 unfoldable pub by_copy : {X : Type 0} → Setting → NodeState X → Option ℕ → Ask → ℕ → X → Option (WebCopy X) → Stepped X

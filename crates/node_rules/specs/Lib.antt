@@ -3,6 +3,7 @@
 pub mod Names
 pub mod Texts
 pub mod Messages
+pub mod Spelled
 pub mod Known
 pub mod State
 pub mod Fetching
@@ -16,3 +17,4 @@ pub mod Effect
 pub mod Lawful
 pub mod Good
 pub mod Tags
+pub mod Serials

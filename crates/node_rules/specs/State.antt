@@ -1,5 +1,5 @@
 -- A node's setting, what a step leads to, and the words for both. Later files use them throughout.
-use Rattle.std.specs.Prelude.{ℕ, ◌+◌, ◌*◌, min, Bool, true, false, not, ◌&&◌, ◌==◌, nat_le, List, [], ◌∷◌, ◌++◌, map, filter, unwrap_or, Option, Some, None, Result, Ok, Err, if◌then◌else◌}
+use Rattle.std.specs.Prelude.{ℕ, ◌+◌, ◌*◌, min, Bool, true, false, not, ◌&&◌, ◌==◌, nat_le, nat_lt, List, [], ◌∷◌, map, filter, unwrap_or, Option, Some, None, Result, Ok, Err, if◌then◌else◌}
 use Rattle.values_keys.specs.KeyOf.{key_of}
 use Rattle.object_store.specs.declared.copy.WebCopy.{WebCopy}
 use Rattle.object_store.specs.Listed.{copy_of}
@@ -84,9 +84,14 @@ with_pending s pending = record s { pending = pending }
 abbrev pub is_of_block : {X : Type 0} → ℕ → Pending X → Bool
 is_of_block block p = p.block == block
 
--- A new request comes behind the others, whose blocks are lesser.
+-- The requests with one more, which comes before the first of a greater block.
+abbrev pub inserted : {X : Type 0} → Pending X → List (Pending X) → List (Pending X)
+inserted p [] = p ∷ []
+inserted p (q ∷ asks) = if nat_lt p.block q.block then p ∷ q ∷ asks else q ∷ inserted p asks
+
+-- The same in a state: a new request takes its place in the order of blocks.
 abbrev pub adding : {X : Type 0} → NodeState X → Pending X → NodeState X
-adding s p = with_pending s (s.pending ++ p ∷ [])
+adding s p = with_pending s (inserted p s.pending)
 
 -- This request takes the place of the one with its block.
 abbrev pub changed : {X : Type 0} → Pending X → List (Pending X) → List (Pending X)

@@ -1,5 +1,6 @@
 //! Laws of the definition. Each function does nothing: its contract states the law.
-ghost use Rattle.std.specs.Prelude.{◌≡◌, ◌≤◌, ℕ, List, length, Result, Some, true, false};
+ghost use Rattle.std.specs.Prelude.{◌≡◌, ◌≤◌, ◌<◌, ℕ, List, length, Result, Some, true, false};
+ghost use Rattle.std.specs.List.{AllByRecursion};
 ghost use Rattle.object_store.specs.declared.copy.WebCopy.{WebCopy};
 ghost use Rattle.floor_rules.specs.Floors.{floor};
 ghost use Rattle.node_rules.specs.declared.state.NodeState.{NodeState};
@@ -7,13 +8,15 @@ ghost use Rattle.node_rules.specs.declared.event.Event.{Event};
 ghost use Rattle.node_rules.specs.declared.reply.Reply.{Reply};
 ghost use Rattle.node_rules.specs.declared.reply.StepFault.{StepFault};
 ghost use Rattle.node_rules.specs.State.{Setting};
+ghost use Rattle.node_rules.specs.Asks.{IsBlock};
+ghost use Rattle.node_rules.specs.Serials.{Ascend, KeepsFetch};
 ghost use Rattle.node_rules.specs.Step.{step};
 ghost use Rattle.node_rules.specs.Relation.{Steps};
 ghost use Rattle.node_rules.specs.Questions.{is_from_sibling, BeginsNothing};
 ghost use Rattle.node_rules.specs.Effect.{copy_served};
 ghost use Rattle.node_rules.specs.Lawful.{Lawful};
 ghost use Rattle.node_rules.specs.Tags.{retag_state, retag_event, retag_outcome, retag_stepped};
-ghost use Rattle.node_rules.specs.Good.{AllAbove, IsAbove, AreStored};
+ghost use Rattle.node_rules.specs.Good.{AllAbove, IsAbove, AreStored, HasFreeBlock};
 
 /// What the function `step` gives is a step by the relation `Steps`.
 pub fn the_function_is_a_step<T>()
@@ -60,6 +63,32 @@ pub fn few_asks_wait<T>()
     ensures { (g : Setting) (s : NodeState T) (e : Event T) (mark : T)
         (outcome : Result (Reply T) StepFault) (next : NodeState T) →
         length s.pending ≤ 1024 → Steps g s e mark outcome next → length next.pending ≤ 1024 }
+{}
+
+/// Blocks come round: the next block stays one of 1 to 134,217,727 (`next`). While fewer than 1,024
+/// requests are pending, there is a block for one more, which none of them has (`free`). So a node
+/// is `Busy` only while 1,024 are pending.
+pub fn blocks_come_round<T>()
+    ensures next { (g : Setting) (s : NodeState T) (e : Event T) (mark : T)
+        (outcome : Result (Reply T) StepFault) (next : NodeState T) →
+        IsBlock s.next → Steps g s e mark outcome next → IsBlock next.next }
+    ensures free { (s : NodeState T) →
+        IsBlock s.next → length s.pending < 1024 → HasFreeBlock s }
+{}
+
+/// Serials are not shared. The blocks of pending requests ascend, so no two are the same (`apart`).
+/// And while a fetch runs, its request stays pending and the fetch has its serial, until an event
+/// ends it or the node closes (`fetches`). So a fetch that runs has the block of a pending request,
+/// and a new request gets another.
+pub fn serials_are_not_shared<T>()
+    ensures apart { (g : Setting) (s : NodeState T) (e : Event T) (mark : T)
+        (outcome : Result (Reply T) StepFault) (next : NodeState T) →
+        IsBlock s.next → Ascend 0 s.pending → Steps g s e mark outcome next →
+        Ascend 0 next.pending }
+    ensures fetches { (g : Setting) (s : NodeState T) (e : Event T) (mark : T)
+        (outcome : Result (Reply T) StepFault) (next : NodeState T) →
+        Ascend 0 s.pending → Steps g s e mark outcome next → next.closed ≡ false →
+        AllByRecursion (KeepsFetch e next) s.pending }
 {}
 
 /// A QUERY, a TST, and a request of a member that names this node a sibling begin nothing and leave

@@ -12,13 +12,13 @@
 //!   serials, and whether the node is closed.
 //! - [`Reply`] is the output: what to serve ([`Serve`]), which datagrams to send ([`Outgoing`]),
 //!   what to begin ([`Begin`]). A step that is refused gives a [`StepFault`] instead.
-//! - [`Received`] is a message that can be answered; [`Sent`] is one that can be encoded. Their types
-//!   say so, and no step has to check it again.
+//! - [`Received`] is a message that octets spell, so it can be answered; [`Sent`] is one that can be
+//!   encoded. Their types say so, and no step has to check it again.
 //!
 //! # The definition: `specs/`, in this order
 //!
-//! 1. `Names`, `Texts`, `Messages`: names of faults; messages that can be encoded; the messages
-//!    that a node sends
+//! 1. `Names`, `Texts`, `Messages`, `Spelled`: names of faults; messages that can be encoded; the
+//!    messages that a node sends; the message that octets spell
 //! 2. `Known`: which cache, sender and origin a node knows
 //! 3. `State`: `Setting`, what a step leads to (`Stepped`), and the words for both, such as
 //!    `is_good` (a copy may be served)
@@ -54,7 +54,7 @@
 //! # Where the rest stands
 //!
 //! - `src/event.rt`, `src/state.rt`, `src/reply.rt`: the types
-//! - `src/message.rt`: messages, with [`can_be_answered`] and [`fits`]
+//! - `src/message.rt`: messages, with [`fits`]
 //! - `src/gateway.rt`: [`is_gateway_fault`], of a response's status
 //! - `src/laws.rt`: the laws as contracts; start here to see what is proved of the definition
 //! - `proofs/Lib` gives an order for the proofs
@@ -71,6 +71,6 @@ mod state;
 
 pub use event::Event;
 pub use gateway::is_gateway_fault;
-pub use message::{Message, Outgoing, Received, Sent, can_be_answered, fits};
+pub use message::{Message, Outgoing, Received, Sent, fits};
 pub use reply::{Begin, Reply, Serve, Served, StepFault};
 pub use state::{Fetch, NodeState, Pending, SERIALS};

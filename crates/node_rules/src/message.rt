@@ -1,17 +1,12 @@
 ghost use Rattle.std.specs.Prelude.{◌≡◌, ◌↔◌, IsTrue};
-ghost use Rattle.icp_wire.specs.declared.message.IcpOp.TheVariants as op;
-ghost use Rattle.icp_wire.specs.Written.{Fits};
 ghost use Rattle.node_rules.specs.Messages.{protocol_of, clear_answer as clear_answer_in_message};
-ghost use Rattle.node_rules.specs.Texts.{IsAnswerable, HasOpcode, IsSendable, icp_message};
+ghost use Rattle.node_rules.specs.Texts.{IsAnswerable, IsSendable};
+ghost use Rattle.node_rules.specs.Spelled.{IsSpelled};
 
 use htcp_wire::{Content, Htcp};
-use icp_wire::{Icp, LONGEST_MESSAGE};
+use icp_wire::Icp;
 use roster::{Address, Udp};
 use std::marker::Model;
-
-/// The octets of an ICP response without its URL: a header of 20 octets, and the zero octet behind
-/// the URL (RFC 2186).
-const ICP_FRAME: usize = 21;
 
 /// A message by either protocol.
 #[derive(Debug, Drop)]
@@ -47,8 +42,8 @@ impl Message {
     }
 }
 
-/// A received message that can be answered: a response that repeats its number and URL, or its
-/// opcode, can be encoded. Every message that the codecs decode is one.
+/// A message that arrived: some octets spell it, by its protocol. So it can be answered: a response
+/// that repeats its number and URL, or its opcode, can be encoded.
 ///
 /// A contract sees the message.
 #[derive(Debug, Drop)]
@@ -58,19 +53,19 @@ pub struct Received {
 
 impl Model for Received {
     ghost use Rattle.node_rules.specs.declared.message.Message.{Message};
-    ghost use Rattle.node_rules.specs.Texts.{IsAnswerable};
+    ghost use Rattle.node_rules.specs.Spelled.{IsSpelled};
 
     ghost Value = { Message };
 
     ghost view = { λ r. r.message };
 
-    ghost invariant = { λ r. IsAnswerable r.message };
+    ghost invariant = { λ r. IsSpelled r.message };
 }
 
 impl Received {
-    /// Takes a message that can be answered, as `can_be_answered` tells.
+    /// Takes a message that octets spell, as `decode` of its codec gives it.
     pub fn new(message: Message) -> Received
-        requires { IsAnswerable message }
+        requires { IsSpelled message }
         ensures { result ≡ message }
     {
         Received { message }
@@ -79,6 +74,7 @@ impl Received {
     /// The message.
     pub fn message(&self) -> &Message
         ensures value { result.now ≡ self.now }
+        ensures spelled { IsSpelled self.now }
         ensures answerable { IsAnswerable self.now }
     {
         &self.message
@@ -137,34 +133,6 @@ pub struct Outgoing {
     pub to: Address,
     /// The message.
     pub message: Sent,
-}
-
-/// Whether a response to the message can be encoded.
-pub fn can_be_answered(message: &Message) -> bool
-    ensures { IsTrue result ↔ IsAnswerable message.now }
-{
-    match message {
-        Message::Icp(message) => can_be_repeated(message),
-        Message::Htcp(message) => has_opcode(&message.content),
-    }
-}
-
-/// Whether an ICP response can repeat the URL: it has no zero octet and is short enough.
-fn can_be_repeated(message: &Icp) -> bool
-    ensures { IsTrue result ↔ Fits (icp_message op.Miss message.now.number message.now.url) }
-{
-    let url = message.url.as_slice();
-    !url.contains(&0) && url.len() <= LONGEST_MESSAGE - ICP_FRAME
-}
-
-/// Whether the opcode fits four bits, where a response repeats it.
-fn has_opcode(content: &Content) -> bool
-    ensures { IsTrue result ↔ HasOpcode content.now }
-{
-    match content {
-        Content::Other { opcode, .. } => *opcode < 16,
-        _ => true,
-    }
 }
 
 /// Whether the message can be encoded, as `fits` of its codec tells.

@@ -80,7 +80,7 @@ pub enum StepFault {
     /// No pending request waits at this serial, with this key and this source. Nothing changed.
     #[error("no pending ask is at this serial")]
     UnknownSerial,
-    /// 1,024 requests are pending, or no block of serials is left. Nothing changed.
+    /// 1,024 requests are pending. Nothing changed.
     #[error("too many asks wait")]
     Busy,
     /// The floor store failed. The node is closed.

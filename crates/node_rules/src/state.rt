@@ -64,7 +64,8 @@ pub struct NodeState<T> {
     pub copies: Listed<WebCopy<T>>,
     /// The pending requests, at most 1,024, in the order of their blocks.
     pub pending: Listed<Pending<T>>,
-    /// The next block, or 134,217,728 if none is left.
+    /// The block from which the next request's is looked for. Blocks go round: after 134,217,727
+    /// comes 1, and a block that a pending request has is passed over.
     pub next: u32,
     /// Whether the node is closed. A closed node answers every event with `StepFault::Closed`.
     pub closed: bool,

@@ -2,7 +2,7 @@
 //!
 //! [`SharedNode`] is a node under one lock. A thread calls it by a [`Seat`], which it owns; a call
 //! holds the lock for one step. The node's history is the list of all its steps, which only grows
-//! and which only proofs see (`node_history`). A seat knows a beginning of it. After a call the
+//! and which only proofs see (`values_history`). A seat knows a beginning of it. After a call the
 //! last entry that the seat knows is that call with its outcome; it comes after all that the seat
 //! knew before, and is the seat's only new one. So no reply is invented, no call is made twice, and
 //! what two threads were told are places of one history that the rules allow. [`AtSeat`] takes a

@@ -1,8 +1,9 @@
 //! A seat: one thread's right to call a node, with what the thread knows of the node's history.
 ghost use Rattle.std.specs.Prelude.{◌≡◌};
 
-use node_history::{Front, Run};
+use node_book::NodeEntry;
 use std::marker::{Brand, Model};
+use values_history::{Front, Run};
 
 /// Which run of which node it is, and how its history begins.
 pub trait Origin: Run {
@@ -30,7 +31,7 @@ pub struct Seat<J: Origin> {
     /// How many calls were made by it.
     pub(crate) calls: u64,
     /// What it knows of the history.
-    pub(crate) front: Front<J>,
+    pub(crate) front: Front<NodeEntry, J>,
 }
 
 impl<J: Origin> Model for Seat<J> {

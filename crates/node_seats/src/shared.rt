@@ -12,12 +12,12 @@ use crate::retention::Retention;
 use crate::seat::{Origin, Seat};
 use crate::whole::Whole;
 use floor_rules::FloorStore;
-use node_book::Record;
+use node_book::{NodeEntry, Record};
 use node_core::Node;
-use node_history::{Front, Head};
 use node_rules::{Event, Reply, StepFault};
 use std::alloc::{AllocError, Global};
 use std::sync::{Mutex, MutexGuard, Wait};
+use values_history::{Front, Head};
 
 /// A node that threads share, under one lock.
 #[derive(Drop)]
@@ -33,8 +33,8 @@ impl<S: FloorStore + Drop, J: Origin> SharedNode<S, J> {
         node: Node<(), S>,
         seats: u8,
         retention: Retention,
-        head: Head<J>,
-        front: Front<J>,
+        head: Head<NodeEntry, J>,
+        front: Front<NodeEntry, J>,
         places: Places,
     ) -> Result<(SharedNode<S, J>, Vec<Seat<J>>), AllocError>
         requires none { front ≡ [] }

@@ -5,17 +5,17 @@ ghost use Rattle.node_seats.specs.Seats.{Adds, IsNext};
 
 use crate::seat::{Origin, Seat};
 use node_book::NodeEntry;
-use node_history::{Front, Head};
 use std::alloc::{AllocError, Global};
 use std::marker::Model;
+use values_history::{Front, Head};
 
 /// The whole history of a node, and how many entries of it each seat has.
 ///
 /// A contract sees its entries.
 #[derive(Drop)]
 pub(crate) struct Whole<J: Origin> {
-    head: Head<J>,
-    front: Front<J>,
+    head: Head<NodeEntry, J>,
+    front: Front<NodeEntry, J>,
     /// The number of entries of each seat, by the seat's number.
     counts: Vec<u64>,
 }
@@ -36,8 +36,8 @@ impl<J: Origin> Whole<J> {
     /// A history without entries, for this many seats.
     pub(crate) fn new(
         alloc: Global,
-        head: Head<J>,
-        front: Front<J>,
+        head: Head<NodeEntry, J>,
+        front: Front<NodeEntry, J>,
         seats: u8,
     ) -> Result<Whole<J>, AllocError>
         requires { front ≡ [] }

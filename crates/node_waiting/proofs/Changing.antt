@@ -1,34 +1,114 @@
--- Requests in order stay so as one is added, changes or ends: a new block is greater than all
--- others, a change keeps the block, and removing one element keeps the order.
-use Rattle.std.proofs.Common.{◌≡◌, ◌≢◌, ℕ, zero, suc, ◌<◌, ◌==◌, Bool, true, false, cond, not, List, [], ◌∷◌, ◌++◌, map, filter, All, length, get_or, set, slice_get, Some, refl, inl, inr, sym, ap, ◌∙◌, subst, arith, length-set, get_or-set_same, get_or-set_other}
-use Rattle.std.specs.List.{remove}
+-- Requests in order stay so as one is added, changes or ends: a new one comes before those of
+-- greater blocks, a change keeps the block, and removing one element keeps the order.
+use Rattle.std.proofs.Common.{◌≡◌, ◌≢◌, ℕ, zero, suc, ◌<◌, ◌≤◌, ◌==◌, Bool, true, false, cond, not, nat_lt, List, [], ◌∷◌, map, filter, All, length, get_or, set, slice_get, Some, refl, inl, inr, sym, ap, ◌∙◌, subst, arith, length-set, get_or-set_same, get_or-set_other}
+use Rattle.std.specs.List.{insert, remove}
+use Rattle.std.specs.List.Sorted.{IsNonDecreasingBy, IsPartitionPoint}
 use Rattle.std.proofs.lemmas.Bool.Decides.{nat_tests}
 use Rattle.std.proofs.lemmas.List.{same_lists, get_or-map, length-map}
 use Rattle.std.proofs.lemmas.Grind.{get_or-set_at}
 use Rattle.std.proofs.lemmas.Bool.{cases_eq}
 use Rattle.std.proofs.lemmas.Option.{slice_get_read}
-use Rattle.std.proofs.lemmas.List.Elements.{at_read, All-push, All-set, All-filter, All-map}
-use Rattle.std.proofs.lemmas.List.Kept.{AllPairs-filter}
-use Rattle.std.proofs.lemmas.List.Quantifiers.{all_pairs_push}
+use Rattle.std.proofs.lemmas.List.Elements.{at_read, All-cons, All-tail, All-set, All-filter}
+use Rattle.std.proofs.lemmas.List.Kept.{AllPairs-cons, AllPairs-filter}
 use Rattle.node_rules.specs.declared.state.Pending.{Pending}
-use Rattle.node_rules.specs.State.{is_of_block, changed, ended}
+use Rattle.node_rules.specs.State.{is_of_block, inserted, changed, ended}
+use Rattle.node_rules.specs.Asks.{IsBlock}
 use Rattle.node_waiting.specs.CanGoOn.{CanGoOn}
-use Rattle.node_waiting.specs.InOrder.{IsBlock, AreInOrder}
+use Rattle.node_waiting.specs.Found.{IsAbsent, IsPlaceFor}
+use Rattle.node_waiting.specs.InOrder.{AreInOrder}
 use Rattle.node_waiting.proofs.Finding.{Ascend}
-
-pub added : {X : Type 0} (asks : List (Pending X)) (p : Pending X) → AreInOrder asks → IsBlock p.block → All (λ q. q.block < p.block) asks → CanGoOn p →
-    AreInOrder (asks ++ p ∷ [])
-added asks p order block above go = record {
-  ascend = all_pairs_push (λ x y. x.block < y.block) asks p order.ascend (λ k d l. above k d l);
-  blocks = All-push (λ x. IsBlock x.block) asks p order.blocks block;
-  can_go_on = All-push CanGoOn asks p order.can_go_on go;
-}
 
 eqb_same : {a b : ℕ} → a ≡ b → (a == b) ≡ true
 eqb_same e = grind (arith, nat_tests)
 
 eqb_other : {a b : ℕ} → a ≢ b → (a == b) ≡ false
 eqb_other n = grind (arith, nat_tests)
+
+-- A new request
+
+all_inserted : {X : Type 0} (P : Pending X → Type 0) (p : Pending X) (asks : List (Pending X)) → P p → All P asks → All P (inserted p asks)
+all_inserted P p [] here all = All-cons P p [] here all
+all_inserted {X} P p (q ∷ asks) here all =
+    elim (nat_lt p.block q.block) as (λ b. All P (cond b (p ∷ q ∷ asks) (q ∷ inserted p asks))) [
+      | true ↦ All-cons P p (q ∷ asks) here all
+      | false ↦ All-cons P q (inserted p asks) (all 0 q (omega arith)) (all_inserted P p asks here (All-tail P q asks all))
+    ]
+
+later : {X : Type 0} (q : Pending X) (asks : List (Pending X)) → Ascend (q ∷ asks) → All (λ r. q.block < r.block) asks
+later q asks ascend k d l = ascend 0 (suc k) d (omega arith) (omega arith)
+
+rest_ascend : {X : Type 0} (q : Pending X) (asks : List (Pending X)) → Ascend (q ∷ asks) → Ascend asks
+rest_ascend q asks ascend j k d lt l = ascend (suc j) (suc k) d (omega arith) (omega arith)
+
+ascend_inserted : {X : Type 0} (p : Pending X) (asks : List (Pending X)) → Ascend asks → IsAbsent asks p.block → Ascend (inserted p asks)
+ascend_inserted p [] ascend none = AllPairs-cons (λ x y. x.block < y.block) p [] (λ k d l. absurd (omega arith)) ascend
+ascend_inserted {X} p (q ∷ asks) ascend none =
+    (elim (nat_lt p.block q.block) as (λ b. nat_lt p.block q.block ≡ b → Ascend (cond b (p ∷ q ∷ asks) (q ∷ inserted p asks))) [
+      | true ↦ λ less. AllPairs-cons (λ x y. x.block < y.block) p (q ∷ asks)
+          (All-cons (λ r. p.block < r.block) q asks (below less) (λ k d l. let h = later q asks ascend k d l in let b = below less in omega arith)) ascend
+      | false ↦ λ not_less. AllPairs-cons (λ x y. x.block < y.block) q (inserted p asks)
+          (all_inserted (λ r. q.block < r.block) p asks (above not_less) (later q asks ascend))
+          (ascend_inserted p asks (rest_ascend q asks ascend) (All-tail (λ r. r.block ≢ p.block) q asks none))
+    ]) refl
+  where
+    below : nat_lt p.block q.block ≡ true → p.block < q.block
+    below less = grind (arith, nat_tests)
+
+    above : nat_lt p.block q.block ≡ false → q.block < p.block
+    above not_less =
+        let other : q.block ≢ p.block = none 0 q (omega arith) in
+        grind (arith, nat_tests)
+
+pub order_inserted : {X : Type 0} (asks : List (Pending X)) (p : Pending X) → AreInOrder asks → IsBlock p.block → IsAbsent asks p.block → CanGoOn p →
+    AreInOrder (inserted p asks)
+order_inserted asks p order block none go = record {
+  ascend = ascend_inserted p asks order.ascend none;
+  blocks = all_inserted (λ x. IsBlock x.block) p asks block order.blocks;
+  can_go_on = all_inserted CanGoOn p asks go order.can_go_on;
+}
+
+pub blocks_rise : {X : Type 0} (asks : List (Pending X)) → Ascend asks → IsNonDecreasingBy (λ q. q.block) asks
+blocks_rise {X} asks ascend i j d le l = grind (arith, ascend i j d, λ (same : i ≡ j). ap (λ k. (get_or asks k d).block) same)
+
+pub parted_place : {X : Type 0} (asks : List (Pending X)) (block place : ℕ) → place ≤ length asks →
+    IsPartitionPoint (λ q. nat_lt q.block block ≡ true) (λ q. nat_lt q.block block ≡ false) asks place → IsPlaceFor asks block place
+parted_place asks block place within point = record {
+  within = within;
+  lesser = λ k d from to. test_less _ block (point.0 k d from to);
+  others = λ k d from to. test_more _ block (point.1 k d from to);
+}
+  where
+    test_less : (m n : ℕ) → nat_lt m n ≡ true → m < n
+    test_less m n h = grind arith
+
+    test_more : (m n : ℕ) → nat_lt m n ≡ false → n ≤ m
+    test_more m n h = grind arith
+
+-- the place that parts the requests is where the new one belongs
+pub insert_inserted : {X : Type 0} (asks : List (Pending X)) (p : Pending X) (place : ℕ) → IsAbsent asks p.block → IsPlaceFor asks p.block place →
+    insert asks place p ≡ inserted p asks
+insert_inserted [] p zero none at = refl
+insert_inserted [] p (suc place) none at = absurd (omega (arith, at.within))
+insert_inserted (q ∷ asks) p zero none at =
+    sym (ap (λ b. cond b (p ∷ q ∷ asks) (q ∷ inserted p asks)) less)
+  where
+    less : nat_lt p.block q.block ≡ true
+    less =
+        let from : p.block ≤ q.block = at.others 0 q (omega arith) (omega arith) in
+        let other : q.block ≢ p.block = none 0 q (omega arith) in
+        grind (arith, nat_tests)
+insert_inserted {X} (q ∷ asks) p (suc place) none at =
+    ap (λ xs. q ∷ xs) (insert_inserted asks p place (All-tail (λ r. r.block ≢ p.block) q asks none) record {
+      within = omega (arith, at.within);
+      lesser = λ k d from to. at.lesser (suc k) d (omega arith) (omega arith);
+      others = λ k d from to. at.others (suc k) d (omega arith) (omega arith);
+    })
+    ∙ sym (ap (λ b. cond b (p ∷ q ∷ asks) (q ∷ inserted p asks)) not_less)
+  where
+    not_less : nat_lt p.block q.block ≡ false
+    not_less =
+        let before : q.block < p.block = at.lesser 0 q (omega arith) (omega arith) in
+        grind (arith, nat_tests)
 
 -- Changes
 
@@ -119,15 +199,3 @@ changed_twice (x ∷ asks) p q same =
     let here : cond (is_of_block q.block (cond (is_of_block p.block x) p x)) q (cond (is_of_block p.block x) p x) ≡ cond (is_of_block q.block x) q x =
     grind (arith, nat_tests) in
     ap (λ y. y ∷ changed q (changed p asks)) here ∙ ap (λ ys. cond (is_of_block q.block x) q x ∷ ys) (changed_twice asks p q same)
-
--- What holds of all
-
-pub all_ended : {X : Type 0} (asks : List (Pending X)) (block bound : ℕ) → All (λ q. q.block < bound) asks → All (λ q. q.block < bound) (ended block asks)
-all_ended asks block bound below = All-filter (λ q. not (is_of_block block q)) (λ q. q.block < bound) asks below
-
-pub all_changed : {X : Type 0} (asks : List (Pending X)) (p : Pending X) (bound : ℕ) → All (λ q. q.block < bound) asks → p.block < bound →
-    All (λ q. q.block < bound) (changed p asks)
-all_changed asks p bound below here =
-    All-map (λ q. q.block < bound) (λ q. cond (is_of_block p.block q) p q) asks (λ k d l.
-    let there = below k d l in
-    elim (is_of_block p.block (get_or asks k d)) as (λ b. (cond b p (get_or asks k d)).block < bound) [ true ↦ here | false ↦ there ])

@@ -1,14 +1,9 @@
 -- The invariant of the list of pending requests.
-use Rattle.std.specs.Prelude.{ℕ, ◌<◌, ◌≤◌, All, List}
+use Rattle.std.specs.Prelude.{◌<◌, All, List}
 use Rattle.std.specs.List.{AllPairs}
 use Rattle.node_rules.specs.declared.state.Pending.{Pending}
+use Rattle.node_rules.specs.Asks.{IsBlock}
 use Rattle.node_waiting.specs.CanGoOn.{CanGoOn}
-
--- A block from 1 on whose last serial, 32 times the block and 31, is less than 2^32. Block 0 is not
--- used.
-pub record IsBlock (block : ℕ) : Type 0 where
-  pub first : 1 ≤ block
-  pub last : block ≤ 134217727
 
 -- The blocks ascend, and each request can go on.
 pub record AreInOrder {X : Type 0} (asks : List (Pending X)) : Type 0 where

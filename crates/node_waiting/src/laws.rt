@@ -1,5 +1,5 @@
 //! Laws of pending requests. Each function does nothing: its contract states the law.
-ghost use Rattle.std.specs.Prelude.{◌≡◌, ◌≤◌, ◌<◌, ◌+◌, ◌++◌, [], ◌∷◌, ℕ, All, Bool, true, List, length, Option, Some, None};
+ghost use Rattle.std.specs.Prelude.{◌≡◌, ◌≤◌, ◌<◌, ◌+◌, ◌++◌, [], ◌∷◌, ℕ, Bool, true, List, length, Option, Some, None};
 ghost use Rattle.http_messages.specs.declared.ask.Ask.{Ask};
 ghost use Rattle.values_tables.specs.declared.plain.Peer.{Peer};
 ghost use Rattle.peer_chooser.specs.declared.said.Said.{Said};
@@ -8,7 +8,7 @@ ghost use Rattle.peer_chooser.specs.Round.{RoundText, started, answered, ended};
 ghost use Rattle.peer_chooser.specs.Choice.{choice};
 ghost use Rattle.node_rules.specs.declared.state.Fetch.TheVariants.{AtPeer, AtOrigin};
 ghost use Rattle.node_rules.specs.declared.state.Pending.{Pending};
-ghost use Rattle.node_rules.specs.State.{is_idle, changed, ended as without_block};
+ghost use Rattle.node_rules.specs.State.{is_idle, changed};
 ghost use Rattle.node_rules.specs.Asks.{new_ask};
 ghost use Rattle.node_rules.specs.Fetching.{fetching};
 ghost use Rattle.node_rules.specs.Arrivals.{not_fetching, with_round};
@@ -67,16 +67,4 @@ pub fn asks_can_go_on_with_their_rounds<T>()
 pub fn later_changes_count<T>()
     ensures { (asks : List (Pending T)) (p : Pending T) (q : Pending T) → q.block ≡ p.block →
         changed q (changed p asks) ≡ changed q asks }
-{}
-
-/// If all blocks are below a bound, they stay so as a request is added, changes or ends.
-pub fn blocks_stay_below<T>()
-    ensures added { (asks : List (Pending T)) (p : Pending T) (bound : ℕ) →
-        All (λ q. q.block < bound) asks → p.block < bound →
-        All (λ q. q.block < bound) (asks ++ p ∷ []) }
-    ensures changed { (asks : List (Pending T)) (p : Pending T) (bound : ℕ) →
-        All (λ q. q.block < bound) asks → p.block < bound →
-        All (λ q. q.block < bound) (changed p asks) }
-    ensures ended { (asks : List (Pending T)) (block : ℕ) (bound : ℕ) →
-        All (λ q. q.block < bound) asks → All (λ q. q.block < bound) (without_block block asks) }
 {}

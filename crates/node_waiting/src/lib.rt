@@ -3,8 +3,9 @@
 //! The main type is [`PendingList`]: the requests in the order of their blocks of serials
 //! (`Pending` and `NodeState` of `node_rules`). It finds a request by the serial of its round
 //! ([`PendingList::of_round`]) or of its last fetch ([`PendingList::of_fetch`]) with one binary
-//! search. It changes a request where it stands by a [`Progress`], the parts of a request that
-//! change, and takes it out when it ends.
+//! search, and finds a block for a new one ([`PendingList::free_block`]). It changes a request
+//! where it stands by a [`Progress`], the parts of a request that change, and takes it out when it
+//! ends.
 //!
 //! Block b has the serials 32b to 32b + 31, so a serial tells its block by `serial / 32`. That is
 //! enough because no request begins more than 26 fetches: one for each of at most 23 replies to its
@@ -30,4 +31,4 @@ mod progress;
 mod waiting;
 
 pub use progress::Progress;
-pub use waiting::PendingList;
+pub use waiting::{PendingList, block_after};

@@ -1,13 +1,28 @@
-ghost use Rattle.std.specs.Prelude.{◌≡◌, ◌<◌, ◌==◌, ◌&&◌, Bool, All, length, [], ◌∷◌, ◌++◌, find, slice_get, Some, MatchOption, IfSome, IfErr, OnOk, OnErr};
+ghost use Rattle.std.specs.Prelude.{◌≡◌, ◌<◌, ◌==◌, ◌&&◌, Bool, All, length, [], ◌∷◌, ◌++◌, find, slice_get, Some, MatchBool, MatchOption, IfSome, IfErr, OnOk, OnErr};
 ghost use Rattle.std.specs.Option.{option_and_then};
 ghost use Rattle.node_rules.specs.declared.state.Pending.{Pending};
-ghost use Rattle.node_rules.specs.State.{changed, ended, round_serial, fetch_serial};
+ghost use Rattle.node_rules.specs.State.{inserted, changed, ended, round_serial, fetch_serial};
+ghost use Rattle.node_rules.specs.Asks.{IsBlock, block_after as next_block, free_from, is_taken};
 
 use crate::Progress;
 use node_rules::Pending;
 use std::alloc::{AllocError, Global};
 use std::marker::Model;
 use std::mem::replace;
+
+/// The most pending requests.
+const MOST_ASKS: usize = 1_024;
+
+/// The last block of serials.
+const LAST_BLOCK: u32 = 134_217_727;
+
+/// The block after this one, going round: after 134,217,727 comes 1.
+pub fn block_after(block: u32) -> u32
+    ensures value { result ≡ next_block block }
+    ensures block { IsBlock result }
+{
+    if block < LAST_BLOCK { block + 1 } else { 1 }
+}
 
 /// The pending requests of a node, in the order of their blocks.
 ///
@@ -32,9 +47,9 @@ impl<T> Model for PendingList<T> {
 
 impl<T> PendingList<T> {
     ghost use Rattle.node_waiting.specs.CanGoOn.{CanGoOn};
-    ghost use Rattle.node_waiting.specs.InOrder.{IsBlock, AreInOrder};
+    ghost use Rattle.node_waiting.specs.InOrder.{AreInOrder};
     ghost use Rattle.node_waiting.specs.Changed.{progress_of, with_progress};
-    ghost use Rattle.node_waiting.specs.Found.{IsPlaceOf, IsAbsent, if_passes};
+    ghost use Rattle.node_waiting.specs.Found.{IsPlaceOf, IsPlaceFor, IsAbsent, if_passes};
 
     /// An empty list. Allocates nothing.
     pub fn new(alloc: Global) -> PendingList<T>
@@ -113,22 +128,61 @@ impl<T> PendingList<T> {
         &self.asks[place]
     }
 
-    /// Appends a request. Its block must be greater than all others and at most 134,217,727, and it
-    /// must be able to go on.
+    /// Whether a request has this block. Allocates nothing.
+    fn is_taken(&self, block: u32) -> bool
+        ensures taken { result ≡ is_taken self.now block }
+        ensures absent { MatchBool result (Unit {0}) (IsAbsent self.now block) }
+    {
+        match self.of_block(block) {
+            Some(_) => true,
+            None => false,
+        }
+    }
+
+    /// The block for one request more, going round from this one: none if 1,024 requests are
+    /// pending. Allocates nothing.
+    pub fn free_block(&self, from: u32) -> Option<u32>
+        requires { IsBlock from }
+        ensures value { result ≡ free_from self.now from }
+        ensures block { IfSome result (λ block. IsBlock block) }
+        ensures absent { IfSome result (λ block. IsAbsent self.now block) }
+    {
+        if self.len() >= MOST_ASKS {
+            return None;
+        }
+        let mut block = from;
+        for _ in 0..MOST_ASKS {
+            if !self.is_taken(block) {
+                return Some(block);
+            }
+            block = block_after(block);
+        }
+        None
+    }
+
+    /// The place for a request with this block: behind those of lesser blocks.
+    fn place_for(&self, block: u32) -> usize
+        ensures { IsPlaceFor self.now block result }
+    {
+        self.asks.partition_point(|ask| ask.block < block)
+    }
+
+    /// Adds a request, in the order of blocks. No other may have its block, which must be from 1 to
+    /// 134,217,727, and it must be able to go on.
     ///
     /// If an allocation fails, the request comes back and nothing changes.
     pub fn add(&mut self, ask: Pending<T>) -> Result<(), (Pending<T>, AllocError)>
         requires block { IsBlock ask.block }
-        requires above { All (λ q. q.block < ask.block) self.old }
+        requires absent { IsAbsent self.old ask.block }
         requires can_go_on { CanGoOn ask }
-        ensures ok { OnOk result (self.new ≡ self.old ++ ask ∷ []) }
+        ensures ok { OnOk result (self.new ≡ inserted ask self.old) }
         ensures err { OnErr result (self.new ≡ self.old) }
         ensures returned { IfErr result (λ refused. refused.0 ≡ ask) }
     {
-        if let Err(error) = self.asks.reserve(1) {
-            return Err((ask, error));
+        let place = self.place_for(ask.block);
+        if let Err(failed) = self.asks.insert(place, ask) {
+            return Err((failed.value, AllocError));
         }
-        self.asks.push_reserved(ask);
         Ok(())
     }
 

@@ -5,14 +5,13 @@ ghost use Rattle.node_seats.specs.Beginning.{beginning_of};
 use crate::fault::StopFault;
 use crate::signals::Signals;
 use crate::threads::{Shared, run_threads};
-use cluster_jobs::{NewJobs, QueueName};
+use cluster_jobs::order::Step;
+use cluster_jobs::{Jobs, Pass, Run};
 use cluster_service::{Gate, Station, refuse_all};
 use cluster_sockets::NodeLoop;
-use cluster_streams::StreamPolls;
 use floor_rules::FloorStore;
-use node_book::Record;
+use node_book::{NodeEntry, Record};
 use node_core::Node;
-use node_history::NewHistory;
 use node_seats::{Origin, Places, Retention, Seat, SharedNode};
 use std::alloc::Global;
 use std::marker::Brand;
@@ -20,6 +19,7 @@ use std::net::{Net, TcpListener, TcpStream};
 use std::sync::Wait;
 use std::thread::Threads;
 use std::time::Clock;
+use values_history::NewHistory;
 
 /// What the thread of a node begins with: a node that is opened, and what its threads work with.
 #[derive(Drop)]
@@ -29,7 +29,7 @@ pub(crate) struct Start<S: FloorStore, G: Drop> {
     pub(crate) node: Node<(), S>,
     /// Where each call draws its place.
     pub(crate) places: Places,
-    /// How many workers, and how many fetchers.
+    /// How many workers.
     pub(crate) count: u8,
     /// What becomes of its record.
     pub(crate) retention: Retention,
@@ -47,42 +47,42 @@ pub(crate) struct Edge<G: Drop> {
     pub(crate) signals: Signals,
     /// The event loop.
     pub(crate) poller: NodeLoop,
-    /// What each worker polls its streams with.
-    pub(crate) working: Vec<StreamPolls>,
-    /// What each fetcher polls its streams with.
-    pub(crate) fetching: Vec<StreamPolls>,
-    /// What the node's own thread answers those with who still wait at the end.
-    pub(crate) last: StreamPolls,
 }
 
-/// Runs the threads of a node until it is stopped, and then answers 503 to those who still wait.
+/// Runs the threads of a node until it is stopped. Then answers 503 to those who still wait, and
+/// writes the responses that are under way on, for five seconds at most.
 fn run_edge<
-    Q: QueueName + Send + Sync,
+    Q: Run + Send + Sync,
     J: Origin + Send + Sync,
     S: FloorStore + Drop + Send,
     G: Gate + Drop + Send + Sync,
     R: Threads + Wait + Clock + Net<Listener = TcpListener, Stream = TcpStream> + Sync,
->(rt: &R, count: u8, edge: Edge<G>, node: &SharedNode<S, J>, seats: Vec<Seat<J>>, new: NewJobs)
-    requires { new ≡ Q.table }
-{
+>(
+    rt: &R,
+    count: u8,
+    edge: Edge<G>,
+    node: &SharedNode<S, J>,
+    seats: Vec<Seat<J>>,
+    queue: (Jobs<Q>, Pass<Q>),
+    alloc: Global,
+) {
     let Edge {
         station,
         signals,
         mut poller,
-        working,
-        fetching,
-        mut last,
     } = edge;
-    let (jobs, pass) = new.name::<Q>();
+    let (jobs, pass) = queue;
     let shared = Shared {
+        alloc,
         rt,
         station: &station,
         signals: &signals,
         jobs: &jobs,
         node,
     };
-    run_threads(&shared, count, working, fetching, seats, &mut poller, pass);
-    refuse_all(rt, &station, &mut last);
+    run_threads(&shared, count, seats, &mut poller, pass);
+    refuse_all(rt, &station, &mut Vec::new(alloc));
+    poller.finish(rt);
 }
 
 /// The record of a node that is stopped.
@@ -98,7 +98,7 @@ fn record_of<S: FloorStore + Drop, J: Origin, R: Wait>(
 
 /// Runs a node under the names of its queue and of its history.
 fn run_named<
-    Q: QueueName + Send + Sync,
+    Q: Run + Send + Sync,
     J: Origin + Send + Sync,
     S: FloorStore + Drop + Send,
     G: Gate + Drop + Send + Sync,
@@ -106,10 +106,10 @@ fn run_named<
 >(
     rt: &R,
     start: Start<S, G>,
-    new: NewJobs,
-    history: NewHistory,
+    steps: NewHistory<Step>,
+    history: NewHistory<NodeEntry>,
 ) -> Result<Option<Record>, StopFault>
-    requires table { new ≡ Q.table }
+    requires queue { steps.seen.book ≡ Q.book }
     requires book { history.seen.book ≡ J.book }
     requires beginning { J.beginning ≡ Some (beginning_of start.node) }
 {
@@ -121,12 +121,15 @@ fn run_named<
         retention,
         edge,
     } = start;
-    // (one seat for each worker, one for each fetcher, and one for the thread of the event loop)
-    let seats = count.saturating_mul(2).saturating_add(1);
+    // (one seat for each worker, and one for the thread of the event loop)
+    let seats = count.saturating_add(1);
     let (head, front) = history.named::<J>();
+    let Ok(queue) = Jobs::<Q>::new(alloc, steps) else {
+        return Err(StopFault::NoMemory);
+    };
     match SharedNode::<S, J>::open(alloc, node, seats, retention, head, front, places) {
         Ok((node, seats)) => {
-            run_edge::<Q, J, S, G, R>(rt, count, edge, &node, seats, new);
+            run_edge::<Q, J, S, G, R>(rt, count, edge, &node, seats, queue, alloc);
             record_of(rt, &node)
         }
         Err(_) => Err(StopFault::NoMemory),
@@ -140,8 +143,5 @@ pub(crate) fn run_node<
     G: Gate + Drop + Send + Sync,
     R: Threads + Wait + Clock + Net<Listener = TcpListener, Stream = TcpStream> + Sync,
 >(rt: &R, start: Start<S, G>) -> Result<Option<Record>, StopFault> {
-    match NewJobs::new(start.alloc) {
-        Ok(new) => run_named::<Brand, Brand, S, G, R>(rt, start, new, NewHistory::new()),
-        Err(_) => Err(StopFault::NoMemory),
-    }
+    run_named::<Brand, Brand, S, G, R>(rt, start, NewHistory::new(), NewHistory::new())
 }

@@ -2,12 +2,16 @@
 use crate::fault::Unready;
 use crate::halt::Halt;
 use crate::report::Report;
+use cluster_service::{Closing, peers_of};
+use cluster_waiting::PeerTable;
+use roster::Roster;
 use std::alloc::{AllocError, Global};
 use std::sync::atomic::AtomicBool;
 use std::sync::{Arc, Wait};
 
 /// What a node's thread and the thread that started it share: whether the node is to stop, how its
-/// start went, and whether it is held.
+/// start went, whether it is held, whether it is closed, and how its peers answer,
+/// and whether it lacks descriptors.
 #[derive(Drop)]
 pub(crate) struct Signals {
     /// Whether the node is to stop.
@@ -16,11 +20,21 @@ pub(crate) struct Signals {
     pub(crate) report: Arc<Report, Global>,
     /// Whether it is held.
     pub(crate) halt: Arc<Halt, Global>,
+    /// Whether it is closed, and why.
+    pub(crate) closing: Arc<Closing, Global>,
+    /// How its peers answer.
+    pub(crate) peers: Arc<PeerTable, Global>,
+    /// Whether a connection could not be accepted for want of a descriptor.
+    pub(crate) has_lacked: Arc<AtomicBool, Global>,
 }
 
 impl Signals {
-    /// The signals of a node that is to be started.
-    pub(crate) fn new(alloc: Global) -> Result<Signals, Unready> {
+    /// The signals of a member that is to be started.
+    pub(crate) fn new(alloc: Global, roster: &Roster, id: u8) -> Result<Signals, Unready> {
+        let peers = PeerTable::new(peers_of(alloc, roster, id)?);
+        let Ok(peers) = Arc::new(alloc, peers) else {
+            return Err(Unready::NoMemory);
+        };
         let Ok(is_stopped) = Arc::new(alloc, AtomicBool::new(false)) else {
             return Err(Unready::NoMemory);
         };
@@ -30,10 +44,19 @@ impl Signals {
         let Ok(halt) = Arc::new(alloc, Halt::new()) else {
             return Err(Unready::NoMemory);
         };
+        let Ok(closing) = Arc::new(alloc, Closing::new()) else {
+            return Err(Unready::NoMemory);
+        };
+        let Ok(has_lacked) = Arc::new(alloc, AtomicBool::new(false)) else {
+            return Err(Unready::NoMemory);
+        };
         Ok(Signals {
             is_stopped,
             report,
             halt,
+            closing,
+            peers,
+            has_lacked,
         })
     }
 
@@ -43,6 +66,9 @@ impl Signals {
             is_stopped: Arc::try_clone(&self.is_stopped)?,
             report: Arc::try_clone(&self.report)?,
             halt: Arc::try_clone(&self.halt)?,
+            closing: Arc::try_clone(&self.closing)?,
+            peers: Arc::try_clone(&self.peers)?,
+            has_lacked: Arc::try_clone(&self.has_lacked)?,
         })
     }
 

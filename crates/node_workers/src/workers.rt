@@ -9,15 +9,16 @@ use crate::fault::{StartFault, StopFault, Unready};
 use crate::halt::Halt;
 use crate::node::{Edge, Start, run_node};
 use crate::signals::Signals;
-use cluster_service::{Gate, Station};
-use cluster_sockets::{LoopFault, NodeLoop, Senders};
-use cluster_streams::StreamPolls;
+use cluster_service::{CloseCause, Closing, Gate, Station};
+use cluster_sockets::{Inbox, NodeLoop, Senders};
+use cluster_waiting::{AskedPeer, PeerTable};
 use floor_rules::FloorStore;
 use node_book::Record;
 use node_core::{Node, OpenFault};
+use node_http::name_of;
 use node_seats::{Places, Retention};
 use roster::Roster;
-use std::alloc::Global;
+use std::alloc::{AllocError, Global};
 use std::hash::RandomState;
 use std::net::{Net, TcpListener, TcpStream};
 use std::sync::atomic::{AtomicBool, Ordering};
@@ -43,12 +44,15 @@ pub struct Ground<S: FloorStore> {
     pub keys: RandomState,
 }
 
-/// A running node: its thread, its sockets, its workers and its fetchers.
+/// A running node: its thread, its sockets and its workers.
 #[derive(Drop)]
 pub struct Workers {
     node: JoinHandle<Result<Option<Record>, StopFault>>,
     is_stopped: Arc<AtomicBool, Global>,
     halt: Arc<Halt, Global>,
+    closing: Arc<Closing, Global>,
+    peers: Arc<PeerTable, Global>,
+    has_lacked: Arc<AtomicBool, Global>,
 }
 
 /// Opens a node.
@@ -87,29 +91,10 @@ fn sockets<R: Net + Clock>(
     let Some(member) = roster.member(id) else {
         unreachable!();
     };
-    let (mut poller, senders) = NodeLoop::open(rt, alloc, &member.cache)?;
+    let via = name_of(roster, id);
+    let (mut poller, senders) = NodeLoop::open(rt, alloc, &member.cache, via, roster.limits())?;
     poller.set_wait(Duration::from_millis(WAIT));
     Ok((poller, senders))
-}
-
-/// What one thread polls its streams with.
-fn polls<N: Net>(net: &N, alloc: Global) -> Result<StreamPolls, Unready> {
-    match StreamPolls::new(net, alloc) {
-        Ok(polls) => Ok(polls),
-        Err(_) => Err(Unready::Loop(LoopFault::Io)),
-    }
-}
-
-/// What this many threads poll their streams with.
-fn all_polls<N: Net>(net: &N, alloc: Global, count: u8) -> Result<Vec<StreamPolls>, Unready> {
-    let mut row = Vec::with_capacity(alloc, usize::from(count))?;
-    for _number in 0..count {
-        let one = polls(net, alloc)?;
-        if row.push(one).is_err() {
-            return Err(Unready::NoMemory);
-        }
-    }
-    Ok(row)
 }
 
 /// What the threads of a node share beside the node.
@@ -118,65 +103,48 @@ fn station<G: Gate + Drop>(
     roster: &Roster,
     id: u8,
     senders: Senders,
+    inbox: Arc<Inbox, Global>,
     gate: Arc<G, Global>,
     signals: &Signals,
 ) -> Result<Station<G>, Unready>
     requires { is_member roster.now id ≡ true }
 {
     let is_stopped = Arc::try_clone(&signals.is_stopped)?;
+    let closing = Arc::try_clone(&signals.closing)?;
+    let peers = Arc::try_clone(&signals.peers)?;
     match roster.copy(alloc) {
-        Ok(roster) => Ok(Station::new(alloc, roster, id, senders, is_stopped, gate)),
+        Ok(roster) => Ok(Station::new(
+            alloc, roster, id, peers, senders, inbox, is_stopped, closing, gate,
+        )),
         Err(_) => Err(Unready::NoMemory),
     }
 }
 
-/// What this many workers, as many fetchers and the node's thread poll their streams with.
-fn polls_for<N: Net>(
-    net: &N,
-    alloc: Global,
-    count: u8,
-) -> Result<(Vec<StreamPolls>, Vec<StreamPolls>, StreamPolls), Unready> {
-    let working = all_polls(net, alloc, count)?;
-    let fetching = all_polls(net, alloc, count)?;
-    match polls(net, alloc) {
-        Ok(last) => Ok((working, fetching, last)),
-        Err(fault) => Err(fault),
-    }
-}
-
-/// Opens what the threads of a node work with, beside the node, and the signals that they share with
-/// the thread that starts them.
+/// Opens what the threads of a node work with, beside the node, and the signals that they share
+/// with the thread that starts them.
 fn edge_of<G: Gate + Drop, R: Net + Clock>(
     rt: &R,
     alloc: Global,
     roster: &Roster,
     id: u8,
-    count: u8,
     gate: Arc<G, Global>,
 ) -> Result<(Edge<G>, Signals), Unready>
     requires { is_member roster.now id ≡ true }
 {
-    let signals = Signals::new(alloc)?;
+    let signals = Signals::new(alloc, roster, id)?;
     let told = signals.try_clone()?;
     let (poller, senders) = sockets(rt, alloc, roster, id)?;
-    let station = station(alloc, roster, id, senders, gate, &signals)?;
-    match polls_for(rt, alloc, count) {
-        Ok((working, fetching, last)) => {
-            let edge = Edge {
-                station,
-                signals: told,
-                poller,
-                working,
-                fetching,
-                last,
-            };
-            Ok((edge, signals))
-        }
-        Err(fault) => Err(fault),
-    }
+    let inbox = poller.inbox()?;
+    let station = station(alloc, roster, id, senders, inbox, gate, &signals)?;
+    let edge = Edge {
+        station,
+        signals: told,
+        poller,
+    };
+    Ok((edge, signals))
 }
 
-/// Starts the thread of a node, and waits until its workers and fetchers are started.
+/// Starts the thread of a node, and waits until its workers are started.
 fn begin<
     S: FloorStore + Drop + Send + 'static,
     G: Gate + Drop + Send + Sync + 'static,
@@ -198,12 +166,18 @@ fn begin<
         is_stopped,
         report,
         halt,
+        closing,
+        peers,
+        has_lacked,
     } = signals;
     match report.wait(&rt) {
         Ok(()) => Ok(Workers {
             node,
             is_stopped,
             halt,
+            closing,
+            peers,
+            has_lacked,
         }),
         Err(fault) => {
             let _ended = node.join(&rt);
@@ -224,11 +198,10 @@ fn run_and_tell<
 }
 
 impl Workers {
-    /// Starts a node of the roster with this many workers, 2 to 8, and as many fetchers, over a
-    /// store of floors. When this returns, the node can be reached at its addresses.
+    /// Starts a node of the roster with this many workers, 2 to 8, over a store of floors. When this
+    /// returns, the node can be reached at its addresses.
     ///
-    /// Faults: `Open` where the node is not opened, `Loop` where its sockets or the poll instances
-    /// of its threads are not, `NoThread` where a thread cannot be started, `NoMemory`. After a
+    /// Faults: `Open` where the node is not opened, `Loop` where its sockets are not, `NoThread` where a thread cannot be started, `NoMemory`. After a
     /// fault nothing of it runs or is open.
     pub fn start<
         S: FloorStore + Drop + Send + 'static,
@@ -274,7 +247,7 @@ impl Workers {
             keys,
         } = ground;
         let node = open_node(alloc, roster, id, floors, keys)?;
-        let (edge, signals) = edge_of(&rt, alloc, roster, id, count, gate)?;
+        let (edge, signals) = edge_of(&rt, alloc, roster, id, gate)?;
         let start = Start {
             alloc,
             node,
@@ -286,6 +259,33 @@ impl Workers {
         Ok(begin(rt, start, signals)?)
     }
 
+    /// Why the node is closed, and so serves nothing and takes no purge; none while it is open. It
+    /// stays closed.
+    pub fn close_cause(&self) -> Option<CloseCause> {
+        self.closing.cause()
+    }
+
+    /// The peers that are thought dead: each has left 20 questions in succession unanswered, or a
+    /// fetch from it has failed, and it has not answered since. The node still asks them, and does
+    /// not wait for them. `since` is in milliseconds of a clock that never goes back. `AllocError`
+    /// comes where there is no memory for the list.
+    pub fn dead_peers<R: Wait>(&self, rt: &R, alloc: Global) -> Result<Vec<AskedPeer>, AllocError> {
+        self.peers.dead(rt, alloc)
+    }
+
+    /// What tells another thread that a connection could not be accepted for want of a descriptor:
+    /// true from then on, until that thread clears it. `AllocError` comes where one more owner
+    /// cannot be counted.
+    pub fn has_lacked(&self) -> Result<Arc<AtomicBool, Global>, AllocError> {
+        Arc::try_clone(&self.has_lacked)
+    }
+
+    /// What tells another thread whether the node is closed, and why. `AllocError` comes where one
+    /// more owner cannot be counted.
+    pub fn closing(&self) -> Result<Arc<Closing, Global>, AllocError> {
+        Arc::try_clone(&self.closing)
+    }
+
     /// Holds the node, and waits until it is held: until [`Workers::resume`] no step is taken, and
     /// nothing is read from its sockets. Clients that wait for an answer wait on. One thread at a
     /// time may hold a node.
@@ -293,12 +293,13 @@ impl Workers {
         self.halt.hold(rt);
     }
 
-    /// Hands out the record of the steps since the last time, and begins the next one; or none, where
-    /// none is kept, from the start or since there were more pages than are kept. A node that was not
-    /// held is held first, and stays held.
+    /// Hands out the record of the steps since the last time, and begins the next one; or none,
+    /// where none is kept, from the start or since there were more pages than are kept. A node that
+    /// was not held is held first, and stays held.
     ///
-    /// Faults: `NoMemory` where there is no memory to begin the next record; the node stays held, its
-    /// record stays with it, and may be asked for again. `Ended` where the node's thread has ended.
+    /// Faults: `NoMemory` where there is no memory to begin the next record; the node stays held,
+    /// its record stays with it, and may be asked for again. `Ended` where the node's thread has
+    /// ended.
     pub fn record<R: Wait>(&self, rt: &R) -> Result<Option<Record>, StopFault> {
         self.halt.hold(rt);
         self.halt.ask(rt)
@@ -318,8 +319,8 @@ impl Workers {
     }
 
     /// Stops the node, also one that is held, and waits for its end. Its workers end the jobs that
-    /// they have, and its fetchers the fetches that are under way. Those who wait get 503, and its
-    /// sockets are closed. Returns the record of the steps since the last one, if it is kept.
+    /// they have. Those who wait get 503; responses that clients have not taken whole are written on
+    /// for five seconds at most. Then its sockets are closed. Returns the record of the steps since the last one, if it is kept.
     ///
     /// Fault: `NoMemory` where there is no memory to end the record, or for the seats at the start;
     /// the record is lost then.

@@ -8,7 +8,7 @@ ghost use Rattle.purge_master.specs.Book.{IsEntered};
 
 use crate::Master;
 use htcp_wire::Htcp;
-use purge_rules::{MasterAnswer, MasterCall, MasterFault, PurgeStore};
+use purge_rules::{MasterAnswer, MasterCall, MasterFault, PurgeStore, Purges};
 use std::alloc::{AllocError, Global};
 use std::marker::Model;
 use std::mem::replace;
@@ -108,6 +108,14 @@ impl<S: PurgeStore> MasterBook<S> {
         ensures left { self.new ≡ record { master = self.old.master; entries = [] } }
     {
         replace(&mut self.entries, Vec::new(self.alloc))
+    }
+
+    /// The last number that was given, and the pending purges, as `Master::purges` gives them. This
+    /// is no call, and is not entered.
+    pub fn purges(&self) -> &Purges
+        ensures { result.now ≡ self.now.master.state.purges }
+    {
+        self.master.purges()
     }
 
     /// The CLR of the pending purge with this number, as `Master::message` gives it. This is no

@@ -172,6 +172,14 @@ impl<S: PurgeStore> Master<S> {
         self.purges.status(self.members, number)
     }
 
+    /// The last number that was given, and the pending purges. A closed master gives them too.
+    /// Allocates nothing.
+    pub fn purges(&self) -> &Purges
+        ensures { result.now ≡ self.now.state.purges }
+    {
+        &self.purges
+    }
+
     /// The CLR of the pending purge with this number, if there is one. A closed master gives it
     /// too. `htcp_wire::encode` can write it (`fits`).
     pub fn message(&self, number: u32) -> Result<Option<Htcp>, AllocError>

@@ -2,8 +2,10 @@
 -- list of ids. Each operation on the array does place by place what its definition does id by id.
 use Rattle.std.proofs.Common.{◌≡◌, ℕ, zero, suc, ◌+◌, ◌<◌, ◌≤◌, ◌==◌, nat_lt, Bool, true, false, cond, ◌&&◌, ◌||◌, List, [], ◌∷◌, ◌++◌, map, filter, length, get_or, set, take, find, is_some, Some, append_assoc, refl, sym, ap, ◌∙◌, arith}
 use Rattle.std.specs.List.{list_all, list_any}
+use Rattle.std.proofs.lemmas.Bool.{ltb-true, ltb-false}
 use Rattle.std.proofs.lemmas.Bool.Decides.{nat_tests}
-use Rattle.std.proofs.lemmas.List.{map-append}
+use Rattle.std.proofs.lemmas.List.{map-append, length-set, get_or-set_other}
+use Rattle.std.proofs.lemmas.Grind.{get_or-set_at}
 use Rattle.values_tables.specs.declared.plain.Tables.{Tables}
 use Rattle.roster.specs.Lookups.{is_member}
 use Rattle.purge_rules.specs.Members.{is_among, with_id, ids_from, ids_of, members_of}
@@ -166,3 +168,17 @@ members_placed t has long at = filtered (is_member t) 1 (trues 16) has long (λ 
     at j l ∙ any_found (λ m. m.cache.id == j + 1) t.members
     ∙ ap (is_member t) (one_first j)
     ∙ sym (ap (λ b. b && is_member t (1 + j)) (true_at 16 j l)))
+
+-- one more place is filled: the places up to it are the values of a function of places
+pub one_more : (has : List Bool) (place : ℕ) (here : Bool) (value : ℕ → Bool) → length has ≡ 16 → place < 16 → here ≡ value place →
+    ((k : ℕ) → k < place → get_or has k false ≡ value k) →
+    (length (set has place here) ≡ 16) × ((k : ℕ) → k < place + 1 → get_or (set has place here) k false ≡ value k)
+one_more has place here value long low is below = (length-set has place here ∙ long, λ k up. filled k up (nat_lt k place) refl)
+  where
+    filled : (k : ℕ) → k < place + 1 → (b : Bool) → nat_lt k place ≡ b → get_or (set has place here) k false ≡ value k
+    filled k up true h =
+        let less : k < place = ltb-true k place h in
+        get_or-set_other has place k here false (λ same. absurd (omega (arith, same, less))) ∙ below k less
+    filled k up false h =
+        let same : k ≡ place = omega (arith, up, ltb-false k place h) in
+        get_or-set_at has place k here false same (omega (arith, long, low)) ∙ is ∙ ap value (sym same)

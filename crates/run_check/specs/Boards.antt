@@ -3,10 +3,11 @@ use Rattle.std.specs.Prelude.{◌≡◌, ℕ, All, not, ◌&&◌, ◌==◌, List
 use Rattle.values_tables.specs.declared.plain.Tables.{Tables}
 use Rattle.purge_rules.specs.Members.{members_of}
 use Rattle.run_rules.specs.declared.verdict.Cause.{Cause}
-use Rattle.run_rules.specs.Notes.{Note}
+use Rattle.run_rules.specs.Notes.{Note, Closes}
 use Rattle.run_rules.specs.Sent.{Network, without_waiting}
 use Rattle.run_rules.specs.Board.{Standing, Post, Board}
-use Rattle.run_rules.specs.Judging.{Fine, Flawed, Judges, is_astray}
+use Rattle.run_rules.specs.Judging.{Fine, Flawed, is_astray}
+use Rattle.run_rules.specs.First.{JudgesFully}
 use Rattle.run_notes.specs.Held.{place_in_rest}
 use Rattle.run_network.specs.Held.{Holds}
 use Rattle.run_check.specs.declared.board.Post.{Post as HeldPost}
@@ -35,10 +36,10 @@ AreMemberNodes roster p = All (λ q. IsSound roster q.id q.standing) p.posts.ite
 abbrev pub board_of : Held → Network → Board
 board_of b sent = record { posts = posts_of b.posts; master = master_of b.ledger; network = sent }
 
--- the network after a record of a node opens: nothing waits there if the node has taken no block of
--- serials (the next is 1) and is not astray
+-- the network after a record of a node opens: nothing waits there if no request is pending and the node
+-- is not astray
 abbrev pub opened_network : Network → ℕ → ℕ → Standing → Network
-opened_network sent id next after = if (next == 1) && not (is_astray after) then without_waiting sent id else sent
+opened_network sent id pending after = if (pending == 0) && not (is_astray after) then without_waiting sent id else sent
 
 -- the invariant: the nodes and the members are right, and this network is held
 pub record IsBoard (roster : Tables) (b : Held) (sent : Network) : Type 0 where
@@ -46,9 +47,16 @@ pub record IsBoard (roster : Tables) (b : Held) (sent : Network) : Type 0 where
   pub members : b.ledger.members ≡ members_of roster
   pub network : Holds roster b.network sent
 
+-- a record that closes changes nothing, even if it has a flaw
+abbrev pub StaysAt : Tables → Board → Note → Held → Type 0
+StaysAt roster before (Closes id place state) now = (sent : Network) × IsBoard roster now sent
+    × (board_of now sent ≡ before)
+StaysAt roster before _ now = Unit {0}
+
 -- the judgement on a note in this state of the run: it may follow, and this is held now, or it has
 -- this flaw
 abbrev pub IsJudged : Tables → Board → Note → Held → Option Cause → Type 0
 IsJudged roster before note now None = (sent : Network) × IsBoard roster now sent
-    × Judges roster before note (Fine (board_of now sent))
-IsJudged roster before note now (Some cause) = Judges roster before note (Flawed cause)
+    × JudgesFully roster before note (Fine (board_of now sent))
+IsJudged roster before note now (Some cause) = JudgesFully roster before note (Flawed cause)
+    × StaysAt roster before note now

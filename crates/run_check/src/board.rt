@@ -19,7 +19,7 @@ use crate::standing::Standing;
 use crate::stepping::steps;
 use floor_rules::Floors;
 use node_book::NodeEntry;
-use node_rules::{Event, NodeState};
+use node_rules::NodeState;
 use purge_master::MasterEntry;
 use purge_rules::MasterCall;
 use roster::Roster;
@@ -96,16 +96,6 @@ impl Posts {
     {
         Posts {
             posts: Vec::new(alloc),
-        }
-    }
-
-    /// Whether the node with this id is astray.
-    fn is_astray(&self, id: u8) -> bool
-        ensures { result ≡ judging.is_astray (standing_at (posts_of self.now) id) }
-    {
-        match place_of(self.posts.as_slice(), id) {
-            Some(place) => is_astray(&self.posts[place].standing),
-            None => false,
         }
     }
 
@@ -192,15 +182,16 @@ impl<'a> Board<'a> {
         }
     }
 
-    /// Drops what waits at a node whose record opens, if the node has taken no block of serials
-    /// (`next` is 1) and is not astray.
-    fn forget(&mut self, node: u8, next: u32, after: &Standing)
+    /// Drops what waits at a node whose record opens, if no request is pending there and the node
+    /// is not astray.
+    fn forget(&mut self, node: u8, pending: usize, after: &Standing)
         ensures network { (roster : Tables) (sent : ANetwork) → Holds roster self.old.network sent →
-            Holds roster self.new.network (opened_network sent node next (standing_of after.now)) }
+            Holds roster self.new.network (opened_network sent node pending
+            (standing_of after.now)) }
         ensures posts { self.new.posts ≡ self.old.posts }
         ensures ledger { self.new.ledger ≡ self.old.ledger }
     {
-        if next == 1 && !is_astray(after) {
+        if pending == 0 && !is_astray(after) {
             self.network.forget(node);
         }
     }
@@ -219,21 +210,13 @@ impl<'a> Board<'a> {
     {
         let before = self.posts.take(node);
         let after = opens(alloc, self.keys, roster, node, before, state)?;
-        self.forget(node, state.next, &after);
+        self.forget(node, state.pending.as_slice().len(), &after);
         self.posts.put(node, after)?;
         Ok(())
     }
 
-    /// Whether what a node received was sent to it before. True for what comes from neither a
-    /// member nor the master, and for a node that is astray.
-    fn is_heard(&self, roster: &Roster, node: u8, event: &Event<()>) -> bool
-        ensures { (sent : ANetwork) → Holds roster.now self.now.network sent →
-            IsTrue result ↔ judging.IsHeard roster.now (board_of self.now sent) node event.now }
-    {
-        self.posts.is_astray(node) || self.network.is_sent(roster, node, event)
-    }
-
-    /// A node has an entry. Returns its flaw, if it has one.
+    /// A node has an entry. Returns its flaw, if it has one. What it received must have been sent to
+    /// it before, even if nothing is known of the node.
     fn steps(
         &mut self,
         alloc: Global,
@@ -247,7 +230,7 @@ impl<'a> Board<'a> {
             IsJudged roster.now (board_of self.old sent)
             (notes.Steps node entry.now is_closed kept.now) self.new flaw) }
     {
-        if !self.is_heard(roster, node, &entry.event) {
+        if !self.network.is_sent(roster, node, &entry.event) {
             return Ok(Some(Cause::NotSent));
         }
         let standing = self.posts.take(node);
@@ -299,7 +282,8 @@ impl<'a> Board<'a> {
         Ok(None)
     }
 
-    /// Takes the next note. Returns its flaw, if it has one; nothing is promised of the state then.
+    /// Takes the next note. Returns its flaw, if it has one. Then the state is as it was if a record
+    /// closes, and else nothing is promised of it.
     pub(crate) fn judge(
         &mut self,
         alloc: Global,

@@ -1,5 +1,5 @@
 -- One more request waits, or those of a node are dropped. A look-up takes the first of a node and
--- block, so a second one under the same block changes nothing.
+-- block, which is the one that was added last.
 use Rattle.std.proofs.Common.{◌≡◌, ℕ, Bool, true, false, cond, not, ◌&&◌, List, [], ◌∷◌, ◌++◌, filter, Option, Some, None, nat_eq, eqb-true, refl, sym, ◌∙◌, ap, inl, inr, arith}
 use Rattle.std.specs.Prelude.{find, option_map, OnOk, Result, Ok, Err}
 use Rattle.std.specs.HashMap.{get}
@@ -7,24 +7,16 @@ use Rattle.std.specs.Option.{option_and_then}
 use Rattle.run_rules.specs.Sent.{Waits, is_waiting}
 use Rattle.run_rules.proofs.Lists.{either, found_kept, found_gone}
 use Rattle.run_network.specs.declared.waits.Waits.{Waits as HeldWaits}
-use Rattle.run_network.specs.Held.{waiting_key, key_at, or_else, HoldsWaits}
+use Rattle.run_network.specs.Held.{waiting_key, key_at, HoldsWaits}
 
-key_when : (b : Bool) (w : Waits) → option_map (λ (x : Waits). x.key) (cond b (Some w) None) ≡ cond b (Some w.key) None
-key_when true w = refl
-key_when false w = refl
+key_when : (b : Bool) (w : Waits) (o : Option Waits) → option_map (λ (x : Waits). x.key) (cond b (Some w) o) ≡ cond b (Some w.key)
+    (option_map (λ (x : Waits). x.key) o)
+key_when true w o = refl
+key_when false w o = refl
 
-or_when : (b : Bool) (x : Waits) (o : Option Waits) (p : Option Waits) (later : Option (List ℕ)) →
-    option_map (λ (x : Waits). x.key) o ≡ or_else (option_map (λ (x : Waits). x.key) p) later →
-    option_map (λ (x : Waits). x.key) (cond b (Some x) o) ≡ or_else (option_map (λ (x : Waits). x.key) (cond b (Some x) p)) later
-or_when true x o p later e = refl
-or_when false x o p later e = e
-
-pub waiting_more : (waiting : List Waits) (w : Waits) (n b : ℕ) → waiting_key (waiting ++ w ∷ []) n b ≡ or_else (waiting_key waiting n b)
-    (cond (nat_eq w.node n && nat_eq w.block b) (Some w.key) None)
-waiting_more [] w n b = key_when (nat_eq w.node n && nat_eq w.block b) w
-waiting_more (x ∷ waiting) w n b =
-    or_when (is_waiting n b x) x (find (is_waiting n b) (waiting ++ w ∷ [])) (find (is_waiting n b) waiting)
-    (cond (nat_eq w.node n && nat_eq w.block b) (Some w.key) None) (waiting_more waiting w n b)
+waiting_more : (waiting : List Waits) (w : Waits) (n b : ℕ) → waiting_key (w ∷ waiting) n b ≡ cond (nat_eq w.node n && nat_eq w.block b) (Some w.key)
+    (waiting_key waiting n b)
+waiting_more waiting w n b = key_when (nat_eq w.node n && nat_eq w.block b) w (find (is_waiting n b) waiting)
 
 not_there : (a node n : ℕ) (b : Bool) → node ≡ n → not (nat_eq a node) ≡ true → (nat_eq a n && b) ≡ false
 not_there a node n b e h = grind arith
@@ -46,10 +38,6 @@ waiting_gone waiting node n b =
           ∙ sym (ap (λ c. cond c None (waiting_key waiting n b)) apart)
     ]
 
-nothing_more : (o : Option (List ℕ)) → o ≡ or_else o None
-nothing_more None = refl
-nothing_more (Some key) = refl
-
 and_then_cond : {A : Type 0} (f : A → Option (List ℕ)) (b : Bool) (o : Option A) → option_and_then f (cond b None o) ≡ cond b None (option_and_then f o)
 and_then_cond f true o = refl
 and_then_cond f false o = refl
@@ -65,26 +53,27 @@ forgotten old new node gone waiting holds n b =
 
 module _ (old mid new : HeldWaits) (before after : ℕ → Option (List ℕ)) (node block : ℕ) (key : List ℕ) (taken : (b : ℕ) → before b ≡ key_at old node b)
     (others : (n b : ℕ) → nat_eq node n ≡ false → key_at mid n b ≡ key_at old n b)
-    (entered : (b : ℕ) → after b ≡ or_else (before b) (cond (nat_eq block b) (Some key) None))
+    (entered : (b : ℕ) → after b ≡ cond (nat_eq block b) (Some key) (before b))
     (puts : (n b : ℕ) → key_at new n b ≡ cond (nat_eq node n) (after b) (key_at mid n b)) where
-  pub added : (waiting : List Waits) → HoldsWaits old waiting → HoldsWaits new (waiting ++ record { node = node; block = block; key = key } ∷ [])
+  pub added : (waiting : List Waits) → HoldsWaits old waiting → HoldsWaits new (record { node = node; block = block; key = key } ∷ waiting)
   added waiting holds n b =
       elim (either (nat_eq node n)) [
         | inl same ↦
-            puts n b ∙ ap (λ c. cond c (after b) (key_at mid n b)) same ∙ entered b ∙ ap (λ o. or_else o (cond (nat_eq block b) (Some key) None))
+            puts n b ∙ ap (λ c. cond c (after b) (key_at mid n b)) same ∙ entered b ∙ ap (λ o. cond (nat_eq block b) (Some key) o)
             (taken b ∙ ap (λ m. key_at old m b) (eqb-true node n same) ∙ holds n b)
             ∙ sym (waiting_more waiting (record { node = node; block = block; key = key }) n b
-            ∙ ap (λ c. or_else (waiting_key waiting n b) (cond (c && nat_eq block b) (Some key) None)) same)
+            ∙ ap (λ c. cond (c && nat_eq block b) (Some key) (waiting_key waiting n b)) same)
         | inr apart ↦
-            puts n b ∙ ap (λ c. cond c (after b) (key_at mid n b)) apart ∙ others n b apart ∙ holds n b ∙ nothing_more (waiting_key waiting n b)
+            puts n b ∙ ap (λ c. cond c (after b) (key_at mid n b)) apart ∙ others n b apart ∙ holds n b
             ∙ sym (waiting_more waiting (record { node = node; block = block; key = key }) n b
-            ∙ ap (λ c. or_else (waiting_key waiting n b) (cond (c && nat_eq block b) (Some key) None)) apart)
+            ∙ ap (λ c. cond (c && nat_eq block b) (Some key) (waiting_key waiting n b)) apart)
       ]
 
 pub added_on : {R E : Type 0} (r : Result R E) (old mid new : HeldWaits) (before after : ℕ → Option (List ℕ)) (node block : ℕ) (key : List ℕ) →
     ((b : ℕ) → before b ≡ key_at old node b) →
-    ((n b : ℕ) → nat_eq node n ≡ false → key_at mid n b ≡ key_at old n b) → ((b : ℕ) → after b ≡ or_else (before b) (cond (nat_eq block b) (Some key) None)) →
+    ((n b : ℕ) → nat_eq node n ≡ false → key_at mid n b ≡ key_at old n b) →
+    ((b : ℕ) → after b ≡ cond (nat_eq block b) (Some key) (before b)) →
     OnOk r ((n b : ℕ) → key_at new n b ≡ cond (nat_eq node n) (after b) (key_at mid n b)) →
-    OnOk r ((waiting : List Waits) → HoldsWaits old waiting → HoldsWaits new (waiting ++ record { node = node; block = block; key = key } ∷ []))
+    OnOk r ((waiting : List Waits) → HoldsWaits old waiting → HoldsWaits new (record { node = node; block = block; key = key } ∷ waiting))
 added_on (Ok r) old mid new before after node block key taken others entered puts = added old mid new before after node block key taken others entered puts
 added_on (Err e) old mid new before after node block key taken others entered puts = tt

@@ -73,17 +73,12 @@ HoldsAnswers answers sent = (a : SentAnswer) → HasAnswer answers a ↔ Contain
 
 -- Requests that wait
 
--- the first if there is one, else the second
-abbrev pub or_else : Option (List ℕ) → Option (List ℕ) → Option (List ℕ)
-or_else None later = later
-or_else (Some key) later = Some key
-
 -- the key that is held for a node and a block
 abbrev pub key_at : HeldWaits → ℕ → ℕ → Option (List ℕ)
 key_at waits node block = option_and_then (λ blocks. option_map (λ k. k.now) (get nat_eq blocks block))
     (get nat_eq waits.nodes node)
 
--- the key of the first of these requests that waits at the node as the block
+-- the key of the first of these requests that waits at the node as the block: the latest one
 abbrev pub waiting_key : List Waits → ℕ → ℕ → Option (List ℕ)
 waiting_key waiting node block = option_map (λ w. w.key) (find (is_waiting node block) waiting)
 
@@ -99,7 +94,7 @@ with_answers n more = record n { answers = n.answers ++ more }
 
 -- the network in which these requests wait too
 abbrev pub with_waits : Network → List Waits → Network
-with_waits n more = record n { waiting = n.waiting ++ more }
+with_waits n more = record n { waiting = more ++ n.waiting }
 
 -- what is held is this network
 pub record Holds (roster : Tables) (held : Held) (n : Network) : Type 0 where

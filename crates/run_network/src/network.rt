@@ -60,7 +60,8 @@ impl<'a> Network<'a> {
     {
         match event {
             Event::Datagram { from, message, .. } => {
-                !roster.is_own(*from) || self.letters.has_letter(*from, node, message.message())
+                let message = message.message();
+                !roster.is_own(*from) || self.letters.has_letter(*from, node, message)
             }
             Event::PeerAsk { asker, ask, .. } => self.asks.has_ask(*asker, node, ask),
             Event::PeerAnswer {

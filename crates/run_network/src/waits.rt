@@ -1,8 +1,8 @@
 //! Requests of members that wait at other members' nodes.
-ghost use Rattle.std.specs.Prelude.{◌≡◌, ℕ, [], ◌∷◌, ◌++◌, List, ◌==◌, nat_eq, not, false, Some, None, filter, option_map, OnOk, if◌then◌else◌};
+ghost use Rattle.std.specs.Prelude.{◌≡◌, ℕ, [], ◌∷◌, List, ◌==◌, nat_eq, not, false, Some, None, filter, option_map, OnOk, if◌then◌else◌};
 ghost use Rattle.std.specs.HashMap.{get};
 ghost use Rattle.run_rules.specs.Sent.{Waits as AWait};
-ghost use Rattle.run_network.specs.Held.{key_at, or_else, HoldsWaits};
+ghost use Rattle.run_network.specs.Held.{key_at, HoldsWaits};
 
 use std::alloc::{AllocError, Global};
 use std::collections::HashMap;
@@ -16,16 +16,14 @@ pub struct Waits<'a> {
     nodes: HashMap<u8, HashMap<u32, &'a Key>>,
 }
 
-/// Enters a key under a block, unless the block has one.
+/// Enters a key under a block, in the place of one that is there.
 fn enter<'a>(blocks: &mut HashMap<u32, &'a Key>, block: u32, key: &'a Key) -> Result<(), AllocError>
     ensures { OnOk result ((other : ℕ) →
         option_map (λ k. k.now) (get nat_eq blocks.new other)
-        ≡ or_else (option_map (λ k. k.now) (get nat_eq blocks.old other))
-        (if block == other then Some key.now else None)) }
+        ≡ (if block == other then Some key.now
+        else option_map (λ k. k.now) (get nat_eq blocks.old other))) }
 {
-    if !blocks.contains_key(&block) {
-        blocks.insert(block, key)?;
-    }
+    blocks.insert(block, key)?;
     Ok(())
 }
 
@@ -73,7 +71,7 @@ impl<'a> Waits<'a> {
         Ok(())
     }
 
-    /// Notes that a request waits at a node as this block, unless one does already.
+    /// Notes that a request waits at a node as this block, in the place of one that did.
     pub(crate) fn add(
         &mut self,
         alloc: Global,
@@ -82,8 +80,8 @@ impl<'a> Waits<'a> {
         key: &'a Key,
     ) -> Result<(), AllocError>
         ensures { OnOk result ((waiting : List AWait) → HoldsWaits self.old waiting →
-            HoldsWaits self.new (waiting ++ record { node = node; block = block; key = key.now }
-            ∷ [])) }
+            HoldsWaits self.new (record { node = node; block = block; key = key.now }
+            ∷ waiting)) }
     {
         let mut blocks = self.take(alloc, node);
         enter(&mut blocks, block, key)?;

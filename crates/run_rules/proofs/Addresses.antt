@@ -1,5 +1,6 @@
 -- Each member is found by its own address, by either protocol: in a roster no two caches have the
--- same address, so the first match is the member itself.
+-- same address, so the first match is the member itself. For the same reason nobody is found by ICP
+-- at an HTCP address.
 use Rattle.std.proofs.Common.{◌≡◌, Bool, true, false, cond, ◌&&◌, ◌||◌, ℕ, nat_eq, List, [], ◌∷◌, ◌++◌, map, Option, Some, None, refl, sym, ◌∙◌, ap, inl, inr, subst}
 use Rattle.std.specs.Prelude.{find, option_map, is_some}
 use Rattle.std.specs.List.{list_any}
@@ -87,11 +88,51 @@ there : {A : Type 0} (o : Option A) → is_some o ≡ true → (x : A) × (o ≡
 there None h = absurd (true_not_false (sym h))
 there (Some x) h = (x, refl)
 
+-- nobody is found by an ICP address that is a member's HTCP address
+
+nobody : (a : Address) (ms : List Member) (fs : List Cache) → list_any (same_address a) (udp_of (map (λ m. m.cache) ms ++ fs)) ≡ false →
+    option_map (λ (m : Member). m.cache.id) (find (at_address a udp.Icp) ms) ≡ None
+nobody a [] fs h = refl
+nobody a (n ∷ ms) fs h =
+    let (icp, more) = or_false (same_address a n.cache.icp) _ h in
+    let (htcp, rest) = or_false (same_address a n.cache.htcp) _ more in
+    ap (λ b. option_map (λ (m : Member). m.cache.id) (cond b (Some n) (find (at_address a udp.Icp) ms))) icp ∙ nobody a ms fs rest
+
+alone_by : (ms : List Member) (fs : List Cache) (id : ℕ) (m : Member) → has_doubles same_address (udp_of (map (λ m. m.cache) ms ++ fs)) ≡ false →
+    find (λ m. nat_eq m.cache.id id) ms ≡ Some m → option_map (λ (m : Member). m.cache.id) (find (at_address m.cache.htcp udp.Icp) ms) ≡ None
+alone_by [] fs id m h e = refl
+alone_by (n ∷ ms) fs id m h e =
+    let (first, more) = or_false (list_any (same_address n.cache.icp) (n.cache.htcp ∷ udp_of (map (λ m. m.cache) ms ++ fs))) _ h in
+    let (alone, rest) = or_false (list_any (same_address n.cache.htcp) (udp_of (map (λ m. m.cache) ms ++ fs))) _ more in
+    let (own, single) = or_false (same_address n.cache.icp n.cache.htcp) _ first in
+    elim (either (nat_eq n.cache.id id)) [
+      | inl here ↦
+          let is : n ≡ m = same_some n m (sym (ap (λ b. cond b (Some n) (find (λ m. nat_eq m.cache.id id) ms)) here) ∙ e) in
+          subst (λ (v : Member). option_map (λ (m : Member). m.cache.id) (find (at_address v.cache.htcp udp.Icp) (n ∷ ms)) ≡ None) is
+          (ap (λ b. option_map (λ (m : Member). m.cache.id) (cond b (Some n) (find (at_address n.cache.htcp udp.Icp) ms)))
+          (other_back n.cache.icp n.cache.htcp own) ∙ nobody n.cache.htcp ms fs alone)
+      | inr other ↦
+          let below : find (λ m. nat_eq m.cache.id id) ms ≡ Some m = sym (ap (λ b. cond b (Some n) (find (λ m. nat_eq m.cache.id id) ms)) other) ∙ e in
+          ap (λ b. option_map (λ (m : Member). m.cache.id) (cond b (Some n) (find (at_address m.cache.htcp udp.Icp) ms)))
+          (other_back n.cache.icp m.cache.htcp (apart_from n.cache.icp ms fs id m udp.Htcp single below))
+          ∙ alone_by ms fs id m rest below
+    ]
+
+-- the member is found at the address by this protocol; if by HTCP, nobody is found there by ICP
+pub record IsAddressOf (t : Tables) (id : ℕ) (by : Udp) (a : Address) : Type 0 where
+  pub found : member_at t a by ≡ Some id
+  pub alone : by ≡ udp.Htcp → member_at t a udp.Icp ≡ None
+
+alone_at : (t : Tables) (id : ℕ) (m : Member) (by : Udp) → has_doubles same_address (udp_of (map (λ m. m.cache) t.members ++ t.foreign)) ≡ false →
+    member_of t id ≡ Some m → by ≡ udp.Htcp → member_at t (address_by by m.cache) udp.Icp ≡ None
+alone_at t id m udp.Icp rest is by = absurd cc
+alone_at t id m udp.Htcp rest is by = alone_by t.members t.foreign id m rest is
+
 -- a member has an address at which it is found, by each protocol
-pub reached : (t : Tables) (id : ℕ) (by : Udp) → IsRoster t → is_member t id ≡ true → (a : Address) × (member_at t a by ≡ Some id)
+pub reached : (t : Tables) (id : ℕ) (by : Udp) → IsRoster t → is_member t id ≡ true → (a : Address) × IsAddressOf t id by a
 reached t id by proper member =
     let (m, is) = there (member_of t id) member in
     let (caches, more) = or_false (has_doubles clashes (caches_of t)) _ proper.fit.apart in
     let (addresses, origins) = or_false (has_doubles same_address (udp_addresses t)) _ more in
     let (master, rest) = or_false (list_any (same_address t.master) (udp_of (caches_of t))) _ addresses in
-    (address_by by m.cache, found_by t.members t.foreign id m by rest is)
+    (address_by by m.cache, record { found = found_by t.members t.foreign id m by rest is; alone = alone_at t id m by rest is })

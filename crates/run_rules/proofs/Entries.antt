@@ -1,7 +1,7 @@
 -- An entry of a node that may follow stands for events of the world: the clock is set, and some
 -- event brings the node what it received (Meeting). An entry that was refused stands for no event.
 -- One that closed the node stands for a fault, after the step or without it.
-use Rattle.std.proofs.Common.{◌≡◌, ℕ, ◌+◌, ◌≤◌, Bool, true, false, cond, not, ◌&&◌, List, [], ◌∷◌, ◌++◌, map, Option, Some, None, Result, Ok, Err, refl, sym, ◌∙◌, ap, inl, inr, nat_le, subst, arith}
+use Rattle.std.proofs.Common.{◌≡◌, ℕ, ◌+◌, ◌≤◌, Bool, true, false, cond, not, ◌&&◌, List, [], ◌∷◌, ◌++◌, map, Option, Some, None, Result, Ok, Err, find, refl, sym, ◌∙◌, ap, inl, inr, nat_le, subst, arith}
 use Rattle.std.proofs.lemmas.List.Elements.{Contains-append_left}
 use Rattle.floor_rules.specs.Floors.{FloorMap, HasRoom, floor, raised}
 use Rattle.floor_rules.specs.Store.{IsBeforeOrAfter}
@@ -11,6 +11,7 @@ use Rattle.roster.specs.Judged.{IsRoster}
 use Rattle.node_rules.specs.declared.state.NodeState.{NodeState}
 use Rattle.node_rules.specs.declared.event.Event.{Event}
 use Rattle.node_rules.specs.declared.event.Event.TheVariants as event
+use Rattle.node_rules.specs.declared.reply.Begin.{Begin}
 use Rattle.node_rules.specs.declared.reply.Reply.{Reply}
 use Rattle.node_rules.specs.declared.reply.StepFault.{StepFault}
 use Rattle.node_rules.specs.declared.reply.StepFault.TheVariants as fault
@@ -29,7 +30,7 @@ use Rattle.node_rules.proofs.FloorLaws.{room_for}
 use Rattle.node_rules.proofs.Cases.{true_not_false}
 use Rattle.node_book.specs.declared.book.NodeEntry.{NodeEntry}
 use Rattle.world_rules.specs.declared.event.WorldEvent.TheVariants as world
-use Rattle.world_rules.specs.World.{World, reply_in, after_node, is_waiting_as}
+use Rattle.world_rules.specs.World.{World, Waiting, reply_in, after_node, is_waiting_as, waits_now}
 use Rattle.world_rules.specs.declared.outcome.WorldFault.TheVariants.{NoSuchPacket}
 use Rattle.world_rules.specs.Consequence.{Replied, Nothing, Consequence, Ends, Refused as WorldRefused, consequence, with_clock, with_member_state}
 use Rattle.world_rules.specs.Run.{Step, Run, Takes}
@@ -38,19 +39,18 @@ use Rattle.run_rules.specs.Sent.{Network, with_reply, without_waiting, IsSent}
 use Rattle.run_rules.specs.Board.{Standing, New, Open, Shut, Astray, Board, standing_at, with_node, with_network}
 use Rattle.run_rules.specs.declared.verdict.Cause.{Cause}
 use Rattle.run_rules.specs.declared.verdict.Cause.TheVariants.{NotSent, OtherReply}
-use Rattle.run_rules.specs.Judging.{Fine, Flawed, Reaches, IsStep, StepsBy, OpenStepsBy, StepsSo, after_entry, wanting, failing, stored_by, left_by, shut_by, is_astray, judged, JudgesEntry}
+use Rattle.run_rules.specs.Judging.{Fine, Flawed, Reaches, IsStep, StepsBy, OpenStepsBy, StepsSo, after_entry, wanting, failing, left_by, shut_by, is_astray, judged, JudgesEntry}
 use Rattle.run_rules.specs.Recorded.{Progress, Goes, IsTaken, ChangesNothing, event_step, unmarked, unmarked_event, unmarked_outcome, node_in, IsShut}
 use Rattle.run_rules.specs.Recorded.{Stands}
 use Rattle.run_rules.specs.Notes.{Note, Steps}
 use Rattle.world_rules.proofs.MemberStates.{node_at-same, node_at-other}
 use Rattle.run_rules.proofs.Running.{runs_join}
-use Rattle.run_rules.proofs.Lists.{either, found_still}
-use Rattle.run_rules.proofs.Asking.{ok_same}
+use Rattle.run_rules.proofs.Lists.{either, ok_same}
 use Rattle.run_rules.proofs.Refusals.{no_fault, refusal_same, closed_refuses}
 use Rattle.run_rules.proofs.Purging.{HasPurged, step_purges}
 use Rattle.run_rules.proofs.Matching.{NetworkMatches, waits_dropped, waits_dropped_here}
 use Rattle.run_rules.proofs.Meeting.{Meets, meets}
-use Rattle.run_rules.proofs.Following.{StandsIn, Matches, each_place, each_post, after_goes, place_goes, begins_next, network_replied, quiet_network}
+use Rattle.run_rules.proofs.Following.{StandsIn, Matches, each_place, each_post, after_goes, place_goes, network_replied, quiet_network}
 
 pub not_flawed : (x : Board) (cause : Cause) → Fine x ≡ Flawed cause → ⊥
 not_flawed x cause is = cc
@@ -69,13 +69,28 @@ network_now : {n : Network} {w : World} {now : ℕ} → NetworkMatches n w → N
 network_now h = record { datagrams = h.datagrams; asks = h.asks; answers = h.answers; waiting = h.waiting }
 
 -- what was sent before is still sent
+-- no request begins to wait with a purge
+purge_waits : (g : Setting) (id : ℕ) (e : Event ℕ) (serial : ℕ) (b : Option Begin) (x : List ℕ × ℕ) → purge_in g e ≡ Some x → waits_now id e serial b ≡ []
+purge_waits g id (event.Client ask now) serial b x is = refl
+purge_waits g id (event.Datagram from m now) serial b x is = refl
+purge_waits g id (event.PeerAsk asker ask now) serial b x is = cc
+purge_waits g id (event.PeerAnswer s peer key answer tag now) serial b x is = refl
+purge_waits g id (event.OriginAnswer s key answer now) serial b x is = refl
+purge_waits g id (event.ForeignAnswer s peer key answer tag now) serial b x is = refl
+purge_waits g id (event.FetchFailed s now) serial b x is = refl
+purge_waits g id (event.Expired s now) serial b x is = refl
+
 network_kept : (t : Tables) (n : Network) (w : World) (id : ℕ) (e : Event ℕ) (serial : ℕ) (o : Result (Reply ℕ) StepFault) (next : NodeState ℕ) →
-    NetworkMatches n w → NetworkMatches n (after_node t w id e serial o next)
-network_kept t n w id e serial o next h = record {
+    waits_now id e serial (reply_in o).begin ≡ [] → NetworkMatches n w → NetworkMatches n (after_node t w id e serial o next)
+network_kept t n w id e serial o next none h = record {
   datagrams = λ d has. Contains-append_left w.datagrams _ d (h.datagrams d has);
   asks = λ a has. let (x, there, same) = h.asks a has in (x, Contains-append_left w.asks _ x there, same);
   answers = λ a has. let (x, there, same) = h.answers a has in (x, Contains-append_left w.answers _ x there, same);
-  waiting = λ i block x is. let (y, found, same) = h.waiting i block x is in (y, found_still (is_waiting_as i block) w.waiting _ y found, same);
+  waiting = λ i block x is. let (y, found, same) = h.waiting i block x is in (
+    y,
+    ap (λ (l : List Waiting). find (is_waiting_as i block) (l ++ w.waiting)) none ∙ found,
+    same,
+  );
 }
 
 pub network_closed : (n : Network) (w : World) (id : ℕ) (next : NodeState ℕ) → NetworkMatches n w →
@@ -194,12 +209,10 @@ module _ (t : Tables) (b : Board) (p : Progress) (m : Matches t b p) (id : ℕ) 
     -- what it sends is sent in the world
     sends : (reply : Reply ℕ) → r.outcome ≡ Ok reply → NetworkMatches (with_reply t b.network id e (retag_reply (λ _. tt) reply)) q.world
     sends reply is =
-        let taken = (m.after.sources.asks id is_open).taken in
-        let begins = begins_next g node (p.place + 1) how.met reply reply.begin is refl in
         subst (λ (x : Event (Unit {0})). NetworkMatches (with_reply t b.network id x (retag_reply (λ _. tt) reply)) q.world) how.event
         (subst (λ (o : Result (Reply ℕ) StepFault). NetworkMatches (with_reply t b.network id (unmarked_event how.met) (retag_reply (λ _. tt) reply))
         (after_node t now id how.met how.serial o r.state)) (sym is)
-        (network_replied t b.network now id how.met how.serial reply r.state (network_now m.network) taken begins))
+        (network_replied t b.network now id how.met how.serial reply r.state (network_now m.network)))
 
     open_after : r.state.closed ≡ false
     open_after = the_function_closes_no_node g node how.met (p.place + 1) ∙ is_open
@@ -428,7 +441,8 @@ module _ (t : Tables) (b : Board) (p : Progress) (m : Matches t b p) (id : ℕ) 
               purges = m.purges;
               network = network_closed b.network (q is_open entry.event how).world id _
                   (network_kept t b.network (now is_open entry.event how) id how.met how.serial (r is_open entry.event how).outcome
-                  (r is_open entry.event how).state (network_now m.network));
+                  (r is_open entry.event how).state
+                  (purge_waits g id how.met how.serial (reply_in (r is_open entry.event how).outcome).begin (key, n) meets_purge) (network_now m.network));
             };
           }
 

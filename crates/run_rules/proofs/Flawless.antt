@@ -24,7 +24,7 @@ use Rattle.node_book.specs.declared.book.NodeEntry.{NodeEntry}
 use Rattle.floor_rules.specs.Floors.{FloorMap}
 use Rattle.node_rules.specs.State.{setting}
 use Rattle.world_rules.proofs.SourceRuns.{run_after}
-use Rattle.run_rules.proofs.Asking.{ok_same}
+use Rattle.run_rules.proofs.Lists.{ok_same}
 use Rattle.run_rules.proofs.Lists.{contains_none}
 use Rattle.run_rules.proofs.Following.{Matches, standing_at-same, standing_at-other}
 use Rattle.run_rules.proofs.Entries.{Follows, same_board, not_flawed, entry_follows}

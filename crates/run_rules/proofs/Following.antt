@@ -1,8 +1,7 @@
 -- How the state of a run (a board) and the world match: each node's state is the recorded one
 -- without marks, the master's is the same, and what the run knows as sent is sent in the world.
-use Rattle.std.proofs.Common.{◌≡◌, ℕ, ◌+◌, ◌<◌, true, false, cond, List, [], ◌∷◌, ◌++◌, length, Option, Some, None, Ok, refl, sym, ◌∙◌, ap, nat_eq, subst, arith, length-append}
+use Rattle.std.proofs.Common.{◌≡◌, ℕ, ◌+◌, true, false, cond, List, [], ◌∷◌, ◌++◌, length, Option, Some, None, Ok, refl, sym, ◌∙◌, ap, nat_eq, subst, arith, length-append}
 use Rattle.std.specs.Prelude.{◌≢◌}
-use Rattle.std.specs.List.{AllByRecursion}
 use Rattle.std.proofs.Math.Decide.{ℕ_discrete}
 use Rattle.values_tables.specs.declared.plain.Member.{Member}
 use Rattle.values_tables.specs.declared.plain.Tables.{Tables}
@@ -10,9 +9,8 @@ use Rattle.roster.specs.Lookups.{is_member, member_of}
 use Rattle.node_rules.specs.declared.state.NodeState.{NodeState}
 use Rattle.node_rules.specs.declared.event.Event.{Event}
 use Rattle.node_rules.specs.declared.event.Event.TheVariants as event
-use Rattle.node_rules.specs.declared.reply.Begin.{Begin}
 use Rattle.node_rules.specs.declared.reply.Reply.{Reply}
-use Rattle.node_rules.specs.State.{Setting, quiet}
+use Rattle.node_rules.specs.State.{quiet}
 use Rattle.node_rules.specs.Step.{step}
 use Rattle.node_rules.specs.Tags.{retag_reply}
 use Rattle.node_rules.proofs.Cases.{branches}
@@ -25,8 +23,7 @@ use Rattle.world_rules.proofs.SourceRuns.{IsAfter, after_one}
 use Rattle.run_rules.specs.Sent.{SentAsk, SentAnswer, Waits, Network, waits_by, with_reply}
 use Rattle.run_rules.specs.Board.{Post, Standing, New, Open, Shut, Astray, Board, standing_at, with_standing}
 use Rattle.run_rules.specs.Recorded.{Progress, unmarked, unmarked_event, node_in, IsShut}
-use Rattle.run_rules.proofs.Asking.{ask_takes}
-use Rattle.run_rules.proofs.Matching.{NetworkMatches, BeginsNext, datagrams_grow, asks_grow, answers_grow, asks_same, answers_same, waits_by_event}
+use Rattle.run_rules.proofs.Matching.{NetworkMatches, datagrams_grow, asks_grow, answers_grow, asks_same, answers_same, waits_by_event}
 
 -- Standings of nodes
 
@@ -114,28 +111,15 @@ place_goes t b p steps place m is = omega (is, m.at, length-append m.past steps,
 
 -- What a reply sends
 
-pub begins_next : (g : Setting) (s : NodeState ℕ) (mark : ℕ) (e : Event ℕ) (reply : Reply ℕ) (b : Option Begin) → (step g s e mark).outcome ≡ Ok reply →
-    reply.begin ≡ b → BeginsNext e b s (step g s e mark).state
-begins_next g s mark (event.Client ask now) reply b is begins = tt
-begins_next g s mark (event.Datagram from m now) reply b is begins = tt
-begins_next g s mark (event.PeerAsk asker ask now) reply None is begins = tt
-begins_next g s mark (event.PeerAsk asker ask now) reply (Some b) is begins = ask_takes g s mark asker ask now reply b is begins
-begins_next g s mark (event.PeerAnswer serial peer key answer tag now) reply b is begins = tt
-begins_next g s mark (event.OriginAnswer serial key answer now) reply b is begins = tt
-begins_next g s mark (event.ForeignAnswer serial peer key answer tag now) reply b is begins = tt
-begins_next g s mark (event.FetchFailed serial now) reply b is begins = tt
-begins_next g s mark (event.Expired serial now) reply b is begins = tt
-
 -- what a node's reply sends is sent in the world
 pub network_replied : (t : Tables) (n : Network) (w : World) (id : ℕ) (e : Event ℕ) (serial : ℕ) (reply : Reply ℕ) (next : NodeState ℕ) → NetworkMatches n w →
-    AllByRecursion (λ x. x.node ≡ id → x.block < (node_at w.states id).next) w.waiting → BeginsNext e reply.begin (node_at w.states id) next →
     NetworkMatches (with_reply t n id (unmarked_event e) (retag_reply (λ _. tt) reply)) (after_node t w id e serial (Ok reply) next)
-network_replied t n w id e serial reply next matches taken begins = record {
+network_replied t n w id e serial reply next matches = record {
   datagrams = datagrams_grow n.datagrams (datagrams_from (member_of t id) reply.send) w.datagrams (datagrams_from (member_of t id) reply.send) matches.datagrams
       (λ d has. has);
   asks = asks_grow n.asks _ w.asks _ matches.asks (asks_same id reply.begin);
   answers = answers_grow n.answers _ w.answers _ matches.answers (answers_same n.waiting w.waiting id e serial reply.serve matches.waiting);
-  waiting = waits_by_event n.waiting w.waiting id e serial reply.begin (node_at w.states id) next matches.waiting taken begins;
+  waiting = waits_by_event n.waiting w.waiting id e serial reply.begin matches.waiting;
 }
 
 waits_nothing : (id : ℕ) (e : Event (Unit {0})) → waits_by id e None ≡ []
@@ -157,10 +141,10 @@ pub quiet_network : (t : Tables) (n : Network) (id : ℕ) (e : Event (Unit {0}))
 quiet_network t n id e =
     let datagrams : n.datagrams ++ datagrams_from (member_of t id) [] ≡ n.datagrams = ap (λ (l : List Datagram). n.datagrams ++ l)
     (sends_nothing (member_of t id)) ∙ append_nil n.datagrams in
-    let waiting : n.waiting ++ waits_by id e None ≡ n.waiting = ap (λ (l : List Waits). n.waiting ++ l) (waits_nothing id e) ∙ append_nil n.waiting in
-    ap (λ (l : List Datagram). record { datagrams = l; asks = n.asks ++ []; answers = n.answers ++ []; waiting = n.waiting ++ waits_by id e None }) datagrams
-    ∙ ap (λ (l : List SentAsk). record { datagrams = n.datagrams; asks = l; answers = n.answers ++ []; waiting = n.waiting ++ waits_by id e None })
+    let waiting : waits_by id e None ++ n.waiting ≡ n.waiting = ap (λ (l : List Waits). l ++ n.waiting) (waits_nothing id e) in
+    ap (λ (l : List Datagram). record { datagrams = l; asks = n.asks ++ []; answers = n.answers ++ []; waiting = waits_by id e None ++ n.waiting }) datagrams
+    ∙ ap (λ (l : List SentAsk). record { datagrams = n.datagrams; asks = l; answers = n.answers ++ []; waiting = waits_by id e None ++ n.waiting })
     (append_nil n.asks)
-    ∙ ap (λ (l : List SentAnswer). record { datagrams = n.datagrams; asks = n.asks; answers = l; waiting = n.waiting ++ waits_by id e None })
+    ∙ ap (λ (l : List SentAnswer). record { datagrams = n.datagrams; asks = n.asks; answers = l; waiting = waits_by id e None ++ n.waiting })
     (append_nil n.answers)
     ∙ ap (λ (l : List Waits). record { datagrams = n.datagrams; asks = n.asks; answers = n.answers; waiting = l }) waiting

@@ -1,11 +1,10 @@
 -- To read: Flawless first (the notes of a run without a flaw stand for events of the world), then
 -- Following (how the checker's state and the world match) and the notes by kind: Entries (with
--- Refusals, Asking, Meeting, Purging, Addresses), Openings and Calling; Matching and Lists are
+-- Refusals, Meeting, Purging, Addresses), Openings and Calling; Matching and Lists are
 -- about the network. Then the order of notes: Taking, Tracks and Rising. Running says that what the
 -- notes stand for is a run.
 pub mod Running
 pub mod Refusals
-pub mod Asking
 pub mod Lists
 pub mod Matching
 pub mod Addresses

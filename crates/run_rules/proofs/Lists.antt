@@ -1,10 +1,13 @@
 -- Finding in lists that grow at the end or lose items, by induction over the list.
-use Rattle.std.proofs.Common.{◌≡◌, ◌⊎◌, ℕ, zero, suc, ◌-◌, ◌<◌, Bool, true, false, cond, List, [], ◌∷◌, ◌++◌, length, filter, Option, Some, None, refl, sym, ◌∙◌, ap, inl, inr, nat_eq, subst, arith}
+use Rattle.std.proofs.Common.{◌≡◌, ◌⊎◌, ℕ, zero, suc, ◌-◌, ◌<◌, Bool, true, false, cond, List, [], ◌∷◌, ◌++◌, length, filter, Option, Some, None, refl, sym, ◌∙◌, ap, inl, inr, nat_eq, subst, arith, Result, Ok}
 use Rattle.std.specs.Prelude.{find, slice_get, Contains}
 use Rattle.std.specs.List.{slice_index_or}
 use Rattle.node_rules.proofs.Cases.{branches, true_not_false}
 use Rattle.world_rules.specs.World.{item}
 use Rattle.world_rules.proofs.MemberStates.{other_id}
+
+pub ok_same : {A B : Type 0} (x y : A) (r : Result A B) → r ≡ Ok x → r ≡ Ok y → x ≡ y
+ok_same x y r one other = cc
 
 pub same_some : {A : Type 0} (x y : A) → Some x ≡ Some y → x ≡ y
 same_some x y e = cc

@@ -1,12 +1,10 @@
 -- The network of a run and that of the world: what the run has as sent or waiting, the world has
 -- too, with serials and marks. This stays so, since both grow by the same reply.
-use Rattle.std.proofs.Common.{◌≡◌, ℕ, ◌+◌, ◌/◌, Bool, true, false, cond, not, ◌&&◌, List, [], ◌∷◌, ◌++◌, filter, Option, Some, None, refl, sym, ◌∙◌, ap, inl, inr, nat_eq, subst, arith}
+use Rattle.std.proofs.Common.{◌≡◌, ℕ, ◌/◌, Bool, true, false, cond, not, ◌&&◌, List, [], ◌∷◌, ◌++◌, filter, Option, Some, None, refl, sym, ◌∙◌, ap, inl, inr, nat_eq, subst}
 use Rattle.std.specs.Prelude.{find, Contains, option_map, ◌≢◌}
-use Rattle.std.specs.List.{AllByRecursion}
 use Rattle.std.proofs.lemmas.List.Elements.{Contains-append_left, Contains-append_right, Contains-append_cases}
 use Rattle.http_messages.specs.declared.ask.Ask.{Ask}
 use Rattle.values_tables.specs.Ranges.{is_foreign_id}
-use Rattle.node_rules.specs.declared.state.NodeState.{NodeState}
 use Rattle.node_rules.specs.declared.event.Event.{Event}
 use Rattle.node_rules.specs.declared.event.Event.TheVariants as event
 use Rattle.node_rules.specs.declared.reply.Served.{Served}
@@ -18,11 +16,10 @@ use Rattle.node_rules.specs.State.{serial_of}
 use Rattle.node_rules.specs.Tags.{retag_served, retag_serve}
 use Rattle.node_rules.proofs.Cases.{true_not_false}
 use Rattle.world_rules.specs.World.{World, Datagram, PeerAsk, PeerAnswer, Waiting, Answered, asks_in, answer_of, answers_in, answer_to, asked_now, asked_by, is_waiting_as, waits_now}
-use Rattle.world_rules.specs.Sources.{IsTaken}
 use Rattle.world_rules.proofs.MemberStates.{same_id, ids_same, other_id, and_parts}
 use Rattle.run_rules.specs.Sent.{SentAsk, SentAnswer, Waits, Network, asks_by, answers_by, answer_for, key_by, key_now, text_of, is_waiting, waits_by}
 use Rattle.run_rules.specs.Recorded.{unmarked_event}
-use Rattle.run_rules.proofs.Lists.{either, same_some, contains_none, contains_one, one_contains, found_still, found_later, found_where, found_kept, found_gone}
+use Rattle.run_rules.proofs.Lists.{either, same_some, contains_none, contains_one, one_contains, found_kept, found_gone}
 
 -- What was sent
 
@@ -156,81 +153,34 @@ none_some x e = cc
 
 -- What waits
 
--- no request waits as a block that is not taken
-not_taken : (id block : ℕ) (ws : List Waiting) → AllByRecursion (IsTaken id block) ws → find (is_waiting_as id block) ws ≡ None
-not_taken id block [] all = refl
-not_taken id block (w ∷ ws) all =
-    let here : (nat_eq w.node id && nat_eq w.block block) ≡ false = elim (either (nat_eq w.node id && nat_eq w.block block)) [
-      | inr is_not ↦ is_not
-      | inl is_so ↦
-          let (node, same) = and_parts (nat_eq w.node id) (nat_eq w.block block) is_so in
-          absurd (omega (all.0 (ids_same w.node id node), ids_same w.block block same, arith))
-    ] in
-    ap (λ b. cond b (Some w) (find (is_waiting_as id block) ws)) here ∙ not_taken id block ws all.1
-
-pub waits_stay : (waits : List Waits) (ws more : List Waiting) → WaitsMatch waits ws → WaitsMatch (waits ++ []) (ws ++ more)
-waits_stay waits ws more match id block x e =
-    let there : find (is_waiting id block) waits ≡ Some x = elim (found_where (is_waiting id block) waits [] x e) [ inl here ↦ here | inr none ↦ cc ] in
-    let (y, is, same) = match id block x there in
-    (y, found_still (is_waiting_as id block) ws more y is, same)
-
-waits_new : (ws : List Waiting) (node at serial : ℕ) (key : List ℕ) → find (is_waiting_as node at) ws ≡ None → (id block : ℕ) (x : Waits) →
-    find (is_waiting id block) (record { node = node; block = at; key = key } ∷ []) ≡ Some x →
-    (y : Waiting) × (find (is_waiting_as id block) (ws ++ record { node = node; block = at; serial = serial; key = key } ∷ []) ≡ Some y) × (y.key ≡ x.key)
-waits_new ws node at serial key none id block x e =
+-- the same request begins to wait in both
+waits_more : (waits : List Waits) (ws : List Waiting) (node at serial : ℕ) (key : List ℕ) → WaitsMatch waits ws →
+    WaitsMatch (record { node = node; block = at; key = key } ∷ waits) (record { node = node; block = at; serial = serial; key = key } ∷ ws)
+waits_more waits ws node at serial key match id block x e =
     let new : Waits = record { node = node; block = at; key = key } in
     let its : Waiting = record { node = node; block = at; serial = serial; key = key } in
     elim (either (nat_eq node id && nat_eq at block)) [
-      | inl is_so ↦
-          let (is_node, is_block) = and_parts (nat_eq node id) (nat_eq at block) is_so in
-          let free : find (is_waiting_as id block) ws ≡ None =
-          subst (λ b. find (is_waiting_as id b) ws ≡ None) (ids_same at block is_block)
-          (subst (λ i. find (is_waiting_as i at) ws ≡ None) (ids_same node id is_node) none) in (
-            its,
-            found_later (is_waiting_as id block) ws (its ∷ []) free ∙ ap (λ b. cond b (Some its) None) is_so,
-            ap (λ (w : Waits). w.key) (same_some new x (sym (ap (λ b. cond b (Some new) None) is_so) ∙ e)),
-          )
-      | inr is_not ↦ absurd (none_some x (sym (ap (λ b. cond b (Some new) None) is_not) ∙ e))
+      | inl is_so ↦ (
+        its,
+        ap (λ b. cond b (Some its) (find (is_waiting_as id block) ws)) is_so,
+        ap (λ (w : Waits). w.key) (same_some new x (sym (ap (λ b. cond b (Some new) (find (is_waiting id block) waits)) is_so) ∙ e)),
+      )
+      | inr is_not ↦
+          let (y, is, same) = match id block x (sym (ap (λ b. cond b (Some new) (find (is_waiting id block) waits)) is_not) ∙ e) in
+          (y, ap (λ b. cond b (Some its) (find (is_waiting_as id block) ws)) is_not ∙ is, same)
     ]
 
-waits_more : (waits : List Waits) (ws : List Waiting) (node at serial : ℕ) (key : List ℕ) → WaitsMatch waits ws → find (is_waiting_as node at) ws ≡ None →
-    WaitsMatch (waits ++ record { node = node; block = at; key = key } ∷ []) (ws ++ record { node = node; block = at; serial = serial; key = key } ∷ [])
-waits_more waits ws node at serial key match none id block x e =
-    elim (found_where (is_waiting id block) waits (record { node = node; block = at; key = key } ∷ []) x e) [
-      | inl here ↦ let (y, is, same) = match id block x here in (y, found_still (is_waiting_as id block) ws _ y is, same)
-      | inr new ↦ waits_new ws node at serial key none id block x new
-    ]
-
--- a block is taken when the next one changes
-changed_waits : (id : ℕ) (serial : ℕ) (key : List ℕ) (before after : ℕ) → after ≡ before + 1 →
-    cond {A = List Waiting} (nat_eq before after) [] (record { node = id; block = before; serial = serial; key = key } ∷ []) ≡ record
-    { node = id; block = before; serial = serial; key = key } ∷ []
-changed_waits id serial key before after taken =
-    let one : List Waiting = record { node = id; block = before; serial = serial; key = key } ∷ [] in
-    ap (λ b. cond {A = List Waiting} b [] one) (other_id before after (λ same. omega (same, taken, arith)))
-
--- what begins has a serial of the block that was next
-abbrev pub BeginsNext : Event ℕ → Option Begin → NodeState ℕ → NodeState ℕ → Type 0
-BeginsNext (event.PeerAsk asker ask now) (Some b) old new = (serial_of b / 32 ≡ old.next) × (new.next ≡ old.next + 1)
-BeginsNext _ _ old new = Unit {0}
-
-pub waits_by_event : (waits : List Waits) (ws : List Waiting) (id : ℕ) (e : Event ℕ) (serial : ℕ) (b : Option Begin) (old new : NodeState ℕ) →
-    WaitsMatch waits ws → AllByRecursion (IsTaken id old.next) ws →
-    BeginsNext e b old new → WaitsMatch (waits ++ waits_by id (unmarked_event e) b) (ws ++ waits_now id e serial old new)
-waits_by_event waits ws id (event.Client ask now) serial b old new match all begins = waits_stay waits ws _ match
-waits_by_event waits ws id (event.Datagram from m now) serial b old new match all begins = waits_stay waits ws _ match
-waits_by_event waits ws id (event.PeerAnswer s peer key answer tag now) serial b old new match all begins = waits_stay waits ws _ match
-waits_by_event waits ws id (event.OriginAnswer s key answer now) serial b old new match all begins = waits_stay waits ws _ match
-waits_by_event waits ws id (event.ForeignAnswer s peer key answer tag now) serial b old new match all begins = waits_stay waits ws _ match
-waits_by_event waits ws id (event.FetchFailed s now) serial b old new match all begins = waits_stay waits ws _ match
-waits_by_event waits ws id (event.Expired s now) serial b old new match all begins = waits_stay waits ws _ match
-waits_by_event waits ws id (event.PeerAsk asker ask now) serial None old new match all begins = waits_stay waits ws _ match
-waits_by_event waits ws id (event.PeerAsk asker ask now) serial (Some b) old new match all (block, taken) =
-    subst (λ (more : List Waiting). WaitsMatch (waits ++ record { node = id; block = serial_of b / 32; key = ask.key } ∷ []) (ws ++ more))
-    (sym (changed_waits id serial ask.key old.next new.next taken))
-    (subst (λ (n : ℕ). WaitsMatch (waits ++ record { node = id; block = n; key = ask.key } ∷ [])
-    (ws ++ record { node = id; block = old.next; serial = serial; key = ask.key } ∷ [])) (sym block)
-    (waits_more waits ws id old.next serial ask.key match (not_taken id old.next ws all)))
+pub waits_by_event : (waits : List Waits) (ws : List Waiting) (id : ℕ) (e : Event ℕ) (serial : ℕ) (b : Option Begin) → WaitsMatch waits ws →
+    WaitsMatch (waits_by id (unmarked_event e) b ++ waits) (waits_now id e serial b ++ ws)
+waits_by_event waits ws id (event.Client ask now) serial b match = match
+waits_by_event waits ws id (event.Datagram from m now) serial b match = match
+waits_by_event waits ws id (event.PeerAnswer s peer key answer tag now) serial b match = match
+waits_by_event waits ws id (event.OriginAnswer s key answer now) serial b match = match
+waits_by_event waits ws id (event.ForeignAnswer s peer key answer tag now) serial b match = match
+waits_by_event waits ws id (event.FetchFailed s now) serial b match = match
+waits_by_event waits ws id (event.Expired s now) serial b match = match
+waits_by_event waits ws id (event.PeerAsk asker ask now) serial None match = match
+waits_by_event waits ws id (event.PeerAsk asker ask now) serial (Some b) match = waits_more waits ws id (serial_of b / 32) serial ask.key match
 
 -- a request that is found for a node waits at that node
 waits_at : (id block : ℕ) (n b : ℕ) → (nat_eq n id && nat_eq b block) ≡ true → n ≡ id

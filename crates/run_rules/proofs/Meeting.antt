@@ -6,6 +6,8 @@ use Rattle.http_messages.specs.declared.ask.Ask.{Ask}
 use Rattle.http_messages.specs.Answer.{AnswerText}
 use Rattle.values_tables.specs.Ranges.{is_foreign_id}
 use Rattle.values_plain.specs.declared.address.Address.{Address}
+use Rattle.values_plain.specs.declared.address.Udp.{Udp}
+use Rattle.values_plain.specs.declared.address.Udp.TheVariants as udp
 use Rattle.values_tables.specs.declared.plain.Tables.{Tables}
 use Rattle.roster.specs.Lookups.{is_member, member_at, is_master, is_own}
 use Rattle.roster.specs.Judged.{IsRoster}
@@ -24,8 +26,9 @@ use Rattle.world_rules.specs.declared.event.WorldEvent.{WorldEvent}
 use Rattle.world_rules.specs.declared.event.WorldEvent.TheVariants as world
 use Rattle.world_rules.specs.declared.outcome.WorldFault.TheVariants.{NoSuchPacket, NotPending}
 use Rattle.node_rules.specs.Messages.{protocol_of as udp_of}
+use Rattle.node_rules.specs.Spelled.{decoded_by, IsSpelled}
 use Rattle.world_rules.specs.World.{World, Datagram, item, node_at}
-use Rattle.world_rules.specs.Consequence.{Consequence, NodeSteps, Refused, consequence, at_member, with_clock, delivered, delivered_to, master_hears, ask_delivered, answer_delivered, origin_to, origin_by, foreign_to, foreign_by, fetching_at}
+use Rattle.world_rules.specs.Consequence.{Consequence, NodeSteps, Refused, consequence, at_member, with_clock, delivered, delivered_to, octets_reach, octets_come, master_hears, ask_delivered, answer_delivered, origin_to, origin_by, foreign_to, foreign_by, fetching_at}
 use Rattle.world_rules.specs.Run.{IsOfKey}
 use Rattle.world_rules.specs.Asked.{moment}
 use Rattle.world_rules.proofs.MemberStates.{ids_same, and_parts}
@@ -33,7 +36,7 @@ use Rattle.run_rules.specs.Sent.{Network, IsSent, IsDatagramSent}
 use Rattle.run_rules.specs.Judging.{IsPending, Reaches, is_read, is_foreign_fetch}
 use Rattle.run_rules.specs.Recorded.{unmarked, unmarked_event}
 use Rattle.run_rules.proofs.Lists.{either, contained_item}
-use Rattle.run_rules.proofs.Addresses.{reached}
+use Rattle.run_rules.proofs.Addresses.{IsAddressOf, reached}
 use Rattle.run_rules.proofs.Matching.{NetworkMatches}
 
 -- some event of the world, at the time of the node's event, is that event at the node
@@ -72,16 +75,30 @@ module _ (t : Tables) (proper : IsRoster t) (w : World) (id : ℕ) (member : is_
         event = ap (λ (a : Address). event.Datagram a d.message now) sender ∙ ap (λ (x : Message). event.Datagram from x now) says;
       }
 
-  stranger_meets : (from : Address) (m : Message) (now : ℕ) → is_own t from ≡ false → Meets t w id (event.Datagram from m now)
-  stranger_meets from m now stranger =
-      let (to, found) = reached t id (udp_of m) proper member in
+  -- a stranger's octets reach the member by the protocol of its address
+  octets_reached : (from : Address) (octets : List ℕ) (m : Message) (now : ℕ) (to : Address) (by : Udp) → IsAddressOf t id by to →
+      decoded_by by octets ≡ Some m →
+      octets_come (with_clock w now) from octets (member_at t to udp.Icp) (member_at t to udp.Htcp) ≡ NodeSteps id (event.Datagram from m now) 0
+  octets_reached from octets m now to udp.Icp address says =
+      ap (λ o. octets_come (with_clock w now) from octets o (member_at t to udp.Htcp)) address.found
+      ∙ ap (octets_reach (with_clock w now) from id) says
+  octets_reached from octets m now to udp.Htcp address says =
+      ap (λ o. octets_come (with_clock w now) from octets o (member_at t to udp.Htcp)) (address.alone refl)
+      ∙ ap (octets_come (with_clock w now) from octets None) address.found
+      ∙ ap (octets_reach (with_clock w now) from id) says
+
+  stranger_meets : (from : Address) (m : Message) (now : ℕ) → IsSpelled m → is_own t from ≡ false → Meets t w id (event.Datagram from m now)
+  stranger_meets from m now spelled stranger =
+      let (to, address) = reached t id (udp_of m) proper member in
+      let octets = spelled.octets in
       record {
-        happens = world.Strange to from m;
+        happens = world.Strange to from octets;
         met = event.Datagram from m now;
         serial = 0;
         keyed = tt;
-        consequences = ap (λ b. cond b (Refused NoSuchPacket) (delivered_to (with_clock w now) from m (member_at t to (udp_of m)))) stranger
-            ∙ ap (delivered_to (with_clock w now) from m) found;
+        consequences =
+            ap (λ b. cond b (Refused NoSuchPacket) (octets_come (with_clock w now) from octets (member_at t to udp.Icp) (member_at t to udp.Htcp))) stranger
+            ∙ octets_reached from octets m now to (udp_of m) address spelled.spell;
         event = refl;
       }
 
@@ -156,8 +173,8 @@ module _ (t : Tables) (proper : IsRoster t) (w : World) (id : ℕ) (member : is_
   meets n matches s same (event.Client ask now) sent reaches =
       record { happens = world.Client id ask; met = event.Client ask now; serial = 0; keyed = tt; consequences = comes _; event = refl }
   meets n matches s same (event.Datagram from m now) sent reaches = elim (either (is_own t from)) [
-    | inl own ↦ own_meets n matches from m now (sent own)
-    | inr stranger ↦ stranger_meets from m now stranger
+    | inl own ↦ own_meets n matches from m now (sent.1 own)
+    | inr stranger ↦ stranger_meets from m now sent.0 stranger
   ]
   meets n matches s same (event.PeerAsk asker ask now) sent reaches = ask_meets n matches asker ask now sent
   meets n matches s same (event.PeerAnswer serial peer key answer tag now) sent reaches = answer_meets n matches serial peer key answer tag now sent

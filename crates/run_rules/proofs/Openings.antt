@@ -1,6 +1,6 @@
 -- A record that may open or close so stands for events of the world: for none if it goes on from
 -- the node's state, else for a restart.
-use Rattle.std.proofs.Common.{◌≡◌, ℕ, ◌+◌, Bool, true, false, cond, [], ◌∷◌, ◌++◌, refl, sym, ◌∙◌, ap, inl, inr, nat_eq, subst}
+use Rattle.std.proofs.Common.{◌≡◌, ℕ, ◌+◌, Bool, true, false, cond, [], ◌∷◌, ◌++◌, refl, sym, ◌∙◌, ap, inl, inr, nat_eq, subst, length}
 use Rattle.floor_rules.specs.Floors.{FloorMap}
 use Rattle.values_tables.specs.declared.plain.Tables.{Tables}
 use Rattle.roster.specs.Lookups.{is_member}
@@ -43,7 +43,7 @@ module _ (t : Tables) (b : Board) (p : Progress) (m : Matches t b p) (id : ℕ) 
   node = node_in p id
 
   abbrev after : Standing → Board
-  after st = with_network (with_node b id st) (cond (nat_eq state.next 1) (without_waiting b.network id) b.network)
+  after st = with_network (with_node b id st) (cond (nat_eq (length state.pending) 0) (without_waiting b.network id) b.network)
 
   -- the node goes on from its state
   goes_on : (st : Standing) → StandsIn t id st node → IsKept (unmarked node) state → Follows t p (Opens id state) (after st)
@@ -58,7 +58,7 @@ module _ (t : Tables) (b : Board) (p : Progress) (m : Matches t b p) (id : ℕ) 
       nodes = each_post t b.posts p.world.states id st stands m.nodes;
       master = m.master;
       purges = m.purges;
-      network = opened_network b.network p.world id (nat_eq state.next 1) m.network;
+      network = opened_network b.network p.world id (nat_eq (length state.pending) 0) m.network;
     };
   }
 
@@ -88,7 +88,7 @@ module _ (t : Tables) (b : Board) (p : Progress) (m : Matches t b p) (id : ℕ) 
   starts_again : (floors : FloorMap) → node.floors ≡ floors → state ≡ opened floors → Follows t p (Opens id state) (after (Open state))
   starts_again floors has is =
       let fresh : state ≡ opened node.floors = is ∙ ap (λ (f : FloorMap). opened f) (sym has) in
-      let first : nat_eq state.next 1 ≡ true = ap (λ (s : NodeState (Unit {0})). nat_eq s.next 1) is in
+      let first : nat_eq (length state.pending) 0 ≡ true = ap (λ (s : NodeState (Unit {0})). nat_eq (length s.pending) 0) is in
       record {
         steps = restart ∷ [];
         to = again;

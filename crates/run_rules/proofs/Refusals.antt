@@ -35,7 +35,7 @@ use Rattle.node_rules.specs.declared.reply.StepFault.TheVariants.{Closed}
 use Rattle.node_rules.specs.State.{Setting, Stepped, replies, refuses, is_idle}
 use Rattle.node_rules.specs.Known.{has_origin, is_known}
 use Rattle.node_rules.specs.Fetching.{ask_peer, begin_read, read_origin, go_to, go_on}
-use Rattle.node_rules.specs.Asks.{is_cached_only, is_busy, begin_round, ask_around, begin_ask, not_held, by_copy, ask_comes}
+use Rattle.node_rules.specs.Asks.{is_cached_only, begin_round, begin_with_read, ask_around, begin_ask, begin_if_free, not_held, by_copy, ask_comes}
 use Rattle.node_rules.specs.Arrivals.{is_gateway_fault, use_answer, try_on, peer_gave, origin_gave, from_peer, peer_answer_to, peer_answer, foreign_answer, from_origin, origin_answer_to, origin_answer, fails, failure_of, fetch_failed, round_moves, expires, expiry_of, round_expired}
 use Rattle.node_rules.specs.Datagrams.{is_full, if_desired, icp_query, htcp_tst, hears, told_by, told_to, icp_told, htcp_told, purge, numbered_clr, plain_clr, clr_by_line, htcp_clr, icp_comes, tst_refused, htcp_comes, datagram}
 use Rattle.node_rules.specs.Step.{open_step, step_if, step}
@@ -71,17 +71,25 @@ module _ {X : Type 0} (g : Setting) (s : NodeState X) (mark : X) where
   unfolding go_on
   go_on_fair t p now = go_to_fair t p now _
 
-  ask_around_fair : (t : NodeState X) (asker : Option ℕ) (ask : Ask) (block now : ℕ) (round : RoundText) (peers : List Peer) →
-      Fair (ask_around g t asker ask block now mark round peers)
+  with_read_fair : (asker : Option ℕ) (ask : Ask) (block now : ℕ) → Fair (begin_with_read g s asker ask block now mark)
+  unfolding begin_with_read
+  with_read_fair asker ask block now = branches Fair (has_origin g.roster ask.key) _ _ (λ _. replied _ _) (λ _. replied _ _)
+
+  ask_around_fair : (asker : Option ℕ) (ask : Ask) (block now : ℕ) (round : RoundText) (peers : List Peer) →
+      Fair (ask_around g s asker ask block now mark round peers)
   unfolding ask_around begin_round
-  ask_around_fair t asker ask block now round [] = read_origin_fair _ _ None now
-  ask_around_fair t asker ask block now round (p ∷ peers) = replied _ _
+  ask_around_fair asker ask block now round [] = with_read_fair asker ask block now
+  ask_around_fair asker ask block now round (p ∷ peers) = replied _ _
+
+  begin_if_free_fair : (asker : Option ℕ) (ask : Ask) (now : ℕ) (o : Option ℕ) → Fair (begin_if_free g s asker ask now mark o)
+  unfolding begin_if_free begin_ask
+  begin_if_free_fair asker ask now None = refused _
+  begin_if_free_fair asker ask now (Some block) = ask_around_fair asker ask block now _ _
 
   not_held_fair : (asker : Option ℕ) (ask : Ask) (now : ℕ) → Fair (not_held g s asker ask now mark)
-  unfolding not_held begin_ask
+  unfolding not_held
   not_held_fair asker ask now =
-      branches Fair (is_cached_only g asker ask) _ _ (λ _. replied _ _)
-      (λ _. branches Fair (is_busy s) _ _ (λ _. refused _) (λ _. ask_around_fair _ asker ask s.next now _ _))
+      branches Fair (is_cached_only g asker ask) _ _ (λ _. replied _ _) (λ _. begin_if_free_fair asker ask now _)
 
   by_copy_fair : (asker : Option ℕ) (ask : Ask) (now : ℕ) (o : Option (WebCopy X)) → Fair (by_copy g s asker ask now mark o)
   unfolding by_copy

@@ -12,10 +12,10 @@ use Rattle.run_rules.specs.Recorded.{Rise, AllRise}
 use Rattle.run_rules.proofs.Lists.{either, same_some}
 use Rattle.run_rules.proofs.Taking.{Took, taken_by, note_of}
 
-greater : (a c : ℕ) → nat_le a c ≡ false → c < a
+pub greater : (a c : ℕ) → nat_le a c ≡ false → c < a
 greater a c h = grind (arith, nat_tests)
 
-less : (a c : ℕ) → nat_lt a c ≡ true → a < c
+pub less : (a c : ℕ) → nat_lt a c ≡ true → a < c
 less a c h = grind (arith, nat_tests)
 
 none_some_place : {A : Type 0} {p : ℕ} → None ≡ Some p → A
@@ -28,30 +28,30 @@ no_fall : (d : ℕ) → None ≡ Some d → ⊥
 no_fall d is = cc
 
 -- the place is at least the least one that does not rise
-abbrev IsLate : Option ℕ → ℕ → Type 0
+abbrev pub IsLate : Option ℕ → ℕ → Type 0
 IsLate fall place = (d : ℕ) × (fall ≡ Some d) × (d ≤ place)
 
-abbrev AllLate : Option ℕ → List ℕ → Type 0
+abbrev pub AllLate : Option ℕ → List ℕ → Type 0
 AllLate fall [] = Unit {0}
 AllLate fall (place ∷ places) = IsLate fall place × AllLate fall places
 
 -- the place is greater than the last one, if there is one
-abbrev Above : Option ℕ → ℕ → Type 0
+abbrev pub Above : Option ℕ → ℕ → Type 0
 Above None place = Unit {0}
 Above (Some last) place = last < place
 
 -- the first of these places is greater than the last one, or is late
-abbrev IsNext : Option ℕ → Option ℕ → List ℕ → Type 0
+abbrev pub IsNext : Option ℕ → Option ℕ → List ℕ → Type 0
 IsNext fall last [] = Unit {0}
 IsNext fall last (place ∷ places) = Above last place ⊎ IsLate fall place
 
 -- what holds of each track after a place was taken
-abbrev GoOn : Option ℕ → Option ℕ → List (List Note) → Type 0
+abbrev pub GoOn : Option ℕ → Option ℕ → List (List Note) → Type 0
 GoOn fall last [] = Unit {0}
 GoOn fall last (track ∷ tracks) = (IsNext fall last (places_in track) × AllLate fall (falls (places_in track))) × GoOn fall last tracks
 
 -- no track has a lower rank
-abbrev AreAtLeast : ℕ → List (List Note) → Type 0
+abbrev pub AreAtLeast : ℕ → List (List Note) → Type 0
 AreAtLeast rank [] = Unit {0}
 AreAtLeast rank (track ∷ tracks) = ((a : ℕ) → rank_of track ≡ Some a → rank ≤ a) × AreAtLeast rank tracks
 
@@ -62,7 +62,7 @@ lesser_least a (Some c) rank is =
     (λ less h. (omega (h, arith), λ b same. omega (h, test_le a c less, same_some c b same, arith)))
     (λ more h. (omega (h, greater a c more, arith), λ b same. omega (h, same_some c b same, arith)))) is
 
-least_least : (tracks : List (List Note)) (o : Option ℕ) → least (ranks_of tracks) ≡ o → (rank : ℕ) → ((b : ℕ) → o ≡ Some b → rank ≤ b) → AreAtLeast rank tracks
+pub least_least : (tracks : List (List Note)) (o : Option ℕ) → least (ranks_of tracks) ≡ o → (rank : ℕ) → ((b : ℕ) → o ≡ Some b → rank ≤ b) → AreAtLeast rank tracks
 least_least [] o is rank below = tt
 least_least ([] ∷ tracks) o is rank below = ((λ a none. cc), least_least tracks o is rank below)
 least_least ((note ∷ notes) ∷ tracks) o is rank below =
@@ -139,7 +139,7 @@ taken_up fall last p notes (Some q) is early (first, late) =
           (next_of fall q (places_in notes) late),
     )
 
-steps_up : (fall last : Option ℕ) (rank p : ℕ) (tracks rest : List (List Note)) (note : Note) → Took rank tracks note rest → place_in note ≡ Some p →
+pub steps_up : (fall last : Option ℕ) (rank p : ℕ) (tracks rest : List (List Note)) (note : Note) → Took rank tracks note rest → place_in note ≡ Some p →
     rank ≡ p + 1 → GoOn fall last tracks → AreAtLeast rank tracks → count_of rank (ranks_of tracks) ≤ 1 → (IsLate fall p → ⊥) →
     Above last p × GoOn fall (Some p) rest
 steps_up fall last rank p [] rest note took place is on least single early = absurd took
@@ -160,7 +160,7 @@ steps_up fall last rank p (track ∷ tracks) rest note (inr (others, left, elsew
     (above, subst (GoOn fall (Some p)) (sym left) ((track_up fall rank p track is least.0 elsewhere, on.0.1), there))
 
 -- a note without a place is taken
-steps_past : (fall last : Option ℕ) (rank : ℕ) (tracks rest : List (List Note)) (note : Note) → Took rank tracks note rest → place_in note ≡ None →
+pub steps_past : (fall last : Option ℕ) (rank : ℕ) (tracks rest : List (List Note)) (note : Note) → Took rank tracks note rest → place_in note ≡ None →
     GoOn fall last tracks → GoOn fall last rest
 steps_past fall last rank [] rest note took none on = absurd took
 steps_past fall last rank (track ∷ tracks) rest note (inl (notes, its, left, ranks)) none on =
@@ -184,7 +184,7 @@ shared_by ranks p is =
     (branches (λ (o : Option ℕ). o ≡ None → count_of (p + 1) ranks ≤ 1) (nat_le 2 (count_of (p + 1) ranks)) (Some p) None (λ two h. some_none_place p h)
     (λ one h. omega (greater 2 (count_of (p + 1) ranks) one, arith))) is
 
-single_by : (fall : Option ℕ) (ranks : List ℕ) (p : ℕ) → double_of fall ranks (Some p) ≡ None → (IsLate fall p → ⊥) × (count_of (p + 1) ranks ≤ 1)
+pub single_by : (fall : Option ℕ) (ranks : List ℕ) (p : ℕ) → double_of fall ranks (Some p) ≡ None → (IsLate fall p → ⊥) × (count_of (p + 1) ranks ≤ 1)
 single_by None ranks p is = ((λ late. no_fall late.0 late.1), shared_by ranks p is)
 single_by (Some d) ranks p is =
     (branches (λ (o : Option ℕ). o ≡ None → (IsLate (Some d) p → ⊥) × (count_of (p + 1) ranks ≤ 1)) (nat_le d p) (Some d) (double_of None ranks (Some p))
@@ -198,7 +198,7 @@ nothing_rises : (last : Option ℕ) → RiseFrom last []
 nothing_rises None = tt
 nothing_rises (Some last) = tt
 
-took_rank : (rank : ℕ) (tracks rest : List (List Note)) (note : Note) → Took rank tracks note rest → rank_by (place_in note) ≡ rank
+pub took_rank : (rank : ℕ) (tracks rest : List (List Note)) (note : Note) → Took rank tracks note rest → rank_by (place_in note) ≡ rank
 took_rank rank [] rest note took = absurd took
 took_rank rank (track ∷ tracks) rest note (inl (notes, its, left, ranks)) = ranks
 took_rank rank (track ∷ tracks) rest note (inr (others, left, elsewhere, took)) = took_rank rank tracks others note took
@@ -248,7 +248,7 @@ all_later : (a : ℕ) (o : Option ℕ) (places : List ℕ) → AllLate o places 
 all_later a o [] late = tt
 all_later a o (place ∷ places) late = (later_late a o place late.0, all_later a o places late.1)
 
-all_late : (places : List ℕ) → AllLate (least places) places
+pub all_late : (places : List ℕ) → AllLate (least places) places
 all_late [] = tt
 all_late (a ∷ places) = (
   (lesser a (least places), refl, (lesser_least a (least places) (lesser a (least places)) refl).0),
@@ -263,7 +263,7 @@ first_next : (fall : Option ℕ) (places : List ℕ) → IsNext fall None places
 first_next fall [] = tt
 first_next fall (place ∷ places) = inl tt
 
-begin_on : (fall : Option ℕ) (tracks : List (List Note)) → AllLate fall (flat_map (λ track. falls (places_in track)) tracks) → GoOn fall None tracks
+pub begin_on : (fall : Option ℕ) (tracks : List (List Note)) → AllLate fall (flat_map (λ track. falls (places_in track)) tracks) → GoOn fall None tracks
 begin_on fall [] late = tt
 begin_on fall (track ∷ tracks) late =
     let (here, there) = late_parts fall (falls (places_in track)) (flat_map (λ track. falls (places_in track)) tracks) late in

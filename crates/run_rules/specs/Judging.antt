@@ -1,6 +1,6 @@
 -- The judgement on one note in a state of the run: it may follow, or it has a flaw. Judges, the
 -- last definition, covers all notes.
-use Rattle.std.specs.Prelude.{◌≡◌, ◌≢◌, ◌⊎◌, ℕ, Bool, true, false, nat_le, ◌==◌, not, ◌&&◌, ◌||◌, List, [], find, Option, Some, None, MatchOption, Result, Ok, Err, if◌then◌else◌}
+use Rattle.std.specs.Prelude.{◌≡◌, ◌≢◌, ◌⊎◌, ℕ, Bool, true, false, nat_le, ◌==◌, not, ◌&&◌, ◌||◌, List, length, find, Option, Some, None, MatchOption, Result, Ok, Err, if◌then◌else◌}
 use Rattle.std.specs.FinMap.{empty}
 use Rattle.url_key.specs.Key.{IsKey}
 use Rattle.floor_rules.specs.Floors.{FloorMap, floor, raised}
@@ -60,12 +60,12 @@ abbrev pub standing_in : Standing → NodeState (Unit {0}) → Standing
 standing_in (Shut s) state = if state.closed then Shut s else Open state
 standing_in standing state = Open state
 
--- The board after the opening. A node that has taken no block of serials, such as one that has
--- restarted, has nothing that waits.
+-- The board after the opening. A node with no pending request, such as one that has restarted, has
+-- nothing that waits.
 abbrev pub opened_board : Board → ℕ → NodeState (Unit {0}) → Board
 opened_board b id state =
     with_network (with_node b id (standing_in (standing_at b.posts id) state))
-    (if state.next == 1 then without_waiting b.network id else b.network)
+    (if length state.pending == 0 then without_waiting b.network id else b.network)
 
 -- the node is a member's, and its record may open in this state [Record 11]
 abbrev pub CanOpen : Tables → Board → ℕ → NodeState (Unit {0}) → Type 0

@@ -4,4 +4,5 @@ pub mod Sent
 pub mod Board
 pub mod Judging
 pub mod Verdict
+pub mod First
 pub mod Recorded

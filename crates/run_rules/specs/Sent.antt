@@ -9,7 +9,6 @@ use Rattle.values_plain.specs.declared.address.Udp.TheVariants as udp
 use Rattle.values_tables.specs.declared.plain.Tables.{Tables}
 use Rattle.roster.specs.Lookups.{member_of, member_at, is_master, is_own}
 use Rattle.node_rules.specs.declared.message.Message.{Message}
-use Rattle.node_rules.specs.declared.message.Message.TheVariants as message
 use Rattle.node_rules.specs.declared.event.Event.{Event}
 use Rattle.node_rules.specs.declared.event.Event.TheVariants as event
 use Rattle.node_rules.specs.declared.reply.Served.{Served}
@@ -25,6 +24,7 @@ use Rattle.purge_rules.specs.declared.calls.MasterAnswer.{MasterAnswer}
 use Rattle.purge_rules.specs.declared.calls.MasterAnswer.TheVariants as answer
 use Rattle.purge_rules.specs.declared.fault.MasterFault.{MasterFault}
 use Rattle.node_rules.specs.Messages.{protocol_of, clear_answer}
+use Rattle.node_rules.specs.Spelled.{IsSpelled}
 use Rattle.world_rules.specs.World.{Datagram, datagrams_from, answer_of}
 use Rattle.world_rules.specs.Consequence.{clears_of}
 
@@ -101,13 +101,14 @@ abbrev pub waits_by : ℕ → Event (Unit {0}) → Option Begin → List Waits
 waits_by id (event.PeerAsk asker ask now) (Some b) = record { node = id; block = serial_of b / 32; key = ask.key } ∷ []
 waits_by id _ _ = []
 
--- the network after an entry with this event and this reply
+-- The network after an entry with this event and this reply. A request that has begun to wait stands
+-- before those that did earlier, so the latest of a block is found.
 abbrev pub with_reply : Tables → Network → ℕ → Event (Unit {0}) → Reply (Unit {0}) → Network
 with_reply roster n id e reply = record {
   datagrams = n.datagrams ++ datagrams_from (member_of roster id) reply.send;
   asks = n.asks ++ asks_by id reply.begin;
   answers = n.answers ++ answers_by n.waiting id e reply.serve;
-  waiting = n.waiting ++ waits_by id e reply.begin;
+  waiting = waits_by id e reply.begin ++ n.waiting;
 }
 
 -- the network without what waited at a node
@@ -139,9 +140,10 @@ IsDatagramSent roster n id from m = (d : Datagram) × Contains n.datagrams d × 
     × ComesTo roster id d
 
 -- What an entry received from a member or from the master was sent to it before. Anybody else may
--- have sent anything. [Record 4]
+-- have sent any message that octets spell. [Record 4]
 abbrev pub IsSent : Tables → Network → ℕ → Event (Unit {0}) → Type 0
-IsSent roster n id (event.Datagram from m now) = is_own roster from ≡ true → IsDatagramSent roster n id from m
+IsSent roster n id (event.Datagram from m now) = IsSpelled m × (is_own roster from ≡ true
+    → IsDatagramSent roster n id from m)
 IsSent roster n id (event.PeerAsk asker ask now) = Contains n.asks (record { sender = asker; receiver = id; ask = ask })
 IsSent roster n id (event.PeerAnswer serial peer key answer tag now) =
     Contains n.answers (record { sender = peer; receiver = id; key = key; answer = answer })

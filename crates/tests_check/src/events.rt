@@ -1,7 +1,8 @@
 //! What nodes meet, and what the master is called for.
 use http_messages::{Answer, Body, Fields};
 use icp_wire::IcpOp;
-use node_rules::{Event, Message, Received, can_be_answered};
+use node_bytes::encode;
+use node_rules::{Event, Message, Sent, fits};
 use purge_rules::{MasterCall, clear};
 use roster::Address;
 use std::alloc::Global;
@@ -74,15 +75,18 @@ fn answer_of(alloc: Global, stamp: Option<u32>) -> Result<Answer, Fail> {
 }
 
 /// A datagram comes from a port of this machine.
-fn datagram(port: u16, message: Message) -> Result<Event<()>, Fail> {
-    if !can_be_answered(&message) {
-        return Err("the message".into());
+fn datagram(alloc: Global, port: u16, message: Message) -> Result<Event<()>, Fail> {
+    if !fits(&message) {
+        return Err("the message does not fit a datagram".into());
     }
-    Ok(Event::Datagram {
-        from: Address { ip: HOST, port },
-        message: Received::new(message),
-        now: 0,
-    })
+    let sent = Sent::new(message);
+    let octets = encode(alloc, &sent)?;
+    let by = sent.message().protocol();
+    let from = Address { ip: HOST, port };
+    match node_bytes::event_of(alloc, by, from, octets.as_slice(), 0)? {
+        Some(event) => Ok(event),
+        None => Err("the octets spell no message".into()),
+    }
 }
 
 fn clear_of(alloc: Global, number: u32, url: Url) -> Result<Message, Fail> {
@@ -138,9 +142,9 @@ pub(crate) fn event_of(alloc: Global, met: Met) -> Result<Event<()>, Fail> {
         Met::Origin(serial, url) => origin_answer(alloc, serial, url),
         Met::Failed(serial) => Ok(Event::FetchFailed { serial, now: 0 }),
         Met::Icp(port, op, number, url) => {
-            datagram(port, Message::Icp(icp_of(alloc, op, number, url)?))
+            datagram(alloc, port, Message::Icp(icp_of(alloc, op, number, url)?))
         }
-        Met::Clear(number, url) => datagram(MASTER.port, clear_of(alloc, number, url)?),
+        Met::Clear(number, url) => datagram(alloc, MASTER.port, clear_of(alloc, number, url)?),
     }
 }
 

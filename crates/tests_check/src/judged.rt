@@ -1,6 +1,7 @@
 //! The verdicts on runs that are made by hand.
 use crate::causes::CAUSES;
 use crate::events::{A, Met};
+use crate::first::FIRST;
 use crate::made::{Call, Said, Shift, calls_of, records_of};
 use crate::places::PLACES;
 use crate::restarts::RESTARTS;
@@ -72,7 +73,7 @@ fn first_other(rt: &HostRuntime, runs: &[Run]) -> Result<Option<(&'static str, V
 
 #[test]
 fn runs_have_their_verdicts(rt: HostRuntime) -> Result<(), Fail> {
-    for runs in [PLACES, CAUSES, RESTARTS, SENT] {
+    for runs in [PLACES, CAUSES, FIRST, RESTARTS, SENT] {
         let other = first_other(&rt, runs)?;
         assert!(rt; other.is_none(), "{other:?}");
     }

@@ -14,6 +14,8 @@ mod court;
 #[cfg(test)]
 mod events;
 #[cfg(test)]
+mod first;
+#[cfg(test)]
 mod judged;
 #[cfg(test)]
 mod made;

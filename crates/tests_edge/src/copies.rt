@@ -1,12 +1,11 @@
 //! Copies of events and replies, each compared by what it says.
 use crate::made::{URL, answer_of, ask_of, key_of, query};
 use http_messages::{Answer, Fields};
+use node_bytes::{encode, event_of};
 use node_copies::{copy_of_event, copy_of_reply};
-use node_rules::{
-    Begin, Event, Message, Outgoing, Received, Reply, Sent, Serve, Served, can_be_answered, fits,
-};
+use node_rules::{Begin, Event, Message, Outgoing, Reply, Sent, Serve, Served, fits};
 use object_store::WebCopy;
-use roster::{Address, Listed};
+use roster::{Address, Listed, Udp};
 use std::alloc::Global;
 
 /// An answer without fields.
@@ -22,18 +21,15 @@ fn says_query(message: &Message) -> bool {
     }
 }
 
-/// A QUERY that comes from an address, where it can be answered.
+/// A QUERY that comes from an address.
 fn datagram(alloc: Global) -> Option<Event<u64>> {
     let message = query(alloc, 7)?;
-    if can_be_answered(&message) {
-        Some(Event::Datagram {
-            from: Address { ip: 1, port: 2 },
-            message: Received::new(message),
-            now: 3,
-        })
-    } else {
-        None
+    if !fits(&message) {
+        return None;
     }
+    let octets = encode(alloc, &Sent::new(message)).ok()?;
+    let from = Address { ip: 1, port: 2 };
+    event_of(alloc, Udp::Icp, from, octets.as_slice(), 3).ok()?
 }
 
 fn peer_answer(alloc: Global) -> Option<Event<u64>> {

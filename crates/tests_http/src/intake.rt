@@ -183,7 +183,8 @@ fn faults(rt: HostRuntime) {
     }
 }
 
-/// A part and what a text of it is made of: its front, a text that comes so many times, and what stands behind these; its octets and its fault.
+/// A part and what a text of it is made of: its front, a text that comes so many times, and what
+/// stands behind these; its octets and its fault.
 type Limit = (
     Part,
     &'static str,
@@ -340,7 +341,8 @@ fn long_text(
     text
 }
 
-/// Whether a text has so many octets and this fault, in pieces of each length. Behind all but a body to the end the reader fails.
+/// Whether a text has so many octets and this fault, in pieces of each length. Behind all but a
+/// body to the end the reader fails.
 fn is_limit(alloc: Global, row: &Limit, text: &[u8]) -> bool {
     let fails = !matches!(row.0, Part::ToEnd);
     let mut same = text.len() == row.5;
@@ -492,7 +494,8 @@ fn a_head_behind_another(rt: HostRuntime) {
     }
 }
 
-/// The fault of a body of 65,536 octets behind a head, which a reader gives one octet a call, and how many calls there were.
+/// The fault of a body of 65,536 octets behind a head, which a reader gives one octet a call, and
+/// how many calls there were.
 fn slow(rt: &(impl Abort + AllocGlobal), text: &[u8]) -> (Option<FetchFault>, u32) {
     let mut reader = Pieces::new(text, 1, false);
     let mut intake = Intake::new(rt.alloc());

@@ -1,14 +1,14 @@
 //! What no clause says: that each call can be made, and the names that scripts print.
 use htcp_wire::{Content, Htcp};
 use icp_wire::{Icp, IcpOp};
-use node_rules::{Message, StepFault, can_be_answered, fits, laws};
+use node_rules::{Message, StepFault, fits, laws};
 use std::alloc::AllocError;
 use std::test::Fail;
 use values_plain::Octets;
 
-/// An ICP message with a URL of so many octets, each of them this one.
-fn icp(rt: &HostRuntime, op: IcpOp, octet: u8, length: usize) -> Result<Message, AllocError> {
-    let url = vec![in rt.alloc(); octet; length]?;
+/// An ICP message with a URL of so many octets.
+fn icp(rt: &HostRuntime, op: IcpOp, length: usize) -> Result<Message, AllocError> {
+    let url = vec![in rt.alloc(); b'u'; length]?;
     Ok(Message::Icp(Icp {
         op,
         number: 7,
@@ -25,39 +25,9 @@ fn htcp(content: Content) -> Message {
     })
 }
 
-/// What a URL is made of and how many octets it has, and whether a query for it can be answered. A query of 16,384 octets has a URL of 16,359; an answer
-/// has room for 16,363.
-const URLS: [(u8, usize, bool); 3] = [(b'u', 16_363, true), (b'u', 16_364, false), (0, 1, false)];
-
-fn query_is_answered(rt: &HostRuntime, octet: u8, length: usize) -> Result<bool, AllocError> {
-    Ok(can_be_answered(&icp(rt, IcpOp::Query, octet, length)?))
-}
-
-#[test]
-fn answers_to_icp(rt: HostRuntime) -> Result<(), Fail> {
-    for (octet, length, expected) in &URLS {
-        let answered = query_is_answered(&rt, *octet, *length)?;
-        assert!(rt; answered == *expected, "{octet} {length}");
-    }
-    Ok(())
-}
-
-fn opcode_is_answered(opcode: u8) -> bool {
-    can_be_answered(&htcp(Content::Other {
-        opcode,
-        desired: true,
-    }))
-}
-
-#[test]
-fn answers_to_htcp(rt: HostRuntime) {
-    assert!(rt; !opcode_is_answered(16));
-    assert!(rt; !clr_answer_fits(3));
-}
-
 /// Whether an ICP message with a URL of so many octets fits a datagram.
 fn icp_fits(rt: &HostRuntime, op: IcpOp, length: usize) -> Result<bool, AllocError> {
-    Ok(fits(&icp(rt, op, b'u', length)?))
+    Ok(fits(&icp(rt, op, length)?))
 }
 
 fn clr_answer_fits(code: u8) -> bool {
@@ -69,6 +39,7 @@ fn messages_with_a_text(rt: HostRuntime) -> Result<(), Fail> {
     assert!(rt; icp_fits(&rt, IcpOp::Hit, 16_363)?);
     assert!(rt; !icp_fits(&rt, IcpOp::Query, 16_363)?);
     assert!(rt; !icp_fits(&rt, IcpOp::HitObj, 1)?);
+    assert!(rt; !clr_answer_fits(3));
     Ok(())
 }
 
@@ -92,6 +63,7 @@ fn laws_can_be_called() {
     laws::copies_stay_above_their_floors::<u64>();
     laws::the_store_keeps_its_limits::<u64>();
     laws::few_asks_wait::<u64>();
+    laws::blocks_come_round::<u64>();
     laws::siblings_begin_nothing::<u64>();
     laws::steps_are_lawful::<u64>();
     laws::nodes_never_look_at_tags::<u64, ()>();

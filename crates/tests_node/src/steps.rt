@@ -2,11 +2,11 @@
 use floor_rules::{FloorStore, MemoryFloors};
 use htcp_wire::Content;
 use icp_wire::IcpOp;
+use node_bytes::encode;
 use node_core::{Node, OpenFault};
-use node_rules::{
-    Begin, Event, Message, Received, Reply, Serve, Served, StepFault, can_be_answered,
-};
+use node_rules::{Begin, Event, Message, Reply, Sent, Serve, Served, StepFault, fits};
 use roster::Roster;
+use std::alloc::Global;
 use std::fmt::Write;
 use std::hash::RandomState;
 use std::test::Fail;
@@ -77,28 +77,29 @@ fn foreign_answer(rt: &HostRuntime, url: &str, stamp: u32) -> Result<Event<u64>,
 }
 
 /// A message that comes from a port of 127.0.0.1.
-fn came(port: u16, message: Message) -> Result<Event<u64>, Fail> {
-    if can_be_answered(&message) {
-        Ok(Event::Datagram {
-            from: address_at(port),
-            message: Received::new(message),
-            now: 0,
-        })
-    } else {
-        Err("no answer has a text".into())
+fn came(alloc: Global, port: u16, message: Message) -> Result<Event<u64>, Fail> {
+    if !fits(&message) {
+        return Err("the message does not fit a datagram".into());
+    }
+    let sent = Sent::new(message);
+    let octets = encode(alloc, &sent)?;
+    let by = sent.message().protocol();
+    match node_bytes::event_of(alloc, by, address_at(port), octets.as_slice(), 0)? {
+        Some(event) => Ok(event),
+        None => Err("the octets spell no message".into()),
     }
 }
 
 /// The master's CLR of a URL under this number (RFC 2756, "CLR").
 fn purge(rt: &HostRuntime, url: &str, number: u32) -> Result<Event<u64>, Fail> {
     let clear = clear_of(rt.alloc(), url.as_bytes(), number)?;
-    came(4800, Message::Htcp(clear))
+    came(rt.alloc(), 4800, Message::Htcp(clear))
 }
 
 /// An ICP message of this opcode, under this number, for a URL.
 fn icp(rt: &HostRuntime, port: u16, op: IcpOp, number: u32, url: &str) -> Result<Event<u64>, Fail> {
     let icp = icp_of(rt.alloc(), op, number, url.as_bytes())?;
-    came(port, Message::Icp(icp))
+    came(rt.alloc(), port, Message::Icp(icp))
 }
 
 /// What happens at a node.

@@ -1,11 +1,11 @@
 //! What no clause says: that each call can be made with ample memory, and what it gives at numbers that are written here.
-ghost use Rattle.std.specs.Prelude.{◌≡◌, ◌≤◌, ◌<◌, ◌+◌, ◌*◌, All, IfOk};
+ghost use Rattle.std.specs.Prelude.{◌≡◌, ◌≤◌, IfOk};
 ghost use Rattle.node_waiting.specs.CanGoOn.{CanGoOn};
-ghost use Rattle.node_waiting.specs.InOrder.{IsBlock};
+ghost use Rattle.node_rules.specs.Asks.{IsBlock};
 
 use http_messages::Ask;
 use node_rules::{Fetch, Pending};
-use node_waiting::{PendingList, Progress, laws};
+use node_waiting::{PendingList, Progress, block_after, laws};
 use roster::Listed;
 use std::process::Abort;
 use std::test::Fail;
@@ -34,14 +34,15 @@ fn ask_of(rt: &HostRuntime, block: u32) -> Result<Pending<u64>, Fail>
     })
 }
 
-fn add(waiting: &mut PendingList<u64>, ask: Pending<u64>) -> Result<(), Fail>
-    requires block { IsBlock ask.block }
-    requires above { All (λ q. q.block < ask.block) waiting.old }
-    requires can_go_on { CanGoOn ask }
-    ensures { IfOk result (λ _. All (λ q. q.block < ask.block + 1) waiting.new) }
+/// Adds an ask, with the first block from this one on that is free. Tells the block.
+fn add(rt: &HostRuntime, waiting: &mut PendingList<u64>, from: u32) -> Result<u32, Fail>
+    requires { IsBlock from }
 {
-    match waiting.add(ask) {
-        Ok(()) => Ok(()),
+    let Some(block) = waiting.free_block(from) else {
+        return Err("no block is free".into());
+    };
+    match waiting.add(ask_of(rt, block)?) {
+        Ok(()) => Ok(block),
         Err(_) => Err("memory".into()),
     }
 }
@@ -49,11 +50,10 @@ fn add(waiting: &mut PendingList<u64>, ask: Pending<u64>) -> Result<(), Fail>
 /// So many asks, of the blocks 2, 4, 6 and so on.
 fn filled(rt: &HostRuntime, count: u32) -> Result<PendingList<u64>, Fail>
     requires { count ≤ 1024 }
-    ensures { IfOk result (λ waiting. All (λ q. q.block < 2 * count + 2) waiting) }
 {
     let mut waiting = PendingList::new(rt.alloc());
     for number in 0..count {
-        add(&mut waiting, ask_of(rt, 2 * number + 2)?)?;
+        let _block = add(rt, &mut waiting, 2 * number + 2)?;
     }
     Ok(waiting)
 }
@@ -88,9 +88,9 @@ fn check_places(
 
 #[test]
 fn asks_are_found_by_their_serials(rt: HostRuntime) -> Result<(), Fail> {
-    let mut waiting = filled(&rt, 1024)?;
-    add(&mut waiting, ask_of(&rt, 134_217_727)?)?;
-    assert_eq!(rt; waiting.len(), 1025);
+    let mut waiting = filled(&rt, 1023)?;
+    let last = add(&rt, &mut waiting, 134_217_727)?;
+    assert_eq!(rt; (last, waiting.len()), (134_217_727, 1024));
     assert!(rt; !waiting.is_empty());
     check_places(
         &rt,
@@ -107,15 +107,56 @@ fn asks_are_found_by_their_serials(rt: HostRuntime) -> Result<(), Fail> {
             (128, Some(1), Some(1)),
             (32_768, Some(511), Some(511)),
             (32_800, None, None),
-            (65_536, Some(1023), Some(1023)),
-            (65_567, None, None),
+            (65_472, Some(1022), Some(1022)),
+            (65_503, None, None),
+            (65_536, None, None),
             (4_294_967_232, None, None),
-            (4_294_967_264, Some(1024), Some(1024)),
+            (4_294_967_264, Some(1023), Some(1023)),
             (4_294_967_265, None, None),
             (4_294_967_295, None, None),
         ]
         .as_slice(),
     );
+    Ok(())
+}
+
+/// The blocks that four asks get, of which three would have the last one.
+fn blocks_round_the_end(
+    rt: &HostRuntime,
+    waiting: &mut PendingList<u64>,
+) -> Result<[u32; 4], Fail> {
+    let last = add(rt, waiting, 134_217_727)?;
+    let first = add(rt, waiting, 134_217_727)?;
+    let second = add(rt, waiting, 134_217_727)?;
+    let before_last = add(rt, waiting, 134_217_726)?;
+    Ok([last, first, second, before_last])
+}
+
+#[test]
+fn blocks_come_round(rt: HostRuntime) -> Result<(), Fail> {
+    assert_eq!(rt; (block_after(1), block_after(134_217_727)), (2, 1));
+    let mut waiting = PendingList::new(rt.alloc());
+    let blocks = blocks_round_the_end(&rt, &mut waiting)?;
+    assert_eq!(rt; blocks, [134_217_727, 1, 2, 134_217_726]);
+    check_places(
+        &rt,
+        &waiting,
+        [
+            (32, Some(0), Some(0)),
+            (64, Some(1), Some(1)),
+            (96, None, None),
+            (4_294_967_232, Some(2), Some(2)),
+            (4_294_967_264, Some(3), Some(3)),
+        ]
+        .as_slice(),
+    );
+    Ok(())
+}
+
+#[test]
+fn no_block_is_free_beside_1024(rt: HostRuntime) -> Result<(), Fail> {
+    let waiting = filled(&rt, 1024)?;
+    assert_eq!(rt; waiting.free_block(1), None);
     Ok(())
 }
 
@@ -218,5 +259,4 @@ fn laws_can_be_called() {
     laws::asks_can_go_on_after_a_fetch::<u64>();
     laws::asks_can_go_on_with_their_rounds::<u64>();
     laws::later_changes_count::<u64>();
-    laws::blocks_stay_below::<u64>();
 }

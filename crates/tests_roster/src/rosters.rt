@@ -55,6 +55,11 @@ fn flaw_of_one(roster: &Roster) -> Option<&'static str> {
         ("the copies", limits.copies == 1000),
         ("the octets", limits.bytes == 1048576),
         ("the wait", limits.query_wait == 2000),
+        ("the usual wait of a client", limits.answer_wait == 5000),
+        ("the usual wait of a fetch", limits.fetch_wait == 5000),
+        ("the usual wait of a request", limits.ask_wait == 15_000),
+        ("the usual fetches", limits.fetches_per_address == 64),
+        ("the usual clients", limits.clients_per_address == 128),
         (
             "the origin",
             roster.origin(b"o", 80) == Some(address_at(8080)),
@@ -142,7 +147,7 @@ fn changed(rt: &(impl Abort + AllocGlobal), old: &str, new: &str) -> String {
 }
 
 /// The second roster with a text in the place of another, and the fault of what comes of it.
-const CHANGES: [(&str, &str, RosterFault); 56] = [
+const CHANGES: [(&str, &str, RosterFault); 61] = [
     ("default_lifetime = 60", "x =", RosterFault::BadToml),
     ("[master]", "[master", RosterFault::BadToml),
     (
@@ -192,6 +197,31 @@ const CHANGES: [(&str, &str, RosterFault); 56] = [
     (
         "query_wait = 2000",
         "query_wait = 60001",
+        RosterFault::BadField,
+    ),
+    (
+        "query_wait = 2000",
+        "query_wait = 2000\nanswer_wait = 0",
+        RosterFault::BadField,
+    ),
+    (
+        "query_wait = 2000",
+        "query_wait = 2000\nfetch_wait = 60001",
+        RosterFault::BadField,
+    ),
+    (
+        "query_wait = 2000",
+        "query_wait = 2000\nask_wait = 600001",
+        RosterFault::BadField,
+    ),
+    (
+        "query_wait = 2000",
+        "query_wait = 2000\nfetches_per_address = 1025",
+        RosterFault::BadField,
+    ),
+    (
+        "query_wait = 2000",
+        "query_wait = 2000\nclients_per_address = \"1\"",
         RosterFault::BadField,
     ),
     ("[master]", "[other]", RosterFault::BadField),
@@ -403,6 +433,8 @@ fn push_largest(text: &mut String) -> fmt::Result {
     text.write_str(
         "default_lifetime = 0\ncopies = 65536\nbytes = 1073741824\nquery_wait = 60000\n",
     )?;
+    text.write_str("answer_wait = 60000\nfetch_wait = 60000\nask_wait = 600000\n")?;
+    text.write_str("fetches_per_address = 1024\nclients_per_address = 1024\n")?;
     text.write_str("[master]\naddress = \"255.255.255.255\"\nhtcp = 65535\n")?;
     for id in 1..17 {
         push_member(text, id)?;

@@ -8,6 +8,11 @@ const ONE: &str = "default_lifetime = 60
 copies = 1000
 bytes = 1048576
 query_wait = 2000
+answer_wait = 1
+fetch_wait = 2
+ask_wait = 3
+fetches_per_address = 4
+clients_per_address = 5
 
 [master]
 address = \"127.0.0.1\"
@@ -53,6 +58,11 @@ fn flaw(tables: &Tables) -> Option<&'static str> {
         ("the master's address", tables.master.ip == 0x7f000001),
         ("the master's port", tables.master.port == 4800),
         ("the wait", tables.limits.query_wait == 2000),
+        ("a client's wait", tables.limits.answer_wait == 1),
+        ("a fetch's wait", tables.limits.fetch_wait == 2),
+        ("a request's wait", tables.limits.ask_wait == 3),
+        ("the fetches", tables.limits.fetches_per_address == 4),
+        ("the clients", tables.limits.clients_per_address == 5),
         ("the node", matches!(members, [member] if is_node(member))),
         (
             "the origin",

@@ -127,7 +127,8 @@ fn a_read_ends_after_the_hold(rt: HostRuntime) -> Result<(), Fail> {
     Ok(())
 }
 
-/// The records of a node are asked for without a hold, and once more when it was told to stop: the first ones, and the others.
+/// The records of a node are asked for without a hold, and once more when it was told to stop: the
+/// first ones, and the others.
 fn asked_for_records<W: Wait>(
     rt: &HostRuntime,
     wait: &W,

@@ -95,7 +95,8 @@ impl Held {
         Ok(())
     }
 
-    /// Polls for so many milliseconds. How many entries there are since they were last taken, and in how many of these the two members are listed as due.
+    /// Polls for so many milliseconds. How many entries there are since they were last taken, and
+    /// in how many of these the two members are listed as due.
     fn entered<R: Wait + Clock>(&mut self, rt: &R, most: u64) -> Result<(usize, usize), Fail> {
         self.poll_for(rt, most)?;
         let entries = self.master.hold(rt).take_entries();
@@ -120,7 +121,8 @@ fn status<R: Wait>(rt: &R, master: &SharedMaster<MemoryPurges>) -> Status {
     }
 }
 
-/// What is entered within some seconds while nothing is pending, and then while a purge is; and whether something may be due before these, between them and behind them.
+/// What is entered within some seconds while nothing is pending, and then while a purge is; and
+/// whether something may be due before these, between them and behind them.
 #[derive(Drop)]
 struct Counts {
     idle: (usize, usize),
@@ -144,7 +146,8 @@ fn entered<R: Net + Wait + Clock>(rt: &R, alloc: Global, port: u16) -> Result<Co
     })
 }
 
-/// Where nothing is pending, that is found once and not again; a purge that is pending is listed again and again.
+/// Where nothing is pending, that is found once and not again; a purge that is pending is listed
+/// again and again.
 #[test]
 fn what_is_due_is_listed_while_something_may_be(rt: HostRuntime) -> Result<(), Fail> {
     let Counts {
@@ -186,7 +189,8 @@ impl<R: Clock> Clock for Refusing<'_, R> {
     }
 }
 
-/// Issues a purge; both members answer, and the purge is done within ten seconds. Then the loop is told to stop.
+/// Issues a purge; both members answer, and the purge is done within ten seconds. Then the loop is
+/// told to stop.
 fn commanded<R: Wait + Clock>(
     rt: &R,
     roster: &Roster,
@@ -212,7 +216,8 @@ fn commanded<R: Wait + Clock>(
     issued && done
 }
 
-/// Waits until the clock was refused as often as it is to be, for ten seconds at most. Whether it was.
+/// Waits until the clock was refused as often as it is to be, for ten seconds at most. Whether it
+/// was.
 fn are_spent<R: Wait + Clock>(rt: &R, left: &AtomicU32) -> bool {
     for _ in 0..1000 {
         if left.load(Ordering::SeqCst) == 0 {
@@ -223,7 +228,8 @@ fn are_spent<R: Wait + Clock>(rt: &R, left: &AtomicU32) -> bool {
     false
 }
 
-/// Whether a thread polls the loop until it is told to stop, also after three polls that were refused the clock, and a purge that is issued after these is done by then.
+/// Whether a thread polls the loop until it is told to stop, also after three polls that were
+/// refused the clock, and a purge that is issued after these is done by then.
 fn polled<R: Threads + Net + Wait + Clock + Sync>(
     rt: &R,
     alloc: Global,

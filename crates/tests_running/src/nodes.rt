@@ -33,7 +33,8 @@ address = \"127.0.0.1\"
 connect = 21508
 ";
 
-/// Asks the node for what only it may hold, and for what an origin has: whether it answers 504 where it is not cached, and 502 where nobody serves the origin.
+/// Asks the node for what only it may hold, and for what an origin has: whether it answers 504
+/// where it is not cached, and 502 where nobody serves the origin.
 fn clients_ask(rt: &HostRuntime) -> io::Result<[bool; 2]> {
     Ok([
         is_answered_at(rt, 21500, CACHED, b"HTTP/1.1 504 ")?,
@@ -51,7 +52,8 @@ const PURGE: &[u8] =
 /// That the entity was not held.
 const NOT_HELD: &[u8] = b"\x00\x0e\0\0\x00\x08\x42\x01\0\0\0\x07\x00\x02";
 
-/// A stranger asks by ICP, and the master purges: whether the one is denied, and the other is acknowledged.
+/// A stranger asks by ICP, and the master purges: whether the one is denied, and the other is
+/// acknowledged.
 fn datagrams_come(rt: &HostRuntime) -> io::Result<[bool; 2]> {
     Ok([
         is_told(rt, 21507, 21501, QUERY, DENIED)?,
@@ -63,7 +65,6 @@ fn datagrams_come(rt: &HostRuntime) -> io::Result<[bool; 2]> {
 #[derive(Clone, Copy, PartialEq, Eq)]
 enum Taker {
     Worker,
-    Fetcher,
     AtSockets,
 }
 
@@ -71,18 +72,18 @@ enum Taker {
 fn taker_at(seat: u8) -> Taker {
     match seat {
         0 | 1 => Taker::Worker,
-        2 | 3 => Taker::Fetcher,
         _ => Taker::AtSockets,
     }
 }
 
-/// A stranger's question, a purge, an ask for what is cached, one that begins a read, and how the read failed.
+/// A stranger's question, a purge, an ask for what is cached, one that begins a read, and how the
+/// read failed.
 const TAKERS: [Taker; 5] = [
     Taker::AtSockets,
     Taker::Worker,
     Taker::Worker,
     Taker::Worker,
-    Taker::Fetcher,
+    Taker::Worker,
 ];
 
 /// Whether the steps of a record were taken from seats of these threads, in this order.
@@ -96,7 +97,8 @@ fn are_taken_by(record: &Record, takers: &[Taker]) -> bool {
     entries.len() == takers.len()
 }
 
-/// Stops a node: whether the steps of its record were taken from seats of these threads, in this order.
+/// Stops a node: whether the steps of its record were taken from seats of these threads, in this
+/// order.
 fn stopped_by<R: Threads + Wait>(
     rt: &R,
     workers: Workers,

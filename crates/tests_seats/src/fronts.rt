@@ -2,10 +2,10 @@
 ghost use Rattle.std.specs.Prelude.{◌≡◌};
 
 use node_book::NodeEntry;
-use node_history::{NewHistory, Run};
 use node_rules::{Event, StepFault};
 use std::marker::Brand;
 use std::test::Fail;
+use values_history::{NewHistory, Run};
 
 /// An entry.
 const ENTRY: NodeEntry = NodeEntry {
@@ -21,7 +21,7 @@ const ENTRY: NodeEntry = NodeEntry {
 type Seen = ([bool; 4], [u64; 2]);
 
 /// What is seen of two fronts of a history.
-fn seen_of<J: Run>(new: NewHistory) -> Seen
+fn seen_of<J: Run>(new: NewHistory<NodeEntry>) -> Seen
     requires { new.seen.book ≡ J.book }
 {
     let (head, mut whole) = new.named::<J>();

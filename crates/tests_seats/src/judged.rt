@@ -5,7 +5,6 @@ ghost use Rattle.node_seats.specs.Beginning.{beginning_of};
 use crate::nodes::{Start, asked, call, share, start_of, take, verdict_on};
 use node_book::{NodeEntry, Record};
 use node_copies::{copy_of_event, copy_of_reply};
-use node_history::NewHistory;
 use node_rules::{Event, Reply, StepFault};
 use node_seats::{Origin, Retention};
 use roster::Listed;
@@ -16,6 +15,7 @@ use std::marker::Brand;
 use std::sync::Wait;
 use std::test::Fail;
 use tests_kit::ONE;
+use values_history::NewHistory;
 
 /// The read fails that the first ask has begun: that is the first fetch of block 1.
 const READ_FAILS: Event<()> = Event::FetchFailed {
@@ -32,7 +32,7 @@ const FAILS: Event<()> = Event::FetchFailed { serial: 34, now: 9 };
 fn two_records<J: Origin, R: Wait>(
     rt: &R,
     start: Start,
-    new: NewHistory,
+    new: NewHistory<NodeEntry>,
     ask: Event<()>,
     alloc: Global,
     kept: &mut Vec<Record>,
@@ -158,8 +158,8 @@ fn alter(alloc: Global, record: &mut Record) -> Option<u64> {
     }
 }
 
-/// How many of the records are judged. Where it is altered, the last of these has its reply silenced
-/// first.
+/// How many of the records are judged. Where it is altered, the last of these has its reply
+/// silenced first.
 #[derive(Clone, Copy)]
 struct Trial {
     count: usize,

@@ -4,9 +4,8 @@ ghost use Rattle.node_seats.specs.Beginning.{beginning_of};
 
 use floor_rules::MemoryFloors;
 use http_messages::{Answer, Ask, Body, Fields};
-use node_book::Record;
+use node_book::{NodeEntry, Record};
 use node_core::Node;
-use node_history::NewHistory;
 use node_rules::{Event, Reply, StepFault};
 use node_seats::{Origin, Places, Retention, Seat, SharedNode};
 use roster::Roster;
@@ -15,6 +14,7 @@ use std::alloc::Global;
 use std::hash::RandomState;
 use std::sync::Wait;
 use url_key::Key;
+use values_history::NewHistory;
 
 /// A page of the origin.
 pub(crate) const PAGE: &[u8] = b"http://o/a";
@@ -73,7 +73,7 @@ pub(crate) struct Shared<J: Origin> {
 pub(crate) fn share<J: Origin>(
     alloc: Global,
     start: Start,
-    new: NewHistory,
+    new: NewHistory<NodeEntry>,
     retention: Retention,
     seats: u8,
 ) -> Option<Shared<J>>
@@ -129,8 +129,8 @@ fn key_of(alloc: Global) -> Option<Key> {
     }
 }
 
-/// A client asks for the page, of which there is no copy: for what is held alone, or else for one of
-/// the origin's.
+/// A client asks for the page, of which there is no copy: for what is held alone, or else for one
+/// of the origin's.
 pub(crate) fn asked(alloc: Global, only_if_cached: bool) -> Option<Event<()>> {
     let ask = Ask {
         key: key_of(alloc)?,

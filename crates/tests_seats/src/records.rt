@@ -5,9 +5,8 @@ ghost use Rattle.node_seats.specs.Beginning.{beginning_of};
 use crate::nodes::{Shared, Start, origin_answer, share, start_of, take, verdict_on};
 use crate::seats::is_unknown;
 use floor_rules::MemoryFloors;
-use node_book::Record;
+use node_book::{NodeEntry, Record};
 use node_bytes::Stepper;
-use node_history::NewHistory;
 use node_rules::Event;
 use node_seats::{AtSeat, Origin, Retention, Seat, SharedNode};
 use run_check::Verdict;
@@ -17,6 +16,7 @@ use std::marker::Brand;
 use std::sync::Wait;
 use std::test::Fail;
 use tests_kit::ONE;
+use values_history::NewHistory;
 
 /// What is done with a shared node.
 #[derive(Clone, Copy)]
@@ -192,13 +192,13 @@ fn wrong_move<J: Origin, R: Wait>(
     None
 }
 
-/// The same of a new node; or no answer where there is no memory. All records that are taken are put
-/// behind these.
+/// The same of a new node; or no answer where there is no memory. All records that are taken are
+/// put behind these.
 fn tried<J: Origin, R: Wait>(
     rt: &R,
     alloc: Global,
     start: Start,
-    new: NewHistory,
+    new: NewHistory<NodeEntry>,
     trial: &Trial,
     kept: &mut Vec<Record>,
 ) -> Option<Option<usize>>

@@ -5,7 +5,6 @@ ghost use Rattle.node_seats.specs.Beginning.{beginning_of};
 use crate::nodes::{Shared, Start, Told, asked, share, start_of, take, verdict_on};
 use floor_rules::MemoryFloors;
 use node_book::{NodeEntry, Record};
-use node_history::NewHistory;
 use node_rules::{Event, Served, StepFault};
 use node_seats::{Origin, Places, Retention, Seat, SharedNode};
 use run_check::Verdict;
@@ -17,6 +16,7 @@ use std::sync::atomic::{AtomicU64, Ordering};
 use std::test::Fail;
 use std::thread::{self, Threads};
 use tests_kit::ONE;
+use values_history::NewHistory;
 
 /// How many calls each of eight seats makes.
 const EACH: u64 = 100;
@@ -101,7 +101,7 @@ fn two_calls<J: Origin + Send + Sync, R: Threads + Wait + Sync>(
     rt: &R,
     alloc: Global,
     start: Start,
-    new: NewHistory,
+    new: NewHistory<NodeEntry>,
     kept: &mut Vec<Record>,
 ) -> Option<(bool, bool)>
     requires book { new.seen.book ≡ J.book }
@@ -159,8 +159,8 @@ fn make_hundred<J: Origin, R: Wait>(
     }
 }
 
-/// Has a thread of its own for each seat make a hundred calls, and counts those that were told their
-/// fault.
+/// Has a thread of its own for each seat make a hundred calls, and counts those that were told
+/// their fault.
 fn make_hundreds<J: Origin + Send + Sync, R: Threads + Wait + Sync>(
     rt: &R,
     node: &SharedNode<MemoryFloors, J>,
@@ -181,7 +181,7 @@ fn eight_hundred_calls<J: Origin + Send + Sync, R: Threads + Wait + Sync>(
     rt: &R,
     alloc: Global,
     start: Start,
-    new: NewHistory,
+    new: NewHistory<NodeEntry>,
     kept: &mut Vec<Record>,
 ) -> Option<u64>
     requires book { new.seen.book ≡ J.book }
@@ -228,8 +228,8 @@ fn hundreds_of(records: &[Record]) -> Option<(usize, usize)> {
     Some((entries.len(), seats))
 }
 
-/// How many of the calls of eight threads were told their fault; how many entries there are, and how
-/// many seats have theirs in order; and the verdict on the record.
+/// How many of the calls of eight threads were told their fault; how many entries there are, and
+/// how many seats have theirs in order; and the verdict on the record.
 type Hundreds = (u64, (usize, usize), Verdict);
 
 /// What is seen of the calls of eight threads.

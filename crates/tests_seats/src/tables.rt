@@ -1,5 +1,6 @@
 //! Clients and answers that meet, and rounds that wait.
-use cluster_waiting::{Rounds, TableFault, WaitTables, WaitingClients};
+use cluster_waiting::{Outstanding, Peers, Rounds, TableFault, WaitTables, WaitingClients};
+use roster::{Address, Udp};
 use std::alloc::{AllocError, Global};
 use std::sync::Wait;
 use std::test::Fail;
@@ -119,11 +120,14 @@ const DUE: [(u64, Option<u32>); 6] = [
     (130, None),
 ];
 
-/// Three rounds begin.
+/// Four rounds begin, and the third ends.
 fn begin(rounds: &mut Rounds) -> Result<(), AllocError> {
     rounds.begin(100, 32)?;
     rounds.begin(90, 64)?;
-    rounds.begin(120, 96)
+    rounds.begin(110, 128)?;
+    rounds.begin(120, 96)?;
+    rounds.end(128);
+    Ok(())
 }
 
 /// The first row of moments that is not so, if there is one.
@@ -136,7 +140,7 @@ fn wrong_row(rounds: &mut Rounds) -> Option<usize> {
     None
 }
 
-/// Whether three rounds begin, and that row.
+/// Whether these rounds begin, and that row.
 fn rounds_in_turn(alloc: Global) -> (bool, Option<usize>) {
     let mut rounds = Rounds::new(alloc);
     let begun = begin(&mut rounds).is_ok();
@@ -158,23 +162,79 @@ fn do_meet<R: Wait>(rt: &R, tables: &WaitTables<u64, u8>) -> bool {
         && tables.take_first(rt) == Some(20)
 }
 
-/// The round that is due then.
-fn due_of<R: Wait>(rt: &R, tables: &WaitTables<u64, u8>) -> Option<u32> {
-    if tables.begin(rt, 7, 32).is_ok() && do_meet(rt, tables) {
-        tables.due(rt, 7)
+/// The round that is due then, with the peers that it waits for.
+fn due_of<R: Wait>(rt: &R, tables: &WaitTables<u64, u8>) -> Option<(u32, u32)> {
+    let has_asked = tables.ask(rt, 32, 3).is_ok() && !tables.heard(rt, 32, 2);
+    if has_asked && tables.begin(rt, 7, 32).is_ok() && do_meet(rt, tables) {
+        let serial = tables.due(rt, 7)?;
+        Some((serial, tables.left(rt, serial)))
     } else {
         None
     }
 }
 
 /// The same by a table that threads share.
-fn shared<R: Wait>(rt: &R, alloc: Global) -> Option<u32> {
+fn shared<R: Wait>(rt: &R, alloc: Global) -> Option<(u32, u32)> {
     let tables: WaitTables<u64, u8> = WaitTables::new(alloc);
     due_of(rt, &tables)
 }
 
 #[test]
 fn threads_share_tables(rt: HostRuntime) -> Result<(), Fail> {
-    assert!(rt; shared(&rt, rt.alloc()) == Some(32));
+    assert!(rt; shared(&rt, rt.alloc()) == Some((32, 2)));
+    Ok(())
+}
+
+/// Whether a round of two peers waits for none once both were heard, and what is left of it then.
+fn heard(alloc: Global) -> (bool, bool, Option<u32>) {
+    let mut outstanding = Outstanding::new(alloc);
+    let has_begun = outstanding.begin(32, 0b101).is_ok() && !outstanding.heard(64, 0);
+    let waits = has_begun && !outstanding.heard(32, !0b001);
+    (waits, outstanding.heard(32, !0b100), outstanding.end(32))
+}
+
+#[test]
+fn rounds_wait_for_peers(rt: HostRuntime) -> Result<(), Fail> {
+    assert!(rt; heard(rt.alloc()) == (true, true, Some(0)));
+    Ok(())
+}
+
+/// An address at this port.
+fn at(port: u16) -> Address {
+    Address {
+        ip: 0x7f000001,
+        port,
+    }
+}
+
+/// Whether the peer is dead after 19 questions that it left unanswered, after one more, and once it
+/// has answered.
+fn lives(alloc: Global) -> Result<[bool; 3], AllocError> {
+    let mut peers = Peers::new(alloc);
+    peers.add(2, Udp::Icp, at(3102))?;
+    peers.add(101, Udp::Htcp, at(4109))?;
+    for now in 0..19 {
+        peers.missed(1, now);
+    }
+    let before = peers.is_dead(1);
+    peers.missed(1, 19);
+    let dead = peers.is_dead(1) && !peers.is_dead(0);
+    peers.answered(1);
+    Ok([before, dead, peers.is_dead(1)])
+}
+
+/// Whether a peer whose connection failed is found, and dead.
+fn fails(alloc: Global) -> Result<bool, AllocError> {
+    let mut peers = Peers::new(alloc);
+    peers.add(2, Udp::Icp, at(3102))?;
+    peers.failed(2, 7);
+    let place = peers.place(Udp::Icp, at(3102));
+    Ok(place == Some(0) && peers.place(Udp::Htcp, at(3102)).is_none() && peers.is_dead(0))
+}
+
+#[test]
+fn peers_are_thought_dead(rt: HostRuntime) -> Result<(), Fail> {
+    assert!(rt; lives(rt.alloc()) == Ok([false, true, false]));
+    assert!(rt; fails(rt.alloc()) == Ok(true));
     Ok(())
 }

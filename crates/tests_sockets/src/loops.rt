@@ -1,19 +1,20 @@
 //! Clients connect and send, the loop polls, and these jobs are in the queue then.
 ghost use Rattle.std.specs.Prelude.{◌≡◌};
 
-use cluster_jobs::{Job, Jobs, NewJobs, Pass, QueueName};
+use cluster_jobs::order::Step;
+use cluster_jobs::{Job, Jobs, NewHistory, Pass, Run, Sender};
 use cluster_sockets::{AtOnce, LoopFault, Never, NodeLoop, Senders};
 use mio::net::{TcpStream, UdpSocket};
 use std::alloc::{AllocError, Global};
 use std::io::{self, ErrorKind, Read};
 use std::marker::Brand;
-use std::net::Shutdown;
+use std::net::{Net, Shutdown};
 use std::sync::Wait;
 use std::test::Fail;
 use std::time::{Clock, Duration, Instant};
 use tests_kit::socket_at;
 use values_plain::{Address, Listed, Udp};
-use values_tables::Cache;
+use values_tables::{Cache, Limits};
 
 /// What clients do, and the loop.
 #[derive(Clone, Copy)]
@@ -26,6 +27,8 @@ enum Act {
     Connect(u32),
     /// The client of this number sends this.
     Send(usize, &'static [u8]),
+    /// Each client sends this.
+    SendAll(&'static [u8]),
     /// It sends no more.
     End(usize),
     /// The loop polls so many times.
@@ -120,6 +123,11 @@ impl Clients {
             Act::Send(number, octets) => {
                 io::Write::write(self.client(number)?, octets)?;
             }
+            Act::SendAll(octets) => {
+                for stream in &mut self.streams {
+                    io::Write::write(stream, octets)?;
+                }
+            }
             Act::End(number) => self.client(number)?.shutdown(Shutdown::Write)?,
             Act::Polls(_) => {}
         }
@@ -136,14 +144,22 @@ enum Seen {
     Stream(u64, usize),
     /// The time of a round is over.
     Timer(u32),
+    /// The fetch with this serial has ended.
+    Fetched(u32),
 }
 
 impl Seen {
     fn of(job: &Job) -> Seen {
         match job {
-            Job::Datagram { udp, from, octets } => Seen::Datagram(*udp, from.ip, octets.len()),
+            Job::Datagram {
+                udp,
+                from,
+                octets,
+                ..
+            } => Seen::Datagram(*udp, from.ip, octets.len()),
             Job::Stream { number, octets, .. } => Seen::Stream(*number, octets.len()),
             Job::Timer { serial } => Seen::Timer(*serial),
+            Job::Fetched(fetched) => Seen::Fetched(fetched.serial),
         }
     }
 }
@@ -156,10 +172,23 @@ struct Held {
     clients: Clients,
 }
 
+/// The usual limits.
+const LIMITS: Limits = Limits {
+    default_lifetime: 60,
+    copies: 1000,
+    bytes: 1_048_576,
+    query_wait: 2000,
+    answer_wait: 5000,
+    fetch_wait: 5000,
+    ask_wait: 15_000,
+    fetches_per_address: 64,
+    clients_per_address: 128,
+};
+
 /// The sockets of a node at ports from this one on.
 fn opened(rt: &HostRuntime, ip: u32, port: u16) -> Result<(NodeLoop, Senders), LoopFault> {
     let cache = cache_at(rt.alloc(), ip, port);
-    NodeLoop::open(rt, rt.alloc(), &cache)
+    NodeLoop::open(rt, rt.alloc(), &cache, b"node", LIMITS)
 }
 
 fn held_at(rt: &HostRuntime, ip: u32, port: u16) -> Result<Held, Fail> {
@@ -174,7 +203,7 @@ fn held_at(rt: &HostRuntime, ip: u32, port: u16) -> Result<Held, Fail> {
 }
 
 /// The loop polls so many times.
-fn poll<Q: QueueName, R: Wait + Clock>(
+fn poll<Q: Run, R: Net + Wait + Clock>(
     rt: &R,
     poller: &mut NodeLoop,
     jobs: &Jobs<Q>,
@@ -191,7 +220,7 @@ fn poll<Q: QueueName, R: Wait + Clock>(
 }
 
 /// Takes the jobs of the queue, as they are told here.
-fn take<Q: QueueName, R: Wait>(
+fn take<Q: Run, R: Wait>(
     rt: &R,
     jobs: &Jobs<Q>,
     mut pass: Pass<Q>,
@@ -209,17 +238,17 @@ fn take<Q: QueueName, R: Wait>(
 }
 
 /// Plays the acts with a queue, and takes the jobs that are in it then.
-fn played<Q: QueueName, R: Wait + Clock>(
+fn played<Q: Run, R: Net + Wait + Clock>(
     rt: &HostRuntime,
     wait: &R,
-    new: NewJobs,
+    new: NewHistory<Step>,
     held: &mut Held,
     acts: &[Act],
     into: &mut Vec<Seen>,
 ) -> Result<(), Fail>
-    requires { new ≡ Q.table }
+    requires { new.seen.book ≡ Q.book }
 {
-    let (jobs, mut pass) = new.name::<Q>();
+    let (jobs, mut pass) = Jobs::<Q>::new(rt.alloc(), new)?;
     for act in acts {
         match act {
             Act::Polls(count) => {
@@ -234,19 +263,18 @@ fn played<Q: QueueName, R: Wait + Clock>(
 }
 
 /// Plays the acts with a queue of its own, and takes the jobs that are in it then.
-fn run_at<R: Wait + Clock>(
+fn run_at<R: Net + Wait + Clock>(
     rt: &HostRuntime,
     wait: &R,
     held: &mut Held,
     acts: &[Act],
     into: &mut Vec<Seen>,
 ) -> Result<(), Fail> {
-    let new = NewJobs::new(rt.alloc())?;
-    played::<Brand, R>(rt, wait, new, held, acts, into)
+    played::<Brand, R>(rt, wait, NewHistory::new(), held, acts, into)
 }
 
 /// Plays the acts at a node of its own, and takes the jobs that are in its queue then.
-fn run<R: Wait + Clock>(
+fn run<R: Net + Wait + Clock>(
     rt: &HostRuntime,
     wait: &R,
     port: u16,
@@ -396,7 +424,7 @@ const EARLY: [Act; 4] = [
 const LATE: [Act; 1] = [Act::Polls(800)];
 
 /// Takes the jobs in the queue early and late: whether none came before its time.
-fn wait_out<R: Wait + Clock>(
+fn wait_out<R: Net + Wait + Clock>(
     rt: &HostRuntime,
     wait: &R,
     held: &mut Held,
@@ -448,7 +476,7 @@ fn octets_that_drip_gain_no_time(rt: HostRuntime) -> Result<(), Fail> {
     Ok(())
 }
 
-/// More datagrams come than the queue has places, and then a client whose request is whole.
+/// More datagrams come than their lane has places, and then a client whose request is whole.
 const FLOOD: [Act; 10] = [
     Act::Flood(100),
     Act::Polls(2),
@@ -471,14 +499,36 @@ fn first_of_flood() -> [Seen; 256] {
     flood
 }
 
+/// Whether these are the first 256 datagrams of a flood, and then the client.
+fn is_first_of_flood(jobs: &[Seen]) -> bool {
+    match jobs.split_last() {
+        Some((last, rest)) => *last == Seen::Stream(0, WHOLE.len())
+            && rest == first_of_flood().as_slice(),
+        None => false,
+    }
+}
+
 #[test]
-fn a_full_queue_takes_no_more(rt: HostRuntime) -> Result<(), Fail> {
+fn a_full_lane_takes_no_more(rt: HostRuntime) -> Result<(), Fail> {
     let mut jobs = Vec::new(rt.alloc());
     let mut held = held_at(&rt, FIRST, 21140)?;
     run_at(&rt, &rt, &mut held, &FLOOD, &mut jobs)?;
-    let read = held.clients.read(0);
-    assert!(rt; jobs.as_slice() == first_of_flood().as_slice(), "the jobs");
-    assert!(rt; read? == 0, "the client's stream is closed");
+    assert!(rt; is_first_of_flood(jobs.as_slice()), "the jobs");
+    Ok(())
+}
+
+/// More clients come whose requests are whole than their lane has places.
+const CROWD: [Act; 3] = [Act::Connect(257), Act::SendAll(WHOLE), Act::Polls(20)];
+
+/// What the last of 257 clients reads first.
+#[test]
+fn a_client_without_a_place_is_told_so(rt: HostRuntime) -> Result<(), Fail> {
+    let mut jobs = Vec::new(rt.alloc());
+    let mut held = held_at(&rt, FIRST, 21250)?;
+    run_at(&rt, &rt, &mut held, &CROWD, &mut jobs)?;
+    let read = held.clients.read(256)?;
+    assert!(rt; jobs.len() == 256, "the jobs");
+    assert!(rt; read == 16, "the front of a response");
     Ok(())
 }
 
@@ -547,6 +597,18 @@ impl AtOnce for Counting {
         true
     }
 
+    fn sender_of(&self, _udp: Udp, _from: Address) -> Sender {
+        Sender::Peer
+    }
+
+    fn is_wanted<R: Wait>(&self, _rt: &R, _serial: u32) -> bool {
+        true
+    }
+
+    fn is_there<R: Wait>(&self, _rt: &R, _serial: u32) -> bool {
+        true
+    }
+
     fn finish(&mut self) {
         self.finished = self.finished.saturating_add(1);
         self.before = self.dealt;
@@ -563,14 +625,15 @@ const MIXED: [Act; 5] = [
 ];
 
 /// What was counted after a poll that datagrams are ready for, and after one more.
-fn counted<Q: QueueName, R: Wait + Clock>(
+fn counted<Q: Run, R: Net + Wait + Clock>(
     rt: &R,
-    new: NewJobs,
+    alloc: Global,
+    new: NewHistory<Step>,
     poller: &mut NodeLoop,
-) -> ([Counting; 2], Result<(), LoopFault>)
-    requires { new ≡ Q.table }
+) -> Result<([Counting; 2], Result<(), LoopFault>), AllocError>
+    requires { new.seen.book ≡ Q.book }
 {
-    let (jobs, pass) = new.name::<Q>();
+    let (jobs, pass) = Jobs::<Q>::new(alloc, new)?;
     let mut counting = Counting {
         dealt: 0,
         finished: 0,
@@ -579,11 +642,11 @@ fn counted<Q: QueueName, R: Wait + Clock>(
     let (pass, polled) = poller.poll_once(rt, &jobs, pass, &mut counting);
     let first = counting;
     let (_pass, again) = poller.poll_once(rt, &jobs, pass, &mut counting);
-    ([first, counting], polled.and(again))
+    Ok(([first, counting], polled.and(again)))
 }
 
 /// What was counted, with a queue of its own, where these datagrams are ready.
-fn counted_at<R: Wait + Clock>(
+fn counted_at<R: Net + Wait + Clock>(
     rt: &HostRuntime,
     wait: &R,
     held: &mut Held,
@@ -591,8 +654,8 @@ fn counted_at<R: Wait + Clock>(
     for act in &MIXED {
         held.clients.act(rt, *act)?;
     }
-    let new = NewJobs::new(rt.alloc())?;
-    let (counted, polled) = counted::<Brand, R>(wait, new, &mut held.poller);
+    let new = NewHistory::new();
+    let (counted, polled) = counted::<Brand, R>(wait, rt.alloc(), new, &mut held.poller)?;
     polled?;
     Ok(counted)
 }

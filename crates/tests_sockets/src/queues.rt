@@ -1,11 +1,13 @@
 ghost use Rattle.std.specs.Prelude.{◌≡◌};
 
-use cluster_jobs::{CAPACITY, Job, Jobs, NewJobs, Pass, QueueName};
+use cluster_jobs::order::Step;
+use cluster_jobs::{CAPACITY, Job, Jobs, Lane, NewHistory, Pass, Run, Sender};
 use std::alloc::Global;
 use std::marker::Brand;
 use std::sync::{Arc, Wait};
 use std::test::Fail;
 use std::thread::{self, JoinHandle, Threads};
+use values_plain::{Address, Udp};
 
 /// The serial of a job that is a timer.
 fn serial_of(job: Option<Job>) -> Option<u32> {
@@ -16,12 +18,7 @@ fn serial_of(job: Option<Job>) -> Option<u32> {
 }
 
 /// Puts a timer for each serial up to this one, and tries again where the queue is full.
-fn put_all<Q: QueueName, R: Wait>(
-    rt: &R,
-    jobs: &Jobs<Q>,
-    mut pass: Pass<Q>,
-    count: u32,
-) -> Pass<Q> {
+fn put_all<Q: Run, R: Wait>(rt: &R, jobs: &Jobs<Q>, mut pass: Pass<Q>, count: u32) -> Pass<Q> {
     let mut serial = 0u32;
     for _ in rt.forever() {
         if serial >= count {
@@ -37,11 +34,7 @@ fn put_all<Q: QueueName, R: Wait>(
 }
 
 /// Takes timers until there is none, and says how many there were and what their serials are in all.
-fn take_all<Q: QueueName, R: Wait>(
-    rt: &R,
-    jobs: &Jobs<Q>,
-    mut pass: Pass<Q>,
-) -> (Pass<Q>, u64, u64) {
+fn take_all<Q: Run, R: Wait>(rt: &R, jobs: &Jobs<Q>, mut pass: Pass<Q>) -> (Pass<Q>, u64, u64) {
     let mut count = 0u64;
     let mut sum = 0u64;
     for _ in rt.forever() {
@@ -57,14 +50,14 @@ fn take_all<Q: QueueName, R: Wait>(
 }
 
 /// The serials of timers that are put until one comes back, and of those that are then taken.
-fn filled<Q: QueueName, R: Wait>(
+fn filled<Q: Run, R: Wait>(
     rt: &R,
     alloc: Global,
-    new: NewJobs,
+    new: NewHistory<Step>,
 ) -> Result<(u32, Vec<u32>), Fail>
-    requires { new ≡ Q.table }
+    requires { new.seen.book ≡ Q.book }
 {
-    let (jobs, mut pass) = new.name::<Q>();
+    let (jobs, mut pass) = Jobs::<Q>::new(alloc, new)?;
     let mut back = 0u32;
     for serial in 0..300 {
         let (after, answer) = jobs.put(rt, pass, Job::Timer { serial });
@@ -88,7 +81,7 @@ fn filled<Q: QueueName, R: Wait>(
 
 #[test]
 fn jobs_are_taken_in_their_order(rt: HostRuntime) -> Result<(), Fail> {
-    let (back, taken) = filled::<Brand, HostRuntime>(&rt, rt.alloc(), NewJobs::new(rt.alloc())?)?;
+    let (back, taken) = filled::<Brand, HostRuntime>(&rt, rt.alloc(), NewHistory::new())?;
     assert_eq!(rt; back, 256, "what comes back");
     assert_eq!(rt; taken.len(), CAPACITY);
     for (place, serial) in (0_u32..).zip(taken.as_slice()) {
@@ -97,8 +90,42 @@ fn jobs_are_taken_in_their_order(rt: HostRuntime) -> Result<(), Fail> {
     Ok(())
 }
 
+/// Whether a job of another lane has room beside 256 timers, and whether it is one of its lane.
+fn has_room_beside<Q: Run, R: Wait>(
+    rt: &R,
+    alloc: Global,
+    new: NewHistory<Step>,
+) -> Result<(bool, bool), Fail>
+    requires { new.seen.book ≡ Q.book }
+{
+    let (jobs, mut pass) = Jobs::<Q>::new(alloc, new)?;
+    for serial in 0..256 {
+        let (after, _) = jobs.put(rt, pass, Job::Timer { serial });
+        pass = after;
+    }
+    let (_, other) = jobs.put(rt, pass, purge(alloc));
+    Ok((other.is_ok(), purge(alloc).lane() == Lane::Purges))
+}
+
+/// A datagram of the master.
+fn purge(alloc: Global) -> Job {
+    Job::Datagram {
+        sender: Sender::Master,
+        udp: Udp::Htcp,
+        from: Address { ip: 1, port: 1 },
+        octets: Vec::new(alloc),
+    }
+}
+
+#[test]
+fn a_lane_that_is_full_drops_no_job_of_another(rt: HostRuntime) -> Result<(), Fail> {
+    let seen = has_room_beside::<Brand, HostRuntime>(&rt, rt.alloc(), NewHistory::new())?;
+    assert!(rt; seen == (true, true));
+    Ok(())
+}
+
 /// A worker that takes jobs until there is none, in a thread of its own.
-fn start<Q: QueueName + Send + Sync + 'static, R: Threads + Wait + Copy + Send + 'static>(
+fn start<Q: Run + Send + Sync + 'static, R: Threads + Wait + Copy + Send + 'static>(
     rt: R,
     jobs: Arc<Jobs<Q>, Global>,
     pass: Pass<Q>,
@@ -107,15 +134,15 @@ fn start<Q: QueueName + Send + Sync + 'static, R: Threads + Wait + Copy + Send +
 }
 
 /// How many timers two passes put, and their serials in all, as a thread and this one took them.
-fn relayed<Q: QueueName + Send + Sync + 'static, R: Threads + Wait + Copy + Sync + Send + 'static>(
+fn relayed<Q: Run + Send + Sync + 'static, R: Threads + Wait + Copy + Sync + Send + 'static>(
     rt: R,
     alloc: Global,
-    new: NewJobs,
+    new: NewHistory<Step>,
     counts: (u32, u32),
 ) -> Option<(u64, u64)>
-    requires { new ≡ Q.table }
+    requires { new.seen.book ≡ Q.book }
 {
-    let (jobs, pass) = new.name::<Q>();
+    let (jobs, pass) = Jobs::<Q>::new(alloc, new).ok()?;
     let jobs = Arc::new(alloc, jobs).ok()?;
     let (pass, other) = jobs.split(&rt, pass);
     let (pass, worker) = jobs.split(&rt, pass);
@@ -131,7 +158,7 @@ fn relayed<Q: QueueName + Send + Sync + 'static, R: Threads + Wait + Copy + Sync
 
 #[test]
 fn each_job_is_taken_once(rt: HostRuntime) -> Result<(), Fail> {
-    let new = NewJobs::new(rt.alloc())?;
+    let new = NewHistory::new();
     let taken = relayed::<Brand, HostRuntime>(rt, rt.alloc(), new, (100, 50));
     assert!(rt; taken == Some((150, 4950 + 1225)));
     Ok(())

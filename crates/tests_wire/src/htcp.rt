@@ -2,8 +2,8 @@ use htcp_wire::HtcpFault::{
     self, BadAuth, BadData, BadLength, BadMajor, BadNumber, BadString, Short,
 };
 use htcp_wire::{
-    Content, Detail, HeaderKind, Htcp, Specifier, decode, encode, fits, grammar_is_exact,
-    lines_are_exact, number_in, written_is_spelled,
+    Content, Detail, HeaderKind, Htcp, Specifier, decode, decoded_is_exact, encode, fits,
+    grammar_is_exact, lines_are_exact, number_in, written_is_spelled,
 };
 use std::alloc::Global;
 use std::process::Abort;
@@ -743,6 +743,7 @@ fn numbers(rt: HostRuntime) {
 #[test]
 fn laws() {
     grammar_is_exact();
+    decoded_is_exact();
     lines_are_exact();
     written_is_spelled();
 }

@@ -1,4 +1,7 @@
-use icp_wire::{Icp, IcpFault, IcpOp, decode, encode, fits, grammar_is_exact, written_is_spelled};
+use icp_wire::{
+    Icp, IcpFault, IcpOp, decode, decoded_is_exact, encode, fits, grammar_is_exact,
+    written_is_spelled,
+};
 use std::alloc::Global;
 use std::process::Abort;
 use values_plain::Octets;
@@ -432,5 +435,6 @@ fn changed_octets(rt: HostRuntime) {
 #[test]
 fn laws() {
     grammar_is_exact();
+    decoded_is_exact();
     written_is_spelled();
 }

@@ -9,3 +9,5 @@ mod htcp;
 mod icp;
 #[cfg(test)]
 mod octets;
+#[cfg(test)]
+mod questions;

@@ -1,6 +1,8 @@
 //! What the tests have in common: a roster, and the messages of its master.
-use htcp_wire::Content;
-use node_rules::{Event, Message, Received, Reply, can_be_answered};
+use htcp_wire::{Content, Htcp, encode, fits};
+use node_bytes::event_of;
+use node_rules::{Event, Message, Reply};
+use roster::Udp;
 use std::alloc::Global;
 use std::test::Fail;
 use tests_kit::{address_at, clear_of};
@@ -35,22 +37,22 @@ connect = 8080
 ";
 
 /// A message that comes from the master.
-fn came(message: Message) -> Result<Event<()>, Fail> {
-    if can_be_answered(&message) {
-        Ok(Event::Datagram {
-            from: address_at(4800),
-            message: Received::new(message),
-            now: 0,
-        })
-    } else {
-        Err("no answer has a text".into())
+fn came(alloc: Global, message: &Htcp) -> Result<Event<()>, Fail> {
+    if !fits(message) {
+        return Err("the message does not fit a datagram".into());
+    }
+    let Ok(octets) = encode(alloc, message) else {
+        return Err("no memory".into());
+    };
+    match event_of(alloc, Udp::Htcp, address_at(4800), octets.as_slice(), 0)? {
+        Some(event) => Ok(event),
+        None => Err("the octets spell no message".into()),
     }
 }
 
 /// The master's CLR of a URL under this number (RFC 2756, "CLR").
 pub(crate) fn purge(alloc: Global, url: &str, number: u32) -> Result<Event<()>, Fail> {
-    let clear = clear_of(alloc, url.as_bytes(), number)?;
-    came(Message::Htcp(clear))
+    came(alloc, &clear_of(alloc, url.as_bytes(), number)?)
 }
 
 /// What a node answers to a CLR: the code of its answer.

@@ -2,12 +2,14 @@
 use hierarchy_world::{Datagram, World};
 use htcp_wire::Content;
 use icp_wire::IcpOp;
-use node_rules::{Message, Received, Serve, Served, can_be_answered};
+use node_bytes::encode;
+use node_rules::{Message, Sent, Serve, Served, fits};
 use purge_rules::Status;
 use roster::Address;
 use std::alloc::Global;
 use std::test::Fail;
 use tests_kit::{FOREIGN, ONE, answer_of, ask_of, clear_of, icp_of, key_of, roster_of};
+use values_plain::Octets;
 use world_rules::{Outcome, WorldEvent, WorldFault};
 
 /// 127.0.0.1.
@@ -32,6 +34,8 @@ enum Happens {
     Hit,
     /// A CLR under the number 7 comes from this address and port.
     Clear(u32, u16),
+    /// These octets come from the stranger to this port of the first member's host.
+    Octets(u16, &'static [u8]),
     /// A purge is issued.
     Issue,
     /// The datagram of this number comes.
@@ -108,6 +112,50 @@ const STRANGERS: &[Step] = &[
         Ok(Told {
             page: Some(Page {
                 mark: 2,
+                ..THE_PAGE
+            }),
+            ..NOTHING
+        }),
+    ),
+];
+
+/// A QUERY (RFC 2186, "ICP_OP_QUERY"): opcode 1, version 2, 35 octets, number 7, and the URL behind five unused fields.
+const QUERY: &[u8] =
+    b"\x01\x02\x00\x23\x00\x00\x00\x07\0\0\0\0\0\0\0\0\0\0\0\0\0\0\0\0http://o/a\0";
+
+/// The same with version 3.
+const QUERY_3: &[u8] =
+    b"\x01\x03\x00\x23\x00\x00\x00\x07\0\0\0\0\0\0\0\0\0\0\0\0\0\0\0\0http://o/a\0";
+
+/// Octets that are no message by the protocol of their port change nothing, and have a place; a QUERY is answered. None comes to the master, or to a port of
+/// nobody.
+const NOISE: &[Step] = &[
+    (Happens::Octets(3101, b""), Ok(NOTHING)),
+    (Happens::Octets(4101, b"\0\x0d"), Ok(NOTHING)),
+    (Happens::Octets(3101, QUERY_3), Ok(NOTHING)),
+    (Happens::Octets(4101, QUERY), Ok(NOTHING)),
+    (Happens::Octets(4800, QUERY), Err(WorldFault::NoSuchPacket)),
+    (Happens::Octets(3109, QUERY), Err(WorldFault::NoSuchPacket)),
+    (
+        Happens::Octets(3101, QUERY),
+        Ok(Told {
+            sent: 1,
+            last: 1,
+            ..NOTHING
+        }),
+    ),
+    (
+        Happens::Client,
+        Ok(Told {
+            read: Some(33),
+            ..NOTHING
+        }),
+    ),
+    (
+        Happens::Origin,
+        Ok(Told {
+            page: Some(Page {
+                mark: 6,
                 ..THE_PAGE
             }),
             ..NOTHING
@@ -196,16 +244,20 @@ const WRONG: &[Step] = &[
     ),
 ];
 
-/// A datagram comes from this address to this port of the first member.
-fn strange(to: u16, ip: u32, port: u16, message: Message) -> Result<WorldEvent, Fail> {
-    if !can_be_answered(&message) {
-        return Err("no answer has a text".into());
-    }
-    Ok(WorldEvent::Strange {
+/// Octets come from this address to this port of the first member.
+fn strange(to: u16, ip: u32, port: u16, octets: Octets) -> WorldEvent {
+    WorldEvent::Strange {
         to: Address { ip: HOST, port: to },
         from: Address { ip, port },
-        message: Received::new(message),
-    })
+        octets,
+    }
+}
+
+fn octets_of(alloc: Global, message: Message) -> Result<Octets, Fail> {
+    if !fits(&message) {
+        return Err("the message does not fit a datagram".into());
+    }
+    Ok(Octets::from_vec(encode(alloc, &Sent::new(message))?))
 }
 
 fn event_of(alloc: Global, happens: Happens) -> Result<WorldEvent, Fail> {
@@ -226,11 +278,14 @@ fn event_of(alloc: Global, happens: Happens) -> Result<WorldEvent, Fail> {
         }),
         Happens::Hit => {
             let hit = icp_of(alloc, IcpOp::Hit, 32, URL)?;
-            strange(3101, HOST, 3201, Message::Icp(hit))
+            Ok(strange(3101, HOST, 3201, octets_of(alloc, Message::Icp(hit))?))
         }
         Happens::Clear(ip, port) => {
             let clear = clear_of(alloc, URL, 7)?;
-            strange(4101, ip, port, Message::Htcp(clear))
+            Ok(strange(4101, ip, port, octets_of(alloc, Message::Htcp(clear))?))
+        }
+        Happens::Octets(to, octets) => {
+            Ok(strange(to, STRANGER, 9, Octets::from_slice(alloc, octets)?))
         }
         Happens::Issue => Ok(WorldEvent::Issue {
             key: key_of(alloc, URL)?,
@@ -374,6 +429,8 @@ fn fault_in_list(alloc: Global, steps: &[Step]) -> Result<Option<WorldFault>, Fa
 fn strangers_foreign_caches_and_lists(rt: HostRuntime) -> Result<(), Fail> {
     let other = other_in(rt.alloc(), ONE, STRANGERS, true)?;
     assert!(rt; other.is_none(), "strangers: {other:?}");
+    let other = other_in(rt.alloc(), ONE, NOISE, false)?;
+    assert!(rt; other.is_none(), "octets: {other:?}");
     let other = other_in(rt.alloc(), FOREIGN, FOREIGN_ANSWERS, false)?;
     assert!(rt; other.is_none(), "a foreign cache: {other:?}");
     let other = other_in_list(rt.alloc())?;

@@ -12,7 +12,8 @@ keys_of_cache = codes "id" ∷ codes "name" ∷ codes "address" ∷ codes "http"
 -- the keys of each kind of table
 abbrev pub keys_of : TableKind → List (List ℕ)
 keys_of Top = codes "default_lifetime" ∷ codes "copies" ∷ codes "bytes" ∷ codes "query_wait"
-    ∷ codes "master" ∷ codes "node" ∷ codes "foreign" ∷ codes "origin" ∷ []
+    ∷ codes "answer_wait" ∷ codes "fetch_wait" ∷ codes "ask_wait" ∷ codes "fetches_per_address"
+    ∷ codes "clients_per_address" ∷ codes "master" ∷ codes "node" ∷ codes "foreign" ∷ codes "origin" ∷ []
 keys_of Master = codes "address" ∷ codes "htcp" ∷ []
 keys_of Node = codes "peer" ∷ keys_of_cache
 keys_of Peer = codes "id" ∷ codes "role" ∷ codes "by" ∷ []

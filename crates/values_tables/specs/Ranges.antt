@@ -67,10 +67,13 @@ abbrev pub is_origin : Origin → Bool
 is_origin o = is_host o.host && is_port o.port && is_port o.connect.port
 
 -- the limits: a default lifetime of at most 2147483648 seconds, 1 to 65,536 copies, 1 to
--- 1,073,741,824 octets, and 1 to 60,000 milliseconds of waiting for peers
+-- 1,073,741,824 octets; 1 to 60,000 milliseconds for the replies of peers, for a response and for a
+-- fetch, and 1 to 600,000 for a request; 1 to 1,024 connections to an address and from one
 abbrev pub are_limits : Limits → Bool
 are_limits l = nat_le l.default_lifetime 2147483648 && is_between 1 65536 l.copies
     && is_between 1 1073741824 l.bytes && is_between 1 60000 l.query_wait
+    && is_between 1 60000 l.answer_wait && is_between 1 60000 l.fetch_wait && is_between 1 600000 l.ask_wait
+    && is_between 1 1024 l.fetches_per_address && is_between 1 1024 l.clients_per_address
 
 -- everything is in its range, and there is at least one member
 abbrev pub are_tables : Tables → Bool

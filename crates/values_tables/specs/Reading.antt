@@ -48,6 +48,15 @@ text_in _ = None
 abbrev pub number : ℕ → ℕ → List ℕ → Members → Option ℕ
 number low high key ms = natural_in (get_member key ms) >>= checked (is_between low high)
 
+-- what was given, where there is a value; else what is usual
+abbrev pub given_or : ℕ → Option ℕ → Option Data → Option ℕ
+given_or usual given None = Some usual
+given_or usual given (Some d) = given
+
+-- the number at a key, in a range; the usual one where there is no such key
+abbrev pub number_or : ℕ → ℕ → ℕ → List ℕ → Members → Option ℕ
+number_or low high usual key ms = given_or usual (number low high key ms) (get_member key ms)
+
 -- the port at a key, 1 to 65535
 abbrev pub port : List ℕ → Members → Option ℕ
 port = number 1 65535
@@ -169,7 +178,22 @@ limits_of ms = do
   copies ← number 1 65536 (codes "copies") ms
   bytes ← number 1 1073741824 (codes "bytes") ms
   query_wait ← number 1 60000 (codes "query_wait") ms
-  Some (record { default_lifetime = default_lifetime; copies = copies; bytes = bytes; query_wait = query_wait })
+  answer_wait ← number_or 1 60000 5000 (codes "answer_wait") ms
+  fetch_wait ← number_or 1 60000 5000 (codes "fetch_wait") ms
+  ask_wait ← number_or 1 600000 15000 (codes "ask_wait") ms
+  fetches_per_address ← number_or 1 1024 64 (codes "fetches_per_address") ms
+  clients_per_address ← number_or 1 1024 128 (codes "clients_per_address") ms
+  Some (record {
+    default_lifetime = default_lifetime;
+    copies = copies;
+    bytes = bytes;
+    query_wait = query_wait;
+    answer_wait = answer_wait;
+    fetch_wait = fetch_wait;
+    ask_wait = ask_wait;
+    fetches_per_address = fetches_per_address;
+    clients_per_address = clients_per_address;
+  })
 
 -- the members, at least one
 abbrev pub members_of : Members → Option (List Member)

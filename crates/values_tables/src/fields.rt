@@ -6,7 +6,7 @@ ghost use Rattle.toml.specs.View.{view, table_view};
 ghost use Rattle.values_tables.specs.Fault.{IsFieldFault};
 ghost use Rattle.values_tables.specs.Keys.{keys_of, has_only as has_only_keys, is_among};
 ghost use Rattle.values_tables.specs.Ranges.{is_between, is_port, is_name_letter as is_letter_of_name, is_host_letter as is_letter_of_host, is_name as is_name_text, is_host as is_host_text};
-ghost use Rattle.values_tables.specs.Reading.{natural_in, natural_of, text_in, ip_value, port as port_at, role_of, udp_of, number as number_within, ip_of as ip_of_text, ip as ip_in, text as text_where, table_in};
+ghost use Rattle.values_tables.specs.Reading.{natural_in, natural_of, text_in, ip_value, port as port_at, role_of, udp_of, number as number_within, number_or as number_within_or, ip_of as ip_of_text, ip as ip_in, text as text_where, table_in};
 
 use crate::{Role, TablesFault, TextPlace};
 use std::alloc::Global;
@@ -69,6 +69,27 @@ pub(crate) fn number(
     match natural_at(table, key) {
         Some(number) if low <= number && number <= high => Ok(number),
         _ => Err(place.fault_at(key)),
+    }
+}
+
+/// The number at a key, from `range.0` to `range.1`; `usual` where the table has no such key.
+pub(crate) fn number_or(
+    table: &Table,
+    key: &'static str,
+    range: (u64, u64),
+    usual: u64,
+    place: TextPlace,
+) -> Result<u64, TablesFault>
+    requires { is_between range.0 range.1 usual ≡ true }
+    ensures { MatchResult result
+        (λ n. (number_within_or range.0 range.1 usual key.now (table_view table.now) ≡ Some n)
+        × (is_between range.0 range.1 n ≡ true))
+        (λ fault. IsFieldFault fault (number_within_or range.0 range.1 usual key.now
+        (table_view table.now) ≡ None)) }
+{
+    match value_at(table, key) {
+        None => Ok(usual),
+        Some(_) => number(table, key, range.0, range.1, place),
     }
 }
 

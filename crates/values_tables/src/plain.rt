@@ -91,6 +91,21 @@ pub struct Limits {
     pub bytes: u64,
     /// How long a node waits for replies of its peers, 1 to 60,000 milliseconds.
     pub query_wait: u64,
+    /// How long a client may take for its whole response at any rate, 1 to 60,000 milliseconds;
+    /// after that it has to take 1,024 octets a second. 5,000 unless the roster says otherwise.
+    pub answer_wait: u64,
+    /// How long a fetch may take, from the moment at which it connects, 1 to 60,000 milliseconds.
+    /// 5,000 unless the roster says otherwise.
+    pub fetch_wait: u64,
+    /// How long a request may take, with all its queries and fetches, 1 to 600,000 milliseconds.
+    /// 15,000 unless the roster says otherwise.
+    pub ask_wait: u64,
+    /// How many connections a node opens to one address at once, 1 to 1,024. 64 unless the roster
+    /// says otherwise.
+    pub fetches_per_address: u64,
+    /// How many connections from one address wait at a node for their requests to come, 1 to
+    /// 1,024. 128 unless the roster says otherwise.
+    pub clients_per_address: u64,
 }
 
 /// What the text of a roster says.

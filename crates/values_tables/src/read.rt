@@ -9,7 +9,7 @@ ghost use Rattle.values_tables.specs.Ranges.{are_limits, are_tables, is_port, is
 ghost use Rattle.values_tables.specs.Reading.{tables_of as tables_in_document, tables_in, master_of, limits_of, members_of};
 
 use crate::entries::{known_table, read_list, table_of};
-use crate::fields::{ip, number, port, value_at};
+use crate::fields::{ip, number, number_or, port, value_at};
 use crate::{Limits, Member, TableKind, Tables, TablesFault, TextPlace};
 use std::alloc::Global;
 use toml::Table;
@@ -80,11 +80,21 @@ fn limits(table: &Table, place: TextPlace) -> Result<Limits, TablesFault>
     let copies = number(table, "copies", 1, 65536, place)?;
     let bytes = number(table, "bytes", 1, 1073741824, place)?;
     let query_wait = number(table, "query_wait", 1, 60000, place)?;
+    let answer_wait = number_or(table, "answer_wait", (1, 60000), 5000, place)?;
+    let fetch_wait = number_or(table, "fetch_wait", (1, 60000), 5000, place)?;
+    let ask_wait = number_or(table, "ask_wait", (1, 600000), 15000, place)?;
+    let fetches_per_address = number_or(table, "fetches_per_address", (1, 1024), 64, place)?;
+    let clients_per_address = number_or(table, "clients_per_address", (1, 1024), 128, place)?;
     Ok(Limits {
         default_lifetime,
         copies,
         bytes,
         query_wait,
+        answer_wait,
+        fetch_wait,
+        ask_wait,
+        fetches_per_address,
+        clients_per_address,
     })
 }
 

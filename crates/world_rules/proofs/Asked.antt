@@ -1,9 +1,9 @@
--- Each step of a node answers what was requested, with its age. The proof goes over the rules of a
--- node, in the order of node_rules: each serves the request that it was given, and keeps those that
--- wait.
-use Rattle.std.proofs.Common.{◌≡◌, ℕ, ◌+◌, ◌≤◌, Bool, true, false, not, ◌&&◌, ◌||◌, List, [], ◌∷◌, ◌++◌, find, Option, Some, None, Result, Ok, Err, refl, sym, ◌∙◌, ap, subst, nat_le, nat_eq, inl, inr, arith}
+-- Each step of a node answers what was requested, with its age, and a new request gets a block that
+-- is free. The proof goes over the rules of a node, in the order of node_rules: each serves the
+-- request that it was given, and keeps those that wait.
+use Rattle.std.proofs.Common.{◌≡◌, ◌≢◌, ℕ, ◌+◌, ◌*◌, ◌/◌, Bool, true, false, not, ◌&&◌, ◌||◌, List, [], ◌∷◌, ◌++◌, find, Option, Some, None, Result, Ok, Err, refl, sym, ◌∙◌, ap, subst, nat_le, nat_eq, inl, inr, arith}
 use Rattle.std.specs.List.{AllByRecursion, Contains}
-use Rattle.std.proofs.lemmas.Option.{cond_some}
+use Rattle.std.proofs.lemmas.Option.{cond_some, none-some}
 use Rattle.icp_wire.specs.declared.message.IcpOp.{IcpOp}
 use Rattle.icp_wire.specs.declared.message.IcpOp.TheVariants as op
 use Rattle.icp_wire.specs.declared.message.Icp.{Icp}
@@ -40,16 +40,18 @@ use Rattle.node_rules.specs.declared.reply.StepFault.{StepFault}
 use Rattle.node_rules.specs.Known.{has_origin, is_known}
 use Rattle.node_rules.specs.State.{Setting, Stepped, replies, refuses, quiet, ending, changing, is_idle, is_of_block, is_good, if_good, good_copy, served_age}
 use Rattle.node_rules.specs.Fetching.{fetching, ask_peer, begin_read, read_origin, go_to, go_on}
-use Rattle.node_rules.specs.Asks.{new_ask, is_cached_only, is_busy, takes_block, begin_round, ask_around, begin_ask, not_held, by_copy, copy_for, ask_comes}
+use Rattle.node_rules.specs.Asks.{free_block, taking, new_ask, is_cached_only, begin_round, begin_with_read, ask_around, begin_ask, begin_if_free, not_held, by_copy, copy_for, ask_comes}
 use Rattle.node_rules.specs.Arrivals.{new_copy, not_fetching, with_round, use_answer, try_on, is_gateway_fault, peer_gave, origin_gave, from_peer, peer_answer_to, peer_answer, foreign_answer, from_origin, origin_answer_to, origin_answer, fails, failure_of, fetch_failed, round_moves, expires, expiry_of, round_expired}
 use Rattle.node_rules.specs.Datagrams.{is_full, purged, if_desired, icp_query, htcp_tst, hears, told_by, told_to, icp_told, htcp_told, purge, numbered_clr, dropped, plain_clr, clr_by_line, htcp_clr, icp_comes, tst_refused, htcp_comes, datagram}
 use Rattle.node_rules.specs.Step.{open_step, step_if, step}
 use Rattle.node_rules.specs.Relation.{Steps, Closes, ClosesOn, purge_in}
-use Rattle.node_rules.proofs.Cases.{branches, unless_refused, true_not_false}
+use Rattle.node_rules.proofs.Cases.{branches, unless_refused, same_Some}
 use Rattle.node_rules.proofs.FloorLaws.{same_text}
-use Rattle.node_rules.proofs.Pendings.{all_mapped, all_joined, all_contained, found, found_passes, all_changed, all_left}
+use Rattle.node_rules.proofs.Pendings.{all_mapped, all_contained, found, found_passes, all_changed, all_left}
+use Rattle.node_rules.proofs.Blocks.{all_inserted, free_is_free}
 use Rattle.node_rules.proofs.Stepping.{steps_case, closing_closes}
-use Rattle.world_rules.specs.Asked.{moment, Asks, Waits, IsAskAfter, IsFor, ServesRightly, AnswersAsks}
+use Rattle.world_rules.specs.World.{reply_in}
+use Rattle.world_rules.specs.Asked.{moment, Asks, Waits, block_begun, IsAskAfter, IsFor, ServesRightly, AnswersAsks}
 
 -- a copy that is chosen for a request is of its key
 good_key : {X : Type 0} (floor now : ℕ) (o : Option (WebCopy X)) (c : WebCopy X) → if_good floor now o ≡ Some c → o ≡ Some c
@@ -61,42 +63,53 @@ copy_key s ask now c e =
     let good : good_copy s ask.key now ≡ Some c = unless_refused ask.no_cache (good_copy s ask.key now) c e in
     same_text c.key ask.key (found_passes (is_of ask.key) s.copies c (good_key (floor s.floors ask.key) now (copy_of ask.key s.copies) c good))
 
+-- The block of a new request
+
+round_block : (block : ℕ) → (32 * block) / 32 ≡ block
+round_block block = omega arith
+
+read_block : (block : ℕ) → (32 * block + (0 + 1)) / 32 ≡ block
+read_block block = omega arith
+
+-- all but the block that a new request gets
+module _ {X : Type 0} (s : NodeState X) (e : Event X) where
+  pub record AnswersSome (outcome : Result (Reply X) StepFault) (next : NodeState X) : Type 0 where
+    pub asks : AllByRecursion (IsAskAfter s e outcome) next.pending
+    pub opens : next.closed ≡ false → s.closed ≡ false
+    pub serves : ServesRightly s e outcome
+
 module _ {X : Type 0} (g : Setting) (s : NodeState X) (e : Event X) (mark : X) (is_open : s.closed ≡ false) where
   abbrev pub Answers : Stepped X → Type 0
-  Answers r = AnswersAsks s e r.outcome r.state
+  Answers r = AnswersSome s e r.outcome r.state
 
-  -- what holds of the requests that wait in a state that rules have led to
+  abbrev pub HasWaited : Pending X → Type 0
+  HasWaited p = Waits s p.block p.asker p.ask
+
+  -- the requests that wait in a state that rules have led to waited before
   abbrev pub GoesOn : NodeState X → Type 0
-  GoesOn t = AllByRecursion (IsAskAfter s e t.next) t.pending × (s.next ≤ t.next)
+  GoesOn t = AllByRecursion HasWaited t.pending
 
   plainly : (t : NodeState X) (outcome : Result (Reply X) StepFault) → GoesOn t → ServesRightly s e outcome → Answers record { state = t; outcome = outcome }
-  plainly t outcome on serves = record { asks = on.0; blocks = λ _. (is_open, on.1); serves = serves }
+  plainly t outcome on serves =
+      record { asks = all_mapped HasWaited (IsAskAfter s e outcome) (λ p h. inl h) t.pending on; opens = λ _. is_open; serves = serves }
 
   ended_so : (t : NodeState X) (block : ℕ) (outcome : Result (Reply X) StepFault) → GoesOn t → ServesRightly s e outcome →
       Answers record { state = ending t block; outcome = outcome }
-  ended_so t block outcome on serves = plainly (ending t block) outcome (all_left (IsAskAfter s e t.next) (λ q. not (is_of_block block q)) t.pending on.0, on.1)
-      serves
+  ended_so t block outcome on serves = plainly (ending t block) outcome (all_left HasWaited (λ q. not (is_of_block block q)) t.pending on) serves
 
-  changed_so : (t : NodeState X) (p : Pending X) (outcome : Result (Reply X) StepFault) → GoesOn t → IsAskAfter s e t.next p → ServesRightly s e outcome →
+  changed_so : (t : NodeState X) (p : Pending X) (outcome : Result (Reply X) StepFault) → GoesOn t → HasWaited p → ServesRightly s e outcome →
       Answers record { state = changing t p; outcome = outcome }
-  changed_so t p outcome on is serves = plainly (changing t p) outcome (all_changed (IsAskAfter s e t.next) (is_of_block p.block) p t.pending is on.0, on.1)
-      serves
+  changed_so t p outcome on is serves = plainly (changing t p) outcome (all_changed HasWaited (is_of_block p.block) p t.pending is on) serves
 
-  was_waiting : (p : Pending X) → Contains s.pending p → Waits s p.block p.asker p.ask
+  was_waiting : (p : Pending X) → Contains s.pending p → HasWaited p
   was_waiting p has = record { was = p; waits = has; block_same = refl; asker_same = refl; ask_same = refl }
 
-  was_asked : (next : ℕ) (p : Pending X) → Contains s.pending p → IsAskAfter s e next p
-  was_asked next p has = inl (was_waiting p has)
-
   -- a request that waits is served as its block
-  waits_served : (p : Pending X) → Waits s p.block p.asker p.ask → (key : List ℕ) × IsFor s e (Some p.block) p.asker key
+  waits_served : (p : Pending X) → HasWaited p → (key : List ℕ) × IsFor s e (Some p.block) p.asker key
   waits_served p w = (p.ask.key, (w.was, w.waits, w.block_same, w.asker_same, ap (λ (a : Ask). a.key) w.ask_same))
 
-  all_asked : (next : ℕ) → AllByRecursion (IsAskAfter s e next) s.pending
-  all_asked next = all_mapped (Contains s.pending) (IsAskAfter s e next) (was_asked next) s.pending (all_contained s.pending)
-
   here : GoesOn s
-  here = (all_asked s.next, omega arith)
+  here = all_mapped (Contains s.pending) HasWaited was_waiting s.pending (all_contained s.pending)
 
   silent : Answers (replies s quiet)
   silent = plainly s _ here tt
@@ -106,19 +119,18 @@ module _ {X : Type 0} (g : Setting) (s : NodeState X) (e : Event X) (mark : X) (
 
   -- Going on
 
-  read_origin_answers : (t : NodeState X) → GoesOn t → (p : Pending X) → IsAskAfter s e t.next p → (waiter : Option ℕ) →
-      ((key : List ℕ) × IsFor s e waiter p.asker key) → (now : ℕ) → Answers (read_origin g t p waiter now mark)
+  read_origin_answers : (t : NodeState X) → GoesOn t → (p : Pending X) → HasWaited p → (now : ℕ) → Answers (read_origin g t p (Some p.block) now mark)
   unfolding read_origin begin_read
-  read_origin_answers t on p is waiter serves now =
-      branches Answers (nat_le 3 p.reads) _ _ (λ _. ended_so t p.block _ on serves)
+  read_origin_answers t on p is now =
+      branches Answers (nat_le 3 p.reads) _ _ (λ _. ended_so t p.block _ on (waits_served p is))
       (λ _. branches Answers (has_origin g.roster p.ask.key) _ _ (λ _. changed_so t (fetching p (p.reads + 1) (AtOrigin (seen t.floors) now mark)) _ on is tt)
-      (λ _. ended_so t p.block _ on serves))
+      (λ _. ended_so t p.block _ on (waits_served p is)))
 
   go_to_answers : (t : NodeState X) → GoesOn t → (p : Pending X) → Waits s p.block p.asker p.ask → (now : ℕ) (to : Source) → Answers (go_to g t p now mark to)
   unfolding go_to ask_peer
-  go_to_answers t on p waits now source.Wait = changed_so t p _ on (inl waits) tt
-  go_to_answers t on p waits now (source.Peer peer cached) = changed_so t (fetching p p.reads (AtPeer peer now)) _ on (inl waits) tt
-  go_to_answers t on p waits now source.Origin = read_origin_answers t on p (inl waits) (Some p.block) (waits_served p waits) now
+  go_to_answers t on p waits now source.Wait = changed_so t p _ on waits tt
+  go_to_answers t on p waits now (source.Peer peer cached) = changed_so t (fetching p p.reads (AtPeer peer now)) _ on waits tt
+  go_to_answers t on p waits now source.Origin = read_origin_answers t on p waits now
 
   go_on_answers : (t : NodeState X) → GoesOn t → (p : Pending X) → Waits s p.block p.asker p.ask → (now : ℕ) → Answers (go_on g t p now mark)
   unfolding go_on
@@ -127,23 +139,33 @@ module _ {X : Type 0} (g : Setting) (s : NodeState X) (e : Event X) (mark : X) (
   -- Requests
 
   module _ (asker : Option ℕ) (ask : Ask) (now : ℕ) (asks : Asks e asker ask) (at : now ≡ moment e) where
-    new_is : (round : Option RoundText) → IsAskAfter s e (s.next + 1) (new_ask s.next asker ask round)
-    new_is round = inr (refl, omega arith, asks)
+    -- a new request waits, with the block of what begins
+    waits_too : (p : Pending X) (outcome : Result (Reply X) StepFault) → block_begun (reply_in outcome).begin ≡ Some p.block → Asks e p.asker p.ask →
+        ServesRightly s e outcome → Answers record { state = taking s p; outcome = outcome }
+    waits_too p outcome begins is serves = record {
+      asks = all_inserted (IsAskAfter s e outcome) p s.pending (inr (begins, is))
+          (all_mapped HasWaited (IsAskAfter s e outcome) (λ q h. inl h) s.pending here);
+      opens = λ _. is_open;
+      serves = serves;
+    }
 
-    one_more : (round : Option RoundText) → AllByRecursion (IsAskAfter s e (s.next + 1)) (s.pending ++ new_ask s.next asker ask round ∷ [])
-    one_more round = all_joined (IsAskAfter s e (s.next + 1)) s.pending (new_ask s.next asker ask round ∷ []) (all_asked (s.next + 1)) (new_is round, tt)
+    ask_around_answers : (block : ℕ) (round : RoundText) (peers : List Peer) → Answers (ask_around g s asker ask block now mark round peers)
+    unfolding ask_around begin_round begin_with_read
+    ask_around_answers block round [] =
+        branches Answers (has_origin g.roster ask.key) _ _
+        (λ _. waits_too (fetching (new_ask block asker ask None) 1 (AtOrigin (seen s.floors) now mark)) _ (ap Some (read_block block)) asks tt)
+        (λ _. plainly s _ here (ask.key, (ask, asks, refl)))
+    ask_around_answers block round (p ∷ peers) = waits_too (new_ask block asker ask (Some round)) _ (ap Some (round_block block)) asks tt
 
-    ask_around_answers : (round : RoundText) (peers : List Peer) → Answers (ask_around g (takes_block s) asker ask s.next now mark round peers)
-    unfolding ask_around begin_round
-    ask_around_answers round [] = read_origin_answers _ (one_more None, omega arith) (new_ask s.next asker ask None) (new_is None) None
-        (ask.key, (ask, asks, refl)) now
-    ask_around_answers round (p ∷ peers) = plainly _ _ (one_more (Some round), omega arith) tt
+    begin_if_free_answers : (o : Option ℕ) → Answers (begin_if_free g s asker ask now mark o)
+    unfolding begin_if_free begin_ask
+    begin_if_free_answers None = refused _
+    begin_if_free_answers (Some block) = ask_around_answers block _ _
 
     not_held_answers : Answers (not_held g s asker ask now mark)
-    unfolding not_held begin_ask
+    unfolding not_held
     not_held_answers =
-        branches Answers (is_cached_only g asker ask) _ _ (λ _. plainly s _ here (ask.key, (ask, asks, refl)))
-        (λ _. branches Answers (is_busy s) _ _ (λ _. refused _) (λ _. ask_around_answers _ _))
+        branches Answers (is_cached_only g asker ask) _ _ (λ _. plainly s _ here (ask.key, (ask, asks, refl))) (λ _. begin_if_free_answers _)
 
     by_copy_answers : (o : Option (WebCopy X)) → ((c : WebCopy X) → o ≡ Some c → c.key ≡ ask.key) → Answers (by_copy g s asker ask now mark o)
     unfolding by_copy
@@ -166,7 +188,7 @@ module _ {X : Type 0} (g : Setting) (s : NodeState X) (e : Event X) (mark : X) (
     use_answer_answers : (stamp asked : ℕ) (answer : AnswerText) (tag : X) → Answers (use_answer g s p stamp asked answer tag now)
     unfolding use_answer
     use_answer_answers stamp asked answer tag =
-        plainly _ _ (all_left (IsAskAfter s e s.next) (λ q. not (is_of_block p.block q)) s.pending here.0, here.1)
+        plainly _ _ (all_left HasWaited (λ q. not (is_of_block p.block q)) s.pending here)
         (ap (served_age (new_copy p.ask.key stamp asked (lifetime answer g.roster.limits.default_lifetime) answer tag)) at, (p, has, refl, refl, refl))
 
     peer_gave_answers : (peer asked stamp : ℕ) (answer : AnswerText) (tag : X) → Answers (peer_gave g s p peer asked stamp answer tag now mark)
@@ -202,7 +224,7 @@ module _ {X : Type 0} (g : Setting) (s : NodeState X) (e : Event X) (mark : X) (
 
     moves_answers : (q : Pending X) → Waits s q.block q.asker q.ask → Answers (round_moves g s q now mark)
     unfolding round_moves
-    moves_answers q waits = branches Answers (is_idle q.fetch) _ _ (λ _. goes_on q waits) (λ _. changed_so s q _ here (inl waits) tt)
+    moves_answers q waits = branches Answers (is_idle q.fetch) _ _ (λ _. goes_on q waits) (λ _. changed_so s q _ here waits tt)
 
     expires_answers : (o : Option RoundText) → Answers (expires g s p now mark o)
     unfolding expires
@@ -317,7 +339,7 @@ module _ {X : Type 0} (g : Setting) (s : NodeState X) (e : Event X) (mark : X) (
 -- The whole step
 
 module _ {X : Type 0} (g : Setting) (s : NodeState X) (mark : X) where
-  open_step_answers : s.closed ≡ false → (e : Event X) → AnswersAsks s e (open_step g s mark e).outcome (open_step g s mark e).state
+  open_step_answers : s.closed ≡ false → (e : Event X) → AnswersSome s e (open_step g s mark e).outcome (open_step g s mark e).state
   unfolding open_step peer_answer foreign_answer origin_answer fetch_failed round_expired
   open_step_answers is_open (event.Client ask now) = ask_comes_answers g s _ mark is_open None ask now (refl, refl) refl
   open_step_answers is_open (event.Datagram from m now) = datagram_answers g s _ mark is_open now refl from m
@@ -332,45 +354,97 @@ module _ {X : Type 0} (g : Setting) (s : NodeState X) (mark : X) where
   open_step_answers is_open (event.FetchFailed serial now) = failure_of_answers g s _ mark is_open now refl _ _ refl
   open_step_answers is_open (event.Expired serial now) = expiry_of_answers g s _ mark is_open now refl _ _ refl
 
-  -- a closed node serves nothing, and what waits there stays
-  closed_answers : (e : Event X) → s.closed ≡ true → (f : StepFault) → AnswersAsks s e (Err f) s
-  closed_answers e is f = record {
-    asks = all_mapped (Contains s.pending) (IsAskAfter s e s.next)
-        (λ p has. inl record { was = p; waits = has; block_same = refl; asker_same = refl; ask_same = refl }) s.pending (all_contained s.pending);
-    blocks = λ is_open. absurd (true_not_false (sym is ∙ is_open));
-    serves = tt;
-  }
+  stay : (e : Event X) (outcome : Result (Reply X) StepFault) → AllByRecursion (IsAskAfter s e outcome) s.pending
+  stay e outcome = all_mapped (Contains s.pending) (IsAskAfter s e outcome)
+      (λ p has. inl record { was = p; waits = has; block_same = refl; asker_same = refl; ask_same = refl }) s.pending (all_contained s.pending)
 
-  step_if_answers : (e : Event X) (closed : Bool) → s.closed ≡ closed → AnswersAsks s e (step_if g s e mark closed).outcome (step_if g s e mark closed).state
+  -- a closed node serves nothing, and what waits there stays
+  closed_answers : (e : Event X) → s.closed ≡ true → (f : StepFault) → AnswersSome s e (Err f) s
+  closed_answers e is f = record { asks = stay e (Err f); opens = λ is_open. is_open; serves = tt }
+
+  step_if_answers : (e : Event X) (closed : Bool) → s.closed ≡ closed → AnswersSome s e (step_if g s e mark closed).outcome (step_if g s e mark closed).state
   unfolding step_if
   step_if_answers e true is = closed_answers e is _
   step_if_answers e false is = open_step_answers is e
 
-  step_answers : (e : Event X) → AnswersAsks s e (step g s e mark).outcome (step g s e mark).state
+  step_answers : (e : Event X) → AnswersSome s e (step g s e mark).outcome (step g s e mark).state
   unfolding step
   step_answers e = step_if_answers e s.closed refl
 
-  same_answers : (e : Event X) (f : StepFault) → AnswersAsks s e (Err f) s
-  same_answers e f = record {
-    asks = all_mapped (Contains s.pending) (IsAskAfter s e s.next)
-        (λ p has. inl record { was = p; waits = has; block_same = refl; asker_same = refl; ask_same = refl }) s.pending (all_contained s.pending);
-    blocks = λ is_open. (is_open, omega arith);
-    serves = tt;
-  }
+  same_answers : (e : Event X) (f : StepFault) → AnswersSome s e (Err f) s
+  same_answers e f = record { asks = stay e (Err f); opens = λ is_open. is_open; serves = tt }
 
-  closing_asks : (e : Event X) (o : Option (List ℕ × ℕ)) (next : NodeState X) → ClosesOn s o next → AllByRecursion (IsAskAfter s e next.next) next.pending
-  closing_asks e None next h = absurd h
-  closing_asks e (Some x) next h = subst (λ pending. AllByRecursion (IsAskAfter s e next.next) pending) (sym h.pending) tt
+  closing_asks : (e : Event X) (f : StepFault) (o : Option (List ℕ × ℕ)) (next : NodeState X) → ClosesOn s o next →
+      AllByRecursion (IsAskAfter s e (Err f)) next.pending
+  closing_asks e f None next h = absurd h
+  closing_asks e f (Some x) next h = subst (λ pending. AllByRecursion (IsAskAfter s e (Err f)) pending) (sym h.pending) tt
 
-  closing_answers : (e : Event X) (next : NodeState X) (f : StepFault) → Closes g s e next → AnswersAsks s e (Err f) next
+  closing_answers : (e : Event X) (next : NodeState X) (f : StepFault) → Closes g s e next → AnswersSome s e (Err f) next
   closing_answers e next f h = record {
-    asks = closing_asks e (purge_in g e) next h.1;
-    blocks = λ is_open. absurd (closing_closes g s e mark (purge_in g e) next h.1 is_open);
+    asks = closing_asks e f (purge_in g e) next h.1;
+    opens = λ is_open. absurd (closing_closes g s e mark (purge_in g e) next h.1 is_open);
     serves = tt;
   }
+
+  some_answers : (e : Event X) (outcome : Result (Reply X) StepFault) (next : NodeState X) → Steps g s e mark outcome next → AnswersSome s e outcome next
+  some_answers e outcome next steps =
+      steps_case g s e mark (λ r. AnswersSome s e r.outcome r.state) (step_answers e) (same_answers e _) (λ n f h. closing_answers e n f h) outcome next steps
+
+  -- The block of a new request is free
+
+  record TakesFree (r : Stepped X) : Type 0 where
+    takes : (block : ℕ) → block_begun (reply_in r.outcome).begin ≡ Some block → AllByRecursion (λ p. p.block ≢ block) s.pending
+
+  nothing : (r : Stepped X) → (reply_in r.outcome).begin ≡ None → TakesFree r
+  nothing r none = record { takes = λ block e. absurd (none-some block (sym (ap block_begun none) ∙ e)) }
+
+  takes_this : (r : Stepped X) (block begun : ℕ) → free_block s ≡ Some block → block_begun (reply_in r.outcome).begin ≡ Some begun → begun ≡ block → TakesFree r
+  takes_this r block begun free begins same = record {
+    takes = λ other e. subst (λ n. AllByRecursion (λ p. p.block ≢ n) s.pending) (sym same ∙ same_Some begun other (sym begins ∙ e)) (free_is_free s block free);
+  }
+
+  around_free : (block : ℕ) → free_block s ≡ Some block → (asker : Option ℕ) (ask : Ask) (now : ℕ) (round : RoundText) (peers : List Peer) →
+      TakesFree (ask_around g s asker ask block now mark round peers)
+  unfolding ask_around begin_round begin_with_read
+  around_free block free asker ask now round [] =
+      branches TakesFree (has_origin g.roster ask.key) _ _ (λ _. takes_this _ block _ free refl (read_block block)) (λ _. nothing _ refl)
+  around_free block free asker ask now round (p ∷ peers) = takes_this _ block _ free refl (round_block block)
+
+  if_free : (asker : Option ℕ) (ask : Ask) (now : ℕ) (o : Option ℕ) → free_block s ≡ o → TakesFree (begin_if_free g s asker ask now mark o)
+  unfolding begin_if_free begin_ask
+  if_free asker ask now None is = nothing _ refl
+  if_free asker ask now (Some block) is = around_free block is asker ask now _ _
+
+  by_copy_free : (asker : Option ℕ) (ask : Ask) (now : ℕ) (o : Option (WebCopy X)) → TakesFree (by_copy g s asker ask now mark o)
+  unfolding by_copy not_held
+  by_copy_free asker ask now None =
+      branches TakesFree (is_cached_only g asker ask) _ _ (λ _. nothing _ refl) (λ _. if_free asker ask now (free_block s) refl)
+  by_copy_free asker ask now (Some c) = nothing _ refl
+
+  asked_free : (e : Event X) (asker : Option ℕ) (ask : Ask) → Asks e asker ask → (closed : Bool) → TakesFree (step_if g s e mark closed)
+  unfolding step_if open_step ask_comes
+  asked_free e asker ask asks true = nothing _ refl
+  asked_free (event.Client own now) asker ask asks false = by_copy_free None own now _
+  asked_free (event.PeerAsk member own now) asker ask asks false = by_copy_free (Some member) own now _
+  asked_free _ asker ask asks false = absurd asks
+
+  step_free : (e : Event X) (asker : Option ℕ) (ask : Ask) → Asks e asker ask → TakesFree (step g s e mark)
+  unfolding step
+  step_free e asker ask asks = asked_free e asker ask asks s.closed
+
+  fresh_by : (e : Event X) (outcome : Result (Reply X) StepFault) (next : NodeState X) (asker : Option ℕ) (ask : Ask) → Asks e asker ask →
+      Steps g s e mark outcome next → TakesFree record { state = next; outcome = outcome }
+  fresh_by e outcome next asker ask asks steps =
+      steps_case g s e mark TakesFree (step_free e asker ask asks) (nothing _ refl) (λ n f h. nothing _ refl) outcome next steps
 
   -- each step of a node answers what was requested
   pub steps_answer_asks : (e : Event X) (outcome : Result (Reply X) StepFault) (next : NodeState X) → Steps g s e mark outcome next →
       AnswersAsks s e outcome next
   steps_answer_asks e outcome next steps =
-      steps_case g s e mark (λ r. AnswersAsks s e r.outcome r.state) (step_answers e) (same_answers e _) (λ n f h. closing_answers e n f h) outcome next steps
+      let some = some_answers e outcome next steps in
+      record {
+        asks = some.asks;
+        fresh = λ asker ask asks. (fresh_by e outcome next asker ask asks steps).takes;
+        opens = some.opens;
+        serves = some.serves;
+      }

@@ -35,11 +35,12 @@ use Rattle.node_rules.proofs.Lawful.{steps_are_lawful}
 use Rattle.values_tables.specs.declared.plain.Tables.{Tables}
 use Rattle.roster.specs.Judged.{IsRoster}
 use Rattle.node_rules.specs.Messages.{protocol_of as udp_of}
+use Rattle.node_rules.specs.Spelled.{decoded_by}
 use Rattle.world_rules.specs.World.{Datagram, PeerAsk, PeerAnswer, World, item, node_at, after_node}
 use Rattle.world_rules.specs.declared.event.WorldEvent.{WorldEvent}
 use Rattle.world_rules.specs.declared.event.WorldEvent.TheVariants as world
 use Rattle.world_rules.specs.declared.outcome.WorldFault.TheVariants.{NoSuchPacket}
-use Rattle.world_rules.specs.Consequence.{Seen, Replied, NotIssued, Reported, Nothing, Consequence, NodeSteps, Ends, Refused, at_member, with_clock, with_master, with_member_state, issue_by, reports, acknowledged_by, master_hears_htcp, master_hears, delivered_to, delivered, ask_delivered, answer_delivered, origin_by, origin_to, foreign_by, foreign_to, fetching_at, consequence}
+use Rattle.world_rules.specs.Consequence.{Seen, Replied, NotIssued, Reported, Nothing, Consequence, NodeSteps, Ends, Refused, at_member, with_clock, with_master, with_member_state, issue_by, reports, acknowledged_by, master_hears_htcp, master_hears, delivered_to, delivered, octets_reach, octets_come, ask_delivered, answer_delivered, origin_by, origin_to, foreign_by, foreign_to, fetching_at, consequence}
 use Rattle.world_rules.specs.Run.{Step, Takes, IsOfKey, Happens, purged_by, TellsDone, ServesCopy}
 use Rattle.world_rules.specs.Lineage.{HasRaised, IsClear, IsMastersRightly, IsObeyed, IsSentAnswer, NodeHasLineage, AllHaveRaised, HasLineage}
 use Rattle.world_rules.proofs.MemberStates.{same_id, all_item}
@@ -147,6 +148,20 @@ module _ (h : Tables) (proper : IsRoster h) (past : List Step) (w : World) (line
   to_right event sender m by address right None at = tt
   to_right event sender m by address right (Some id) at = record { comes = right; member = member_at_known h by address id at }
 
+  octets_reach_right : (to sender : Address) (octets : List ℕ) (by : Udp) (id : ℕ) → is_master h sender ≡ false → member_at h to by ≡ Some id →
+      (o : Option Message) → IsRight h past (world.Strange to sender octets) (octets_reach w sender id o)
+  octets_reach_right to sender octets by id other at None = quiet_right (world.Strange to sender octets) w refl lineage
+  octets_reach_right to sender octets by id other at (Some m) =
+      to_right (world.Strange to sender octets) sender m by to (λ master. absurd (true_not_false (sym master ∙ other))) (Some id) at
+
+  octets_right : (to sender : Address) (octets : List ℕ) → is_master h sender ≡ false → (icp htcp : Option ℕ) → member_at h to udp.Icp ≡ icp →
+      member_at h to udp.Htcp ≡ htcp → IsRight h past (world.Strange to sender octets) (octets_come w sender octets icp htcp)
+  octets_right to sender octets other (Some id) htcp by_icp by_htcp = octets_reach_right to sender octets udp.Icp id other by_icp
+      (decoded_by udp.Icp octets)
+  octets_right to sender octets other None (Some id) by_icp by_htcp = octets_reach_right to sender octets udp.Htcp id other by_htcp
+      (decoded_by udp.Htcp octets)
+  octets_right to sender octets other None None by_icp by_htcp = tt
+
   delivered_right : (which : ℕ) (o : Option Datagram) → item w.datagrams which ≡ o → IsRight h past (world.Datagram which) (delivered h w o)
   delivered_right which None is = tt
   delivered_right which (Some d) is =
@@ -229,10 +244,9 @@ module _ (h : Tables) (proper : IsRoster h) (past : List Step) (w : World) (line
   consequence_right world.Resend key = quiet_right world.Resend _ refl (resend_keeps h past w lineage)
   consequence_right (world.Status number) key = reported_right (world.Status number) number w (λ s. refl) lineage
   consequence_right world.RestartMaster key = quiet_right world.RestartMaster w refl lineage
-  consequence_right (world.Strange to sender m) key =
-      branches (IsRight h past (world.Strange to sender m)) (is_own h sender) (Refused NoSuchPacket) _ (λ _. tt)
-      (λ strange. to_right (world.Strange to sender m) sender m (udp_of m) to
-      (λ master. absurd (true_not_false (sym master ∙ or_false (is_master h sender) _ strange))) (member_at h to (udp_of m)) refl)
+  consequence_right (world.Strange to sender octets) key =
+      branches (IsRight h past (world.Strange to sender octets)) (is_own h sender) (Refused NoSuchPacket) _ (λ _. tt)
+      (λ strange. octets_right to sender octets (or_false (is_master h sender) _ strange) (member_at h to udp.Icp) (member_at h to udp.Htcp) refl refl)
 
 -- a node's step issues no purge
 issues_nothing : (event : WorldEvent) (id : ℕ) (outcome : Result (Reply ℕ) StepFault) → purged_by event (Replied id outcome) ≡ None

@@ -2,7 +2,8 @@
 -- from the invariant HasLineage; Runs has the invariant at every place; Consequences keeps it over each
 -- event, by NodeTurns (a node's step), MasterTurns (the master's call) and Counting (a purge more).
 -- Items, Issues, MemberStates, Later, Members, Numbers and Keys are lemmas on lists, look-ups and
--- CLRs. Back is the law of siblings, Applying that events have runs. Sources: Asked (one step, by all
+-- CLRs. Back is the law of siblings, Applying that events have runs, Noise that octets without a
+-- message change nothing. Sources: Asked (one step, by all
 -- the rules of a node), Waiting, Sourced, SourceTurns and SourceRuns, in this order.
 pub mod Items
 pub mod Issues
@@ -19,6 +20,7 @@ pub mod Runs
 pub mod Back
 pub mod Safe
 pub mod Applying
+pub mod Noise
 pub mod Asked
 pub mod Waiting
 pub mod Sourced

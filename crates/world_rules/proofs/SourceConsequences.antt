@@ -28,8 +28,9 @@ use Rattle.world_rules.specs.declared.event.WorldEvent.{WorldEvent}
 use Rattle.world_rules.specs.declared.event.WorldEvent.TheVariants as world
 use Rattle.world_rules.specs.declared.outcome.WorldFault.TheVariants.{NoSuchPacket, NotPending}
 use Rattle.node_rules.specs.Messages.{protocol_of as udp_of}
+use Rattle.node_rules.specs.Spelled.{decoded_by}
 use Rattle.world_rules.specs.World.{Datagram, PeerAsk, PeerAnswer, Waiting, World, item, node_at}
-use Rattle.world_rules.specs.Consequence.{Seen, Nothing, Consequence, NodeSteps, Ends, Refused, at_member, with_clock, with_master, with_sent, with_member_state, issue_by, acknowledged_by, master_hears_htcp, master_hears, delivered_to, delivered, ask_delivered, answer_delivered, origin_by, origin_to, foreign_by, foreign_to, fetching_at, consequence}
+use Rattle.world_rules.specs.Consequence.{Seen, Nothing, Consequence, NodeSteps, Ends, Refused, at_member, with_clock, with_master, with_sent, with_member_state, issue_by, acknowledged_by, master_hears_htcp, master_hears, delivered_to, delivered, octets_reach, octets_come, ask_delivered, answer_delivered, origin_by, origin_to, foreign_by, foreign_to, fetching_at, consequence}
 use Rattle.world_rules.specs.Run.{Step, ServesCopy}
 use Rattle.world_rules.specs.Asked.{moment}
 use Rattle.world_rules.specs.Sources.{AnswerHasSource, NodeHasSources, NodeHasAsks, HasSources}
@@ -87,6 +88,15 @@ module _ (h : Tables) (past : List Step) (w : World) (sources : HasSources h pas
   to_known : (sender : Address) (m : Message) (o : Option ℕ) → Knows h past w (delivered_to w sender m o)
   to_known sender m None = tt
   to_known sender m (Some id) = plainly_known (event.Datagram sender m w.clock) refl tt
+
+  octets_reach_known : (sender : Address) (id : ℕ) (o : Option Message) → Knows h past w (octets_reach w sender id o)
+  octets_reach_known sender id None = same_known Nothing w sources (λ c s. absurd s)
+  octets_reach_known sender id (Some m) = to_known sender m (Some id)
+
+  octets_known : (sender : Address) (octets : List ℕ) (icp htcp : Option ℕ) → Knows h past w (octets_come w sender octets icp htcp)
+  octets_known sender octets (Some id) htcp = octets_reach_known sender id (decoded_by udp.Icp octets)
+  octets_known sender octets None (Some id) = octets_reach_known sender id (decoded_by udp.Htcp octets)
+  octets_known sender octets None None = tt
 
   delivered_known : (o : Option Datagram) → Knows h past w (delivered h w o)
   delivered_known None = tt
@@ -149,9 +159,9 @@ module _ (h : Tables) (past : List Step) (w : World) (sources : HasSources h pas
   consequence_known (world.Answer number serial) = answer_known number serial (item w.answers number) refl
   consequence_known (world.Origin id serial answer) = at_member_known id _ (origin_known id serial answer (fetching_at w id serial))
   consequence_known (world.Foreign id serial answer) = at_member_known id _ (foreign_known id serial answer (fetching_at w id serial))
-  consequence_known (world.Strange to sender m) =
-      branches (Knows h past w) (is_own h sender) (Refused NoSuchPacket) (delivered_to w sender m (member_at h to (udp_of m))) (λ _. tt)
-      (λ _. to_known sender m (member_at h to (udp_of m)))
+  consequence_known (world.Strange to sender octets) =
+      branches (Knows h past w) (is_own h sender) (Refused NoSuchPacket) (octets_come w sender octets (member_at h to udp.Icp) (member_at h to udp.Htcp))
+      (λ _. tt) (λ _. octets_known sender octets (member_at h to udp.Icp) (member_at h to udp.Htcp))
   consequence_known (world.Fail id serial) = at_member_known id _ (plainly_known (event.FetchFailed serial w.clock) refl tt)
   consequence_known (world.Expire id serial) = at_member_known id _ (plainly_known (event.Expired serial w.clock) refl tt)
   consequence_known (world.Fault id) = at_member_known id _ (state_known id (closed_node (node_at w.states id)) record

@@ -86,10 +86,10 @@ nodes_are_new h (m ∷ members) id =
     (λ _. record { copies = λ is_open. tt; reads = tt }) (λ _. nodes_are_new h members id)
 
 asks_are_new : (members : List Member) (id : ℕ) → NodeHasAsks [] id (node_at (map (λ (m : Member). record { id = m.cache.id; node = new_node }) members) id)
-asks_are_new [] id = record { taken = tt; kept = tt }
+asks_are_new [] id = record { kept = tt }
 asks_are_new (m ∷ members) id =
     branches (NodeHasAsks [] id) (nat_eq m.cache.id id) new_node (node_at (map (λ (m : Member). record { id = m.cache.id; node = new_node }) members) id)
-    (λ _. record { taken = tt; kept = tt }) (λ _. asks_are_new members id)
+    (λ _. record { kept = tt }) (λ _. asks_are_new members id)
 
 new_after : (h : Tables) → IsAfter h [] (new_world h)
 new_after h = record { runs = refl; sources = record { nodes = nodes_are_new h h.members; answers = tt; asks = λ id is_open. asks_are_new h.members id } }

@@ -341,9 +341,8 @@ module _ (h : Tables) (past : List Step) (old : World) (runs : Run h 1 (new_worl
         (answers_sourced_later h past (record { event = cause; seen = Replied id outcome } ∷ []) old.answers sources.answers)
         (all_sourced h past old runs sources cause id serial outcome e (reply_in outcome).serve bare source rightly);
     asks = each_but (λ each (s : NodeState ℕ). s.closed ≡ false → NodeHasAsks (after_node h old id e serial outcome next).waiting each s) old.states id next
-        (λ is_open. (let was = asked.blocks is_open in asks_after old.waiting id (node_at old.states id) e serial next (sources.asks id was.0) was.1
-        asked.asks))
-        (λ other ne is_open. others_after old.waiting id (node_at old.states id) e serial next other (node_at old.states other) ne
+        (λ is_open. asks_after old.waiting id (node_at old.states id) e serial outcome next (sources.asks id (asked.opens is_open)) asked)
+        (λ other ne is_open. others_after old.waiting id (node_at old.states id) e serial outcome next other (node_at old.states other) ne
         (sources.asks other is_open));
   }
 

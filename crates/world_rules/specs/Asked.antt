@@ -1,5 +1,5 @@
 -- A node answers what was requested, with the right age: what the law of one step says.
-use Rattle.std.specs.Prelude.{◌≡◌, ℕ, ◌≤◌, ◌<◌, false, List, Option, Some, None, Result, Ok, Err, ◌⊎◌}
+use Rattle.std.specs.Prelude.{◌≡◌, ◌≢◌, ℕ, ◌/◌, false, List, Option, Some, None, Result, Ok, Err, ◌⊎◌}
 use Rattle.std.specs.List.{AllByRecursion, Contains}
 use Rattle.http_messages.specs.declared.ask.Ask.{Ask}
 use Rattle.node_rules.specs.declared.state.Pending.{Pending}
@@ -9,9 +9,11 @@ use Rattle.node_rules.specs.declared.event.Event.TheVariants as event
 use Rattle.node_rules.specs.declared.reply.Served.{Served}
 use Rattle.node_rules.specs.declared.reply.Served.TheVariants.{Copy, Status}
 use Rattle.node_rules.specs.declared.reply.Serve.{Serve}
+use Rattle.node_rules.specs.declared.reply.Begin.{Begin}
 use Rattle.node_rules.specs.declared.reply.Reply.{Reply}
 use Rattle.node_rules.specs.declared.reply.StepFault.{StepFault}
-use Rattle.node_rules.specs.State.{served_age}
+use Rattle.node_rules.specs.State.{served_age, serial_of}
+use Rattle.world_rules.specs.World.{reply_in}
 
 -- the time of an event, in seconds
 abbrev pub moment : {X : Type 0} → Event X → ℕ
@@ -38,9 +40,16 @@ pub record Waits {X : Type 0} (s : NodeState X) (block : ℕ) (asker : Option �
   pub asker_same : was.asker ≡ asker
   pub ask_same : was.ask ≡ ask
 
--- a request that waits after the event waited before, or is the event's own and took the next block
-abbrev pub IsAskAfter : {X : Type 0} → NodeState X → Event X → ℕ → Pending X → Type 0
-IsAskAfter s e next p = Waits s p.block p.asker p.ask ⊎ ((p.block ≡ s.next) × (s.next < next) × Asks e p.asker p.ask)
+-- the block of the serial that a reply begins, if it begins something
+abbrev pub block_begun : Option Begin → Option ℕ
+block_begun None = None
+block_begun (Some b) = Some (serial_of b / 32)
+
+-- a request that waits after the event waited before, or is the event's own and has the block that
+-- the outcome begins
+abbrev pub IsAskAfter : {X : Type 0} → NodeState X → Event X → Result (Reply X) StepFault → Pending X → Type 0
+IsAskAfter s e outcome p = Waits s p.block p.asker p.ask
+    ⊎ ((block_begun (reply_in outcome).begin ≡ Some p.block) × Asks e p.asker p.ask)
 
 -- what is served answers the event's own request, or the one that waits as this block, and is of
 -- its key
@@ -68,7 +77,10 @@ ServesRightly s e (Err fault) = Unit {0}
 -- what holds of a step from s to next by an event, with an outcome
 pub record AnswersAsks {X : Type 0} (s : NodeState X) (e : Event X) (outcome : Result (Reply X) StepFault)
     (next : NodeState X) : Type 0 where
-  pub asks : AllByRecursion (IsAskAfter s e next.next) next.pending
-  -- a node that is open was open before, and takes blocks in ascending order
-  pub blocks : next.closed ≡ false → (s.closed ≡ false) × (s.next ≤ next.next)
+  pub asks : AllByRecursion (IsAskAfter s e outcome) next.pending
+  -- a new request gets a block that no request has which waited before
+  pub fresh : (asker : Option ℕ) (ask : Ask) → Asks e asker ask → (block : ℕ) →
+      block_begun (reply_in outcome).begin ≡ Some block → AllByRecursion (λ p. p.block ≢ block) s.pending
+  -- a node that is open was open before
+  pub opens : next.closed ≡ false → s.closed ≡ false
   pub serves : ServesRightly s e outcome

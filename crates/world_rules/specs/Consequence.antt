@@ -34,6 +34,7 @@ use Rattle.world_rules.specs.declared.event.WorldEvent.TheVariants as world
 use Rattle.world_rules.specs.declared.outcome.WorldFault.{WorldFault}
 use Rattle.world_rules.specs.declared.outcome.WorldFault.TheVariants.{NoSuchPacket, NotPending}
 use Rattle.node_rules.specs.Messages.{protocol_of}
+use Rattle.node_rules.specs.Spelled.{decoded_by}
 use Rattle.world_rules.specs.World.{Datagram, PeerAsk, PeerAnswer, World, item, node_at, with_node}
 
 -- what an event visibly did
@@ -157,10 +158,23 @@ answer_delivered roster w serial (Some a) =
     at_member roster a.receiver
     (NodeSteps a.receiver (event.PeerAnswer (unwrap_or serial a.serial) a.sender a.key a.answer a.mark w.clock) 0)
 
--- a stranger's datagram reaches a member; a stranger has no address of a member or of the master
-abbrev pub strange_comes : Tables → World → Address → Address → Message → Consequence
-strange_comes roster w to sender m =
-    if is_own roster sender then Refused NoSuchPacket else delivered_to w sender m (member_at roster to (protocol_of m))
+-- octets reach a member: the message that they spell arrives; if they spell none, nothing changes
+abbrev pub octets_reach : World → Address → ℕ → Option Message → Consequence
+octets_reach w sender id None = Ends Nothing w
+octets_reach w sender id (Some m) = delivered_to w sender m (Some id)
+
+-- octets reach the member that was found by its ICP address, else the one that was found by its
+-- HTCP address, and are read by that protocol
+abbrev pub octets_come : World → Address → List ℕ → Option ℕ → Option ℕ → Consequence
+octets_come w sender octets (Some id) by_htcp = octets_reach w sender id (decoded_by udp.Icp octets)
+octets_come w sender octets None (Some id) = octets_reach w sender id (decoded_by udp.Htcp octets)
+octets_come w sender octets None None = Refused NoSuchPacket
+
+-- a stranger's octets reach a member; a stranger has no address of a member or of the master
+abbrev pub strange_comes : Tables → World → Address → Address → List ℕ → Consequence
+strange_comes roster w to sender octets =
+    if is_own roster sender then Refused NoSuchPacket
+    else octets_come w sender octets (member_at roster to udp.Icp) (member_at roster to udp.Htcp)
 
 -- Responses from outside
 
@@ -208,7 +222,7 @@ consequence roster w (world.Origin id serial answer) = at_member roster id
     (origin_to w id serial answer (fetching_at w id serial))
 consequence roster w (world.Foreign id serial answer) = at_member roster id
     (foreign_to w id serial answer (fetching_at w id serial))
-consequence roster w (world.Strange to sender m) = strange_comes roster w to sender m
+consequence roster w (world.Strange to sender octets) = strange_comes roster w to sender octets
 consequence roster w (world.Fail id serial) = at_member roster id (NodeSteps id (event.FetchFailed serial w.clock) 0)
 consequence roster w (world.Expire id serial) = at_member roster id (NodeSteps id (event.Expired serial w.clock) 0)
 consequence roster w (world.Fault id) =

@@ -3,6 +3,7 @@ pub mod Names
 pub mod World
 pub mod Consequence
 pub mod Run
+pub mod Noise
 pub mod Safety
 pub mod Lineage
 pub mod Asked

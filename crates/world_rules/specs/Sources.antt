@@ -1,6 +1,6 @@
 -- The invariant of sources, which holds at every place of every run: where contents come from, and
 -- which requests wait. HasSources, the last definition, is the whole invariant.
-use Rattle.std.specs.Prelude.{◌≡◌, ◌⊎◌, ℕ, ◌<◌, List, true, false, Some}
+use Rattle.std.specs.Prelude.{◌≡◌, ◌⊎◌, ℕ, List, true, false, Some}
 use Rattle.std.specs.List.{AllByRecursion}
 use Rattle.node_rules.specs.declared.state.Fetch.{Fetch}
 use Rattle.node_rules.specs.declared.state.Fetch.TheVariants.{Nowhere, AtPeer, AtOrigin}
@@ -32,10 +32,6 @@ pub record NodeHasSources (roster : Tables) (past : List Step) (id : ℕ) (s : N
   pub copies : s.closed ≡ false → AllByRecursion (IsSourcedCopy roster past) s.copies
   pub reads : AllByRecursion (ReadHasBegun roster past id) s.pending
 
--- if the request waits at this node, its block is below the node's next one
-abbrev pub IsTaken : ℕ → ℕ → Waiting → Type 0
-IsTaken id next x = x.node ≡ id → x.block < next
-
 -- a member's request that waits here is listed in the world, with its key
 abbrev pub IsKept : List Waiting → ℕ → Pending ℕ → Type 0
 IsKept waiting id p = (asker : ℕ) → p.asker ≡ Some asker → (a : Answered) × (asked_before waiting id p.block ≡ Some a)
@@ -43,7 +39,6 @@ IsKept waiting id p = (asker : ℕ) → p.asker ≡ Some asker → (a : Answered
 
 -- what holds of the members' requests that wait at a node
 pub record NodeHasAsks (waiting : List Waiting) (id : ℕ) (s : NodeState ℕ) : Type 0 where
-  pub taken : AllByRecursion (IsTaken id s.next) waiting
   pub kept : AllByRecursion (IsKept waiting id) s.pending
 
 -- the invariant: what holds of the world after these steps

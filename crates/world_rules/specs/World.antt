@@ -1,6 +1,6 @@
 -- The state of the world: the nodes, the master, the clock and all that was ever sent; and what one
 -- step of a node adds to it.
-use Rattle.std.specs.Prelude.{ℕ, ◌-◌, Bool, ◌==◌, ◌&&◌, List, [], ◌∷◌, ◌++◌, map, find, slice_get, Option, Some, None, Result, Ok, Err, option_map, if◌then◌else◌}
+use Rattle.std.specs.Prelude.{ℕ, ◌-◌, ◌/◌, Bool, ◌==◌, ◌&&◌, List, [], ◌∷◌, ◌++◌, map, find, slice_get, Option, Some, None, Result, Ok, Err, option_map, if◌then◌else◌}
 use Rattle.std.specs.FinMap.{empty}
 use Rattle.http_messages.specs.declared.ask.Ask.{Ask}
 use Rattle.http_messages.specs.Answer.{AnswerText}
@@ -23,7 +23,7 @@ use Rattle.node_rules.specs.declared.reply.Begin.{Begin}
 use Rattle.node_rules.specs.declared.reply.Begin.TheVariants as begin
 use Rattle.node_rules.specs.declared.reply.Reply.{Reply}
 use Rattle.node_rules.specs.declared.reply.StepFault.{StepFault}
-use Rattle.node_rules.specs.State.{opened, quiet}
+use Rattle.node_rules.specs.State.{opened, quiet, serial_of}
 use Rattle.purge_rules.specs.Purges.{PurgeList, no_purges}
 use Rattle.node_rules.specs.Messages.{protocol_of}
 
@@ -154,7 +154,7 @@ asked_now _ serial = None
 abbrev pub is_waiting_as : ℕ → ℕ → Waiting → Bool
 is_waiting_as id block w = (w.node == id) && (w.block == block)
 
--- the member's request that waited at this node as this block, if any
+-- the latest member's request that waited at this node as this block, if any
 abbrev pub asked_before : List Waiting → ℕ → ℕ → Option Answered
 asked_before waiting id block = option_map (λ w. record { serial = w.serial; key = w.key })
     (find (is_waiting_as id block) waiting)
@@ -184,18 +184,20 @@ answers_in waiting id e serial None = []
 answers_in waiting id e serial (Some serve) = answer_to id serve.asker serve.served
     (asked_by waiting id e serial serve.waiter)
 
--- the member's request that has begun to wait here: the event, if the node took a new block
-abbrev pub waits_now : ℕ → Event ℕ → ℕ → NodeState ℕ → NodeState ℕ → List Waiting
-waits_now id (event.PeerAsk asker ask now) serial old new = if old.next == new.next then []
-    else record { node = id; block = old.next; serial = serial; key = ask.key } ∷ []
-waits_now id _ serial old new = []
+-- the member's request that has begun to wait here: the event, if it is one and something begins for
+-- it; the block is that of the serial begun
+abbrev pub waits_now : ℕ → Event ℕ → ℕ → Option Begin → List Waiting
+waits_now id (event.PeerAsk asker ask now) serial (Some b) =
+    record { node = id; block = serial_of b / 32; serial = serial; key = ask.key } ∷ []
+waits_now id _ serial _ = []
 
 -- what a step replied; a refused step sends nothing
 abbrev pub reply_in : {X : Type 0} → Result (Reply X) StepFault → Reply X
 reply_in (Ok reply) = reply
 reply_in (Err fault) = quiet
 
--- The world after one step of a member's node: all that the step sends is added to what was sent.
+-- The world after one step of a member's node: all that the step sends is added to what was sent, and
+-- a request that has begun to wait stands before those that did earlier.
 -- The serial is that of the member's request that the event is, else 0.
 abbrev pub after_node : Tables → World → ℕ → Event ℕ → ℕ → Result (Reply ℕ) StepFault → NodeState ℕ → World
 after_node roster w id e serial outcome next = record w {
@@ -203,5 +205,5 @@ after_node roster w id e serial outcome next = record w {
   datagrams = w.datagrams ++ datagrams_from (member_of roster id) (reply_in outcome).send;
   asks = w.asks ++ asks_in id (reply_in outcome).begin;
   answers = w.answers ++ answers_in w.waiting id e serial (reply_in outcome).serve;
-  waiting = w.waiting ++ waits_now id e serial (node_at w.states id) next;
+  waiting = waits_now id e serial (reply_in outcome).begin ++ w.waiting;
 }

@@ -1,7 +1,7 @@
 use http_messages::{Answer, Ask};
-use node_rules::Received;
 use roster::Address;
 use url_key::Key;
+use values_plain::Octets;
 
 /// One event of the world: one act of one actor, or a change of the clock. A lost item is one
 /// whose delivery never comes.
@@ -56,13 +56,14 @@ pub enum WorldEvent {
         answer: Answer,
     },
     /// A datagram arrives at a member from an address that is neither a member's nor the master's.
+    /// Octets that spell no message by the protocol of their destination change nothing.
     Strange {
-        /// Its destination: the address at which a member answers the message's protocol.
+        /// Its destination: a member's ICP or HTCP address.
         to: Address,
         /// Its source.
         from: Address,
-        /// The message.
-        message: Received,
+        /// Its octets.
+        octets: Octets,
     },
     /// A member's fetch fails.
     Fail {

@@ -11,7 +11,9 @@ ghost use Rattle.values_tables.specs.declared.plain.Tables.{Tables};
 ghost use Rattle.roster.specs.Judged.{IsRoster};
 ghost use Rattle.world_rules.specs.declared.event.WorldEvent.{WorldEvent};
 ghost use Rattle.world_rules.specs.World.{World, new_world};
-ghost use Rattle.world_rules.specs.Run.{Step, Plays, IsOfKey};
+ghost use Rattle.world_rules.specs.Consequence.{Seen, Nothing};
+ghost use Rattle.world_rules.specs.Run.{Step, Happens, Plays, IsOfKey};
+ghost use Rattle.world_rules.specs.Noise.{IsNoise};
 ghost use Rattle.world_rules.specs.Safety.{NothingOldIsServed, SiblingsAskNothing};
 ghost use Rattle.world_rules.specs.Lineage.{HasLineage};
 ghost use Rattle.world_rules.specs.Asked.{AnswersAsks};
@@ -48,11 +50,19 @@ pub fn copies_have_sources()
 {}
 
 /// Each step of a node answers what was requested: to the request of its event, or to one that
-/// waits, it serves a copy of that request's key with its age, or a bare status.
+/// waits, it serves a copy of that request's key with its age, or a bare status. A new request gets
+/// a block that no other has which waits there.
 pub fn nodes_answer_what_is_asked<T>()
     ensures { (g : Setting) (s : NodeState T) (e : Event T) (mark : T)
         (outcome : Result (Reply T) StepFault) (next : NodeState T) →
         Steps g s e mark outcome next → AnswersAsks s e outcome next }
+{}
+
+/// Octets of a stranger that spell no message change nothing, and nothing is seen of them.
+pub fn noise_changes_nothing()
+    ensures { (roster : Tables) (place : ℕ) (old : World) (event : WorldEvent) (seen : Seen)
+        (new : World) → IsNoise roster event → Happens roster place old event seen new →
+        (seen ≡ Nothing) × (new ≡ old) }
 {}
 
 /// What the function `apply` makes of an event may happen in the world.

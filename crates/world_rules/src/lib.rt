@@ -24,8 +24,8 @@
 //! - What is stored outlives a restart. `Restart` opens a node with the floors that it had
 //!   (`specs/Consequence`) and nothing else. The master's purges are the same after `RestartMaster`.
 //! - What comes from the address of a member or of the master was sent by it. `Datagram`, `Ask` and
-//!   `Answer` deliver only items of the lists. `Strange` delivers any message, and is refused if
-//!   its sender has such an address.
+//!   `Answer` deliver only items of the lists. `Strange` delivers any octets, and is refused if its
+//!   sender has such an address.
 //! - An origin's response reaches the read that asked for it, and no connection outlives its node's
 //!   restart. `Origin` and `Foreign` reach only a read or fetch that is pending now, and a restart
 //!   or a fault leaves none pending.
@@ -37,6 +37,7 @@
 //! - `purges_are_safe`: the safety of purges, and the invariant that it rests on (`lineage`).
 //! - `copies_have_sources`: which response each served copy comes from, and its age.
 //! - `nodes_answer_what_is_asked`: a step answers the request of its event or one that waits.
+//! - `noise_changes_nothing`: octets of a stranger that spell no message change nothing.
 //! - `applied_events_happen`, `each_list_is_played`: the function `apply` agrees with the model,
 //!   and every list of events has a run, so the laws above are not vacuous.
 //!
@@ -47,10 +48,10 @@
 //! Read first `specs/Safety` (the promise), then `specs/Run` (what a run is, and when a purge is
 //! issued, reported done, or a copy served), `specs/World` (the state) and `specs/Consequence` (what
 //! each event does). Then `specs/Lineage` (the invariant for stamps and floors), `specs/Asked`,
-//! `specs/Provenance` (sources and ages), `specs/Sources` (the invariant for them), `specs/Apply`
-//! (one event as a function, and its outcome) and `specs/Names` (the names of faults). The proof of
-//! safety ends in `proofs/Safe`; `proofs/Lib` gives the order of reading. `docs/SAFETY.md` explains
-//! all this without the definitions.
+//! `specs/Provenance` (sources and ages), `specs/Sources` (the invariant for them), `specs/Noise`
+//! (octets that say nothing), `specs/Apply` (one event as a function, and its outcome) and
+//! `specs/Names` (the names of faults). The proof of safety ends in `proofs/Safe`; `proofs/Lib`
+//! gives the order of reading. `docs/SAFETY.md` explains all this without the definitions.
 //!
 //! Not promised: that a purge is ever done, that anything arrives, or that nothing old is served
 //! before the report. A wrong body cannot test the laws, since laws have no bodies; nor can it test

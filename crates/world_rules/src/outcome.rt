@@ -46,7 +46,7 @@ pub enum ActorFault {
 pub enum WorldFault {
     /// It names a datagram, a request, a response or a member that does not exist; or what arrives
     /// is for neither a member nor the master; or a `Strange` datagram has the address of a member
-    /// or of the master as its source, or a destination at which no member answers its protocol.
+    /// or of the master as its source, or a destination that is no member's.
     #[error("there is no such packet")]
     NoSuchPacket,
     /// No origin read (`Origin`), or no fetch from a foreign cache (`Foreign`), is pending under
@@ -56,7 +56,7 @@ pub enum WorldFault {
     /// An allocation failed. The world must be made anew.
     #[error("there was no memory")]
     NoMemory,
-    /// No place is left: events may have the places 1 to 2^64 - 2.
+    /// No place is left: events have the places 1 to 2^64 - 1.
     #[error("no place is left")]
     PlacesSpent,
 }

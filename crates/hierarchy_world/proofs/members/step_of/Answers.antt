@@ -9,6 +9,5 @@ pub returns-clause-stepped : goal.returns-clause-stepped
 returns-clause-stepped c =
     let memory : c.step-outcome.result ≢ Err fault.NoMemory = elim c.match-outcome.branch [ in-Err+in-Closed-1 w ↦ search rules | in-Ok-1 w ↦ search rules ] in
     is_step c.args.node.now c.step-outcome.new.self c.args.event c.args.mark
-    (record { before = c.next-before.result; outcome = c.step-outcome.result; after = c.next.result })
-    c.requires c.step-outcome.ensures.same c.step-outcome.ensures.store c.step-outcome.ensures.cause c.step-outcome.ensures.steps
-    c.is_closed-closed.ensures.tied memory c.next-before.ensures c.next.ensures
+    c.step-outcome.result c.requires c.step-outcome.ensures.same c.step-outcome.ensures.store c.step-outcome.ensures.cause c.step-outcome.ensures.steps
+    c.is_closed-closed.ensures.tied memory

@@ -1,5 +1,6 @@
-use Rattle.std.proofs.Common.{refl, sym, subst}
-use Rattle.node_bytes.specs.Bytes.{SpellsBy, IsIcp, IsHtcp}
+use Rattle.std.proofs.Common.{None, refl, sym, subst, rules}
+use Rattle.node_bytes.specs.Bytes.{SpellsBy, IsIcp, IsHtcp, HasFault}
+use Rattle.node_bytes.proofs.Decoding.{event_is}
 use Rattle.node_bytes.proofs.reading.event_of.Goals as goal
 use Rattle.node_bytes.proofs.reading.event_of.Goals.{in-Icp+in-Ok, in-Htcp+in-Ok-read_htcp}
 
@@ -20,3 +21,13 @@ returns-clause-event g c =
         refl,
       )
     ]
+
+pub returns-in-Err : goal.returns-in-Err
+returns-in-Err g c =
+    let fault : HasFault c.args.by c.args.octets.now = search rules in
+    record { event = fault; decoded = event_is c.args.by c.args.from c.args.octets.now c.args.now None fault; memory = tt }
+
+pub returns-in-Err-read_htcp : goal.returns-in-Err-read_htcp
+returns-in-Err-read_htcp g c =
+    let fault : HasFault c.args.by c.args.octets.now = search rules in
+    record { event = fault; decoded = event_is c.args.by c.args.from c.args.octets.now c.args.now None fault; memory = tt }

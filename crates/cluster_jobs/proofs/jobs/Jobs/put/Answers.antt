@@ -1,5 +1,17 @@
-use Rattle.cluster_jobs.proofs.Rule.{puts, finds}
+use Rattle.std.proofs.Common.{rules, ◌≡◌, ◌∙◌, ap, sym, subst}
+use mathlib.Core.List.{IsPrefix}
+use Rattle.cluster_jobs.specs.declared.order.View.{View}
+use Rattle.cluster_jobs.proofs.Passes.{has_put}
 use Rattle.cluster_jobs.proofs.jobs.Jobs.put.Goals as goal
 
-pub push_as-answer-requires-clause-rule : goal.push_as-answer-requires-clause-rule
-push_as-answer-requires-clause-rule g c = (puts _ _ _ _ c.pass.invariant.2, finds _ _)
+pub returns-then-begins : goal.returns-then-begins
+returns-then-begins g c =
+    let before = c.deref_mut.result.now in
+    let after = c.put-put.new.self in
+    let w : View = record { seen = c.seen-front.result; own = c.put-put.new.own } in
+    let same = c.deref.ensures ∙ sym c.deref_mut.ensures.value in
+    let known : IsPrefix c.pass.inside.front before.seen = subst (IsPrefix c.pass.inside.front) (c.seen.ensures.all ∙ ap (λ b. b.seen) same) c.if-begins.ensures in
+    let now : c.seen-front.result ≡ after.seen = search rules in
+    rw (← c.pass.view_is) (
+    has_put (record { seen = c.pass.inside.front; own = c.pass.inside.own }) w c.args.job c.put-put.result before after known (rw (← c.loop.invariant.2) c.put-put.ensures) now c.seen-front.ensures.order
+    )

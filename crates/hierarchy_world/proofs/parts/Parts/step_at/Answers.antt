@@ -1,10 +1,11 @@
 -- The contract of one node's step, lifted to the parts: only the node at the index has changed.
-use Rattle.std.proofs.Common.{◌≡◌, set, slice_get, Some, refl}
+use Rattle.std.proofs.Common.{◌≡◌, ℕ, set, slice_get, Some, Result, refl}
+use Rattle.node_rules.specs.declared.reply.Reply.{Reply}
+use Rattle.node_rules.specs.declared.reply.StepFault.{StepFault}
 use Rattle.std.specs.Vec.{with_item}
 use Rattle.std.proofs.lemmas.Option.{slice_get_read}
 use Rattle.std.proofs.lemmas.Result.{IfOk-weaker}
 use Rattle.hierarchy_world.specs.declared.parts.Parts.{Parts}
-use Rattle.hierarchy_world.specs.declared.members.Stepped.{Stepped}
 use Rattle.hierarchy_world.specs.Parts.{IsStep, HasStepped, IsMemberChanged}
 use Rattle.hierarchy_world.proofs.Taking.{has_stepped}
 use Rattle.hierarchy_world.proofs.parts.Parts.step_at.Goals as goal
@@ -29,7 +30,7 @@ returns-clause-stepped c =
     let stays : IsMemberChanged old new (set old.nodes.items c.args.place c.step_of.new.node) old.waiting.items =
     record { roster = refl; nodes = refl; master = refl; clock = refl; place = refl; datagrams = refl; asks = refl; answers = refl; waiting = refl } in
     IfOk-weaker c.step_of.result
-    (λ (s : Stepped). IsStep c.index_mut.result.now old.place c.args.event s c.step_of.new.node)
-    (λ (s : Stepped). HasStepped old c.args.id c.args.event s new)
+    (λ (s : Result (Reply ℕ) StepFault). IsStep c.index_mut.result.now old.place c.args.event s c.step_of.new.node)
+    (λ (s : Result (Reply ℕ) StepFault). HasStepped old c.args.id c.args.event s new)
     (λ s is. has_stepped old new c.index_mut.result.now c.step_of.new.node c.args.id c.args.place c.args.event s c.requires.sound c.requires.place at stays is)
     c.step_of.ensures.stepped

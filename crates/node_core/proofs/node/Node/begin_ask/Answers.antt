@@ -11,14 +11,14 @@ pub returns-then-ask-clause-leads : goal.returns-then-ask-clause-leads
 returns-then-ask-clause-leads g c = λ key_of.
     let v = c.args.self.now in
     leads_as _ _ _ _ _
-    (asks_nobody (setting_of v key_of) v.state c.args.asker c.args.ask c.args.now c.args.mark c.if-ask.true)
+    (asks_nobody (setting_of v key_of) v.state c.args.asker c.args.ask c.args.block c.args.now c.args.mark c.if-ask.true)
     (c.begin_with_read.ensures.leads key_of)
 
 pub returns-then-is_empty-clause-leads : goal.returns-then-is_empty-clause-leads
 returns-then-is_empty-clause-leads g c = λ key_of.
     let v = c.args.self.now in
     leads_as _ _ _ _ _
-    (asks_none_of (setting_of v key_of) v.state c.args.asker c.args.ask c.args.now c.args.mark c.if-ask.false _ _ _ _ _
+    (asks_none_of (setting_of v key_of) v.state c.args.asker c.args.ask c.args.block c.args.now c.args.mark c.if-ask.false _ _ _ _ _
     (ap (λ (v : NodeText _ _). v.roster) c.self.view_is)
     (ap (λ (v : NodeText _ _). v.id) c.self.view_is)
     (c.floor.ensures ∙ ap (λ (v : NodeText _ _). floor v.state.floors c.args.ask.key) c.self.view_is)
@@ -29,7 +29,7 @@ pub returns-else-is_empty-clause-leads : goal.returns-else-is_empty-clause-leads
 returns-else-is_empty-clause-leads g c = λ key_of.
     let v = c.args.self.now in
     leads_as _ _ _ _ _
-    (asks_some_of (setting_of v key_of) v.state c.args.asker c.args.ask c.args.now c.args.mark c.if-ask.false _ _ _ _ _
+    (asks_some_of (setting_of v key_of) v.state c.args.asker c.args.ask c.args.block c.args.now c.args.mark c.if-ask.false _ _ _ _ _
     (ap (λ (v : NodeText _ _). v.roster) c.self.view_is)
     (ap (λ (v : NodeText _ _). v.id) c.self.view_is)
     (c.floor.ensures ∙ ap (λ (v : NodeText _ _). floor v.state.floors c.args.ask.key) c.self.view_is)

@@ -1,6 +1,6 @@
 -- An origin read of a pending request. The changed request keeps its block and can go on, as the
 -- caller has shown, so the invariant holds.
-use Rattle.std.proofs.Common.{◌≡◌, refl}
+use Rattle.std.proofs.Common.{◌≡◌}
 use Rattle.node_rules.specs.Fetching.{begin_read}
 use Rattle.node_rules.specs.State.{changed}
 use Rattle.node_waiting.specs.Changed.{with_progress}
@@ -12,7 +12,7 @@ invariant_of-self g c =
     let ask = c.ask-ask.result.now in
     let after : c.change.new.self ≡ changed (with_progress ask c.fetching_from.result) c.self.inside.pending =
     rw c.ask-ask.ensures.value at c.change.ensures.changed in
-    (rw after (changed_node c.args.place ask (with_progress ask c.fetching_from.result) c.ask-ask.ensures.value refl c.self.invariant.0), c.self.invariant.1)
+    (rw after (changed_node (with_progress ask c.fetching_from.result) c.self.invariant.0), c.self.invariant.1)
 
 pub returns-clause-leads : goal.returns-clause-leads
 unfolding begin_read

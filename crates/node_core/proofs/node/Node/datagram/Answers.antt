@@ -1,4 +1,4 @@
-use Rattle.std.proofs.Common.{◌≡◌, sym, ◌∙◌}
+use Rattle.std.proofs.Common.{sym, ◌∙◌}
 use Rattle.node_rules.specs.Datagrams.{datagram}
 use Rattle.node_core.proofs.Outcomes.{without_fault_by}
 use Rattle.node_core.proofs.node.Node.datagram.Goals as goal

@@ -1,6 +1,6 @@
 -- A request goes where its round says: it waits, goes to a peer, or to the origin. The chosen
 -- peer's answer was one to follow, so the request has a serial left.
-use Rattle.std.proofs.Common.{◌≡◌, ◌∙◌, Some, slice_get, refl, sym}
+use Rattle.std.proofs.Common.{◌≡◌, ◌∙◌, Some, slice_get, sym}
 use Rattle.floor_rules.specs.Floors.{floor}
 use Rattle.peer_chooser.specs.declared.said.Source.TheVariants as source
 use Rattle.node_rules.specs.Fetching.{choice_of, go_to}
@@ -15,7 +15,7 @@ pub invariant_of-self : goal.invariant_of-self
 invariant_of-self g c =
     let ask = c.ask.result.now in
     let after : c.change.new.self ≡ changed (with_progress ask c.args.progress) c.self.inside.pending = rw c.ask.ensures.value at c.change.ensures.changed in
-    (rw after (changed_node c.args.place ask (with_progress ask c.args.progress) c.ask.ensures.value refl c.self.invariant.0), c.self.invariant.1)
+    (rw after (changed_node (with_progress ask c.args.progress) c.self.invariant.0), c.self.invariant.1)
 
 pub ask_peer-requires-clause-can_go_on : goal.ask_peer-requires-clause-can_go_on
 ask_peer-requires-clause-can_go_on g c =

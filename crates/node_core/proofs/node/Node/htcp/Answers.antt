@@ -1,6 +1,5 @@
 -- An HTCP message by its content: a TST hit or miss says what the rule says, and only a CLR can
 -- meet a fault of the store.
-use Rattle.std.proofs.Common.{◌≡◌}
 use Rattle.node_core.specs.View.{setting_of}
 use Rattle.node_core.proofs.SameWords.{hit, miss}
 use Rattle.values_keys.specs.KeyOf.{key_of}

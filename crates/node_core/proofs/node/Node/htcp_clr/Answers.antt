@@ -1,5 +1,5 @@
 -- A CLR by its number line: without one, with a number, or bad (proofs/NumberLines).
-use Rattle.std.proofs.Common.{◌≡◌, ◌∙◌, sym, ap, Ok}
+use Rattle.std.proofs.Common.{◌∙◌, sym, ap, Ok}
 use Rattle.node_core.specs.View.{setting_of}
 use Rattle.node_core.proofs.NumberLines.{key_is, without_number, with_number}
 use Rattle.values_keys.specs.KeyOf.{key_of}

@@ -1,6 +1,5 @@
 -- A step by its event. Only a datagram can meet a fault of the store; all other events call no
 -- method that writes to it.
-use Rattle.std.proofs.Common.{◌≡◌}
 use Rattle.node_rules.specs.declared.event.Event.TheVariants as event
 use Rattle.node_rules.specs.Step.{open_step}
 use Rattle.node_core.specs.View.{setting_of}

@@ -1,5 +1,5 @@
 -- A round that changed: the request goes on, or only keeps the round while a fetch runs.
-use Rattle.std.proofs.Common.{◌≡◌, ◌∙◌, Some, slice_get, refl, true, false, sym}
+use Rattle.std.proofs.Common.{◌≡◌, ◌∙◌, Some, slice_get, true, false, sym}
 use Rattle.node_rules.specs.State.{changed, is_idle}
 use Rattle.node_rules.specs.Arrivals.{with_round}
 use Rattle.node_waiting.specs.Changed.{with_progress}
@@ -13,7 +13,7 @@ invariant_of-self g c =
     let ask = c.ask.result.now in
     let after : c.change.new.self ≡ changed (with_progress ask c.in_ok-progress.progress) c.self.inside.pending =
     rw c.ask.ensures.value at c.change.ensures.changed in
-    (rw after (changed_node c.args.place ask (with_progress ask c.in_ok-progress.progress) c.ask.ensures.value refl c.self.invariant.0), c.self.invariant.1)
+    (rw after (changed_node (with_progress ask c.in_ok-progress.progress) c.self.invariant.0), c.self.invariant.1)
 
 pub returns-then-is_idle-clause-leads : goal.returns-then-is_idle-clause-leads
 returns-then-is_idle-clause-leads g c = λ key_of.

@@ -6,6 +6,7 @@ use Rattle.values_tables.specs.declared.plain.Tables.{Tables}
 use Rattle.node_rules.specs.declared.message.Message.{Message}
 use Rattle.node_rules.specs.declared.event.Event.TheVariants as event
 use Rattle.roster.specs.Lookups.{is_own}
+use Rattle.node_rules.specs.Spelled.{IsSpelled}
 use Rattle.run_rules.specs.Sent.{Network, IsSent}
 use Rattle.run_network.specs.declared.letters.Letters.{Letters}
 use Rattle.run_network.specs.Held.{HasLetter, HoldsLetters}
@@ -14,11 +15,11 @@ use Rattle.run_network.proofs.network.Network.is_sent.Goals as goal
 
 -- a datagram of a member or of the master was sent exactly if it is held
 datagram_sent : (roster : Tables) (sent : Network) (letters : Letters) (node : ℕ) (from : Address) (m : Message) (now : ℕ) (b : Bool) →
-    HoldsLetters roster letters sent.datagrams → is_own roster from ≡ true →
+    HoldsLetters roster letters sent.datagrams → IsSpelled m → is_own roster from ≡ true →
     IsTrue b ↔ HasLetter letters (letter from node m) → IsTrue b ↔ IsSent roster sent node (event.Datagram from m now)
-datagram_sent roster sent letters node from m now b held own has = (
-  λ h _. (held.sent_to (letter from node m)).0 (has.0 h),
-  λ h. has.1 ((held.sent_to (letter from node m)).1 (h own)),
+datagram_sent roster sent letters node from m now b held spelled own has = (
+  λ h. (spelled, λ _. (held.sent_to (letter from node m)).0 (has.0 h)),
+  λ h. has.1 ((held.sent_to (letter from node m)).1 (h.1 own)),
 )
 
 pub returns-in-PeerAsk : goal.returns-in-PeerAsk
@@ -36,8 +37,8 @@ returns-in-PeerAnswer c = λ sent held. (
 pub returns-else-not-is_own : goal.returns-else-not-is_own
 returns-else-not-is_own c = λ sent held.
     let from = c.in-Datagram.from in
-    let has = subst (λ m. IsTrue c.has_letter.result ↔ HasLetter c.args.self.now.letters (letter from c.args.node m)) c.message.ensures.value
+    let has = subst (λ m. IsTrue c.has_letter.result ↔ HasLetter c.args.self.now.letters (letter from c.args.node m)) c.message-message.ensures.value
     c.has_letter.ensures in
     subst (λ e. IsTrue c.has_letter.result ↔ IsSent c.args.roster.now sent c.args.node e) (sym c.in-Datagram.is)
     (datagram_sent c.args.roster.now sent c.args.self.now.letters c.args.node from c.in-Datagram.message c.in-Datagram.now c.has_letter.result held.letters
-    (sym c.is_own.ensures ∙ c.if-not-is_own.false) has)
+    c.message-message.ensures.spelled (sym c.is_own.ensures ∙ c.if-not-is_own.false) has)

@@ -1,0 +1,48 @@
+-- What is written for one purge, member or peer after another is what is written for all of them.
+use Rattle.std.proofs.Common.{◌≡◌, ℕ, zero, suc, ◌+◌, ◌<◌, Bool, true, false, MatchBool, List, [], ◌∷◌, ◌++◌, length, take, get_or, refl, sym, ap, ◌∙◌, subst, arith, append_assoc, append-nil}
+use Rattle.roster.specs.Lookups.{is_member}
+use Rattle.values_tables.specs.declared.plain.Tables.{Tables}
+use Rattle.cluster_console.specs.declared.check.MemberState.{MemberState}
+use Rattle.cluster_console.specs.Shown.{all_shown, member_line}
+use Rattle.cluster_console.specs.Played.{MembersTell}
+
+-- one more
+lines_more : {A : Type 0} (shown : A → List ℕ) (xs : List A) (i : ℕ) (x : A) → i < length xs → x ≡ get_or xs i x →
+    all_shown shown (take (suc i) xs) ≡ all_shown shown (take i xs) ++ shown x
+lines_more shown [] i x within is = absurd (omega (arith, within))
+lines_more shown (first ∷ xs) zero x within is = append-nil (shown first) ∙ ap shown (sym is)
+lines_more shown (first ∷ xs) (suc i) x within is =
+    ap (λ t. shown first ++ t) (lines_more shown xs i x (omega (arith, within)) is)
+    ∙ sym (append_assoc (shown first) (all_shown shown (take i xs)) (shown x))
+
+pub rows_more : {A : Type 0} (shown : A → List ℕ) (xs : List A) (i next : ℕ) (x : A) (start head text more : List ℕ) → next ≡ suc i → i < length xs →
+    x ≡ get_or xs i x → text ≡ start ++ (head ++ all_shown shown (take i xs)) → more ≡ text ++ shown x →
+    more ≡ start ++ (head ++ all_shown shown (take next xs))
+rows_more shown xs i next x start head text more one within is so_far wrote =
+    wrote ∙ ap (λ t. t ++ shown x) so_far ∙ append_assoc start (head ++ all_shown shown (take i xs)) (shown x)
+    ∙ ap (λ t. start ++ t) (append_assoc head (all_shown shown (take i xs)) (shown x)
+    ∙ ap (λ t. head ++ t) (sym (lines_more shown xs i x within is) ∙ ap (λ n. all_shown shown (take n xs)) (sym one)))
+
+-- one member more, if there is one
+member_by : (roster : Tables) (id : ℕ) (start head lines text more : List ℕ) (b : Bool) → is_member roster (suc id) ≡ b → MembersTell roster id lines →
+    text ≡ start ++ (head ++ lines) → MatchBool b ((s : MemberState) × (more ≡ text ++ member_line (suc id) s)) (more ≡ text) →
+    (x : List ℕ) × MembersTell roster (suc id) x × (more ≡ start ++ (head ++ x))
+member_by roster id start head lines text more true e tell so_far (s, wrote) =
+    let line = member_line (suc id) s in (
+      lines ++ line,
+      (lines, tell, subst (λ b. MatchBool b ((t : MemberState) × (lines ++ line ≡ lines ++ member_line (suc id) t)) (lines ++ line ≡ lines)) (sym e) (s, refl)),
+      wrote ∙ ap (λ t. t ++ line) so_far ∙ append_assoc start (head ++ lines) line ∙ ap (λ t. start ++ t) (append_assoc head lines line),
+    )
+member_by roster id start head lines text more false e tell so_far same = (
+  lines,
+  (lines, tell, subst (λ b. MatchBool b ((t : MemberState) × (lines ≡ lines ++ member_line (suc id) t)) (lines ≡ lines)) (sym e) refl),
+  same ∙ so_far,
+)
+
+pub member_more : (roster : Tables) (id next : ℕ) (start head lines text more : List ℕ) → next ≡ suc id → MembersTell roster id lines →
+    text ≡ start ++ (head ++ lines) → MatchBool (is_member roster next) ((s : MemberState) × (more ≡ text ++ member_line next s)) (more ≡ text) →
+    (x : List ℕ) × MembersTell roster next x × (more ≡ start ++ (head ++ x))
+member_more roster id next start head lines text more one tell so_far told =
+    subst (λ n. (x : List ℕ) × MembersTell roster n x × (more ≡ start ++ (head ++ x))) (sym one)
+    (member_by roster id start head lines text more (is_member roster (suc id)) refl tell so_far
+    (subst (λ n. MatchBool (is_member roster n) ((s : MemberState) × (more ≡ text ++ member_line n s)) (more ≡ text)) one told))

@@ -1,0 +1,143 @@
+//! The thread that says on standard error which members have closed.
+use crate::cluster::Running;
+use crate::fault::ClusterFault;
+use node_workers::{CloseCause, Closing};
+use std::alloc::Global;
+use std::sync::atomic::{AtomicBool, Ordering};
+use std::sync::{Arc, Wait};
+use std::thread::{self, JoinHandle, Threads};
+use std::time::{Clock, Duration};
+
+/// How many milliseconds pass from one look at the members to the next.
+const PAUSE: u64 = 100;
+
+/// How many looks pass at least between two lines on a member's want of descriptors: a second.
+const LOOKS: u32 = 10;
+
+/// A member that is watched.
+#[derive(Drop)]
+struct Watched {
+    id: u8,
+    closing: Arc<Closing, Global>,
+    /// Whether it was closed at an earlier look.
+    was_closed: bool,
+    is_told: bool,
+    /// Whether a connection could not be accepted for want of a descriptor.
+    has_lacked: Arc<AtomicBool, Global>,
+    /// How many looks pass until want of descriptors is told again.
+    looks: u32,
+}
+
+/// What the thread has.
+#[derive(Drop)]
+struct Watching {
+    members: Vec<Watched>,
+    is_stopped: Arc<AtomicBool, Global>,
+}
+
+/// A thread that watches the members.
+#[derive(Drop)]
+pub(crate) struct Watch {
+    is_stopped: Arc<AtomicBool, Global>,
+    thread: JoinHandle<()>,
+}
+
+/// The name of the cause.
+fn cause_name(cause: CloseCause) -> &'static str {
+    match cause {
+        CloseCause::StoreFault => "StoreFault",
+        CloseCause::NoMemory => "NoMemory",
+    }
+}
+
+impl Watched {
+    /// Says that the member has closed, and why, unless it is open or that was said. It is said at
+    /// the second look, since the thread that met the cause may note it after one that only met a
+    /// closed node; at the last look it is said at once.
+    fn tell<R: Eprint>(&mut self, rt: &R, is_last: bool) {
+        if self.is_told {
+            return;
+        }
+        let is_due = is_last || self.was_closed;
+        self.was_closed = self.closing.is_closed();
+        if let (true, Some(cause)) = (is_due, self.closing.cause()) {
+            self.is_told = true;
+            // (a standard error that takes nothing ends nothing)
+            let _ = eprintln!(rt; "node {} has closed: {}", self.id, cause_name(cause));
+        }
+    }
+
+    /// Says that connections of the member wait for want of descriptors, once a second at most.
+    fn tell_want<R: Eprint>(&mut self, rt: &R) {
+        if 0 < self.looks {
+            self.looks -= 1;
+        } else if self.has_lacked.swap(false, Ordering::SeqCst) {
+            self.looks = LOOKS;
+            // (a standard error that takes nothing ends nothing)
+            let _ = eprintln!(rt; "node {} lacks descriptors: connections wait", self.id);
+        }
+    }
+}
+
+impl Watching {
+    /// Looks at the members again and again until it is told to stop.
+    fn run<R: Wait + Clock + Eprint>(mut self, rt: &R) {
+        for _ in rt.forever() {
+            let is_last = self.is_stopped.load(Ordering::SeqCst);
+            for member in &mut self.members {
+                member.tell(rt, is_last);
+                member.tell_want(rt);
+            }
+            if is_last {
+                return;
+            }
+            thread::sleep(rt, Duration::from_millis(PAUSE));
+        }
+    }
+}
+
+/// What is watched of the members that run.
+fn members_of(alloc: Global, running: &[Running]) -> Result<Vec<Watched>, ClusterFault> {
+    let mut members = Vec::with_capacity(alloc, running.len())?;
+    for node in running {
+        let member = Watched {
+            id: node.id,
+            closing: node.workers.closing()?,
+            was_closed: false,
+            is_told: false,
+            has_lacked: node.workers.has_lacked()?,
+            looks: 0,
+        };
+        if members.push(member).is_err() {
+            return Err(ClusterFault::NoMemory);
+        }
+    }
+    Ok(members)
+}
+
+impl Watch {
+    /// Starts the thread. Faults: `NoThread` and `NoMemory`.
+    pub(crate) fn start<R: Threads + Wait + Clock + Eprint + Copy + Drop + Send + Sync + 'static>(
+        rt: R,
+        alloc: Global,
+        running: &[Running],
+    ) -> Result<Watch, ClusterFault> {
+        let Ok(is_stopped) = Arc::new(alloc, AtomicBool::new(false)) else {
+            return Err(ClusterFault::NoMemory);
+        };
+        let watching = Watching {
+            members: members_of(alloc, running)?,
+            is_stopped: Arc::try_clone(&is_stopped)?,
+        };
+        match thread::spawn(&rt, move || watching.run(&rt)) {
+            Ok(thread) => Ok(Watch { is_stopped, thread }),
+            Err(_) => Err(ClusterFault::NoThread),
+        }
+    }
+
+    /// Tells the thread to stop, which it does within 100 milliseconds, and waits for its end.
+    pub(crate) fn stop<R: Threads>(self, rt: &R) {
+        self.is_stopped.store(true, Ordering::SeqCst);
+        self.thread.join(rt);
+    }
+}

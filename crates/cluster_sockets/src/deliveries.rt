@@ -1,0 +1,208 @@
+//! The responses that the loop writes on as their clients take them.
+ghost use Rattle.std.specs.Prelude.{IsTrue};
+ghost use Rattle.http_writing.specs.Name.{is_name as names_cache};
+
+use crate::delivery::{Delivered, Delivery};
+use crate::streams::Streams;
+use mio::{Registry, Token};
+use node_rules::{Serve, Served};
+use slab::Slab;
+use std::alloc::{AllocError, Global};
+use std::mem::swap;
+use std::time::{Duration, Instant};
+
+/// How many responses are under way in the loop at most.
+pub(crate) const MOST_DELIVERIES: usize = 4096;
+
+/// How many responses are noted without a need for memory.
+const MOST_NOTED: usize = 1024;
+
+/// How many connections are told at a poll at most that they are refused.
+const MOST_REFUSED: usize = 256;
+
+/// How many connections stay open behind their responses until their clients close them, at most.
+/// Further ones are closed once their response is written.
+const MOST_LINGERING: usize = 256;
+
+/// The responses under way, each under a key.
+#[derive(Drop)]
+pub(crate) struct Deliveries {
+    under_way: Slab<Delivery>,
+    /// How many of them linger.
+    lingering: usize,
+    ready: Vec<usize>,
+    /// Those that may go on at once after they have gone on.
+    again: Vec<usize>,
+    kept: Vec<u8>,
+    first_token: usize,
+    patience: Duration,
+}
+
+impl Deliveries {
+    /// No responses yet. Their tokens are `first_token` and up. `patience` is the time of a client
+    /// that is refused. `AllocError` comes where there is no memory for the buffer.
+    pub(crate) fn new(
+        alloc: Global,
+        first_token: usize,
+        patience: Duration,
+    ) -> Result<Deliveries, AllocError> {
+        Ok(Deliveries {
+            under_way: Slab::new(alloc),
+            lingering: 0,
+            ready: Vec::with_capacity(alloc, MOST_NOTED)?,
+            again: Vec::new(alloc),
+            kept: Vec::with_capacity(alloc, 16_384)?,
+            first_token,
+            patience,
+        })
+    }
+
+    /// Notes that the response under this key may go on. `AllocError` comes where there is no room
+    /// to note it; the response then waits for its deadline.
+    pub(crate) fn note(&mut self, key: usize) -> Result<(), AllocError> {
+        Ok(self.ready.push(key)?)
+    }
+
+    /// Goes on with a response, and keeps it until its client takes more. Where 4,096 are under way,
+    /// or there is no memory, its connection is closed.
+    pub(crate) fn add(&mut self, registry: &Registry, mut delivery: Delivery, via: &[u8])
+        requires { IsTrue (names_cache via.now) }
+    {
+        if self.lingering >= MOST_LINGERING {
+            delivery.set_short();
+        }
+        let delivered = delivery.go_on(&mut self.kept, via);
+        if delivered == Delivered::Ended || self.under_way.len() >= MOST_DELIVERIES {
+            return;
+        }
+        let lingers = delivery.lingers();
+        let Ok(key) = self.under_way.insert(delivery) else {
+            return;
+        };
+        self.lingering = self.lingering.saturating_add(usize::from(lingers));
+        self.note_more(key, delivered);
+        let token = Token(self.first_token.saturating_add(key));
+        let is_told = match self.under_way.get_mut(key) {
+            Some(delivery) => delivery.register(registry, token).is_ok(),
+            None => true,
+        };
+        if !is_told {
+            self.remove(key);
+        }
+    }
+
+    /// Closes the connection of the response under this key.
+    fn remove(&mut self, key: usize) {
+        if let Some(delivery) = self.under_way.try_remove(key) {
+            self.lingering = self
+                .lingering
+                .saturating_sub(usize::from(delivery.lingers()));
+        }
+    }
+
+    /// Notes a response that may go on at once. Where there is no room to note it, it waits for its
+    /// deadline.
+    fn note_more(&mut self, key: usize, delivered: Delivered) {
+        if delivered == Delivered::More {
+            let _ = self.again.push(key);
+        }
+    }
+
+    /// Whether some may go on without waiting.
+    pub(crate) fn has_more(&self) -> bool {
+        !self.ready.is_empty()
+    }
+
+    /// Tells 503 to those whose connections are refused.
+    pub(crate) fn refuse_all(
+        &mut self,
+        registry: &Registry,
+        streams: &mut Streams,
+        via: &[u8],
+        now: Instant,
+    )
+        requires { IsTrue (names_cache via.now) }
+    {
+        for _ in 0..MOST_REFUSED {
+            let Some((stream, lingers)) = streams.next_refused() else {
+                break;
+            };
+            self.add(
+                registry,
+                Delivery::new(stream, unavailable(), lingers, self.patience, now),
+                via,
+            );
+        }
+    }
+
+    /// Goes on with the response under this key.
+    fn go_on(&mut self, key: usize, via: &[u8])
+        requires { IsTrue (names_cache via.now) }
+    {
+        let delivered = match self.under_way.get_mut(key) {
+            Some(delivery) => delivery.go_on(&mut self.kept, via),
+            None => return,
+        };
+        if delivered == Delivered::Ended {
+            self.remove(key);
+        }
+        self.note_more(key, delivered);
+    }
+
+    /// Goes on with the responses that were noted.
+    pub(crate) fn go_on_ready(&mut self, via: &[u8])
+        requires { IsTrue (names_cache via.now) }
+    {
+        for place in 0..self.ready.len() {
+            let Some(key) = self.ready.get(place).copied() else {
+                break;
+            };
+            self.go_on(key, via);
+        }
+        self.ready.clear();
+        swap(&mut self.ready, &mut self.again);
+    }
+
+    /// Closes the connections whose clients take too little.
+    pub(crate) fn end_late(&mut self, now: Instant) {
+        if self.under_way.is_empty() {
+            return;
+        }
+        for key in 0..MOST_DELIVERIES {
+            let is_late = match self.under_way.get_mut(key) {
+                Some(delivery) => delivery.is_late(now),
+                None => false,
+            };
+            if is_late {
+                self.remove(key);
+            }
+        }
+    }
+
+    /// Closes the connections whose responses are written.
+    pub(crate) fn end_written(&mut self) {
+        for key in 0..MOST_DELIVERIES {
+            let is_written = match self.under_way.get(key) {
+                Some(delivery) => delivery.is_written(),
+                None => false,
+            };
+            if is_written {
+                self.remove(key);
+            }
+        }
+    }
+
+    /// Whether none is under way.
+    pub(crate) fn is_empty(&self) -> bool {
+        self.under_way.is_empty()
+    }
+}
+
+/// The status of a connection that is refused (RFC 9110, section 15.6.4).
+fn unavailable() -> Serve<()> {
+    Serve {
+        waiter: None,
+        asker: None,
+        served: Served::Status(503),
+    }
+}

@@ -1,0 +1,300 @@
+//! The fetches that are under way, and those that wait for their turn.
+ghost use Rattle.std.specs.Prelude.{IsTrue};
+ghost use Rattle.http_writing.specs.Name.{is_name as names_cache};
+
+use crate::at_once::AtOnce;
+use cluster_fetch::{Fetch, Fetched, Fetching};
+use http_messages::Answer;
+use mio::{Registry, Token};
+use slab::Slab;
+use std::alloc::{AllocError, Global};
+use std::collections::VecDeque;
+use std::net::Net;
+use std::sync::Wait;
+use std::time::{Duration, Instant};
+use values_plain::Address;
+use values_tables::Limits;
+
+/// How many fetches are under way at most.
+pub(crate) const MOST_FETCHES: usize = 1024;
+
+/// How many fetches wait for their turn at one address at most. Further ones fail at once, so that
+/// an address that does not answer leaves room for the requests of others.
+const MOST_IN_LINE: usize = 512;
+
+/// The fetches from one address: how many are under way, and those that wait for their turn.
+#[derive(Drop)]
+struct Line {
+    at: Address,
+    under_way: u64,
+    waiting: VecDeque<Fetch>,
+}
+
+/// A fetch under way, and the place of its line.
+#[derive(Drop)]
+struct Placed {
+    fetching: Fetching,
+    line: usize,
+}
+
+/// The fetches of a node. Each address has a line of its own, so one that does not answer holds up
+/// its own fetches alone. Where all 1,024 places are taken, the lines take turns.
+#[derive(Drop)]
+pub(crate) struct Fetches {
+    alloc: Global,
+    under_way: Slab<Placed>,
+    lines: Vec<Line>,
+    ready: VecDeque<usize>,
+    /// Whether a line in which fetches wait may have room.
+    may_begin: bool,
+    /// The place of the line whose turn is next.
+    turn: usize,
+    /// Where the look for late fetches goes on.
+    looked: usize,
+    first_token: usize,
+    /// How many connections to one address are open at most.
+    most_of_address: u64,
+    /// How long a fetch may take, from the moment at which it begins to connect.
+    patience: Duration,
+}
+
+impl Fetches {
+    /// No fetches yet. Their tokens are `first_token` and up. The limits are the roster's. It takes
+    /// no memory.
+    pub(crate) fn new(alloc: Global, first_token: usize, limits: Limits) -> Fetches {
+        Fetches {
+            alloc,
+            under_way: Slab::new(alloc),
+            lines: Vec::new(alloc),
+            ready: VecDeque::new(alloc),
+            may_begin: false,
+            turn: 0,
+            looked: MOST_FETCHES,
+            first_token,
+            most_of_address: limits.fetches_per_address,
+            patience: Duration::from_millis(limits.fetch_wait),
+        }
+    }
+
+    /// Notes that the fetch under this key may go on. `AllocError` comes where there is no room to
+    /// note it; the fetch then waits for the next look.
+    pub(crate) fn note(&mut self, key: usize) -> Result<(), AllocError> {
+        self.ready.push_back(key)?;
+        Ok(())
+    }
+
+    /// Whether some may go on without waiting.
+    pub(crate) fn has_more(&self) -> bool {
+        self.may_begin || !self.ready.is_empty() || self.looked < MOST_FETCHES
+    }
+
+    /// Begins a look at all fetches, which `next_late` goes on with.
+    pub(crate) fn begin_look(&mut self) {
+        self.looked = 0;
+    }
+
+    /// The place of the line of an address.
+    fn line_of(&mut self, at: Address) -> Result<usize, AllocError> {
+        if let Some(place) = self.lines.iter().position(|line| line.at == at) {
+            return Ok(place);
+        }
+        self.lines.push(Line {
+            at,
+            under_way: 0,
+            waiting: VecDeque::new(self.alloc),
+        })?;
+        Ok(self.lines.len().saturating_sub(1))
+    }
+
+    /// Begins a fetch, or has it wait for its turn. It comes back as one that has ended where it
+    /// failed at once, its client was told that it took too long, 512 wait for their turn at its
+    /// address, or there is no memory.
+    pub(crate) fn add<A: AtOnce, R: Net + Wait>(
+        &mut self,
+        rt: &R,
+        registry: &Registry,
+        at_once: &A,
+        fetch: Fetch,
+        via: &[u8],
+        now: Instant,
+    ) -> Option<Fetched>
+        requires { IsTrue (names_cache via.now) }
+    {
+        if !at_once.is_wanted(rt, fetch.serial) {
+            return Some(fetch.into_failed());
+        }
+        let Ok(place) = self.line_of(fetch.at) else {
+            return Some(fetch.into_failed());
+        };
+        if self.has_room(place) {
+            return self.begin(rt, registry, place, fetch, via, now);
+        }
+        match self.lines.get_mut(place) {
+            Some(line) if line.waiting.len() >= MOST_IN_LINE => Some(fetch.into_failed()),
+            Some(line) => match line.waiting.push_back(fetch) {
+                Ok(()) => None,
+                Err(failed) => Some(failed.value.into_failed()),
+            },
+            None => Some(fetch.into_failed()),
+        }
+    }
+
+    /// Whether one more connection may be opened to the address of this line.
+    fn has_room(&self, place: usize) -> bool {
+        match self.lines.get(place) {
+            Some(line) => {
+                line.under_way < self.most_of_address && self.under_way.len() < MOST_FETCHES
+            }
+            None => false,
+        }
+    }
+
+    /// Begins a fetch of this line.
+    fn begin<R: Net>(
+        &mut self,
+        net: &R,
+        registry: &Registry,
+        line: usize,
+        fetch: Fetch,
+        via: &[u8],
+        now: Instant,
+    ) -> Option<Fetched>
+        requires { IsTrue (names_cache via.now) }
+    {
+        let until = now.checked_add(self.patience).unwrap_or(now);
+        match Fetching::begin(net, self.alloc, fetch, via, until) {
+            Ok(fetching) => self.keep(registry, Placed { fetching, line }),
+            Err(failed) => Some(failed),
+        }
+    }
+
+    /// Keeps a fetch that has begun. It comes back as one that has failed where the poll does not
+    /// take it, or there is no memory.
+    fn keep(&mut self, registry: &Registry, mut placed: Placed) -> Option<Fetched> {
+        let token = Token(self.first_token.saturating_add(self.under_way.vacant_key()));
+        let line = placed.line;
+        if placed.fetching.register(registry, token).is_err() {
+            return Some(placed.fetching.into_fetched(None));
+        }
+        match self.under_way.insert(placed) {
+            Ok(_) => {
+                if let Some(line) = self.lines.get_mut(line) {
+                    line.under_way = line.under_way.saturating_add(1);
+                }
+                None
+            }
+            Err(failed) => Some(failed.value.fetching.into_fetched(None)),
+        }
+    }
+
+    /// Takes out the fetch under this key, which has ended.
+    fn end(&mut self, registry: &Registry, key: usize, answer: Option<Answer>) -> Option<Fetched> {
+        let Placed { mut fetching, line } = self.under_way.try_remove(key)?;
+        fetching.deregister(registry);
+        if let Some(line) = self.lines.get_mut(line) {
+            line.under_way = line.under_way.saturating_sub(1);
+        }
+        self.may_begin = true;
+        Some(fetching.into_fetched(answer))
+    }
+
+    /// Goes on with the fetch under this key.
+    fn go_on(&mut self, registry: &Registry, key: usize) -> Option<Fetched> {
+        let answer = self.under_way.get_mut(key)?.fetching.go_on(self.alloc)?;
+        self.end(registry, key, answer)
+    }
+
+    /// Whether a fetch waits in this line, and there is room for it.
+    fn is_due(&self, place: usize) -> bool {
+        match self.lines.get(place) {
+            Some(line) => !line.waiting.is_empty() && self.has_room(place),
+            None => false,
+        }
+    }
+
+    /// Takes out the next fetch that waits and for which there is room, with the place of its line.
+    /// The lines take turns.
+    fn next_turn(&mut self) -> Option<(usize, Fetch)> {
+        if !self.may_begin {
+            return None;
+        }
+        let count = self.lines.len();
+        let first = self.turn.min(count);
+        let Some(place) = (first..count)
+            .chain(0..first)
+            .find(|place| self.is_due(*place))
+        else {
+            self.may_begin = false;
+            return None;
+        };
+        self.turn = place.saturating_add(1);
+        let fetch = self.lines.get_mut(place)?.waiting.pop_front()?;
+        Some((place, fetch))
+    }
+
+    /// Begins a fetch that has waited for its turn. One whose client no longer waits, or has gone
+    /// away, has failed instead.
+    fn begin_next<A: AtOnce, R: Net + Wait>(
+        &mut self,
+        rt: &R,
+        registry: &Registry,
+        at_once: &A,
+        next: (usize, Fetch),
+        via: &[u8],
+        now: Instant,
+    ) -> Option<Fetched>
+        requires { IsTrue (names_cache via.now) }
+    {
+        let (place, fetch) = next;
+        if !at_once.is_there(rt, fetch.serial) {
+            return Some(fetch.into_failed());
+        }
+        self.begin(rt, registry, place, fetch, via, now)
+    }
+
+    /// Goes on with what may go on, until a fetch has ended, and gives that one. There is none where
+    /// all wait.
+    pub(crate) fn next_ended<A: AtOnce, R: Net + Wait>(
+        &mut self,
+        rt: &R,
+        registry: &Registry,
+        at_once: &A,
+        via: &[u8],
+        now: Instant,
+    ) -> Option<Fetched>
+        requires { IsTrue (names_cache via.now) }
+    {
+        for _ in 0..MOST_FETCHES {
+            let ended = match self.next_turn() {
+                Some(next) => self.begin_next(rt, registry, at_once, next, via, now),
+                None => {
+                    let key = self.ready.pop_front()?;
+                    self.go_on(registry, key)
+                }
+            };
+            if ended.is_some() {
+                return ended;
+            }
+        }
+        None
+    }
+
+    /// Goes on with a look: gives the next fetch whose time is over, or whose response has come
+    /// whole since it was last read.
+    pub(crate) fn next_late(&mut self, registry: &Registry, now: Instant) -> Option<Fetched> {
+        for key in self.looked..MOST_FETCHES {
+            self.looked = key.saturating_add(1);
+            let answer = match self.under_way.get_mut(key) {
+                Some(placed) => match placed.fetching.look(self.alloc) {
+                    None if placed.fetching.is_late(now) => Some(None),
+                    answer => answer,
+                },
+                None => None,
+            };
+            if let Some(answer) = answer {
+                return self.end(registry, key, answer);
+            }
+        }
+        None
+    }
+}

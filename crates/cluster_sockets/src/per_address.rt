@@ -1,0 +1,58 @@
+//! How many of the connections that wait come from each address.
+ghost use Rattle.std.specs.Prelude.{◌≡◌, ◌<◌, ◌+◌, true, false, pred};
+ghost use Rattle.cluster_sockets.specs.Counts.{count_at};
+
+use std::alloc::Global;
+use std::collections::BTreeMap;
+
+/// How many of the connections that wait come from each IPv4 address.
+#[derive(Drop)]
+pub(crate) struct PerAddress {
+    counts: BTreeMap<u32, u32>,
+}
+
+impl PerAddress {
+    /// None waits. It takes no memory.
+    pub(crate) fn new(alloc: Global) -> PerAddress {
+        PerAddress {
+            counts: BTreeMap::new(alloc),
+        }
+    }
+
+    /// How many connections of an address wait.
+    pub(crate) fn count(&self, ip: u32) -> u32
+        ensures { result ≡ count_at self.now.counts ip }
+    {
+        self.counts.get(&ip).copied().unwrap_or(0)
+    }
+
+    /// Counts one more connection of an address. Returns false, and counts nothing, where there is
+    /// no memory, or no greater number.
+    pub(crate) fn add(&mut self, ip: u32) -> bool
+        ensures counted { result ≡ true →
+            count_at self.new.counts ip ≡ 1 + count_at self.old.counts ip }
+        ensures kept { result ≡ false → self.new.counts.entries ≡ self.old.counts.entries }
+    {
+        let count = self.count(ip);
+        if count == u32::MAX {
+            return false;
+        }
+        match self.counts.insert(ip, count + 1) {
+            Ok(_) => true,
+            Err(_) => false,
+        }
+    }
+
+    /// Counts one connection of an address less.
+    pub(crate) fn remove(&mut self, ip: u32)
+        ensures { count_at self.new.counts ip ≡ pred (count_at self.old.counts ip) }
+    {
+        match self.counts.get_mut(&ip) {
+            Some(count) if *count > 1 => *count -= 1,
+            Some(_) => {
+                let _ = self.counts.remove(&ip);
+            }
+            None => {}
+        }
+    }
+}

@@ -1,0 +1,5 @@
+use Rattle.htcp_wire.proofs.Exactness.{decoded_exact}
+use Rattle.htcp_wire.proofs.decoding.decoded_is_exact.Goals as goal
+
+pub returns : goal.returns
+returns c = decoded_exact

@@ -1,0 +1,10 @@
+use Rattle.std.proofs.Common.{subst}
+use Rattle.node_rules.specs.Texts.{IsAnswerable}
+use Rattle.node_rules.proofs.Answerable.{spelled_answerable}
+use Rattle.node_rules.proofs.message.Received.into_message.Goals as goal
+
+pub returns-clause-value : goal.returns-clause-value
+returns-clause-value c = c.self.view_is
+
+pub returns-clause-answerable : goal.returns-clause-answerable
+returns-clause-answerable c = subst IsAnswerable c.self.view_is (spelled_answerable c.self.inside.message c.self.invariant)
