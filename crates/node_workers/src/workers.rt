@@ -69,8 +69,7 @@ fn open_node<S: FloorStore + Drop>(
         fault ≡ starting.Open (opening.Floors storing.StoreFault) →
         S.is_usable floors ≡ false) }
     ensures named { IfErr result (λ fault.
-        (fault ≢ starting.Open (opening.Floors storing.FloorsFull))
-        × (fault ≢ starting.Open (opening.Floors storing.BadTable))) }
+        fault ≢ starting.Open (opening.Floors storing.BadTable)) }
 {
     let roster = roster.copy(alloc)?;
     match Node::open_with_random_keys(alloc, roster, id, floors, keys) {
@@ -234,8 +233,7 @@ impl Workers {
             fault ≡ starting.Open (opening.Floors storing.StoreFault) →
             S.is_usable ground.floors ≡ false) }
         ensures named { IfErr result (λ fault.
-            (fault ≢ starting.Open (opening.Floors storing.FloorsFull))
-            × (fault ≢ starting.Open (opening.Floors storing.BadTable))) }
+            fault ≢ starting.Open (opening.Floors storing.BadTable)) }
     {
         if !roster.is_member(id) {
             return Err(StartFault::Open(OpenFault::NoSuchNode));

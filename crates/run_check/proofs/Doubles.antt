@@ -3,7 +3,7 @@
 -- that are not before the least fall; and a record closes at 0 or at a place that was taken.
 use Rattle.std.proofs.Common.{◌≡◌, ◌⊎◌, ℕ, zero, suc, ◌+◌, ◌≤◌, ◌<◌, Bool, true, false, cond, List, [], ◌∷◌, ◌++◌, map, filter, Option, Some, None, refl, sym, ◌∙◌, ap, inl, inr, nat_le, nat_lt, subst, arith}
 use Rattle.std.specs.List.{flat_map, cons_option}
-use Rattle.floor_rules.specs.Floors.{FloorMap}
+use Rattle.floor_rules.specs.Floors.{FloorTable}
 use Rattle.node_rules.specs.declared.state.NodeState.{NodeState}
 use Rattle.node_rules.proofs.Cases.{branches, test_le}
 use Rattle.node_book.specs.declared.book.NodeEntry.{NodeEntry}
@@ -235,7 +235,7 @@ calls_close : (last : Option ℕ) (es : List MasterEntry) → CloseUp last (call
 calls_close last [] = tt
 calls_close last (e ∷ es) = calls_close (Some e.place) es
 
-steps_close : (last : Option ℕ) (id place : ℕ) (is_closed : Bool) (kept : FloorMap) (state : NodeState (Unit {0})) (es : List NodeEntry) (later : List Note) →
+steps_close : (last : Option ℕ) (id place : ℕ) (is_closed : Bool) (kept : FloorTable) (state : NodeState (Unit {0})) (es : List NodeEntry) (later : List Note) →
     IsUpTo last place → ((o : Option ℕ) → CloseUp o later) →
     CloseUp last ((steps_of id is_closed kept es ++ Closes id (last_place place es) state ∷ []) ++ later)
 steps_close last id place is_closed kept state [] later up all = (up, all last)

@@ -39,8 +39,7 @@ use Rattle.run_rules.specs.Board.{Board, standing_at}
 use Rattle.run_rules.specs.declared.verdict.Cause.TheVariants.{NotSent, OtherReply}
 use Rattle.run_rules.specs.Judging.{Fine, IsOfKey, CallsBy, left_wanting, after_call, JudgesCall}
 use Rattle.run_rules.specs.Recorded.{Progress, Goes, event_step, CallsIn}
-use Rattle.run_rules.proofs.Lists.{contained_item}
-use Rattle.run_rules.proofs.Purging.{same_pair}
+use Rattle.run_rules.proofs.Lists.{contained_item, same_some}
 use Rattle.run_rules.proofs.Matching.{NetworkMatches, datagrams_grow}
 use Rattle.run_rules.proofs.Following.{StandsIn, Matches, after_goes, place_goes}
 use Rattle.run_rules.proofs.Entries.{Follows, same_board, not_flawed}
@@ -151,7 +150,7 @@ module _ (members : List ℕ) (purges : PurgeList) where
 hears_content : (t : Tables) (w : World) (sender : Address) (at trans code : ℕ) (c : Content) → clear_answer_in at c ≡ Some (trans, code) →
     master_hears_htcp t w sender at c ≡ acknowledged_by t w trans code (member_at t sender udp.Htcp)
 hears_content t w sender at trans code (content.ClrAnswer said) is =
-    ap (λ (x : ℕ × ℕ). acknowledged_by t w x.0 x.1 (member_at t sender udp.Htcp)) (same_pair (at, said) (trans, code) is)
+    ap (λ (x : ℕ × ℕ). acknowledged_by t w x.0 x.1 (member_at t sender udp.Htcp)) (same_some (at, said) (trans, code) is)
 hears_content t w sender at trans code (content.NopAsk desired) is = cc
 hears_content t w sender at trans code content.NopAnswer is = cc
 hears_content t w sender at trans code (content.TstAsk desired spec) is = cc

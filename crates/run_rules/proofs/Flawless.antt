@@ -21,7 +21,7 @@ use Rattle.run_rules.specs.Verdict.{OrderedNote, HasVerdict, HasVerdictBy, is_as
 use Rattle.run_rules.specs.Recorded.{Progress, beginning, AllStand}
 use Rattle.node_rules.specs.declared.state.NodeState.{NodeState}
 use Rattle.node_book.specs.declared.book.NodeEntry.{NodeEntry}
-use Rattle.floor_rules.specs.Floors.{FloorMap}
+use Rattle.floor_rules.specs.Floors.{FloorTable}
 use Rattle.node_rules.specs.State.{setting}
 use Rattle.world_rules.proofs.SourceRuns.{run_after}
 use Rattle.run_rules.proofs.Lists.{ok_same}
@@ -49,7 +49,7 @@ not_open : (st : Standing) (state : NodeState (Unit {0})) → st ≡ Astray → 
 not_open st state astray opens = subst (λ (s : Standing). OpensAs s state) astray opens
 
 module _ (t : Tables) (b : Board) (who : ℕ) (astray : standing_at b.posts who ≡ Astray) where
-  steps_astray : (id : ℕ) (entry : NodeEntry) (is_closed : Bool) (kept : FloorMap) (r : Result Standing Cause) (next : Board) →
+  steps_astray : (id : ℕ) (entry : NodeEntry) (is_closed : Bool) (kept : FloorTable) (r : Result Standing Cause) (next : Board) →
       StepsSo (setting t id) (standing_at b.posts id) entry is_closed kept r → Fine next ≡ judged t b id entry r → standing_at next.posts who ≡ Astray
   steps_astray id entry is_closed kept (Err cause) next steps is = absurd (not_flawed next cause is)
   steps_astray id entry is_closed kept (Ok st) next steps is =

@@ -22,7 +22,7 @@ use Rattle.world_rules.proofs.Runs.{next_place}
 use Rattle.world_rules.proofs.SourceRuns.{IsAfter, after_one}
 use Rattle.run_rules.specs.Sent.{SentAsk, SentAnswer, Waits, Network, waits_by, with_reply}
 use Rattle.run_rules.specs.Board.{Post, Standing, New, Open, Shut, Astray, Board, standing_at, with_standing}
-use Rattle.run_rules.specs.Recorded.{Progress, unmarked, unmarked_event, node_in, IsShut}
+use Rattle.run_rules.specs.Recorded.{Progress, unmarked, unmarked_event, node_in}
 use Rattle.run_rules.proofs.Matching.{NetworkMatches, datagrams_grow, asks_grow, answers_grow, asks_same, answers_same, waits_by_event}
 
 -- Standings of nodes
@@ -31,7 +31,7 @@ use Rattle.run_rules.proofs.Matching.{NetworkMatches, datagrams_grow, asks_grow,
 abbrev pub StandsIn : Tables → ℕ → Standing → NodeState ℕ → Type 0
 StandsIn t id New node = node ≡ new_node
 StandsIn t id (Open s) node = (is_member t id ≡ true) × (node.closed ≡ false) × (unmarked node ≡ s)
-StandsIn t id (Shut s) node = (is_member t id ≡ true) × (node.floors ≡ s.floors) × IsShut (unmarked node) s
+StandsIn t id (Shut s) node = (is_member t id ≡ true) × (node.closed ≡ true) × (unmarked node ≡ s)
 StandsIn t id Astray node = ⊥
 
 pub standing_at-same : (ps : List Post) (id : ℕ) (st : Standing) → standing_at (with_standing ps id st) id ≡ st

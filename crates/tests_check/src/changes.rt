@@ -95,7 +95,7 @@ fn copy_of_outcome(alloc: Global, outcome: &Outcome) -> Result<Outcome, AllocErr
     }
 }
 
-fn copy_of_entry(alloc: Global, entry: &NodeEntry) -> Result<NodeEntry, AllocError> {
+pub(crate) fn copy_of_entry(alloc: Global, entry: &NodeEntry) -> Result<NodeEntry, AllocError> {
     let event = copy_of_event(alloc, &entry.event)?;
     Ok(NodeEntry {
         seat: entry.seat,

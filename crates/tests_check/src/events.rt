@@ -8,6 +8,7 @@ use roster::Address;
 use std::alloc::Global;
 use std::test::Fail;
 use tests_kit::{ask_of, icp_of, key_of};
+use url_key::Key;
 
 /// 127.0.0.1.
 const HOST: u32 = 2130706433;
@@ -92,6 +93,15 @@ fn datagram(alloc: Global, port: u16, message: Message) -> Result<Event<()>, Fai
 fn clear_of(alloc: Global, number: u32, url: Url) -> Result<Message, Fail> {
     let key = key_of(alloc, url)?;
     Ok(Message::Htcp(clear(alloc, number, &key)?))
+}
+
+/// The CLR of this purge, of a key, comes from the master.
+pub(crate) fn clear_comes(alloc: Global, number: u32, key: &Key) -> Result<Event<()>, Fail> {
+    datagram(
+        alloc,
+        MASTER.port,
+        Message::Htcp(clear(alloc, number, key)?),
+    )
 }
 
 fn peer_answer(

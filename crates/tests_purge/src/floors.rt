@@ -1,4 +1,5 @@
 //! Floors by themselves, in a file with an open transaction, and in files that stop.
+mod full;
 mod stops;
 
 use crate::disks::{FORM, VERSION, made_by};
@@ -74,9 +75,6 @@ fn flaw(floors: &Floors, copy: &Floors, alloc: Global) -> Result<Option<&'static
     if !floors.same(&floors.copy()?) {
         return Ok(Some("another than a new copy"));
     }
-    if !floors.has_room(&Key::read(alloc, b"http://a/")?) {
-        return Ok(Some("no room"));
-    }
     Ok(None)
 }
 
@@ -92,8 +90,7 @@ fn floors_by_themselves(rt: HostRuntime) -> Result<(), Fail> {
     Ok(())
 }
 
-const FAULTS: [(FloorFault, &str); 4] = [
-    (FloorFault::FloorsFull, "FloorsFull"),
+const FAULTS: [(FloorFault, &str); 3] = [
     (FloorFault::StoreFault, "StoreFault"),
     (FloorFault::BadTable, "BadTable"),
     (FloorFault::NoMemory, "NoMemory"),

@@ -9,6 +9,8 @@ mod events;
 #[cfg(test)]
 mod failing;
 #[cfg(test)]
+mod full;
+#[cfg(test)]
 mod lines;
 #[cfg(test)]
 mod masters;
