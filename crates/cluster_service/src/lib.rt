@@ -43,5 +43,5 @@ pub use peers::peers_of;
 pub use questions::Questions;
 pub use seated::Seated;
 pub use station::{Station, milliseconds};
-pub use telling::{refuse_all, tell_late};
+pub use telling::{refuse_all, refuse_job, tell_late};
 pub use worker::Worker;

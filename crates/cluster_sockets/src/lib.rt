@@ -15,17 +15,20 @@
 //! - It takes errands from the [`Inbox`]: a [`Fetch`](cluster_fetch::Fetch) to begin, a [`Delivery`]
 //!   to write on. It goes on with fetches, 1,024 at once and 64 to one address, each for five
 //!   seconds, and puts a job for each that has ended. It writes responses on as clients take them.
+//!   Behind at most 256 of them the connection lingers, for five seconds or until its client closes
+//!   it.
 //!
 //! In a flood nothing grows. A datagram whose lane of the queue is full is dropped. A connection
 //! whose lane is full is told 503, and so is the one that has waited longest where 1,024 wait, or
-//! 128 from one address. [`Senders`] send on the same UDP sockets from any thread.
+//! 128 from one address; where 1,024 wait and 128 of them are from the newcomer's address, the one
+//! of that address. [`Senders`] send on the same UDP sockets from any thread.
 //!
 //! Order of reading: `specs/Polls.antt` (what a poll does to the queue); `src/node_loop.rt` (the
 //! poll); `src/datagrams.rt`, `src/streams.rt`, `src/fetches.rt` and `src/deliveries.rt` (its parts);
 //! `src/heads.rt` (a connection whose head has not come whole); `src/delivery.rt` and
 //! `src/outgoing.rt` (a response under way); `src/inbox.rt`; `src/putting.rt` (how a job is put);
-//! `src/per_address.rt`, `src/at_once.rt`, `src/sockets.rt`, `src/fault.rt`; `proofs/Puts.antt` (puts
-//! add up over a poll).
+//! `src/per_address.rt`, `src/lingering.rt`, `src/at_once.rt`, `src/sockets.rt`, `src/fault.rt`;
+//! `proofs/Puts.antt` (puts add up over a poll).
 //!
 //! The crate opens sockets and connections, polls them, and reads the clock. It starts no thread.
 //!
@@ -42,6 +45,7 @@ mod fault;
 mod fetches;
 mod heads;
 mod inbox;
+mod lingering;
 mod node_loop;
 mod outgoing;
 mod per_address;

@@ -355,15 +355,15 @@ impl NodeLoop {
         pass
     }
 
-    /// Writes the responses that are under way or in the inbox on, for five seconds at most, and
-    /// does nothing else. Ends once all are written; then no connection lingers.
+    /// Writes the responses that are under way or in the inbox on, and has their connections linger
+    /// where their clients may still send, for five seconds at most in all, and does nothing else.
+    /// Ends once none is left.
     pub fn finish<R: Wait + Clock>(&mut self, rt: &R) {
         let Ok(begun) = Instant::now(rt) else {
             return;
         };
         for _ in 0..MOST_LAST_POLLS {
             self.take_deliveries(rt);
-            self.deliveries.end_written();
             let is_over = match Instant::now(rt) {
                 Ok(now) => now.saturating_duration_since(begun).as_secs() >= LAST,
                 Err(_) => true,

@@ -290,11 +290,13 @@ impl Streams {
     }
 
     /// Makes room for a connection that is to wait. Where 1,024 wait, the one that has waited
-    /// longest is refused. Where as many wait from its address as may, two that have waited for a
-    /// second are: requests of connections that come at once may take a moment.
+    /// longest is refused: of its address, if as many wait from there as may, or else of all. Where
+    /// as many wait from its address as may, two that have waited for a second are: requests of
+    /// connections that come at once may take a moment.
     fn make_room(&mut self, registry: &Registry, ip: u32, now: Instant) {
         if self.heads.len() >= MOST_HEADS {
-            if let Some(key) = self.oldest(None) {
+            let whose = self.per_address.goes_first(self.most_of_address, ip);
+            if let Some(key) = self.oldest(whose) {
                 self.refuse_at(registry, key);
             }
         }

@@ -10,7 +10,7 @@ use crate::halt::Halt;
 use crate::node::{Edge, Start, run_node};
 use crate::signals::Signals;
 use cluster_service::{CloseCause, Closing, Gate, Station};
-use cluster_sockets::{Inbox, NodeLoop, Senders};
+use cluster_sockets::{Delivery, Inbox, NodeLoop, Senders};
 use cluster_waiting::{AskedPeer, PeerTable};
 use floor_rules::FloorStore;
 use node_book::Record;
@@ -139,6 +139,7 @@ fn edge_of<G: Gate + Drop, R: Net + Clock>(
         station,
         signals: told,
         poller,
+        kept: Delivery::buffer(alloc)?,
     };
     Ok((edge, signals))
 }
@@ -317,8 +318,9 @@ impl Workers {
     }
 
     /// Stops the node, also one that is held, and waits for its end. Its workers end the jobs that
-    /// they have. Those who wait get 503; responses that clients have not taken whole are written on
-    /// for five seconds at most. Then its sockets are closed. Returns the record of the steps since the last one, if it is kept.
+    /// they have. Those who wait get 503, also those whose requests wait for a worker; responses
+    /// that clients have not taken whole are written on for five seconds at most. Then its sockets
+    /// are closed. Returns the record of the steps since the last one, if it is kept.
     ///
     /// Fault: `NoMemory` where there is no memory to end the record, or for the seats at the start;
     /// the record is lost then.
