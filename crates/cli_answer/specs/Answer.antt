@@ -1,5 +1,6 @@
 -- What `cache answer` answers to a line: a node places a copy by hand, or takes a step with a datagram.
-use Rattle.std.specs.Prelude.{◌≡◌, ◌≢◌, ℕ, ◌^◌, ◌⊎◌, Bool, true, false, bytes_eq, List, [], ◌∷◌, flat_map, codes, Option, Some, None, Result, Ok, Err, if◌then◌else◌}
+use Rattle.std.specs.Prelude.{◌≡◌, ◌≢◌, ℕ, ◌^◌, ◌⊎◌, Bool, true, false, bytes_eq, List, [], ◌∷◌, flat_map, codes, Option, Some, None, Result, Ok, Err}
+use Rattle.std.specs.Prelude.{if◌then◌else◌}
 use Rattle.hex.specs.Hex.{decode_of, encode_lower}
 use Rattle.hex.specs.declared.error.FromHexError.{FromHexError}
 use Rattle.url_key.specs.declared.fault.KeyFault.{KeyFault}

@@ -2,7 +2,8 @@
 ghost use Rattle.std.specs.Prelude.{◌≡◌, Bool, false, IsTrue, IfErr, IfOk, None};
 ghost use Rattle.std.specs.IoError.{error_kind, raw_os_error};
 ghost use Rattle.http_writing.specs.Name.{is_name as names_cache};
-ghost use Rattle.cluster_fetch.specs.UnderWay.{FetchingView, Ends, IsSameFetch, asked_by, ended_as, is_own_want as lacks_own};
+ghost use Rattle.cluster_fetch.specs.UnderWay.{FetchingView, Ends, IsSameFetch, asked_by, ended_as};
+ghost use Rattle.cluster_fetch.specs.UnderWay.{is_own_want as lacks_own};
 
 use crate::ended::Fetched;
 use crate::events::ResponseSource;
@@ -206,8 +207,8 @@ impl Fetching {
         now >= self.until
     }
 
-    /// The fetch as one that has ended. Where it has failed, no connection was made if nothing could
-    /// be sent, unless this machine lacked something.
+    /// The fetch as one that has ended. Where it has failed, no connection was made if nothing
+    /// could be sent, unless this machine lacked something.
     pub fn into_fetched(self, answer: Option<Answer>) -> Fetched
         ensures { Ends self answer result }
     {

@@ -1,9 +1,13 @@
 //! What the lock of a shared master holds: its book, and the pages that were filed.
-ghost use Rattle.std.specs.Prelude.{◌≡◌, ◌≢◌, ◌⊎◌, ◌<◌, ◌++◌, [], length, false, IsFalse, Err, IfOk, IfSome, OnOk, OnErr};
+ghost use Rattle.std.specs.Prelude.{◌≡◌, ◌≢◌, ◌⊎◌, ◌<◌, ◌++◌, [], length, false, IsFalse, Err};
+ghost use Rattle.std.specs.Prelude.{IfOk, IfSome, OnOk, OnErr};
 ghost use Rattle.htcp_wire.specs.Written.{Fits};
 ghost use Rattle.purge_master.specs.Store.{witness};
 ghost use Rattle.purge_rules.specs.declared.fault.MasterFault.TheVariants as faults;
-ghost use Rattle.cluster_master.specs.LockedBook.{IsCalledAt, IsUnmade, IsTaken, IsNothingDue, is_dropped, is_full_page, keeps, may_be_due_after as may_be_due_by, ready, filed, emptied};
+ghost use Rattle.cluster_master.specs.LockedBook.{IsCalledAt, IsUnmade, IsTaken, IsNothingDue};
+ghost use Rattle.cluster_master.specs.LockedBook.{is_dropped, is_full_page, keeps};
+ghost use Rattle.cluster_master.specs.LockedBook.{may_be_due_after as may_be_due_by, ready, filed};
+ghost use Rattle.cluster_master.specs.LockedBook.{emptied};
 ghost use Rattle.cluster_master.specs.Answers.{IsToldOf, IsClearOf};
 
 use crate::weight::{answer_octets, call_octets, entry_weight};

@@ -1,6 +1,9 @@
 //! What the entries of a master's book weigh.
 ghost use Rattle.std.specs.Prelude.{◌≡◌, ◌+◌, ◌/◌, ◌≤◌};
-ghost use Rattle.cluster_master.specs.Weight.{answer_octets as octets_of_answer, call_octets as octets_of_call, weight_of as weight_of_entry, weight_of_all as weight_of_entries};
+ghost use Rattle.cluster_master.specs.Weight.{answer_octets as octets_of_answer};
+ghost use Rattle.cluster_master.specs.Weight.{call_octets as octets_of_call};
+ghost use Rattle.cluster_master.specs.Weight.{weight_of as weight_of_entry};
+ghost use Rattle.cluster_master.specs.Weight.{weight_of_all as weight_of_entries};
 
 use purge_master::MasterEntry;
 use purge_rules::{MasterAnswer, MasterCall, MasterFault};

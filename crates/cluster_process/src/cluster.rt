@@ -53,12 +53,12 @@ struct Common<'a> {
 }
 
 /// Runs the hierarchy of a roster in this process, over stores that
-/// [`open_stores`](crate::open_stores) has opened, until the input ends, cannot be read, or has a line
-/// `quit`: one thread for the master, and `workers` workers for each member.
+/// [`open_stores`](crate::open_stores) has opened, until the input ends, cannot be read, or has a
+/// line `quit`: one thread for the master, and `workers` workers for each member.
 ///
-/// The lines are those of [`answer_lines`](cluster_console::answer_lines). Once the members run, the
-/// master sends afresh what is pending, and a thread says on standard error which members close.
-/// Where the input has no line, standard error says so.
+/// The lines are those of [`answer_lines`](cluster_console::answer_lines). Once the members run,
+/// the master sends afresh what is pending, and a thread says on standard error which members
+/// close. Where the input has no line, standard error says so.
 ///
 /// For `check`, what the members and the master did is kept in memory: `history` pages of each
 /// member and of the master, of 4,096 steps or calls each. A page is shorter where a member's
@@ -74,9 +74,9 @@ struct Common<'a> {
 /// Faults, the first that comes: those of the master's purges, its socket and its thread; of the
 /// members' floors, sockets and threads, by ascending id, and of the thread that watches them;
 /// `Input` where the input could not be read, and `Output` where some answer could not be written,
-/// once each line was answered. After any of them every socket and store is closed, and every thread
-/// has ended, but for the one that watches the members where standard error has taken nothing for a
-/// second: it has none of them, and ends with the process.
+/// once each line was answered. After any of them every socket and store is closed, and every
+/// thread has ended, but for the one that watches the members where standard error has taken
+/// nothing for a second: it has none of them, and ends with the process.
 pub fn run_cluster<
     R: Threads
         + Wait

@@ -1,5 +1,6 @@
 //! The files of a cluster, in one folder: `node-N.db` for each member N, and `master.db`.
-ghost use Rattle.std.specs.Prelude.{◌≡◌, ◌==◌, ◌≤◌, ℕ, false, find, insert, length, map, nat_lt, option_map, IfOk, OnErr, OnOk};
+ghost use Rattle.std.specs.Prelude.{◌≡◌, ◌==◌, ◌≤◌, ℕ, false, find, insert, length, map, nat_lt};
+ghost use Rattle.std.specs.Prelude.{option_map, IfOk, OnErr, OnOk};
 ghost use Rattle.std.specs.List.{list_any};
 ghost use Rattle.cluster_process.specs.Folder.{file_fits};
 ghost use Rattle.cluster_process.specs.Numbers.{has_ahead, IsJudged};

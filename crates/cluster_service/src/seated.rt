@@ -1,6 +1,7 @@
 //! What workers do with the steps of a node.
 ghost use Rattle.std.specs.Prelude.{◌≡◌};
-ghost use Rattle.cluster_service.specs.Steps.{TakesOne, BeginsAtMost, BeginsRound, EndsRound, FailsFetch};
+ghost use Rattle.cluster_service.specs.Steps.{TakesOne, BeginsAtMost, BeginsRound, EndsRound};
+ghost use Rattle.cluster_service.specs.Steps.{FailsFetch};
 
 use crate::client::Client;
 use crate::gate::Gate;

@@ -58,8 +58,8 @@ pub(crate) fn tell_client<G: Gate + Drop, R: Wait + Clock>(
     }
 }
 
-/// Notes when the request of a block takes too long: after the roster's `ask_wait`. Where there is no
-/// memory for that, it may take any time.
+/// Notes when the request of a block takes too long: after the roster's `ask_wait`. Where there is
+/// no memory for that, it may take any time.
 pub(crate) fn begin_ask<G: Gate + Drop, R: Wait + Clock>(rt: &R, station: &Station<G>, block: u32) {
     let until = milliseconds(rt).saturating_add(station.roster.limits().ask_wait);
     match station.tables.begin_ask(rt, until, block) {

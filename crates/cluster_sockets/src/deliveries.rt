@@ -60,9 +60,9 @@ impl Deliveries {
         Ok(self.ready.push(key)?)
     }
 
-    /// Goes on with a response, and keeps it until its client takes more. Where 4,096 are under way,
-    /// or there is no memory, its connection is closed. One that would linger behind 256 others is
-    /// closed once it is written, also where a worker has written it.
+    /// Goes on with a response, and keeps it until its client takes more. Where 4,096 are under
+    /// way, or there is no memory, its connection is closed. One that would linger behind 256
+    /// others is closed once it is written, also where a worker has written it.
     pub(crate) fn add(&mut self, registry: &Registry, mut delivery: Delivery, via: &[u8])
         requires { IsTrue (names_cache via.now) }
     {

@@ -59,8 +59,8 @@ impl Delivery {
     }
 
     /// A response from its beginning, which begins at this moment. `lingers` where its client may
-    /// still send, since its request was not read to the end. After `patience`, and again after each
-    /// such time, a client that has taken fewer than 1,024 octets a second of it is given up.
+    /// still send, since its request was not read to the end. After `patience`, and again after
+    /// each such time, a client that has taken fewer than 1,024 octets a second of it is given up.
     pub fn new(
         stream: TcpStream,
         serve: Serve<()>,

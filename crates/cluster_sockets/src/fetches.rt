@@ -262,8 +262,8 @@ impl Fetches {
         self.begin(rt, registry, place, fetch, via, now)
     }
 
-    /// Goes on with what may go on, until a fetch has ended, and gives that one. There is none where
-    /// all wait.
+    /// Goes on with what may go on, until a fetch has ended, and gives that one. There is none
+    /// where all wait.
     pub(crate) fn next_ended<A: AtOnce, R: Net + Wait>(
         &mut self,
         rt: &R,

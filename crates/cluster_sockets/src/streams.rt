@@ -138,8 +138,8 @@ impl Streams {
         !self.refused.is_empty()
     }
 
-    /// Takes out a connection that is refused, and that has not been told so, and whether its client
-    /// has sent something.
+    /// Takes out a connection that is refused, and that has not been told so, and whether its
+    /// client has sent something.
     pub(crate) fn next_refused(&mut self) -> Option<(TcpStream, bool)> {
         self.refused.pop_front()
     }
@@ -278,8 +278,8 @@ impl Streams {
         }
     }
 
-    /// Refuses those connections from an IPv4 address that have waited longest, two at most, if they
-    /// have waited for a second.
+    /// Refuses those connections from an IPv4 address that have waited longest, two at most, if
+    /// they have waited for a second.
     fn refuse_idle(&mut self, registry: &Registry, ip: u32, now: Instant) {
         for _ in 0..2 {
             match self.oldest(Some(ip)) {

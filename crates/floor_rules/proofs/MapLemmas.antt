@@ -1,6 +1,7 @@
 -- A tree of texts and numbers as a finite map. Both are sorted by the same order, so a look-up and
 -- an insertion do the same in either; two maps with the same look-ups are one.
-use Rattle.std.proofs.Common.{◌≡◌, ℕ, ◌+◌, Bool, true, false, cond, List, [], ◌∷◌, map, length, Some, None, Option, refl, sym, ap, ◌∙◌, is_some, add-one, max, unwrap_or, ◌≤◌, arith}
+use Rattle.std.proofs.Common.{◌≡◌, ℕ, ◌+◌, Bool, true, false, cond, List, [], ◌∷◌, map, length, Some, None, Option, refl, sym, ap, ◌∙◌, is_some, add-one, max}
+use Rattle.std.proofs.Common.{unwrap_or, ◌≤◌, arith}
 use Rattle.std.specs.List.{AllByRecursion, AllZip}
 use Rattle.std.specs.List.Sorted.{IsStrictlySortedBy}
 use Rattle.std.specs.declared.alloc.Global.{Global}
@@ -13,7 +14,8 @@ use Rattle.std.specs.Ordering.{nat_cmp, is_eq, match_ordering}
 use Rattle.std.specs.declared.cmp.Ordering.{Ordering}
 use Rattle.std.specs.FinMap.Entries.{put, by_order}
 use Rattle.std.specs.Cmp.Lexicographic.{slice_cmp, nat_list_cmp_total}
-use Rattle.std.specs.FinMap.{empty, get, insert, len, len-entries, entries, from_entries, find, get-from_entries, get-insert, get-entries, entries-insert, len-insert, len-empty, same_map, nat_cmp-IsAntisymmetric, slice_cmp-IsAntisymmetric}
+use Rattle.std.specs.FinMap.{empty, get, insert, len, len-entries, entries, from_entries, find, get-from_entries, get-insert, get-entries, entries-insert}
+use Rattle.std.specs.FinMap.{len-insert, len-empty, same_map, nat_cmp-IsAntisymmetric, slice_cmp-IsAntisymmetric}
 use Rattle.std.proofs.lemmas.Map.Keys.{sorted_head, sorted_tail}
 use Rattle.floor_rules.specs.Floors.{FloorRows, FloorTable, row, raised, raised_row, greatest, greatest_row}
 use Rattle.floor_rules.proofs.Urls.{same_url, equal_urls, own_url, swapped}

@@ -1,7 +1,9 @@
 //! The floors of all keys.
-ghost use Rattle.std.specs.Prelude.{◌≡◌, ◌≢◌, ◌↔◌, ◌≤◌, ◌<◌, false, None, max, IsTrue, IfOk, OnOk, OnErr};
+ghost use Rattle.std.specs.Prelude.{◌≡◌, ◌≢◌, ◌↔◌, ◌≤◌, ◌<◌, false, None, max, IsTrue, IfOk, OnOk};
+ghost use Rattle.std.specs.Prelude.{OnErr};
 ghost use Rattle.std.specs.FinMap.{get, len};
-ghost use Rattle.floor_rules.specs.Floors.{base_only, floor, new_base, no_floors, raised, row, seen, with_row};
+ghost use Rattle.floor_rules.specs.Floors.{base_only, floor, new_base, no_floors, raised, row};
+ghost use Rattle.floor_rules.specs.Floors.{seen, with_row};
 ghost use Rattle.floor_rules.specs.Raising.{LowersNone, after};
 
 use crate::rows::Rows;
@@ -100,10 +102,10 @@ impl Floors {
         })
     }
 
-    /// What a raise of the key to this number makes of the floors: see [`Raising`]. A row that is no
-    /// less stays. A key without a row gets one, unless the base is no less than the number; where
-    /// there are 65,536 rows, the base becomes the greater of the number and the greatest floor.
-    /// Takes no memory.
+    /// What a raise of the key to this number makes of the floors: see [`Raising`]. A row that is
+    /// no less stays. A key without a row gets one, unless the base is no less than the number;
+    /// where there are 65,536 rows, the base becomes the greater of the number and the greatest
+    /// floor. Takes no memory.
     pub fn raising(&self, key: &Key, number: u32) -> Raising
         ensures after { raised self.now key.now number ≡ after result self.now key.now }
         ensures row { LowersNone (row self.now.rows key.now) result }
@@ -117,8 +119,8 @@ impl Floors {
         }
     }
 
-    /// The base after a raise of the key to this number, where it rises, else 0. If it rises, no row
-    /// is left. Takes no memory.
+    /// The base after a raise of the key to this number, where it rises, else 0. If it rises, no
+    /// row is left. Takes no memory.
     pub fn new_base(&self, key: &Key, number: u32) -> u32
         ensures value { result ≡ new_base self.now key.now number }
         ensures rises { 0 < result → raised self.now key.now number ≡ base_only result }
@@ -160,8 +162,8 @@ impl Floors {
         self.base = base;
     }
 
-    /// Raises the key's floor to this number at least, as [`Floors::raising`] says. If an allocation
-    /// fails, nothing changes.
+    /// Raises the key's floor to this number at least, as [`Floors::raising`] says. If an
+    /// allocation fails, nothing changes.
     pub fn raise(&mut self, alloc: Global, key: &Key, number: u32) -> Result<(), AllocError>
         ensures ok { OnOk result (self.new ≡ raised self.old key.now number) }
         ensures err { OnErr result (self.new ≡ self.old) }

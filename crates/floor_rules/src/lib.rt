@@ -15,8 +15,8 @@
 //!
 //! 1. `specs/Floors.antt`: the table, a raise, and what becomes of 65,536 rows.
 //! 2. `src/store.rt`: the contract, in the words of `specs/Store.antt`.
-//! 3. `src/floors.rt`: the table as code, over the rows of `src/rows.rt`. `src/memory.rt`: the store
-//!    in memory.
+//! 3. `src/floors.rt`: the table as code, over the rows of `src/rows.rt`. `src/memory.rt`: the
+//!    store in memory.
 //! 4. `src/fault.rt`, `specs/Fault.antt`: the faults and their names.
 //! 5. `proofs/Urls.antt`, `proofs/MapLemmas.antt`, `proofs/SameRows.antt`: why a tree of texts and
 //!    numbers is a map.

@@ -1,5 +1,6 @@
 //! The contract of a store of floors.
-ghost use Rattle.std.specs.Prelude.{◌≡◌, ◌≢◌, ◌⊎◌, ◌≤◌, ℕ, ◌+◌, List, Bool, false, IsTrue, IfOk, OnOk, Err};
+ghost use Rattle.std.specs.Prelude.{◌≡◌, ◌≢◌, ◌⊎◌, ◌≤◌, ℕ, ◌+◌, List, Bool, false, IsTrue, IfOk};
+ghost use Rattle.std.specs.Prelude.{OnOk, Err};
 ghost use Rattle.floor_rules.specs.Floors.{FloorTable, raised};
 ghost use Rattle.floor_rules.specs.Store.{IsBeforeOrAfter, HaveRisen};
 
@@ -52,8 +53,8 @@ pub trait FloorStore {
         ensures cause { result ≡ Err FloorFault.StoreFault → is_usable self.old ≡ false }
         ensures named { result ≢ Err FloorFault.BadTable };
 
-    /// Commits the raise of the key's floor to this number, which is at least 1 (`raised`): rows and
-    /// base in one transaction.
+    /// Commits the raise of the key's floor to this number, which is at least 1 (`raised`): rows
+    /// and base in one transaction.
     ///
     /// Once it has returned Ok, no crash undoes it. Whatever it returned on a usable store, a crash
     /// at its end leaves the floors from before or after it.

@@ -1,5 +1,6 @@
 //! `World`, and whole runs of it.
-ghost use Rattle.std.specs.Prelude.{◌≡◌, ◌≢◌, ◌↔◌, ◌^◌, map, true, false, IsTrue, IfOk, IfErr, OnOk, Err};
+ghost use Rattle.std.specs.Prelude.{◌≡◌, ◌≢◌, ◌↔◌, ◌^◌, map, true, false, IsTrue, IfOk, IfErr};
+ghost use Rattle.std.specs.Prelude.{OnOk, Err};
 ghost use Rattle.world_rules.specs.declared.outcome.WorldFault.TheVariants.{NoMemory, PlacesSpent};
 ghost use Rattle.world_rules.specs.World.{new_world};
 ghost use Rattle.world_rules.specs.Noise.{IsNoise};

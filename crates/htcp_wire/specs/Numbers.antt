@@ -1,7 +1,8 @@
 -- The numbers in the private lines `X-Purge-Number: n` and `X-Purge-Base: n` of REQ-HDRS, and
 -- `X-Purge-Stamp: n` of CACHE-HDRS, which are no part of RFC 2756. `number_in_text` is the
 -- definition.
-use Rattle.std.specs.Prelude.{ℕ, ◌-◌, ◌^◌, Bool, not, ◌&&◌, ◌||◌, ◌==◌, nat_lt, nat_le, List, [], ◌∷◌, ◌++◌, length, take, drop, slice_index, position, Option, Some, None, is_none, Result, Ok, Err, codes, map, bytes_eq, if◌then◌else◌}
+use Rattle.std.specs.Prelude.{ℕ, ◌-◌, ◌^◌, Bool, not, ◌&&◌, ◌||◌, ◌==◌, nat_lt, nat_le, List, [], ◌∷◌, ◌++◌, length, take, drop, slice_index, position, Option}
+use Rattle.std.specs.Prelude.{Some, None, is_none, Result, Ok, Err, codes, map, bytes_eq, if◌then◌else◌}
 use Rattle.std.specs.List.{list_all, filter_map, before_first, after_first, position_or_len, suffix_len}
 use Rattle.std.specs.Char.{is_ascii_digit, to_ascii_lowercase}
 use Rattle.std.specs.Str.Parse.{digits_value}

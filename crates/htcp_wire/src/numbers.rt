@@ -1,9 +1,15 @@
-ghost use Rattle.std.specs.Prelude.{◌≡◌, ◌+◌, ◌-◌, ◌≤◌, Ok, Err, Some, None, not, List, [], ◌∷◌, ◌++◌, length, take, IsTrue, IfErr, MatchOption, MatchResult, position, codes, option_copied, option_to_list, if◌then◌else◌};
+ghost use Rattle.std.specs.Prelude.{◌≡◌, ◌+◌, ◌-◌, ◌≤◌, Ok, Err, Some, None, not, List, [], ◌∷◌};
+ghost use Rattle.std.specs.Prelude.{◌++◌, length, take, IsTrue, IfErr, MatchOption, MatchResult};
+ghost use Rattle.std.specs.Prelude.{position, codes, option_copied, option_to_list, if◌then◌else◌};
 ghost use Rattle.std.specs.List.{list_all, position_or_len, suffix_len};
 ghost use Rattle.std.specs.Option.{option_map};
 ghost use Rattle.std.specs.Char.{is_ascii_digit};
 ghost use Rattle.std.specs.Str.Parse.{digits_value};
-ghost use Rattle.htcp_wire.specs.Numbers.{number_in_text, number_of_values, line_name, ends_line as is_line_feed, is_blank as is_blank_octet, is_colon, is_number, trim_front as without_front_blanks, trim_end as without_end_blanks, is_same_name as same_name, value_in as value_of_line};
+ghost use Rattle.htcp_wire.specs.Numbers.{number_in_text, number_of_values, line_name};
+ghost use Rattle.htcp_wire.specs.Numbers.{ends_line as is_line_feed, is_blank as is_blank_octet};
+ghost use Rattle.htcp_wire.specs.Numbers.{is_colon, is_number, trim_front as without_front_blanks};
+ghost use Rattle.htcp_wire.specs.Numbers.{trim_end as without_end_blanks};
+ghost use Rattle.htcp_wire.specs.Numbers.{is_same_name as same_name, value_in as value_of_line};
 
 use crate::HtcpFault;
 

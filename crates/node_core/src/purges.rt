@@ -1,5 +1,6 @@
 //! Purges: an HTCP CLR arrives (RFC 2756, "CLR").
-ghost use Rattle.std.specs.Prelude.{◌≡◌, ◌≤◌, ℕ, List, Option, Some, None, option_map, IfOk, OnOk, OnErr, false, Err};
+ghost use Rattle.std.specs.Prelude.{◌≡◌, ◌≤◌, ℕ, List, Option, Some, None, option_map, IfOk, OnOk};
+ghost use Rattle.std.specs.Prelude.{OnErr, false, Err};
 ghost use Rattle.node_rules.specs.State as state;
 ghost use Rattle.node_rules.specs.Datagrams as datagrams;
 ghost use Rattle.node_rules.specs.Relation.{purge_meant};
@@ -10,7 +11,8 @@ ghost use Rattle.node_rules.specs.declared.state.NodeState.{NodeState};
 ghost use Rattle.values_keys.specs.KeyOf.{GivesKeys};
 ghost use Rattle.node_core.specs.View.{IsSameNode, IsSameMember, setting_of};
 ghost use Rattle.floor_rules.specs.Store.{HaveRisen};
-ghost use Rattle.node_core.specs.Closing.{step_fault_of as answer_to_fault, KeepsStore, FailsWithCause};
+ghost use Rattle.node_core.specs.Closing.{step_fault_of as answer_to_fault, KeepsStore};
+ghost use Rattle.node_core.specs.Closing.{FailsWithCause};
 ghost use Rattle.node_core.specs.Leads.{Leads, MayClose};
 
 use crate::Node;

@@ -1,6 +1,7 @@
 -- Each rule of the step has one of the five effects, and keeps what each keeps. The proof goes over
 -- the rules in the order of specs/: each lemma NAME_does is about the rule NAME.
-use Rattle.std.proofs.Common.{◌≡◌, ℕ, ◌*◌, ◌≤◌, Bool, true, false, cond, not, ◌&&◌, ◌||◌, List, [], ◌∷◌, option_map, find, map, filter, Option, Some, None, Result, Ok, Err, refl, sym, ◌∙◌, ap, inr, nat_le, nat_eq, subst, rules}
+use Rattle.std.proofs.Common.{◌≡◌, ℕ, ◌*◌, ◌≤◌, Bool, true, false, cond, not, ◌&&◌, ◌||◌, List, [], ◌∷◌, option_map, find, map, filter, Option, Some, None}
+use Rattle.std.proofs.Common.{Result, Ok, Err, refl, sym, ◌∙◌, ap, inr, nat_le, nat_eq, subst, rules}
 use Rattle.std.specs.List.{AllByRecursion, Contains, cons_option, filter_map}
 use Rattle.std.specs.Prelude.{bytes_eq}
 use Rattle.node_rules.specs.declared.message.Outgoing.{Outgoing}
@@ -42,13 +43,19 @@ use Rattle.object_store.specs.Listed.{copy_of}
 use Rattle.reuse_rules.specs.Lifetime.{lifetime}
 use Rattle.htcp_wire.specs.declared.fault.HtcpFault.{HtcpFault}
 use Rattle.values_plain.specs.declared.address.Udp.TheVariants as udp
-use Rattle.node_rules.specs.Effect.{copy_served, sent, IsOwnFault, ServesBareStatus, ComesFrom, HasRaised, IsObedient, IsUnderWay, IsReadOf, IsAt, IsFromOrigin, IsFromPeer, IsAnswerTo, IsAnswerOf, Effect, Stays, Serves, Brings, Purges, Drops, IsHeldAbove, state_of}
+use Rattle.node_rules.specs.Effect.{copy_served, sent, IsOwnFault, ServesBareStatus, ComesFrom, HasRaised, IsObedient, IsUnderWay, IsReadOf, IsAt, IsFromOrigin}
+use Rattle.node_rules.specs.Effect.{IsFromPeer, IsAnswerTo, IsAnswerOf, Effect, Stays, Serves, Brings, Purges, Drops, IsHeldAbove, state_of}
 use Rattle.node_rules.specs.State.{Setting, Stepped, replies, refuses, quiet, fetch_serial, is_idle, is_of_block, inserted, age_of, is_good, if_good, good_copy}
 use Rattle.reuse_rules.specs.Freshness.{is_fresh}
 use Rattle.node_rules.specs.Fetching.{fetching, ask_peer, begin_read, read_origin, go_to, go_on}
-use Rattle.node_rules.specs.Asks.{new_ask, question_to, is_cached_only, begin_round, begin_with_read, ask_around, begin_ask, begin_if_free, not_held, by_copy, copy_for, ask_comes}
-use Rattle.node_rules.specs.Arrivals.{new_copy, is_fetch, with_round, use_answer, try_on, is_gateway_fault, peer_gave, origin_gave, from_peer, peer_answer_to, peer_answer, foreign_answer, from_origin, origin_answer_to, origin_answer, fails, failure_of, fetch_failed, round_moves, expires, expiry_of, round_expired}
-use Rattle.node_rules.specs.Datagrams.{sends_back, tst_answer, copy_meant, purged, purge_of, if_desired, icp_query, htcp_tst, hears, told_by, told_to, icp_told, htcp_told, clr_done, purge, numbered_clr, dropped, plain_clr, clr_by_line, htcp_clr, icp_comes, tst_refused, htcp_comes, datagram}
+use Rattle.node_rules.specs.Asks.{new_ask, question_to, is_cached_only, begin_round, begin_with_read, ask_around, begin_ask, begin_if_free, not_held, by_copy}
+use Rattle.node_rules.specs.Asks.{copy_for, ask_comes}
+use Rattle.node_rules.specs.Arrivals.{new_copy, is_fetch, with_round, use_answer, try_on, is_gateway_fault, peer_gave, origin_gave, from_peer, peer_answer_to}
+use Rattle.node_rules.specs.Arrivals.{peer_answer, foreign_answer, from_origin, origin_answer_to, origin_answer, fails, failure_of, fetch_failed, round_moves}
+use Rattle.node_rules.specs.Arrivals.{expires, expiry_of, round_expired}
+use Rattle.node_rules.specs.Datagrams.{sends_back, tst_answer, copy_meant, purged, purge_of, if_desired, icp_query, htcp_tst, hears, told_by, told_to, icp_told}
+use Rattle.node_rules.specs.Datagrams.{htcp_told, clr_done, purge, numbered_clr, dropped, plain_clr, clr_by_line, htcp_clr, icp_comes, tst_refused, htcp_comes}
+use Rattle.node_rules.specs.Datagrams.{datagram}
 use Rattle.node_rules.specs.Step.{open_step, step_if, step}
 use Rattle.node_rules.proofs.Cases.{branches, both_true, test_le, unless_refused, same_Some, true_not_false}
 use Rattle.node_rules.proofs.FloorLaws.{raise_reaches, same_text}

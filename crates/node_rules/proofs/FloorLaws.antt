@@ -1,6 +1,7 @@
 -- How a floor and its raise go together. A raise reaches the number, no floor falls, and a floor rises only to the
 -- number, or to the base.
-use Rattle.std.proofs.Common.{◌≡◌, ℕ, ◌<◌, ◌≤◌, Bool, true, false, cond, List, [], ◌∷◌, map, Option, Some, None, refl, sym, ◌∙◌, ap, subst, max, nat_le, unwrap_or, leb-true, leb-false, ltb-false, arith}
+use Rattle.std.proofs.Common.{◌≡◌, ℕ, ◌<◌, ◌≤◌, Bool, true, false, cond, List, [], ◌∷◌, map, Option, Some, None, refl, sym, ◌∙◌, ap, subst, max, nat_le}
+use Rattle.std.proofs.Common.{unwrap_or, leb-true, leb-false, ltb-false, arith}
 use Rattle.std.specs.Prelude.{bytes_eq, nat_lt, if◌then◌else◌}
 use Rattle.std.specs.Ordering.{nat_cmp, is_eq}
 use Rattle.std.specs.Cmp.Lexicographic.{slice_cmp, nat_list_cmp_total}
@@ -10,7 +11,8 @@ use Rattle.std.specs.declared.cmp.Ordering.{Ordering}
 use Rattle.std.specs.declared.cmp.Ordering.TheVariants.{Less, Equal, Greater}
 use Rattle.std.proofs.lemmas.Map.Text.{is_eq-slice_cmp}
 use Rattle.std.proofs.lemmas.Slice.Eq.{bytes_eq-Decides}
-use Rattle.floor_rules.specs.Floors.{FloorRows, FloorTable, floor, row, seen, greatest, greatest_row, most_rows, with_row, base_only, raised_row, raised, new_base}
+use Rattle.floor_rules.specs.Floors.{FloorRows, FloorTable, floor, row, seen, greatest, greatest_row, most_rows, with_row, base_only, raised_row, raised}
+use Rattle.floor_rules.specs.Floors.{new_base}
 use Rattle.floor_rules.proofs.MapLemmas.{greatest_empty}
 use Rattle.node_rules.proofs.Cases.{branches}
 

@@ -1,6 +1,7 @@
 -- What the store's operations keep. Each of them filters the list of copies or moves or puts one
 -- copy in front, so what holds of all copies still does, and so do the limits.
-use Rattle.std.proofs.Common.{◌≡◌, ℕ, ◌+◌, ◌-◌, ◌≤◌, Bool, true, false, cond, not, ◌&&◌, List, [], ◌∷◌, length, sum_by, filter, find, Option, Some, None, refl, sym, ◌∙◌, ap, subst, nat_lt, nat_le, le-ltb, arith}
+use Rattle.std.proofs.Common.{◌≡◌, ℕ, ◌+◌, ◌-◌, ◌≤◌, Bool, true, false, cond, not, ◌&&◌, List, [], ◌∷◌, length, sum_by, filter, find, Option, Some, None, refl}
+use Rattle.std.proofs.Common.{sym, ◌∙◌, ap, subst, nat_lt, nat_le, le-ltb, arith}
 use Rattle.std.specs.List.{AllByRecursion}
 use Rattle.std.proofs.lemmas.Option.{none-some}
 use Rattle.object_store.specs.declared.copy.WebCopy.{WebCopy}

@@ -1,6 +1,7 @@
 -- Another tag in the place of each tag, through lists and stores: no operation of the store looks
 -- at tags, so it gives the same with other tags.
-use Rattle.std.proofs.Common.{◌≡◌, ℕ, zero, suc, ◌-◌, Bool, true, false, cond, not, ◌&&◌, ◌||◌, List, [], ◌∷◌, length, map, filter, find, Option, Some, None, refl, ◌∙◌, ap, nat_lt, nat_le}
+use Rattle.std.proofs.Common.{◌≡◌, ℕ, zero, suc, ◌-◌, Bool, true, false, cond, not, ◌&&◌, ◌||◌, List, [], ◌∷◌, length, map, filter, find, Option, Some, None}
+use Rattle.std.proofs.Common.{refl, ◌∙◌, ap, nat_lt, nat_le}
 use Rattle.std.specs.Prelude.{option_map}
 use Rattle.std.proofs.lemmas.List.{length-map}
 use Rattle.object_store.specs.declared.copy.WebCopy.{WebCopy}

@@ -1,7 +1,8 @@
 -- The step function never looks at tags: with other tags it leads to the same step with other tags.
 -- One lemma for each rule, in the order of specs/; each test in a rule gives the same with other
 -- tags.
-use Rattle.std.proofs.Common.{◌≡◌, ℕ, ◌+◌, Bool, true, false, not, ◌&&◌, ◌||◌, cond, List, [], ◌∷◌, ◌++◌, Option, Some, None, refl, nat_le, nat_eq, max, ap, unwrap_or}
+use Rattle.std.proofs.Common.{◌≡◌, ℕ, ◌+◌, Bool, true, false, not, ◌&&◌, ◌||◌, cond, List, [], ◌∷◌, ◌++◌, Option, Some, None, refl, nat_le, nat_eq, max, ap}
+use Rattle.std.proofs.Common.{unwrap_or}
 use Rattle.std.specs.Prelude.{bytes_eq}
 use Rattle.values_plain.specs.declared.address.Address.{Address}
 use Rattle.values_plain.specs.declared.address.Udp.{Udp}
@@ -41,9 +42,14 @@ use Rattle.htcp_wire.specs.Numbers.{number_in_text}
 use Rattle.values_plain.specs.declared.address.Udp.TheVariants as udp
 use Rattle.node_rules.specs.State.{Setting, Stepped, is_idle, good_copy, served_age, round_serial, fetch_serial}
 use Rattle.node_rules.specs.Fetching.{ask_peer, begin_read, read_origin, go_to, go_on, choice_of}
-use Rattle.node_rules.specs.Asks.{is_cached_only, free_block, block_after, begin_round, begin_with_read, ask_around, begin_ask, begin_if_free, not_held, by_copy, copy_for, ask_comes, peers_to_ask}
-use Rattle.node_rules.specs.Arrivals.{stored, not_fetching, use_answer, try_on, is_gateway_fault, peer_gave, origin_gave, is_fetch, from_peer, peer_answer_to, peer_answer, foreign_answer, from_origin, origin_answer_to, origin_answer, fails, failure_of, fetch_failed, with_round, round_moves, expires, expiry_of, round_expired}
-use Rattle.node_rules.specs.Datagrams.{if_desired, icp_query, htcp_tst, hears, told_by, told_to, peer_at, icp_told, icp_said, is_key, htcp_told, clr_done, purge, purge_of, numbered_clr, held, dropped, left_by, plain_clr, clr_by_line, htcp_clr, icp_comes, tst_refused, htcp_comes, datagram}
+use Rattle.node_rules.specs.Asks.{is_cached_only, free_block, block_after, begin_round, begin_with_read, ask_around, begin_ask, begin_if_free, not_held}
+use Rattle.node_rules.specs.Asks.{by_copy, copy_for, ask_comes, peers_to_ask}
+use Rattle.node_rules.specs.Arrivals.{stored, not_fetching, use_answer, try_on, is_gateway_fault, peer_gave, origin_gave, is_fetch, from_peer, peer_answer_to}
+use Rattle.node_rules.specs.Arrivals.{peer_answer, foreign_answer, from_origin, origin_answer_to, origin_answer, fails, failure_of, fetch_failed, with_round}
+use Rattle.node_rules.specs.Arrivals.{round_moves, expires, expiry_of, round_expired}
+use Rattle.node_rules.specs.Datagrams.{if_desired, icp_query, htcp_tst, hears, told_by, told_to, peer_at, icp_told, icp_said, is_key, htcp_told, clr_done}
+use Rattle.node_rules.specs.Datagrams.{purge, purge_of, numbered_clr, held, dropped, left_by, plain_clr, clr_by_line, htcp_clr, icp_comes, tst_refused}
+use Rattle.node_rules.specs.Datagrams.{htcp_comes, datagram}
 use Rattle.node_rules.specs.Step.{open_step, step_if, step}
 use Rattle.std.specs.Prelude.{option_map, is_some}
 use Rattle.std.proofs.Common.{◌∙◌}
@@ -61,7 +67,8 @@ use Rattle.node_rules.specs.Datagrams.{sends_back, icp_answer, hit_or_miss, tst_
 use Rattle.node_rules.specs.Effect.{state_of}
 use Rattle.node_rules.specs.State.{replies, with_copies, with_pending, changing, ending, serving, beginning, quiet}
 use Rattle.node_rules.specs.Tags.{retag_copy, retag_fetch, retag_pending, retag_state, retag_event, retag_reply, retag_stepped}
-use Rattle.node_rules.proofs.TagLists.{both_ways, copy_of-retag, without-retag, without_below-retag, without_all_below-retag, to_front-retag, stored-retag, good_copy-retag, copy_for-retag, inserted-retag, free_block-retag, changing-retag, ending-retag, find-retag}
+use Rattle.node_rules.proofs.TagLists.{both_ways, copy_of-retag, without-retag, without_below-retag, without_all_below-retag, to_front-retag, stored-retag}
+use Rattle.node_rules.proofs.TagLists.{good_copy-retag, copy_for-retag, inserted-retag, free_block-retag, changing-retag, ending-retag, find-retag}
 
 some-retag : {A B : Type 0} (h : A → B) (o : Option A) → is_some (option_map h o) ≡ is_some o
 some-retag h None = refl

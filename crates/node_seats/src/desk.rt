@@ -2,7 +2,8 @@
 ghost use Rattle.std.specs.Prelude.{◌≡◌, [], Some, IfOk, IfSome, IsFalse, OnErr};
 ghost use Rattle.node_bytes.specs.Stepping.{AnswersAsk};
 ghost use Rattle.node_seats.specs.Beginning.{beginning_of};
-ghost use Rattle.node_seats.specs.Desks.{AreNewSteps, HasRoom, IsEndedIn, IsWithoutBook, with_page_filed};
+ghost use Rattle.node_seats.specs.Desks.{AreNewSteps, HasRoom, IsEndedIn, IsWithoutBook};
+ghost use Rattle.node_seats.specs.Desks.{with_page_filed};
 ghost use Rattle.node_seats.specs.Records.{IsPart, keeps};
 ghost use Rattle.node_seats.specs.Seats.{Called, IsNext};
 

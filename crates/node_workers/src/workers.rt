@@ -198,11 +198,11 @@ fn run_and_tell<
 }
 
 impl Workers {
-    /// Starts a node of the roster with this many workers, 2 to 8, over a store of floors. When this
-    /// returns, the node can be reached at its addresses.
+    /// Starts a node of the roster with this many workers, 2 to 8, over a store of floors. When
+    /// this returns, the node can be reached at its addresses.
     ///
-    /// Faults: `Open` where the node is not opened, `Loop` where its sockets are not, `NoThread` where a thread cannot be started, `NoMemory`. After a
-    /// fault nothing of it runs or is open.
+    /// Faults: `Open` where the node is not opened, `Loop` where its sockets are not, `NoThread`
+    /// where a thread cannot be started, `NoMemory`. After a fault nothing of it runs or is open.
     pub fn start<
         S: FloorStore + Drop + Send + 'static,
         G: Gate + Drop + Send + Sync + 'static,

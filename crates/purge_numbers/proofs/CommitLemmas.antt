@@ -1,6 +1,7 @@
 -- What a transaction leaves, and the floors of a file of either form. A commit leaves what the
 -- transaction held; so a crash finds what was there before it, or that.
-use Rattle.std.proofs.Common.{◌≡◌, ℕ, pos, ◌==◌, List, [], ◌∷◌, false, Ok, Err, Result, IsTrue, OnOk, IfErr, sym, ap, subst, inl, inr, ◌∙◌, arith, if◌then◌else◌}
+use Rattle.std.proofs.Common.{◌≡◌, ℕ, pos, ◌==◌, List, [], ◌∷◌, false, Ok, Err, Result, IsTrue, OnOk, IfErr, sym, ap, subst, inl, inr, ◌∙◌, arith}
+use Rattle.std.proofs.Common.{if◌then◌else◌}
 use Rattle.std.specs.Result.{IsErrAnd}
 use Rattle.sqlite.specs.declared.types.Value.TheVariants.{Int}
 use Rattle.sqlite_value.specs.Order.{Row, column}

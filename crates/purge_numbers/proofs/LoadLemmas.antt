@@ -18,7 +18,8 @@ use Rattle.purge_tables.proofs.Texts.{version_text}
 use Rattle.purge_tables.proofs.QueryLemmas.{answered, all_matched, query_keeps, version_shown}
 use Rattle.purge_numbers.specs.Tables.{first_schema, node_schema, shown_base}
 use Rattle.purge_numbers.specs.Rows.{shown_row}
-use Rattle.purge_numbers.proofs.Texts.{AsksFloors, load_text, load_query, load_is, first_load_is, version_is, first_version_is, ask_text, ask_query, ask_is, ask_plain}
+use Rattle.purge_numbers.proofs.Texts.{AsksFloors, load_text, load_query, load_is, first_load_is, version_is, first_version_is, ask_text, ask_query, ask_is}
+use Rattle.purge_numbers.proofs.Texts.{ask_plain}
 
 -- ---- a query whose text is plain in the schema at hand
 

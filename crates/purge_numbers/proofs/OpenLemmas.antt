@@ -1,6 +1,7 @@
 -- A file whose rows were read is a node's file and its connection is ready, since the queries
 -- change nothing. A file that is refused is no node's file, since a node's rows can all be added.
-use Rattle.std.proofs.Common.{◌≤◌, ◌≡◌, ◌≢◌, ◌<◌, ◌⊎◌, ℕ, pos, false, length, inl, inr, subst, arith, List, [], ◌∷◌, map, Err, Ok, Result, IfOk, OnOk, refl, sym, ap, ◌∙◌}
+use Rattle.std.proofs.Common.{◌≤◌, ◌≡◌, ◌≢◌, ◌<◌, ◌⊎◌, ℕ, pos, false, length, inl, inr, subst, arith, List, [], ◌∷◌, map, Err, Ok, Result, IfOk, OnOk, refl}
+use Rattle.std.proofs.Common.{sym, ap, ◌∙◌}
 use Rattle.std.specs.List.Sorted.{IsPermutation}
 use Rattle.std.specs.FinMap.{empty}
 use Rattle.std.proofs.lemmas.List.Sorted.{IsPermutation-sym, length_permutation}

@@ -1,7 +1,8 @@
 -- The statement of a raise inserts a row for the url, or sets the number of the one row that has
 -- it. A row conflicts with the new one exactly if it has the url. Without conflict the new row goes
 -- in beside rows of other urls; with one, the update finds that row by its rowid and replaces it.
-use Rattle.std.proofs.Common.{◌≡◌, ℕ, ℤ, pos, Bool, true, false, not, cond, List, [], ◌∷◌, map, filter, Some, None, Option, Ok, arith, refl, sym, ap, subst, ◌∙◌, inl, inr, drop, ◌&&◌, ◌||◌, ◌==◌, unwrap_or, if◌then◌else◌}
+use Rattle.std.proofs.Common.{◌≡◌, ℕ, ℤ, pos, Bool, true, false, not, cond, List, [], ◌∷◌, map, filter, Some, None, Option, Ok, arith, refl, sym, ap, subst}
+use Rattle.std.proofs.Common.{◌∙◌, inl, inr, drop, ◌&&◌, ◌||◌, ◌==◌, unwrap_or, if◌then◌else◌}
 use Rattle.std.specs.List.{AllByRecursion, list_all, flat_map}
 use Rattle.sqlite.specs.Query.{IsAnswer, output}
 use Rattle.sqlite.specs.Term.{holds}

@@ -1,6 +1,7 @@
 -- What the transaction that sets the base does to a node's file. A DELETE without a test takes all
 -- rows, since the query shows the rowid of each. The UPDATE replaces the one row of `base`.
-use Rattle.std.proofs.Common.{◌≡◌, ℕ, ℤ, pos, Bool, true, not, ◌||◌, cond, List, [], ◌∷◌, map, filter, length, None, Ok, Err, Result, OnOk, refl, sym, ap, subst, ◌∙◌, inl, inr, arith}
+use Rattle.std.proofs.Common.{◌≡◌, ℕ, ℤ, pos, Bool, true, not, ◌||◌, cond, List, [], ◌∷◌, map, filter, length, None, Ok, Err, Result, OnOk, refl, sym, ap}
+use Rattle.std.proofs.Common.{subst, ◌∙◌, inl, inr, arith}
 use Rattle.std.specs.List.{AllByRecursion, list_any}
 use Rattle.std.specs.List.Sorted.{IsPermutation}
 use Rattle.std.proofs.lemmas.Bool.{cases_Bool}

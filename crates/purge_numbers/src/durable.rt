@@ -4,7 +4,8 @@ ghost use Rattle.sqlite.specs.State.{HasCleanDisk};
 ghost use Rattle.sqlite.specs.Held.{state};
 ghost use Rattle.purge_tables.specs.Making.{IsBlank};
 ghost use Rattle.purge_numbers.specs.Put.{FailsToRaise};
-ghost use Rattle.purge_numbers.specs.Making.{IsFileOf, IsFormTwo, IsNodeFile, LeavesNoOther, OpensWith};
+ghost use Rattle.purge_numbers.specs.Making.{IsFileOf, IsFormTwo, IsNodeFile, LeavesNoOther};
+ghost use Rattle.purge_numbers.specs.Making.{OpensWith};
 ghost use Rattle.purge_numbers.specs.Store.{MayFind, committed_floors};
 
 use crate::opening::open_file;
@@ -46,8 +47,8 @@ impl<S: Alter> Model for SqliteFloors<S> {
 impl<S: Alter> SqliteFloors<S> {
     /// Opens a node's file: makes the tables if the file is blank, reads the floors, and brings a
     /// file of form 1 to form 2. A blank file has no table, index or view. A file of form 1 has no
-    /// base: it gets the base 0 and the version 2, in one transaction, and keeps its rows. Lifts the
-    /// connection's step limit, if it has one.
+    /// base: it gets the base 0 and the version 2, in one transaction, and keeps its rows. Lifts
+    /// the connection's step limit, if it has one.
     ///
     /// Errors, with the connection:
     ///

@@ -21,10 +21,10 @@
 //! load returns `StoreFault` until the file is opened again.
 //!
 //! The file has three STRICT tables, `form` for the version, `floors`, and `base` for the base;
-//! `docs/FORMATS.md` has their text. A file of form 1 has no `base` and the version 1; an open brings
-//! it to form 2. The table `form` and the tests of a table's parts are those of `purge_tables`: its
-//! definitions (`form_table`, `HasVersion`, `IsFormed`, `Makes`), the calls that make and compare
-//! it, and their proofs.
+//! `docs/FORMATS.md` has their text. A file of form 1 has no `base` and the version 1; an open
+//! brings it to form 2. The table `form` and the tests of a table's parts are those of
+//! `purge_tables`: its definitions (`form_table`, `HasVersion`, `IsFormed`, `Makes`), the calls
+//! that make and compare it, and their proofs.
 //!
 //! Read in this order:
 //!
@@ -32,8 +32,8 @@
 //!    are floors, and what a query shows of them.
 //! 2. `specs/Making.antt`: how a blank file gets its tables, how form 1 becomes form 2, which files
 //!    open, and what an open finds.
-//! 3. `specs/Put.antt`: the statements of a raise, and how they fail. `specs/Writing.antt`: what holds
-//!    between them. `specs/Faults.antt`: how errors of the database are reported.
+//! 3. `specs/Put.antt`: the statements of a raise, and how they fail. `specs/Writing.antt`: what
+//!    holds between them. `specs/Faults.antt`: how errors of the database are reported.
 //!    `specs/Store.antt`: a connection over a node's file.
 //! 4. `src/durable.rt`: the store. `src/opening.rt`: reads the file. `src/making.rt`: makes it, or
 //!    brings it to form 2. `src/tables.rt`: compares its schema. `src/rows.rt`: reads its rows.
@@ -46,7 +46,8 @@
 //! A contract sees a `SqliteFloors` as its connection, the duplicate, whether no call has failed,
 //! and the count of failures (`Durable`). The crate touches nothing but the connection.
 //!
-//! Not promised: that an open writes nothing to a file that it refuses. Its floors stay as they were.
+//! Not promised: that an open writes nothing to a file that it refuses. Its floors stay as they
+//! were.
 #![tactic(auto)]
 
 mod durable;

@@ -8,7 +8,8 @@ ghost use Rattle.floor_rules.specs.Floors.{no_floors};
 ghost use Rattle.purge_tables.specs.Making.{IsBlank, IsFormed, Makes};
 ghost use Rattle.purge_tables.specs.Rows.{HasVersion};
 ghost use Rattle.purge_tables.specs.Tables.{empty_schema};
-ghost use Rattle.purge_numbers.specs.Making.{HasFloors, HasTables, IsVersioned, IsBaseless, IsMade, IsFormOne, LeavesNoOther};
+ghost use Rattle.purge_numbers.specs.Making.{HasFloors, HasTables, IsVersioned, IsBaseless, IsMade};
+ghost use Rattle.purge_numbers.specs.Making.{IsFormOne, LeavesNoOther};
 ghost use Rattle.purge_numbers.specs.Tables.{floors_in};
 
 use crate::fault::fault_of;

@@ -1,14 +1,17 @@
-//! Opens a node's file: has its tables made if it is blank, checks schema and version, reads the rows,
-//! and has a file of form 1 brought to form 2.
-ghost use Rattle.std.specs.Prelude.{◌≡◌, ◌≢◌, ◌⊎◌, ◌<◌, false, map, IsPermutation, IsTrue, IfOk, OnOk, None, Err};
+//! Opens a node's file: has its tables made if it is blank, checks schema and version, reads the
+//! rows, and has a file of form 1 brought to form 2.
+ghost use Rattle.std.specs.Prelude.{◌≡◌, ◌≢◌, ◌⊎◌, ◌<◌, false, map, IsPermutation, IsTrue, IfOk};
+ghost use Rattle.std.specs.Prelude.{OnOk, None, Err};
 ghost use Rattle.sqlite.specs.State.{HasCleanDisk, Survives, IsUnchanged};
 ghost use Rattle.sqlite.specs.Held.{state};
 ghost use Rattle.purge_tables.specs.Making.{IsBlank};
 ghost use Rattle.purge_tables.specs.Rows.{HasVersion, shown_version};
-ghost use Rattle.purge_numbers.specs.Making.{IsFileOf, IsFormOne, IsFormTwo, IsNodeFile, LeavesNoOther, OpensWith};
+ghost use Rattle.purge_numbers.specs.Making.{IsFileOf, IsFormOne, IsFormTwo, IsNodeFile};
+ghost use Rattle.purge_numbers.specs.Making.{LeavesNoOther, OpensWith};
 ghost use Rattle.purge_numbers.specs.Rows.{AreFloors, IsRead, shown_row};
 ghost use Rattle.purge_numbers.specs.Store.{AreIn, committed_floors};
-ghost use Rattle.purge_numbers.specs.Tables.{first_schema, node_schema, floors_in, shown_base, IsBase, HasBase};
+ghost use Rattle.purge_numbers.specs.Tables.{first_schema, node_schema, floors_in, shown_base};
+ghost use Rattle.purge_numbers.specs.Tables.{IsBase, HasBase};
 
 use crate::fault::fault_of;
 use crate::making::{bring_over, make_where_blank};

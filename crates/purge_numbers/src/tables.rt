@@ -2,15 +2,16 @@
 //! (`first_schema` and `node_schema` of `specs/Tables`).
 //!
 //! `is_first_schema` and `is_node_schema`, the last two, are what `opening.rt` calls; the functions
-//! before them compare the parts, by the tests of `purge_tables`. In keys and tests place 0 of a row is its rowid, and its
-//! columns follow from place 1.
+//! before them compare the parts, by the tests of `purge_tables`. In keys and tests place 0 of a
+//! row is its rowid, and its columns follow from place 1.
 ghost use Rattle.std.specs.Prelude.{◌≡◌, ◌≢◌, ℕ, suc, pos, ◌∷◌, [], false, None, IsTrue};
 ghost use Rattle.sqlite.specs.declared.types.Value.TheVariants.{Int};
 ghost use Rattle.sqlite.specs.Collation.TheVariants.{Binary};
 ghost use Rattle.sqlite_sql.specs.Term.{col, lit, op2};
 ghost use Rattle.sqlite_sql.specs.declared.ops.BinaryOp.TheVariants.{Compare};
 ghost use Rattle.sqlite_schema.specs.Code.{term_in, term_to};
-ghost use Rattle.purge_numbers.specs.Tables.{base_table, floors_table, url_index, first_schema, node_schema, id_check, number_check};
+ghost use Rattle.purge_numbers.specs.Tables.{base_table, floors_table, url_index, first_schema};
+ghost use Rattle.purge_numbers.specs.Tables.{node_schema, id_check, number_check};
 
 use purge_tables::{
     has_rowid_key, is_column, is_form, is_literal_at, is_named, is_place, is_plain, is_plain_order,

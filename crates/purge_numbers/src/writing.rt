@@ -10,7 +10,9 @@ ghost use Rattle.floor_rules.specs.Floors.{FloorTable, raised, with_row, base_on
 ghost use Rattle.floor_rules.specs.Raising.{after};
 ghost use Rattle.floor_rules.specs.Store.{IsBeforeOrAfter};
 ghost use Rattle.purge_tables.specs.Making.{Makes};
-ghost use Rattle.purge_numbers.specs.Put.{FailsInside, FailsToRebase, FailsToWrite, FailsToRaise, Rebases, base_params, base_text, clear_text, put_params, put_text};
+ghost use Rattle.purge_numbers.specs.Put.{FailsInside, FailsToRebase, FailsToWrite, FailsToRaise};
+ghost use Rattle.purge_numbers.specs.Put.{Rebases, base_params, base_text, clear_text, put_params};
+ghost use Rattle.purge_numbers.specs.Put.{put_text};
 ghost use Rattle.purge_numbers.specs.Store.{IsReady, IsNode, AreIn, committed_floors, MayFind};
 ghost use Rattle.purge_numbers.specs.Tables.{floors_in};
 ghost use Rattle.purge_numbers.specs.Writing.{HasNoRows, Holds, Commits};

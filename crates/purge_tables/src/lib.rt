@@ -17,8 +17,8 @@
 //! Read in this order:
 //!
 //! 1. `specs/Tables.antt`: the table `form`, and the schemas of a blank file and of a file with
-//!    `form` alone. `specs/Rows.antt`: which version its rows mean. `specs/Making.antt`: how a blank
-//!    file gets it.
+//!    `form` alone. `specs/Rows.antt`: which version its rows mean. `specs/Making.antt`: how a
+//!    blank file gets it.
 //! 2. `src/form.rt`: the table `form`. `src/parts.rt`: the parts of a table. `src/checks.rt`: the
 //!    nodes of a CHECK.
 //! 3. `proofs/Lib.antt`: the proofs, in order. The proofs of both files cite most of them.

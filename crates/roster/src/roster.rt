@@ -3,8 +3,14 @@ ghost use Rattle.values_tables.specs.Ranges.{is_foreign_id};
 ghost use Rattle.values_tables.specs.Reading.{tables_in};
 ghost use Rattle.roster.specs.Faults.{IsFirstOf};
 ghost use Rattle.roster.specs.Judged.{IsRoster};
-ghost use Rattle.roster.specs.Lookups.{is_member as is_member_of, member_of as member_by_id, is_master as is_master_at, is_own as is_own_address, peers_of, peers_in as peers_of_entry, origin_at, member_at as member_by_address, names_sibling as calls_sibling};
-ghost use Rattle.roster.specs.Lookups.{is_founding as is_founding_at, is_founding_in as is_founding_entry, address_by as address_for, is_origin_of as is_origin_for};
+ghost use Rattle.roster.specs.Lookups.{is_member as is_member_of, member_of as member_by_id};
+ghost use Rattle.roster.specs.Lookups.{is_master as is_master_at, is_own as is_own_address};
+ghost use Rattle.roster.specs.Lookups.{peers_of, peers_in as peers_of_entry, origin_at};
+ghost use Rattle.roster.specs.Lookups.{member_at as member_by_address};
+ghost use Rattle.roster.specs.Lookups.{names_sibling as calls_sibling};
+ghost use Rattle.roster.specs.Lookups.{is_founding as is_founding_at};
+ghost use Rattle.roster.specs.Lookups.{is_founding_in as is_founding_entry};
+ghost use Rattle.roster.specs.Lookups.{address_by as address_for, is_origin_of as is_origin_for};
 ghost use Rattle.values_tables.specs.Roles.{is_sibling as is_sibling_role};
 ghost use Rattle.std.specs.List.{find, list_any};
 

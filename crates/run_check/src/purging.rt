@@ -1,6 +1,7 @@
 //! The purge that an event brings, and the floors that are stored if it fails.
 ghost use Rattle.std.specs.Prelude.{◌≡◌, ◌≤◌, ℕ, IfOk, IfSome};
-ghost use Rattle.node_rules.specs.Relation.{purge_in as purge_of_event, purge_in_message, purge_meant};
+ghost use Rattle.node_rules.specs.Relation.{purge_in as purge_of_event, purge_in_message};
+ghost use Rattle.node_rules.specs.Relation.{purge_meant};
 ghost use Rattle.node_core.specs.View.{HasKeyOf};
 ghost use Rattle.node_rules.specs.State.{setting};
 ghost use Rattle.values_keys.specs.KeyOf.{key_of as key_of_octets};

@@ -1,7 +1,8 @@
 -- An entry of the master that may follow stands for events of the world. The master's definition is
 -- the one that the world uses; an acknowledgement was sent, so its datagram is in the world; a
 -- refused call stands for no event and leaves the purges.
-use Rattle.std.proofs.Common.{◌≡◌, ℕ, ◌+◌, Bool, true, false, cond, ◌||◌, List, [], ◌∷◌, ◌++◌, Option, Some, None, Result, Ok, Err, refl, sym, ◌∙◌, ap, inl, inr, subst, arith}
+use Rattle.std.proofs.Common.{◌≡◌, ℕ, ◌+◌, Bool, true, false, cond, ◌||◌, List, [], ◌∷◌, ◌++◌, Option, Some, None, Result, Ok, Err, refl, sym, ◌∙◌, ap, inl}
+use Rattle.std.proofs.Common.{inr, subst, arith}
 use Rattle.std.proofs.lemmas.List.Elements.{Contains-append_left}
 use Rattle.htcp_wire.specs.declared.message.Content.{Content}
 use Rattle.htcp_wire.specs.declared.message.Content.TheVariants as content
@@ -30,7 +31,8 @@ use Rattle.std.specs.Prelude.{Contains}
 use Rattle.world_rules.specs.World.{World, Datagram, MemberState, node_at}
 use Rattle.world_rules.proofs.Items.{append_nil}
 use Rattle.node_rules.specs.Messages.{protocol_of as udp_of, clear_answer, clear_answer_in}
-use Rattle.world_rules.specs.Consequence.{Seen, Issued, Reported, Nothing, Consequence, Ends, consequence, with_master, with_sent, clears_of, clears_due, issue_by, master_hears, master_hears_htcp, acknowledged_by, delivered, delivered_to}
+use Rattle.world_rules.specs.Consequence.{Seen, Issued, Reported, Nothing, Consequence, Ends, consequence, with_master, with_sent, clears_of, clears_due}
+use Rattle.world_rules.specs.Consequence.{issue_by, master_hears, master_hears_htcp, acknowledged_by, delivered, delivered_to}
 use Rattle.world_rules.specs.Run.{Step, Takes}
 use Rattle.world_rules.specs.Run.{IsOfKey as IsEventOfKey}
 use Rattle.run_rules.specs.Notes.{Calls}

@@ -1,7 +1,8 @@
 -- An entry of a node that may follow stands for events of the world: the clock is set, and some
 -- event brings the node what it received (Meeting). An entry that was refused and left the node open stands for no
 -- event. One that closed it leaves the floors that are stored, from before the raise or after it.
-use Rattle.std.proofs.Common.{◌≡◌, ℕ, ◌+◌, Bool, true, false, cond, List, [], ◌∷◌, ◌++◌, Option, Some, None, Result, Ok, Err, find, refl, sym, ◌∙◌, ap, inl, inr, subst}
+use Rattle.std.proofs.Common.{◌≡◌, ℕ, ◌+◌, Bool, true, false, cond, List, [], ◌∷◌, ◌++◌, Option, Some, None, Result, Ok, Err, find, refl, sym, ◌∙◌, ap, inl}
+use Rattle.std.proofs.Common.{inr, subst}
 use Rattle.std.proofs.lemmas.List.Elements.{Contains-append_left}
 use Rattle.floor_rules.specs.Floors.{FloorTable, new_base, raised}
 use Rattle.floor_rules.specs.Store.{IsBeforeOrAfter}
@@ -38,7 +39,8 @@ use Rattle.run_rules.specs.Board.{Standing, New, Open, Shut, Astray, Board, stan
 use Rattle.run_rules.specs.declared.verdict.Cause.{Cause}
 use Rattle.run_rules.specs.declared.verdict.Cause.TheVariants.{NotSent, OtherReply}
 use Rattle.run_rules.specs.Stored.{are_same, stored_by}
-use Rattle.run_rules.specs.Judging.{Fine, Flawed, Reaches, IsStep, StepsBy, OpenStepsBy, StepsSo, after_entry, wanting, failing, left_by, shut_by, is_astray, judged, JudgesEntry}
+use Rattle.run_rules.specs.Judging.{Fine, Flawed, Reaches, IsStep, StepsBy, OpenStepsBy, StepsSo, after_entry, wanting, failing, left_by, shut_by, is_astray}
+use Rattle.run_rules.specs.Judging.{judged, JudgesEntry}
 use Rattle.run_rules.specs.Recorded.{Progress, Goes, IsTaken, ChangesNothing, event_step, unmarked, unmarked_event, unmarked_outcome, node_in}
 use Rattle.run_rules.specs.Recorded.{Stands}
 use Rattle.run_rules.specs.Notes.{Note, Steps}

@@ -1,7 +1,8 @@
 -- The notes of a run without a flaw stand for events of the world: by induction over the notes,
 -- each leads from a world that matches the state of the run to another. A node that goes astray
 -- leads to a flaw, so none does.
-use Rattle.std.proofs.Common.{◌≡◌, ℕ, Bool, true, false, cond, ◌||◌, List, [], ◌∷◌, ◌++◌, map, Option, Some, None, Result, Ok, Err, refl, sym, ◌∙◌, ap, inl, inr, nat_eq, subst}
+use Rattle.std.proofs.Common.{◌≡◌, ℕ, Bool, true, false, cond, ◌||◌, List, [], ◌∷◌, ◌++◌, map, Option, Some, None, Result, Ok, Err, refl, sym, ◌∙◌, ap, inl}
+use Rattle.std.proofs.Common.{inr, nat_eq, subst}
 use Rattle.std.specs.List.{AllByRecursion, list_any}
 use Rattle.std.proofs.Math.Decide.{ℕ_discrete}
 use Rattle.values_tables.specs.declared.plain.Member.{Member}

@@ -1,6 +1,7 @@
 -- How the state of a run (a board) and the world match: each node's state is the recorded one
 -- without marks, the master's is the same, and what the run knows as sent is sent in the world.
-use Rattle.std.proofs.Common.{◌≡◌, ℕ, ◌+◌, true, false, cond, List, [], ◌∷◌, ◌++◌, length, Option, Some, None, Ok, refl, sym, ◌∙◌, ap, nat_eq, subst, arith, length-append}
+use Rattle.std.proofs.Common.{◌≡◌, ℕ, ◌+◌, true, false, cond, List, [], ◌∷◌, ◌++◌, length, Option, Some, None, Ok, refl, sym, ◌∙◌, ap, nat_eq, subst, arith}
+use Rattle.std.proofs.Common.{length-append}
 use Rattle.std.specs.Prelude.{◌≢◌}
 use Rattle.std.proofs.Math.Decide.{ℕ_discrete}
 use Rattle.values_tables.specs.declared.plain.Member.{Member}

@@ -10,7 +10,8 @@ use Rattle.node_book.specs.declared.record.Record.{Record}
 use Rattle.purge_master.specs.declared.book.MasterEntry.{MasterEntry}
 use Rattle.world_rules.proofs.MemberStates.{ids_same}
 use Rattle.world_rules.proofs.Items.{append_nil}
-use Rattle.run_rules.specs.Notes.{Note, Opens, Steps, Closes, Calls, steps_of, last_place, kept_by, notes_of, notes_of_all, is_shut_before, is_closed_before, calls_of, is_of, nodes_in, tracks_of}
+use Rattle.run_rules.specs.Notes.{Note, Opens, Steps, Closes, Calls, steps_of, last_place, kept_by, notes_of, notes_of_all, is_shut_before, is_closed_before}
+use Rattle.run_rules.specs.Notes.{calls_of, is_of, nodes_in, tracks_of}
 use Rattle.run_rules.specs.Recorded.{is_of_node, is_of_master}
 use Rattle.run_rules.proofs.Lists.{either}
 use Rattle.run_rules.proofs.Taking.{parts, Sole}

@@ -1,6 +1,7 @@
 -- The judgement on one note in a state of the run: it may follow, or it has a flaw. Judges, the
 -- last definition, covers all notes.
-use Rattle.std.specs.Prelude.{◌≡◌, ◌≢◌, ◌⊎◌, ℕ, Bool, true, false, ◌==◌, ◌&&◌, ◌||◌, List, length, find, Option, Some, None, MatchOption, Result, Ok, Err, if◌then◌else◌}
+use Rattle.std.specs.Prelude.{◌≡◌, ◌≢◌, ◌⊎◌, ℕ, Bool, true, false, ◌==◌, ◌&&◌, ◌||◌, List, length, find, Option, Some, None, MatchOption, Result, Ok, Err}
+use Rattle.std.specs.Prelude.{if◌then◌else◌}
 use Rattle.url_key.specs.Key.{IsKey}
 use Rattle.object_store.specs.Listed.{without_all_below}
 use Rattle.floor_rules.specs.Floors.{FloorTable, no_floors, new_base}

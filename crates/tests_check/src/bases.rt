@@ -17,7 +17,8 @@ const CLEARED: &[Step] = &[(2, Met::Clear(1, A), Said::Acknowledged)];
 /// The store fails at it.
 const STORE_FAULT: &[Step] = &[(2, Met::Clear(1, A), Said::Fault(StepFault::StoreFault))];
 
-/// A run: its name, its records, the index of the one that opens, or closes, with a base, and its first flaw, if it has one.
+/// A run: its name, its records, the index of the one that opens, or closes, with a base, and its
+/// first flaw, if it has one.
 type Run = (
     &'static str,
     &'static [Shift],

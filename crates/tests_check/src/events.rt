@@ -34,7 +34,8 @@ pub(crate) enum Met {
     Cached(Url),
     /// This member asks for a copy that the node has.
     PeerAsk(u8, Url),
-    /// This member answers the fetch of this serial, with an age of 0 and this purge number, or without both.
+    /// This member answers the fetch of this serial, with an age of 0 and this purge number, or
+    /// without both.
     PeerAnswer(u8, u32, Option<u32>, Url),
     /// The origin answers the read of this serial.
     Origin(u32, Url),

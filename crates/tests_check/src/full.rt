@@ -31,7 +31,8 @@ fn key_at(alloc: Global, number: u32) -> Result<Key, Fail> {
     key_of(alloc, url.as_bytes())
 }
 
-/// Where a purge is issued; its CLR comes at the next place, and the response to the master at the one behind that.
+/// Where a purge is issued; its CLR comes at the next place, and the response to the master at the
+/// one behind that.
 fn place_of(number: u32) -> u64 {
     u64::from(number).wrapping_mul(3)
 }
@@ -157,7 +158,8 @@ fn second_record(alloc: Global, keys: u32, base: u32) -> Result<Record, Fail> {
     })
 }
 
-/// The member's last record tells that it dropped its copy, or not; so many of the first keys have rows as it opens again, and this is the base.
+/// The member's last record tells that it dropped its copy, or not; so many of the first keys have
+/// rows as it opens again, and this is the base.
 type Opening = (&'static str, bool, u32, u32, Option<(u64, Cause)>);
 
 const OPENINGS: [Opening; 5] = [
@@ -186,7 +188,8 @@ const OPENINGS: [Opening; 5] = [
     ),
 ];
 
-/// What is kept of the run: two records of the member, a state with the copy that the first one is not to have as it closes, and the master's entries.
+/// What is kept of the run: two records of the member, a state with the copy that the first one is
+/// not to have as it closes, and the master's entries.
 #[derive(Drop)]
 struct Kept {
     records: Vec<Record>,

@@ -255,7 +255,8 @@ fn check(rt: &HostRuntime, node: &mut Tested, table: &[(Happens, &str)]) -> Resu
     Ok(())
 }
 
-/// A read that a purge overtakes begins anew, and a copy bears the stamp and the mark of its own read.
+/// A read that a purge overtakes begins anew, and a copy bears the stamp and the mark of its own
+/// read.
 const OVERTAKEN: [(Happens, &str); 6] = [
     (Happens::Ask("http://o/a", 100), " read 33"),
     (Happens::Purge("http://o/a", 1), " clr 2"),
@@ -271,7 +272,8 @@ const OVERTAKEN: [(Happens, &str); 6] = [
     ),
 ];
 
-/// What a foreign sibling gives bears the tag of its answer, and no stamp: the one that it tells is not trusted.
+/// What a foreign sibling gives bears the tag of its answer, and no stamp: the one that it tells is
+/// not trusted.
 const WITH_A_FOREIGN_SIBLING: [(Happens, &str); 3] = [
     (Happens::Ask("http://o/a", 0), " Query round 32"),
     (
@@ -339,7 +341,8 @@ fn raise(alloc: Global, floors: &mut MemoryFloors, url: &str, number: u32) -> Re
     }
 }
 
-/// Adds floors of 65,536 keys: `http://o/1` has the number behind this one, `http://o/2` the next, and so on.
+/// Adds floors of 65,536 keys: `http://o/1` has the number behind this one, `http://o/2` the next,
+/// and so on.
 fn fill(alloc: Global, floors: &mut MemoryFloors, before: u32) -> Result<(), Fail> {
     for key in 1..=65_536u32 {
         let url = format!(in alloc; "http://o/{key}")?;
@@ -363,7 +366,8 @@ fn full_again(alloc: Global) -> Result<MemoryFloors, Fail> {
     Ok(floors)
 }
 
-/// How many rows a node's floors have, the base, the floors of `http://o/a`, `http://o/b` and `http://o/9`, the greatest floor, and how many copies it has.
+/// How many rows a node's floors have, the base, the floors of `http://o/a`, `http://o/b` and
+/// `http://o/9`, the greatest floor, and how many copies it has.
 type Seen = (usize, u32, [u32; 3], u32, usize);
 
 fn seen_in(alloc: Global, state: &NodeState<u64>) -> Result<Seen, Fail> {
@@ -404,7 +408,8 @@ fn check_parts(rt: &HostRuntime, floors: MemoryFloors, parts: &[Part]) -> Result
     Ok(())
 }
 
-/// A purge of a new key makes the base, and a copy of another key goes with it: no copy of this key was held. Then rows are for what is above the base.
+/// A purge of a new key makes the base, and a copy of another key goes with it: no copy of this key
+/// was held. Then rows are for what is above the base.
 const NEW_KEY: &[Part] = &[
     (
         &[
@@ -448,7 +453,8 @@ const HELD_KEY: &[Part] = &[
     ),
 ];
 
-/// The new base is the greatest floor, not the number of the purge. A copy that is no older than that stays.
+/// The new base is the greatest floor, not the number of the purge. A copy that is no older than
+/// that stays.
 const GREATEST: &[Part] = &[
     (
         &[

@@ -43,7 +43,8 @@ fn floor(floors: &Floors, alloc: Global, url: &str) -> Result<u32, Fail> {
     Ok(floors.floor(&Key::read(alloc, url.as_bytes())?))
 }
 
-/// The numbers of `http://a/`, `http://b/` and `http://c/`, the greatest of all, and how many there are.
+/// The numbers of `http://a/`, `http://b/` and `http://c/`, the greatest of all, and how many there
+/// are.
 type Told = ([u32; 3], u32, usize);
 
 fn told(floors: &Floors, alloc: Global) -> Result<Told, Fail> {

@@ -178,7 +178,8 @@ const STAMP: &[u8] = b"X-Purge-Stamp: 3\r\n";
 const HIT: &str =
     "00260000 0020 1001 00000007 0000 0000 0012582d50757267652d5374616d703a20330d0a 0002";
 
-/// A datagram in hex; its content's name and kind, two numbers of it, and the lines of headers in it.
+/// A datagram in hex; its content's name and kind, two numbers of it, and the lines of headers in
+/// it.
 type Row = (&'static str, &'static str, Kind, u8, u8, &'static [u8]);
 
 const MESSAGES: [Row; 13] = [
@@ -546,7 +547,8 @@ fn prefixes_are_refused(rt: HostRuntime) {
     }
 }
 
-/// A datagram in hex, an octet, and the faults that come of it at its places; elsewhere there is none.
+/// A datagram in hex, an octet, and the faults that come of it at its places; elsewhere there is
+/// none.
 type Change = (&'static str, u8, &'static [(usize, HtcpFault)]);
 
 const CHANGES: [Change; 6] = [
@@ -642,7 +644,8 @@ fn fault_at(faults: &[(usize, HtcpFault)], place: usize) -> Option<HtcpFault> {
     None
 }
 
-/// Whether what a datagram means is written and read again, its MINOR aside. A response that is none of the known ones is not written.
+/// Whether what a datagram means is written and read again, its MINOR aside. A response that is
+/// none of the known ones is not written.
 fn keeps_its_meaning(alloc: Global, message: &mut Htcp) -> bool {
     message.minor = 0;
     matches!(message.content, Content::OtherAnswer { .. }) || reads_back(alloc, message)
@@ -684,7 +687,8 @@ fn changed_octets(rt: HostRuntime) {
     }
 }
 
-/// MINOR, the content's kind, two numbers of it and the length of the text in it, and whether such a message fits.
+/// MINOR, the content's kind, two numbers of it and the length of the text in it, and whether such
+/// a message fits.
 type Fit = (u8, Kind, u8, u8, usize, bool);
 
 const FITS: [Fit; 12] = [

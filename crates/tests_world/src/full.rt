@@ -7,7 +7,8 @@ use std::test::Fail;
 use tests_kit::{ONE, answer_of, ask_of, key_of, roster_of, want};
 use world_rules::{Outcome, WorldEvent};
 
-/// Purges a URL, where so many were purged before: its CLR comes to the member, and the response to that to the master.
+/// Purges a URL, where so many were purged before: its CLR comes to the member, and the response to
+/// that to the master.
 fn purge(alloc: Global, world: &mut World, url: &str, before: u64) -> Result<(), Fail> {
     let sent = before.saturating_mul(2);
     let key = key_of(alloc, url.as_bytes())?;

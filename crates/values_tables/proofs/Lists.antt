@@ -1,6 +1,7 @@
 -- Lists of entries, and of keys, that are read one after another say what the whole list says; one
 -- bad entry makes the whole list bad. A test that some entry passes is passed by at least one.
-use Rattle.std.proofs.Common.{◌≡◌, ℕ, ◌+◌, ◌<◌, zero, suc, ◌&&◌, List, [], ◌∷◌, ◌++◌, length, take, get_or, Option, Some, None, option_and_then, String, Global, string_bytes, Bool, filter, inl, inr, nat_le, le-leb, refl, sym, ap, arith}
+use Rattle.std.proofs.Common.{◌≡◌, ℕ, ◌+◌, ◌<◌, zero, suc, ◌&&◌, List, [], ◌∷◌, ◌++◌, length, take, get_or, Option, Some, None, option_and_then, String, Global}
+use Rattle.std.proofs.Common.{string_bytes, Bool, filter, inl, inr, nat_le, le-leb, refl, sym, ap, arith}
 use Rattle.std.proofs.lemmas.Bool.{cases_Bool}
 use Rattle.std.proofs.lemmas.List.{take_more}
 use Rattle.std.specs.List.{list_all, list_any}

@@ -1,13 +1,17 @@
 //! Reads the tables of each kind.
-ghost use Rattle.std.specs.Prelude.{◌≡◌, ◌<◌, true, MatchResult, Some, None, option_map, option_and_then, string_bytes, codes};
+ghost use Rattle.std.specs.Prelude.{◌≡◌, ◌<◌, true, MatchResult, Some, None, option_map};
+ghost use Rattle.std.specs.Prelude.{option_and_then, string_bytes, codes};
 ghost use Rattle.std.specs.List.{list_all};
 ghost use Rattle.std.specs.BTreeMap.{keys};
 ghost use Rattle.toml.specs.Data.{Data, get_member};
 ghost use Rattle.toml.specs.View.{view, table_view, items_view};
 ghost use Rattle.values_tables.specs.Fault.{IsFieldFault};
 ghost use Rattle.values_tables.specs.Keys.{keys_of, is_among, has_only as has_only_keys};
-ghost use Rattle.values_tables.specs.Ranges.{is_peer, is_peer_id as may_be_peer, is_foreign, is_member, is_origin, is_cache, is_between};
-ghost use Rattle.values_tables.specs.Reading.{table_in, peer_of, cache_of, foreign_of, member_of, origin_of, list_in, all_of, number as number_within, checked};
+ghost use Rattle.values_tables.specs.Ranges.{is_peer, is_peer_id as may_be_peer, is_foreign};
+ghost use Rattle.values_tables.specs.Ranges.{is_member, is_origin, is_cache, is_between};
+ghost use Rattle.values_tables.specs.Reading.{table_in, peer_of, cache_of, foreign_of, member_of};
+ghost use Rattle.values_tables.specs.Reading.{origin_of, list_in, all_of, number as number_within};
+ghost use Rattle.values_tables.specs.Reading.{checked};
 
 use crate::fields::{flag, host, ip, name, number, port, role, udp, value_at};
 use crate::{Cache, Member, Origin, Peer, TableKind, TablesFault, TextPlace};

@@ -1,5 +1,6 @@
 ghost use Rattle.std.specs.Prelude.{◌≡◌};
-ghost use Rattle.values_tables.specs.Roles.{is_sibling as is_sibling_role, is_parent as is_parent_role};
+ghost use Rattle.values_tables.specs.Roles.{is_sibling as is_sibling_role};
+ghost use Rattle.values_tables.specs.Roles.{is_parent as is_parent_role};
 
 use values_plain::{Address, Listed, Udp};
 

@@ -1,12 +1,16 @@
 //! Reads the whole document.
-ghost use Rattle.std.specs.Prelude.{◌≡◌, true, MatchResult, Some, None, IfOk, IfErr, option_map, option_and_then, codes};
+ghost use Rattle.std.specs.Prelude.{◌≡◌, true, MatchResult, Some, None, IfOk, IfErr, option_map};
+ghost use Rattle.std.specs.Prelude.{option_and_then, codes};
 ghost use Rattle.std.specs.List.{list_all, list_any};
 ghost use Rattle.toml.specs.Data.{get_member};
 ghost use Rattle.toml.specs.View.{view, table_view};
 ghost use Rattle.values_tables.specs.Fault.{IsFieldFault, IsReason, IsBadToml};
 ghost use Rattle.values_tables.specs.Keys.{keys_of, has_only};
-ghost use Rattle.values_tables.specs.Ranges.{are_limits, are_tables, has_founding as has_founding_member, is_founding, is_port, is_member};
-ghost use Rattle.values_tables.specs.Reading.{tables_of as tables_in_document, tables_in, master_of, limits_of, members_of};
+ghost use Rattle.values_tables.specs.Ranges.{are_limits, are_tables};
+ghost use Rattle.values_tables.specs.Ranges.{has_founding as has_founding_member, is_founding};
+ghost use Rattle.values_tables.specs.Ranges.{is_port, is_member};
+ghost use Rattle.values_tables.specs.Reading.{tables_of as tables_in_document, tables_in};
+ghost use Rattle.values_tables.specs.Reading.{master_of, limits_of, members_of};
 
 use crate::entries::{known_table, read_list, table_of};
 use crate::fields::{ip, number, number_or, port, value_at};

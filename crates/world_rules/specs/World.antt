@@ -1,6 +1,7 @@
 -- The state of the world: the nodes, the master, the clock and all that was ever sent; and what one
 -- step of a node adds to it.
-use Rattle.std.specs.Prelude.{ℕ, ◌-◌, ◌/◌, Bool, ◌==◌, ◌&&◌, List, [], ◌∷◌, ◌++◌, map, find, slice_get, Option, Some, None, Result, Ok, Err, option_map, if◌then◌else◌}
+use Rattle.std.specs.Prelude.{ℕ, ◌-◌, ◌/◌, Bool, ◌==◌, ◌&&◌, List, [], ◌∷◌, ◌++◌, map, find, slice_get, Option, Some, None, Result, Ok, Err, option_map}
+use Rattle.std.specs.Prelude.{if◌then◌else◌}
 use Rattle.floor_rules.specs.Floors.{no_floors}
 use Rattle.http_messages.specs.declared.ask.Ask.{Ask}
 use Rattle.http_messages.specs.Answer.{AnswerText}

@@ -4,7 +4,8 @@ use floor_rules::Floors;
 use std::alloc::Global;
 use std::test::Fail;
 
-/// How many rows there are, the base, the floors of `http://a/`, `http://b/` and `http://o/9`, and the greatest floor.
+/// How many rows there are, the base, the floors of `http://a/`, `http://b/` and `http://o/9`, and
+/// the greatest floor.
 type Seen = (usize, u32, [u32; 3], u32);
 
 fn seen(floors: &Floors, alloc: Global) -> Result<Seen, Fail> {
@@ -14,7 +15,8 @@ fn seen(floors: &Floors, alloc: Global) -> Result<Seen, Fail> {
     Ok((floors.rows(), floors.base(), [a, b, o], floors.seen()))
 }
 
-/// Floors of 65,536 keys, over this base: `http://o/1` has the number behind this one, `http://o/2` the next, and so on.
+/// Floors of 65,536 keys, over this base: `http://o/1` has the number behind this one, `http://o/2`
+/// the next, and so on.
 fn full(alloc: Global, base: u32, before: u32) -> Result<Floors, Fail> {
     let mut floors = Floors::new(alloc);
     floors.raise_base(base);
@@ -49,7 +51,8 @@ const FIRST: [Raise; 5] = [
     ),
 ];
 
-/// The base is 70,000 and the numbers are 74,465 to 140,000: a key that has a row raises it, and a new one makes the greatest of all the base.
+/// The base is 70,000 and the numbers are 74,465 to 140,000: a key that has a row raises it, and a
+/// new one makes the greatest of all the base.
 const LATER: [Raise; 3] = [
     (
         "http://b/",

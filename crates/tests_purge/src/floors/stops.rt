@@ -1,6 +1,8 @@
-//! Raises over files that stop after so many calls, and files of form 1 that stop as they are brought to form 2.
+//! Raises over files that stop after so many calls, and files of form 1 that stop as they are
+//! brought to form 2.
 //!
-//! What is done with a store is written for any store below it: a proof then speaks of none in particular.
+//! What is done with a store is written for any store below it: a proof then speaks of none in
+//! particular.
 use super::{FLOORS, floor, loaded, raise};
 use crate::disks::{Disks, FORM, VERSION, closed, connected, crashed, files, stopping};
 use floor_rules::{FloorFault, FloorStore};
@@ -91,7 +93,8 @@ fn full_files(alloc: Global) -> Result<Files<Disks>, Fail> {
     }
 }
 
-/// Raises `http://a/` to this number, and answers whether that was answered Ok. A store that failed fails from then on.
+/// Raises `http://a/` to this number, and answers whether that was answered Ok. A store that failed
+/// fails from then on.
 fn raised<F: FloorStore>(store: &mut F, alloc: Global, number: u32) -> Result<bool, Fail> {
     let done = raise(store, alloc, "http://a/", number)?;
     if done == Ok(()) {
@@ -114,7 +117,8 @@ enum Doing {
     Raise(u32),
 }
 
-/// Does that with a store that has opened, and answers whether it went and what is left below the store.
+/// Does that with a store that has opened, and answers whether it went and what is left below the
+/// store.
 fn done<S: Alter + Drop>(
     alloc: Global,
     mut store: SqliteFloors<S>,
@@ -209,7 +213,8 @@ const OLDER: Stops = Stops {
     after: (2, 0, 3, 5),
 };
 
-/// Does that over a copy of the files that stops, and answers whether it went and what is found after a crash.
+/// Does that over a copy of the files that stops, and answers whether it went and what is found
+/// after a crash.
 fn stopped(
     alloc: Global,
     first: &Files<Disks>,
@@ -221,7 +226,8 @@ fn stopped(
     Ok((went, found_in(alloc, crashed(alloc, left)?)?))
 }
 
-/// At each stop the floors are those from before or after, and those from after where it went. Answers whether it did, which ends the run.
+/// At each stop the floors are those from before or after, and those from after where it went.
+/// Answers whether it did, which ends the run.
 fn stops_of(
     alloc: Global,
     first: &Files<Disks>,
