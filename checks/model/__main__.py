@@ -13,7 +13,7 @@ from typing import NoReturn
 from model.answer import play_lines
 from model.fault import Fault
 from model.lines import split_lines
-from model.make_lines import answer_script, wire_script
+from model.make_lines import answer_script, full_table_script, wire_script
 from model.make_rosters import any_roster
 from model.make_worlds import world_script
 from model.roster import read_roster
@@ -23,6 +23,7 @@ from model.world import World
 MOST_SECONDS = 300
 MOST_SHOWN = 1_000
 MOST_TRIES = 300
+LONG_SCRIPT = 10_000
 SHORT_SCRIPT = [b"client 1 http://o/a", b"issue http://o/a"]
 
 
@@ -87,11 +88,13 @@ def smaller(lines: list[bytes], differs: Callable[[list[bytes]], bool]) -> list[
 
 
 def stop(kind: str, lines: list[bytes], model: Callable[[list[bytes]], Told], program: Callable[[list[bytes]], Told], roster: bytes = b"") -> NoReturn:
-    """Prints a difference, its script made smaller, and ends."""
+    """Prints a difference, its script made smaller, and ends. A long script is not made smaller, and its last lines alone are printed."""
     print(f"{kind}: model and program differ", flush=True)
     pairs = zip_longest(model(lines).answers, program(lines).answers)
     first = next((place for place, (expected, told) in enumerate(pairs, start=1) if expected != told), len(lines))
-    lines = smaller(lines[:first], lambda fewer: model(fewer) != program(fewer))
+    lines = lines[:first]
+    if len(lines) < LONG_SCRIPT:
+        lines = smaller(lines, lambda fewer: model(fewer) != program(fewer))
     for name, octets in (("roster", split_lines(roster)), ("script", lines)):
         print_lines(name, octets)
     for name, told in (("model", model(lines)), ("program", program(lines))):
@@ -101,15 +104,15 @@ def stop(kind: str, lines: list[bytes], model: Callable[[list[bytes]], Told], pr
 
 def print_lines(name: str, lines: list[bytes]) -> None:
     print(f"--- {name}")
-    for line in lines:
+    for line in lines[-LONG_SCRIPT // 10:]:
         print(line[:MOST_SHOWN].decode(errors="backslashreplace") + ("..." if len(line) > MOST_SHOWN else ""))
 
 
 def compare_lines(runner: Runner, random: Random, command: str, count: int) -> None:
     """Scripts of `cache answer`, or lines of a codec."""
     compared = 0
-    for _ in range(count):
-        script = answer_script(random) if command == "answer" else wire_script(random, command)
+    for at in range(count):
+        script = wire_script(random, command) if command != "answer" else answer_script(random) if at else full_table_script(random)
         told = Told(*play_lines(command, script))
         if told != runner.run(command, script):
             stop(command, split_lines(script), lambda lines: model_of_lines(command, lines), lambda lines: runner.run(command, text_of(lines)))

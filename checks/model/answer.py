@@ -32,7 +32,7 @@ def first_node() -> Node:
 
 def place(node: Node, key: bytes, stamp: int) -> str:
     """A copy that is put by hand."""
-    if stamp < node.floor(key):
+    if stamp < node.floors.of(key):
         return "Old"
     told = node.store.put(Copy(key, stamp, MOMENT, LIFETIME, Answer(200)))
     return "stored" if told == "Stored" else told
@@ -42,7 +42,7 @@ def answer_line(node: Node, line: bytes) -> str:
     other = node.roster.nodes[2]
     match split_words(line):
         case [b"store", url]:
-            return place(node, read_key(url), node.seen)
+            return place(node, read_key(url), node.floors.seen)
         case [b"store", url, word]:
             stamp = decimal(word, MOST_NUMBER)
             if stamp is None:

@@ -2,6 +2,7 @@
 
 from random import Random
 
+from model.floors import MOST_ROWS
 from model.htcp import NUMBER_LINE, ClrAsk, TstAsk, number_line, write_htcp
 from model.icp import IcpMessage, write_icp
 from model.lines import MOST_LINE_OCTETS
@@ -56,10 +57,28 @@ def full_store_script(random: Random) -> list[bytes]:
             [],
             [b"store " + other + random.choice([b"", b" 0", b" 1", b" 5"])],
             [b"htcp " + clear(other, 7, b"")],
-            [b"master " + clear(other, number, number_line(NUMBER_LINE, number))],
+            [numbered_clear(other, number)],
             [question(random, other, 5)],
         ], [70, 10, 4, 4, 12])[0]
     return lines + [question(random, key, 5) for key in keys]
+
+
+def numbered_clear(key: bytes, number: int) -> bytes:
+    return b"master " + clear(key, number, number_line(NUMBER_LINE, number))
+
+
+def full_table_script(random: Random) -> bytes:
+    """Purges of as many URLs as a table of floors has rows, in any order of numbers; then purges of these and of further URLs, and copies under stamps
+    near their numbers. All are asked for at the end."""
+    rows = [b"http://f/%d" % number for number in range(MOST_ROWS)]
+    lines = [numbered_clear(key, random.randint(1, 2 * MOST_ROWS)) for key in rows]
+    keys = [b"http://h/%d" % number for number in range(200)] + random.sample(rows, 50)
+    for _ in range(1500):
+        key = random.choice(keys)
+        number = random.choice([random.randint(1, 3 * MOST_ROWS), 2 * MOST_ROWS + random.randrange(-2, 3), random.randint(1, 9)])
+        lines.append(random.choices([numbered_clear(key, number), b"store %s %d" % (key, number), b"store " + key, question(random, key, 5)], [15, 50, 15, 20])[0])
+    # (behind CR LF no line would be a purge)
+    return b"".join(line + b"\n" for line in lines + [question(random, key, 5) for key in keys])
 
 
 def answer_script(random: Random) -> bytes:

@@ -3,6 +3,7 @@
 from dataclasses import dataclass, field
 
 from model.fault import Fault
+from model.floors import Floors
 from model.htcp import (CLR, NUMBER_LINE, STAMP_LINE, TST, ClrAnswer, ClrAsk, NopAnswer, NopAsk, Other, OtherAnswer, Overall, TstAsk, TstHit,
                         TstMiss, number_in, number_line, read_htcp, write_htcp)
 from model.icp import IcpMessage, read_icp, write_icp
@@ -11,7 +12,6 @@ from model.roster import FIRST_FOREIGN, Address, Peer, Roster
 from model.round import Round, ToPeer, may_be_asked
 from model.store import Answer, Copy, Store, lifetime_of
 
-MOST_FLOORS = 65_536
 MOST_WAITING = 1_024
 LAST_BLOCK = 134_217_727
 SERIALS_OF_BLOCK = 32
@@ -98,8 +98,7 @@ class Node:
         self.roster = roster
         self.id = identity
         self.me = roster.nodes[identity]
-        self.floors: dict[bytes, int] = {}
-        self.seen = 0
+        self.floors = Floors()
         self.restart()
 
     def restart(self) -> None:
@@ -117,21 +116,10 @@ class Node:
         if self.is_closed:
             raise Fault("Closed")
 
-    def floor(self, key: bytes) -> int:
-        return self.floors.get(key, 0)
-
-    def raise_floor(self, key: bytes, number: int) -> bool:
-        """Whether there is room for the floor."""
-        if key not in self.floors and len(self.floors) == MOST_FLOORS:
-            return False
-        self.floors[key] = max(number, self.floor(key))
-        self.seen = max(number, self.seen)
-        return True
-
     def servable(self, key: bytes, now: int) -> Copy | None:
         """The copy that may be served: it is fresh, and its stamp is at least the key's floor."""
         copy = self.store.peek(key)
-        return copy if copy is not None and copy.stamp >= self.floor(key) and copy.is_fresh(now) else None
+        return copy if copy is not None and copy.stamp >= self.floors.of(key) and copy.is_fresh(now) else None
 
     def is_known(self, sender: Address, protocol: str) -> bool:
         others = {identity for identity in self.roster.nodes if identity != self.id} | {peer.id for peer in self.me.peers}
@@ -150,7 +138,7 @@ class Node:
             return Reply(Served(Answer(504)), asker)
         if len(self.waiting) >= MOST_WAITING:
             raise Fault("Busy")
-        asked = [peer for peer in self.me.peers if may_be_asked(peer, self.floor(key))]
+        asked = [peer for peer in self.me.peers if may_be_asked(peer, self.floors.of(key))]
         if not asked and origin_of(key) not in self.roster.origins:
             return Reply(Served(Answer(502)), asker)
         waiting = Waiting(self.free_block(), key, asker)
@@ -179,7 +167,7 @@ class Node:
         """An ask that is not fetching goes on as its round says; without a round it reads the origin."""
         if waiting.round is None:
             return self.read_origin(waiting, now)
-        choice = waiting.round.choose(self.floor(waiting.key), waiting.tried)
+        choice = waiting.round.choose(self.floors.of(waiting.key), waiting.tried)
         if choice is None:
             return Reply()
         if not isinstance(choice, ToPeer):
@@ -199,7 +187,7 @@ class Node:
     def begin_fetch(self, waiting: Waiting, peer: int | None, now: int) -> int:
         waiting.fetches += 1
         serial = waiting.block * SERIALS_OF_BLOCK + waiting.fetches
-        waiting.fetch = Fetch(serial, peer, now, self.seen)
+        waiting.fetch = Fetch(serial, peer, now, self.floors.seen)
         return serial
 
     def end(self, waiting: Waiting, served: Served) -> Reply:
@@ -225,7 +213,7 @@ class Node:
         if fetch.peer != peer or waiting.key != key:
             raise Fault("UnknownSerial")
         stamp = answer.stamp or 0
-        if answer.status in FAILED_STATUSES or stamp < self.floor(key):
+        if answer.status in FAILED_STATUSES or stamp < self.floors.of(key):
             return self.try_another(waiting, peer, now)
         return self.use(waiting, fetch, answer, stamp, now)
 
@@ -237,7 +225,7 @@ class Node:
     def origin_answer(self, serial: int, answer: Answer, now: int) -> Reply:
         """It counts with the stamp that its read bore as it began."""
         waiting, fetch = self.fetching(serial)
-        if fetch.stamp < self.floor(waiting.key):
+        if fetch.stamp < self.floors.of(waiting.key):
             waiting.fetch = None
             return self.go_on(waiting, now)
         return self.use(waiting, fetch, answer, fetch.stamp, now)
@@ -341,9 +329,17 @@ class Node:
             if not self.is_known(sender, "htcp") and sender != self.roster.master:
                 return refused
             return ClrAnswer(message.number, self.drop(key, None))
-        if sender != self.roster.master or number != message.number or number < 1 or key is None or not self.raise_floor(key, number):
+        if sender != self.roster.master or number != message.number or number < 1 or key is None:
             return refused
-        return ClrAnswer(message.number, self.drop(key, number))
+        return ClrAnswer(message.number, self.purge(key, number))
+
+    def purge(self, key: bytes, number: int) -> int:
+        """Raises the key's floor, and tells by a code whether the key's copy went. Where the base rises, all copies below it go."""
+        base = self.floors.raise_to(key, number)
+        code = self.drop(key, max(number, base))
+        if base:
+            self.store.remove_all_below(base)
+        return code
 
     def drop(self, key: bytes | None, below: int | None) -> int:
         """Removes the copy of the key, or only one whose stamp is less; tells by a code whether one went."""

@@ -61,6 +61,9 @@ class Store:
     def remove(self, key: bytes) -> None:
         del self.copies[key]
 
+    def remove_all_below(self, stamp: int) -> None:
+        self.copies = {key: copy for key, copy in self.copies.items() if copy.stamp >= stamp}
+
     def put(self, copy: Copy) -> str:
         if copy.octets() > self.most_octets:
             return "TooLarge"

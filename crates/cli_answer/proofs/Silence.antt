@@ -1,6 +1,7 @@
 -- What a datagram is answered with, by the turn that it leads to. Octets that spell a message take a step, whose sends
 -- are shown, or `nothing`; octets that spell none take no step, send nothing, and have a first fault, which is shown.
-use Rattle.std.proofs.Common.{◌≡◌, ◌≢◌, inl, inr, ℕ, List, [], ◌∷◌, ◌++◌, map, flat_map, codes, ◌==◌, true, false, length, Some, None, Result, Ok, Err, IfOk, IfErr, rules, arith, refl, sym, subst, ap, ◌∙◌}
+use Rattle.std.proofs.Common.{◌≡◌, ◌≢◌, inl, inr, ℕ, List, [], ◌∷◌, ◌++◌, map, flat_map, codes, ◌==◌, true, false, length, Some, None, Result, Ok, Err, IfOk}
+use Rattle.std.proofs.Common.{IfErr, rules, arith, refl, sym, subst, ap, ◌∙◌}
 use Rattle.std.specs.Result.{result_err}
 use Rattle.values_plain.specs.Fields.{IsOctets}
 use Rattle.icp_wire.specs.declared.message.Icp.{Icp}
@@ -30,7 +31,8 @@ use Rattle.node_rules.specs.Names.{step_fault_name}
 use Rattle.node_bytes.specs.declared.turns.Turn.{Turn}
 use Rattle.node_bytes.specs.Bytes.{HasFault, IsHtcp, IsIcp, SpellsBy}
 use Rattle.node_bytes.specs.Turns.{packet_of, turn_of, idle, ToldAfter, MeetsOctets}
-use Rattle.cli_answer.specs.Answer.{Answering, HasFaultNamed, IsHtcpFault, IsIcpFault, IsSilence, IsTold, OctetsAnswer, StepAnswers, packet_hex, sent_hex, sent_text}
+use Rattle.cli_answer.specs.Answer.{Answering, HasFaultNamed, IsHtcpFault, IsIcpFault, IsSilence, IsTold, OctetsAnswer, StepAnswers, packet_hex, sent_hex}
+use Rattle.cli_answer.specs.Answer.{sent_text}
 
 -- octets that spell a message have no fault
 

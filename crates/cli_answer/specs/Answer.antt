@@ -1,6 +1,6 @@
 -- What `cache answer` answers to a line: a node places a copy by hand, or takes a step with a datagram.
-use Rattle.std.specs.Prelude.{◌≡◌, ◌≢◌, ℕ, ◌^◌, ◌⊎◌, Bool, true, false, bytes_eq, List, [], ◌∷◌, flat_map, codes, Option, Some, None, Result, Ok, Err, if◌then◌else◌}
-use Rattle.std.specs.FinMap.{empty}
+use Rattle.std.specs.Prelude.{◌≡◌, ◌≢◌, ℕ, ◌^◌, ◌⊎◌, Bool, true, false, bytes_eq, List, [], ◌∷◌, flat_map, codes, Option, Some, None, Result, Ok, Err}
+use Rattle.std.specs.Prelude.{if◌then◌else◌}
 use Rattle.hex.specs.Hex.{decode_of, encode_lower}
 use Rattle.hex.specs.declared.error.FromHexError.{FromHexError}
 use Rattle.url_key.specs.declared.fault.KeyFault.{KeyFault}
@@ -14,7 +14,7 @@ use Rattle.htcp_wire.specs.declared.fault.HtcpFault.{HtcpFault}
 use Rattle.htcp_wire.specs.declared.fault.HtcpFault.TheVariants as htcp_fault
 use Rattle.htcp_wire.specs.Names.{htcp_fault_name}
 use Rattle.htcp_wire.specs.Faults as htcp_faults
-use Rattle.floor_rules.specs.Floors.{FloorMap}
+use Rattle.floor_rules.specs.Floors.{FloorTable, no_floors}
 use Rattle.values_tables.specs.Reading.{tables_in}
 use Rattle.values_plain.specs.declared.address.Address.{Address}
 use Rattle.values_plain.specs.declared.address.Udp.{Udp}
@@ -44,14 +44,14 @@ use Rattle.values_lines.specs.Words.{split_word, is_word, decimal_below}
 
 -- the node that answers: its copies have no tags, and its floors are in memory
 abbrev pub Answering : Type 0
-Answering = NodeText (Unit {0}) FloorMap
+Answering = NodeText (Unit {0}) FloorTable
 
 -- the node at the start: member 1 of the roster of the crate, which holds nothing
 pub record IsFirst (node : Answering) : Type 0 where
   pub roster : tables_in ROSTER.now ≡ Some (Some node.roster)
   pub id : node.id ≡ 1
-  pub state : node.state ≡ opened empty
-  pub store : node.store ≡ empty
+  pub state : node.state ≡ opened no_floors
+  pub store : node.store ≡ no_floors
 
 -- the lines: `store URL`, `store URL STAMP`, `icp HEX`, `htcp HEX`, `master HEX` and `stranger HEX`
 pub data Command : Type 0 where

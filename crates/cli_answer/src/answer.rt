@@ -2,7 +2,10 @@
 ghost use Rattle.std.specs.Prelude.{◌≡◌, ℕ, List, ◌++◌, flat_map, OnOk, Ok};
 ghost use Rattle.hex.specs.Hex.{decode_of};
 ghost use Rattle.values_lines.specs.Words.{split_word as split_words};
-ghost use Rattle.cli_answer.specs.Answer.{StoreLine, command_of, command_text, datagram_of as datagram_words, store_of, placed_text, packet_hex, IsIcpFault, IsHtcpFault, IsSilence, DatagramAnswers, CommandAnswers};
+ghost use Rattle.cli_answer.specs.Answer.{StoreLine, command_of, command_text};
+ghost use Rattle.cli_answer.specs.Answer.{datagram_of as datagram_words, store_of, placed_text};
+ghost use Rattle.cli_answer.specs.Answer.{packet_hex, IsIcpFault, IsHtcpFault, IsSilence};
+ghost use Rattle.cli_answer.specs.Answer.{DatagramAnswers, CommandAnswers};
 ghost use Rattle.cli_answer.specs.Answered.{AnswererAnswers, HasAnswered};
 
 use crate::first::{Answering, first_node};

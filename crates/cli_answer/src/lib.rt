@@ -1,8 +1,9 @@
 //! The scripts of `cache answer` and `cache wire`.
 //!
 //! - [`run_answer`]: one node, which is given copies and datagrams line by line. It answers each
-//!   line of its input by the rules of a node (`LineAnswers` of `specs/Answer.antt`). It begins with
-//!   member 1 of a small roster of its own (`src/first.rt`), at second 0, with floors in memory.
+//!   line of its input by the rules of a node (`LineAnswers` of `specs/Answer.antt`). It begins
+//!   with member 1 of a small roster of its own (`src/first.rt`), at second 0, with floors in
+//!   memory.
 //! - [`run_wire`]: datagrams in hex are decoded and shown, line by line. Each line is answered by
 //!   what the datagram says, or by its fault.
 //!

@@ -10,7 +10,8 @@ use Rattle.world_rules.specs.declared.event.WorldEvent.TheVariants as world
 use Rattle.values_lines.specs.Words.{words_of}
 use Rattle.cli_world.specs.declared.event.Heard.{Heard}
 use Rattle.cli_world.specs.declared.event.Heard.TheVariants as heard
-use Rattle.cli_world.specs.Command.{Command, ClockLine, ClientLine, DatagramLine, AskLine, AnswerLine, OriginLine, FailLine, ExpireLine, FaultLine, RestartLine, IssueLine, ResendLine, StatusLine, MasterLine, BadLine, command_of}
+use Rattle.cli_world.specs.Command.{Command, ClockLine, ClientLine, DatagramLine, AskLine, AnswerLine, OriginLine, FailLine, ExpireLine, FaultLine, RestartLine}
+use Rattle.cli_world.specs.Command.{IssueLine, ResendLine, StatusLine, MasterLine, BadLine, command_of}
 
 -- what a client asks for
 abbrev pub asked_for : List ℕ → Bool → Ask

@@ -1,7 +1,8 @@
 //! Which event a line is.
 ghost use Rattle.std.specs.Prelude.{◌≡◌, ◌∷◌, [], IfOk};
 ghost use Rattle.cli_world.specs.Command.{command_of, command_text};
-ghost use Rattle.cli_world.specs.Event.{max_age_field, IsAskedFor, IsOriginFor, IsIssueFor, IsHeardAs, IsHeardIn};
+ghost use Rattle.cli_world.specs.Event.{max_age_field, IsAskedFor, IsOriginFor, IsIssueFor};
+ghost use Rattle.cli_world.specs.Event.{IsHeardAs, IsHeardIn};
 
 use crate::line::{Line, line_of};
 use http_header::{HeaderName, HeaderValue};

@@ -1,6 +1,8 @@
 //! What a line asks for.
 ghost use Rattle.std.specs.Prelude.{◌≡◌, map};
-ghost use Rattle.cli_world.specs.Command.{command_text, command_of, bare, with_one, issue_of, node_of, status_of, counted, with_two, client_of, answer_of, fetch_of, with_three, with_four};
+ghost use Rattle.cli_world.specs.Command.{command_text, command_of, bare, with_one, issue_of};
+ghost use Rattle.cli_world.specs.Command.{node_of, status_of, counted, with_two, client_of};
+ghost use Rattle.cli_world.specs.Command.{answer_of, fetch_of, with_three, with_four};
 
 use values_lines::{decimal_u8, decimal_u16, decimal_u32, decimal_u64};
 

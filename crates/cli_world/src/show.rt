@@ -1,6 +1,8 @@
 //! How the outcome of an event reads.
 ghost use Rattle.std.specs.Prelude.{◌≡◌, ◌++◌, OnOk, decimal};
-ghost use Rattle.cli_world.specs.Shown.{number_shown, named_number, serve_shown, purge_shown, sent_shown, fault_shown, refusal_shown, outcome_shown, told_shown, begun_shown, parts_shown};
+ghost use Rattle.cli_world.specs.Shown.{number_shown, named_number, serve_shown, purge_shown};
+ghost use Rattle.cli_world.specs.Shown.{sent_shown, fault_shown, refusal_shown, outcome_shown};
+ghost use Rattle.cli_world.specs.Shown.{told_shown, begun_shown, parts_shown};
 
 use itoa::Buffer;
 use node_rules::{Serve, Served};

@@ -1,5 +1,6 @@
 -- The lines of an input are answered one after another: each step of the loop over them, and each way out of it.
-use Rattle.std.proofs.Common.{◌≡◌, ◌≢◌, ◌⊎◌, ℕ, MatchBool, codes, ◌+◌, ◌<◌, ◌≤◌, ◌==◌, Bool, true, false, ◌&&◌, not, cond, bytes_eq, Option, Some, None, List, [], ◌∷◌, ◌++◌, length, take, inl, inr, refl, sym, ap, ◌∙◌, subst, arith, append_assoc, append-nil, length-append, take_at}
+use Rattle.std.proofs.Common.{◌≡◌, ◌≢◌, ◌⊎◌, ℕ, MatchBool, codes, ◌+◌, ◌<◌, ◌≤◌, ◌==◌, Bool, true, false, ◌&&◌, not, cond, bytes_eq, Option, Some, None, List}
+use Rattle.std.proofs.Common.{[], ◌∷◌, ◌++◌, length, take, inl, inr, refl, sym, ap, ◌∙◌, subst, arith, append_assoc, append-nil, length-append, take_at}
 use Rattle.std.proofs.lemmas.List.Sums.{take_while-cons}
 use Rattle.std.proofs.lemmas.Slice.Eq.{bytes_eq-Decides}
 use Rattle.std.specs.Io.KnownBytes.{Appends, Keeps}
@@ -15,7 +16,8 @@ use Rattle.cluster_console.specs.Command.{quit}
 use Rattle.cluster_console.proofs.Gathering.{goes_on}
 use Rattle.cluster_console.specs.Taking.{TakesLine}
 use Rattle.cluster_console.specs.Played.{LineSays, LineAnswers, LineTells}
-use Rattle.cluster_console.specs.Answering.{IsWritten, AppendsText, AnswersLine, AnswersTaken, is_over, ending_of, AreAnswers, Answers, lines_to_quit, HasAnswered, is_none, AnswersOn, Answering}
+use Rattle.cluster_console.specs.Answering.{IsWritten, AppendsText, AnswersLine, AnswersTaken, is_over, ending_of, AreAnswers, Answers, lines_to_quit}
+use Rattle.cluster_console.specs.Answering.{HasAnswered, is_none, AnswersOn, Answering}
 
 -- what is written whole, or in front, is so where another text need not be whole
 written_left : (b c : Bool) (text written : List ℕ) → IsWritten b text written → IsWritten (b && c) text written

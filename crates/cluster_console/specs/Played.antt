@@ -1,5 +1,6 @@
 -- Which text may answer a line of a cluster's script.
-use Rattle.std.specs.Prelude.{◌≡◌, ◌≢◌, ◌⊎◌, ℕ, zero, suc, true, false, List, [], ◌++◌, length, codes, decimal, Result, Ok, Err, IfOk, IfErr, IsTrue, MatchBool, option_map, Option}
+use Rattle.std.specs.Prelude.{◌≡◌, ◌≢◌, ◌⊎◌, ℕ, zero, suc, true, false, List, [], ◌++◌, length, codes, decimal, Result, Ok, Err, IfOk, IfErr, IsTrue, MatchBool}
+use Rattle.std.specs.Prelude.{option_map, Option}
 use Rattle.url_key.specs.declared.fault.KeyFault.{KeyFault}
 use Rattle.url_key.specs.Fault.{key_fault_name}
 use Rattle.url_key.specs.Key.{HasKey}

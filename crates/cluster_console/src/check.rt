@@ -60,7 +60,8 @@ pub trait Checker {
     /// How the member of this id stands.
     fn state(&self, id: u8) -> MemberState;
 
-    /// Which peers the members think dead. `AllocError` comes where there is no memory for the list.
+    /// Which peers the members think dead. `AllocError` comes where there is no memory for the
+    /// list.
     fn dead_peers<R: Wait + Clock>(
         &self,
         rt: &R,

@@ -1,6 +1,7 @@
 //! What a line asks for.
 ghost use Rattle.std.specs.Prelude.{◌≡◌, map};
-ghost use Rattle.cluster_console.specs.Command.{command_text, command_of, alone, with_one, purge_of, status_of, with_two, get_of};
+ghost use Rattle.cluster_console.specs.Command.{command_text, command_of, alone, with_one};
+ghost use Rattle.cluster_console.specs.Command.{purge_of, status_of, with_two, get_of};
 
 use values_lines::{decimal_u8, decimal_u32};
 

@@ -1,11 +1,16 @@
 //! The lines of an input, answered by a running hierarchy.
-ghost use Rattle.std.specs.Prelude.{◌≡◌, ◌≤◌, ◌&&◌, ◌++◌, [], ◌∷◌, ℕ, List, OnOk, IfErr, false, MatchBool, vec_capacity};
+ghost use Rattle.std.specs.Prelude.{◌≡◌, ◌≤◌, ◌&&◌, ◌++◌, [], ◌∷◌, ℕ, List, OnOk, IfErr, false};
+ghost use Rattle.std.specs.Prelude.{MatchBool, vec_capacity};
 ghost use Rattle.roster.specs.Lookups.{is_member as is_member_of};
 ghost use Rattle.values_lines.specs.Lines.{is_long};
-ghost use Rattle.cluster_console.specs.Answering.{AppendsText, AnswersLine, AnswersTaken, HasAnswered, is_over as is_over_by, ending_of};
+ghost use Rattle.cluster_console.specs.Answering.{AppendsText, AnswersLine, AnswersTaken};
+ghost use Rattle.cluster_console.specs.Answering.{HasAnswered, is_over as is_over_by, ending_of};
 ghost use Rattle.cluster_console.specs.Checked.{GoesOn};
 ghost use Rattle.cluster_console.specs.Command.{command_text};
-ghost use Rattle.cluster_console.specs.Played.{IsSaid, IsTold, TellsPurge, TellsStatus, TellsAnswer, TellsCheck, TellsPending, TellsMembers, TellsPeers, GetTells, CommandTells, LineTells, http_of as http_of_member};
+ghost use Rattle.cluster_console.specs.Played.{IsSaid, IsTold, TellsPurge, TellsStatus};
+ghost use Rattle.cluster_console.specs.Played.{TellsAnswer, TellsCheck, TellsPending, TellsMembers};
+ghost use Rattle.cluster_console.specs.Played.{TellsPeers, GetTells, CommandTells, LineTells};
+ghost use Rattle.cluster_console.specs.Played.{http_of as http_of_member};
 ghost use Rattle.cluster_console.specs.Shown.{member_line};
 ghost use Rattle.cluster_console.specs.declared.check.MemberState.{MemberState as AnyState};
 
@@ -79,9 +84,10 @@ struct Player<'a, S: PurgeStore, C, R> {
 /// prints `yes`, `no PLACE CAUSE`, `forgotten`, or why the records of a member are not given;
 /// `pending` prints `purges C`, and then a line for each pending purge: its number, its URL, and
 /// the ids of the members that have not acknowledged it; `members` prints `members C`, and then a
-/// line for each: its id, and `open`, `closed StoreFault` or `closed NoMemory`; `peers` prints `peers
-/// C`, and then a line `N P dead S` for each peer P that member N has thought dead for S seconds. Any
-/// other line, also one that names no member, prints `bad line`. Numbers are decimal, without leading zeros.
+/// line for each: its id, and `open`, `closed StoreFault` or `closed NoMemory`; `peers` prints
+/// `peers C`, and then a line `N P dead S` for each peer P that member N has thought dead for S
+/// seconds. Any other line, also one that names no member, prints `bad line`. Numbers are decimal,
+/// without leading zeros.
 ///
 /// A line of more than 140,000 octets prints `LineTooLong`, and one for which there is no memory
 /// `NoMemory`: a purge may have been issued then. An answer that the output does not take is lost.

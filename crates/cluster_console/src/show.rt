@@ -1,7 +1,12 @@
 //! How the answer to a line reads.
 ghost use Rattle.std.specs.Prelude.{◌≡◌, ◌++◌, ◌≤◌, OnOk, IfOk, IsTrue, decimal};
 ghost use Rattle.http_messages.specs.Answer.{is_writable};
-ghost use Rattle.cluster_console.specs.Shown.{purge_shown, status_shown, asked_shown, got_shown, body_shown, answer_shown, cause_name as name_of_cause, verdict_shown, checked_shown, id_shown, missing_shown, pending_line, pending_shown, state_shown, member_line, peer_line, peers_shown};
+ghost use Rattle.cluster_console.specs.Shown.{purge_shown, status_shown, asked_shown, got_shown};
+ghost use Rattle.cluster_console.specs.Shown.{body_shown, answer_shown};
+ghost use Rattle.cluster_console.specs.Shown.{cause_name as name_of_cause, verdict_shown};
+ghost use Rattle.cluster_console.specs.Shown.{checked_shown, id_shown, missing_shown, pending_line};
+ghost use Rattle.cluster_console.specs.Shown.{pending_shown, state_shown, member_line, peer_line};
+ghost use Rattle.cluster_console.specs.Shown.{peers_shown};
 
 use crate::check::{Checked, DeadPeer, MemberState};
 use http_messages::{Answer, FetchFault};

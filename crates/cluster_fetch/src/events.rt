@@ -1,6 +1,7 @@
 //! The event that a node gets at the end of a fetch.
 ghost use Rattle.std.specs.Prelude.{◌≡◌};
-ghost use Rattle.cluster_fetch.specs.Fetched.{event_of_answer, event_of_fetch, is_told as may_be_told};
+ghost use Rattle.cluster_fetch.specs.Fetched.{event_of_answer, event_of_fetch};
+ghost use Rattle.cluster_fetch.specs.Fetched.{is_told as may_be_told};
 
 use http_messages::Answer;
 use node_rules::{Event, is_gateway_fault};

@@ -1,7 +1,9 @@
 //! A fetch that is under way, on a connection that no thread waits for.
 ghost use Rattle.std.specs.Prelude.{◌≡◌, Bool, false, IsTrue, IfErr, IfOk, None};
+ghost use Rattle.std.specs.IoError.{error_kind, raw_os_error};
 ghost use Rattle.http_writing.specs.Name.{is_name as names_cache};
-ghost use Rattle.cluster_fetch.specs.UnderWay.{FetchingView, asked_by, ended_as};
+ghost use Rattle.cluster_fetch.specs.UnderWay.{FetchingView, Ends, IsSameFetch, asked_by, ended_as};
+ghost use Rattle.cluster_fetch.specs.UnderWay.{is_own_want as lacks_own};
 
 use crate::ended::Fetched;
 use crate::events::ResponseSource;
@@ -44,7 +46,8 @@ pub struct Fetch {
 
 /// A fetch that is under way: its connection, what is sent and what has come.
 ///
-/// A contract sees whom it asks, its serial and its key.
+/// A contract sees whom it asks, its serial and its key, and whether this machine lacked something
+/// for it.
 #[derive(Drop)]
 pub struct Fetching {
     source: ResponseSource,
@@ -55,6 +58,8 @@ pub struct Fetching {
     sent: usize,
     response: Vec<u8>,
     has_ended: bool,
+    /// Whether it failed for want of something of this machine.
+    has_lacked: bool,
     tries: u32,
     tried: usize,
     until: Instant,
@@ -65,7 +70,7 @@ impl Model for Fetching {
 
     ghost Value = { FetchingView };
 
-    ghost view = { λ f. record { source = f.source; serial = f.serial; key = f.key } };
+    ghost view = { λ f. record { source = f.source; serial = f.serial; key = f.key; lacked = f.has_lacked } };
 }
 
 /// The form of the request target: that for a proxy to a peer, that for an origin to an origin (RFC
@@ -97,6 +102,18 @@ fn is_refusal(error: &Error) -> bool {
             | ErrorKind::NetworkUnreachable
             | ErrorKind::TimedOut
     )
+}
+
+/// Whether a call failed for want of something of this machine: memory (`ENOMEM`), descriptors
+/// (`ENFILE`, `EMFILE`), ports (`EADDRNOTAVAIL`) or buffers (`ENOBUFS`). It tells nothing of the
+/// other side.
+fn is_own_want(error: &Error) -> bool
+    ensures { result ≡ lacks_own (raw_os_error error.now) (error_kind error.now) }
+{
+    match error.raw_os_error() {
+        Some(number) => matches!(number, 12 | 23 | 24 | 99 | 105),
+        None => error.kind() == ErrorKind::OutOfMemory,
+    }
 }
 
 /// Writes the request, and begins to connect.
@@ -160,6 +177,7 @@ impl Fetching {
                 sent: 0,
                 response: Vec::new(alloc),
                 has_ended: false,
+                has_lacked: false,
                 tries: 0,
                 tried: 0,
                 until,
@@ -189,12 +207,12 @@ impl Fetching {
         now >= self.until
     }
 
-    /// The fetch as one that has ended. Where it has failed, no connection was made if nothing could
-    /// be sent.
+    /// The fetch as one that has ended. Where it has failed, no connection was made if nothing
+    /// could be sent, unless this machine lacked something.
     pub fn into_fetched(self, answer: Option<Answer>) -> Fetched
-        ensures { (unreached : Bool) × (result ≡ ended_as self answer unreached) }
+        ensures { Ends self answer result }
     {
-        let is_unreached = self.sent == 0 && answer.is_none();
+        let is_unreached = self.sent == 0 && !self.has_lacked && answer.is_none();
         Fetched {
             source: self.source,
             serial: self.serial,
@@ -204,13 +222,23 @@ impl Fetching {
         }
     }
 
+    /// The fetch as one that has failed for want of something of this machine.
+    pub fn into_lacked(self) -> Fetched
+        ensures { result ≡ ended_as self None false }
+    {
+        let mut lacked = self;
+        lacked.has_lacked = true;
+        lacked.into_fetched(None)
+    }
+
     /// Sends and reads what can be sent and read without waiting. Returns what came of the fetch
     /// once it has ended, and nothing before: the response, or none where the connection failed, or
     /// what came is no response.
     pub fn go_on(&mut self, alloc: Global) -> Option<Option<Answer>>
-        ensures { self.new ≡ self.old }
+        ensures { IsSameFetch self.old self.new }
     {
-        if self.send().is_err() || self.receive().is_err() {
+        if let Err(error) = self.send_and_receive() {
+            self.has_lacked = is_own_want(&error);
             return self.try_at_failure(alloc);
         }
         if self.is_due() {
@@ -221,7 +249,7 @@ impl Fetching {
 
     /// Goes on, and reads the response again, if something came since the last time.
     pub fn look(&mut self, alloc: Global) -> Option<Option<Answer>>
-        ensures { self.new ≡ self.old }
+        ensures { IsSameFetch self.old self.new }
     {
         match self.go_on(alloc) {
             None if self.response.len() > self.tried => self.try_to_read(alloc),
@@ -237,6 +265,14 @@ impl Fetching {
             None => Some(None),
             ended => ended,
         }
+    }
+
+    /// Sends what the system takes of the request, and reads what has come of the response.
+    fn send_and_receive(&mut self) -> io::Result<()>
+        ensures { self.new ≡ self.old }
+    {
+        self.send()?;
+        self.receive()
     }
 
     /// Sends what the system takes of the request.

@@ -1,5 +1,6 @@
 //! The jobs that wait, under the queue's lock.
-ghost use Rattle.std.specs.Prelude.{◌≡◌, ◌++◌, ◌∷◌, [], IfOk, MatchOption, MatchResult, IsTrue, true, false};
+ghost use Rattle.std.specs.Prelude.{◌≡◌, ◌++◌, ◌∷◌, [], IfOk, MatchOption, MatchResult, IsTrue};
+ghost use Rattle.std.specs.Prelude.{true, false};
 ghost use Rattle.cluster_jobs.specs.Lanes.{lane_of};
 ghost use Rattle.cluster_jobs.specs.Order.{put, took, sight_of, Adds, IsEmpty, IsFull, IsInOrder};
 

@@ -18,8 +18,8 @@ pub enum Sender {
     Stranger,
 }
 
-/// A datagram, a connection whose request head has come, a round of queries whose time is over, or a
-/// fetch that has ended.
+/// A datagram, a connection whose request head has come, a round of queries whose time is over, or
+/// a fetch that has ended.
 #[derive(Drop)]
 pub enum Job {
     /// A datagram that came over one of the two UDP sockets.

@@ -1,7 +1,8 @@
 //! The queue, and the pass that a thread carries to use it.
 ghost use Rattle.std.specs.Prelude.{◌≡◌, [], IfOk, MatchOption, MatchResult};
 ghost use Rattle.cluster_jobs.specs.Lanes.{lane_of};
-ghost use Rattle.cluster_jobs.specs.Order.{cut, joined, newcomer, put, sight_of, took, Finds, Follows, IsEmpty, IsFull};
+ghost use Rattle.cluster_jobs.specs.Order.{cut, joined, newcomer, put, sight_of, took, Finds};
+ghost use Rattle.cluster_jobs.specs.Order.{Follows, IsEmpty, IsFull};
 
 use crate::backlog::Backlog;
 use crate::job::Job;

@@ -5,8 +5,9 @@
 //! [`Jobs`] is first in, first out, under one lock. Each [`Lane`] has room for 256 jobs of its own
 //! ([`CAPACITY`]): what comes from the master, from peers and from anybody else waits apart, and so
 //! do connections, timers and fetches. So a flood of one kind drops no job of another.
-//! [`Jobs::put`] does not wait for space: where a lane is full it gives the job back. [`Jobs::take`]
-//! does not wait for a job: where none is there it gives none; [`Jobs::wait`] waits for one.
+//! [`Jobs::put`] does not wait for space: where a lane is full it gives the job back.
+//! [`Jobs::take`] does not wait for a job: where none is there it gives none; [`Jobs::wait`] waits
+//! for one.
 //!
 //! Each thread carries a [`Pass`]. A contract sees it as what the thread knows: the puts and takes
 //! that it has seen (`seen`), in the order in which they happened, and its own among them (`own`).
@@ -14,8 +15,8 @@
 //!
 //! The rule stands in `specs/Order.antt`: one history has all puts and takes, and at every moment
 //! the jobs taken are a prefix of the jobs put. So no job is taken twice, and none is lost. After a
-//! call the pass has seen the whole history up to that moment: where `take` gave none, no job waited
-//! then; where `put` gave the job back, its lane held 256 then.
+//! call the pass has seen the whole history up to that moment: where `take` gave none, no job
+//! waited then; where `put` gave the job back, its lane held 256 then.
 //!
 //! Order of reading: `specs/Order.antt`, `specs/Lanes.antt`; `src/job.rt` (what a job is);
 //! `src/backlog.rt` (the jobs under the lock); `src/jobs.rt` (the calls); `src/order.rt` (the types

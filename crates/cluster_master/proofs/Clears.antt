@@ -1,5 +1,6 @@
 -- The CLR of the pending purge of a number is a CLR of that number: the purge is found by its number, so it has it.
-use Rattle.std.proofs.Common.{◌≡◌, ℕ, Bool, true, false, ◌==◌, List, [], ◌∷◌, if◌then◌else◌, Option, Some, IfSome, option_map, Result, Ok, Err, IfOk, find, refl, sym, ap, subst, eqb-true}
+use Rattle.std.proofs.Common.{◌≡◌, ℕ, Bool, true, false, ◌==◌, List, [], ◌∷◌, if◌then◌else◌, Option, Some, IfSome, option_map, Result, Ok, Err, IfOk, find}
+use Rattle.std.proofs.Common.{refl, sym, ap, subst, eqb-true}
 use Rattle.htcp_wire.specs.declared.message.Htcp.{Htcp}
 use Rattle.purge_rules.specs.declared.purges.Purge.{Purge}
 use Rattle.purge_rules.specs.Purges.{PurgeList, is_numbered}

@@ -1,1 +1,3 @@
+-- The files stand alone: read them in any order.
 mod Clears
+mod Weights

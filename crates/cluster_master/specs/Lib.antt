@@ -1,3 +1,4 @@
+pub mod Weight
 pub mod LockedBook
 pub mod Answers
 pub mod Names

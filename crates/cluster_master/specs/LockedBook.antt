@@ -1,5 +1,5 @@
 -- A master's book under its lock, and what a call does to it.
-use Rattle.std.specs.Prelude.{◌≡◌, ◌⊎◌, ℕ, nat_le, nat_lt, Bool, true, false, List, [], ◌∷◌, ◌++◌, length, if◌then◌else◌, Result, Ok, Err}
+use Rattle.std.specs.Prelude.{◌≡◌, ◌⊎◌, ℕ, nat_le, nat_lt, Bool, true, false, ◌||◌, List, [], ◌∷◌, ◌++◌, length, if◌then◌else◌, Result, Ok, Err}
 use Rattle.purge_rules.specs.declared.calls.MasterCall.{MasterCall}
 use Rattle.purge_rules.specs.declared.calls.MasterAnswer.{MasterAnswer}
 use Rattle.purge_rules.specs.declared.calls.MasterAnswer.TheVariants as answer
@@ -10,6 +10,7 @@ use Rattle.purge_master.specs.declared.book.MasterEntry.{MasterEntry}
 use Rattle.purge_master.specs.View.{MasterView}
 use Rattle.purge_master.specs.Store.{Witness}
 use Rattle.purge_master.specs.Book.{BookView, IsEntered}
+use Rattle.cluster_master.specs.Weight.{weight_of_all}
 use Rattle.cluster_master.specs.declared.locked_book.KeptEntries.{KeptEntries}
 use Rattle.cluster_master.specs.declared.locked_book.KeptEntries.TheVariants.{UpTo, Dropped}
 
@@ -39,7 +40,7 @@ may_be_due_after (Err _) was = was
 abbrev pub emptied : {S : Type 0} → BookView S → BookView S
 emptied book = record { master = book.master; entries = [] }
 
--- whether a page is kept behind this many entries
+-- whether a page is kept behind entries that weigh so much
 abbrev pub keeps : KeptEntries → ℕ → Bool
 keeps (UpTo most) kept = nat_lt kept most
 keeps Dropped kept = false
@@ -51,11 +52,11 @@ is_dropped Dropped = true
 
 -- the entries of a page stand behind those that are kept; or all are dropped, where the page is not kept
 abbrev pub kept_with : KeptEntries → List MasterEntry → List MasterEntry → List MasterEntry
-kept_with to_keep kept page = if keeps to_keep (length kept) then kept ++ page else []
+kept_with to_keep kept page = if keeps to_keep (weight_of_all kept) then kept ++ page else []
 
 -- once a page is not kept, none is kept from then on
 abbrev pub to_keep_after : KeptEntries → List MasterEntry → KeptEntries
-to_keep_after to_keep kept = if keeps to_keep (length kept) then to_keep else Dropped
+to_keep_after to_keep kept = if keeps to_keep (weight_of_all kept) then to_keep else Dropped
 
 -- the page is filed: the book has no entry, and the same master
 abbrev pub filed : {S : Type 0} → LockedBookView S → LockedBookView S
@@ -66,9 +67,13 @@ filed locked = record {
   may_be_due = locked.may_be_due;
 }
 
--- a page of 4,096 entries is full, and is filed before a call
+-- a page is full that has 4,096 entries, or whose entries weigh so much
+abbrev pub is_full_page : List MasterEntry → Bool
+is_full_page entries = nat_le 4096 (weight_of_all entries) || nat_le 4096 (length entries)
+
+-- a page that is full is filed before a call
 abbrev pub ready : {S : Type 0} → LockedBookView S → LockedBookView S
-ready locked = if nat_le 4096 (length locked.book.entries) then filed locked else locked
+ready locked = if is_full_page locked.book.entries then filed locked else locked
 
 -- the master has answered the call so, at some place, and the call is entered with that answer behind the entries of
 -- the page

@@ -1,9 +1,10 @@
 //! The master's event loop, and the master of purges that it shares with an operator's commands.
 //!
 //! A [`SharedMaster`] is a master's book (the log of its calls) under a lock. Each call draws its
-//! place while the lock is held. A book has 4,096 entries at most, called a page. Where the page is
-//! full it is filed before the next call: its entries are kept for the owner to take, or dropped
-//! ([`KeptEntries`]).
+//! place while the lock is held. A book has 4,096 entries at most, called a page, and fewer where
+//! their texts and lists have more than some 4 MiB. Where the page is full it is filed before the
+//! next call: its entries are kept for the owner to take, or dropped ([`KeptEntries`]). What is
+//! kept is bounded by what the entries weigh ([`weight_of_all`]).
 //!
 //! A [`MasterLoop`] has the master's UDP socket. [`MasterLoop::poll_once`] polls for 100
 //! milliseconds at most, makes the calls that datagrams ask for (responses to a CLR; RFC 2756,
@@ -13,11 +14,11 @@
 //! CLR to each member, from any thread, on the same socket. No lock is held while a socket is
 //! waited for or written.
 //!
-//! Order of reading: `specs/LockedBook.antt` (what a call does to the book), `specs/Answers.antt`
-//! (what a caller knows of an answer); `src/shared.rt` (the calls), `src/locked_book.rt` (the calls
-//! inside the lock), `src/master_loop.rt` (the loop), `src/sending.rt` (the CLRs),
-//! `src/schedule.rt` (when they are sent again), `src/fault.rt`, `specs/Names.antt`;
-//! `proofs/Clears.antt`.
+//! Order of reading: `specs/LockedBook.antt` (what a call does to the book), `specs/Weight.antt`
+//! (what its entries weigh), `specs/Answers.antt` (what a caller knows of an answer);
+//! `src/shared.rt` (the calls), `src/locked_book.rt` (the calls inside the lock), `src/weight.rt`,
+//! `src/master_loop.rt` (the loop), `src/sending.rt` (the CLRs), `src/schedule.rt` (when they are
+//! sent again), `src/fault.rt`, `specs/Names.antt`; `proofs/Clears.antt`, `proofs/Weights.antt`.
 //!
 //! The crate opens one socket, polls it, reads the clock, and waits at its lock. It starts no
 //! thread: the caller runs [`MasterLoop::run_until`] on one. Files are touched by the store of
@@ -41,9 +42,11 @@ mod master_loop;
 mod schedule;
 mod sending;
 mod shared;
+mod weight;
 
 pub use fault::MasterStartFault;
 pub use locked_book::KeptEntries;
 pub use master_loop::MasterLoop;
 pub use sending::MasterSender;
 pub use shared::{HeldMaster, SharedMaster};
+pub use weight::weight_of_all;

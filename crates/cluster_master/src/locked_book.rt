@@ -1,11 +1,16 @@
 //! What the lock of a shared master holds: its book, and the pages that were filed.
-ghost use Rattle.std.specs.Prelude.{◌≡◌, ◌≢◌, ◌⊎◌, ◌<◌, ◌++◌, [], length, false, Err, IfOk, IfSome, OnOk, OnErr};
+ghost use Rattle.std.specs.Prelude.{◌≡◌, ◌≢◌, ◌⊎◌, ◌<◌, ◌++◌, [], length, false, IsFalse, Err};
+ghost use Rattle.std.specs.Prelude.{IfOk, IfSome, OnOk, OnErr};
 ghost use Rattle.htcp_wire.specs.Written.{Fits};
 ghost use Rattle.purge_master.specs.Store.{witness};
 ghost use Rattle.purge_rules.specs.declared.fault.MasterFault.TheVariants as faults;
-ghost use Rattle.cluster_master.specs.LockedBook.{IsCalledAt, IsUnmade, IsTaken, IsNothingDue, is_dropped, keeps, may_be_due_after as may_be_due_by, ready, filed, emptied};
+ghost use Rattle.cluster_master.specs.LockedBook.{IsCalledAt, IsUnmade, IsTaken, IsNothingDue};
+ghost use Rattle.cluster_master.specs.LockedBook.{is_dropped, is_full_page, keeps};
+ghost use Rattle.cluster_master.specs.LockedBook.{may_be_due_after as may_be_due_by, ready, filed};
+ghost use Rattle.cluster_master.specs.LockedBook.{emptied};
 ghost use Rattle.cluster_master.specs.Answers.{IsToldOf, IsClearOf};
 
+use crate::weight::{answer_octets, call_octets, entry_weight};
 use htcp_wire::Htcp;
 use node_seats::Places;
 use purge_master::{MOST_ENTRIES, MasterBook, MasterEntry};
@@ -17,19 +22,23 @@ use std::mem::replace;
 /// What becomes of the entries of a page that is filed.
 #[derive(Clone, Copy, Debug, PartialEq, Eq)]
 pub enum KeptEntries {
-    /// They are kept until they are taken, while fewer than this many are kept. Where a page would
-    /// come after so many, all of them are dropped, and none is kept from then on.
+    /// They are kept until they are taken, while those that are kept weigh less than this
+    /// ([`weight_of_all`](crate::weight_of_all)). Where a page would come after that, all of them
+    /// are dropped, and none is kept from then on.
     UpTo(u32),
     /// They are dropped.
     Dropped,
 }
 
-/// Whether a page is kept behind this many entries.
-fn has_place(to_keep: KeptEntries, kept: usize) -> bool
+/// Once the entries of a page weigh so much, it is full. This bounds what they take in memory.
+const MOST_WEIGHT: u64 = 4_096;
+
+/// Whether a page is kept behind entries that weigh so much.
+fn has_place(to_keep: KeptEntries, kept: u64) -> bool
     ensures { result ≡ keeps to_keep kept }
 {
     match to_keep {
-        KeptEntries::UpTo(most) => (kept as u64) < u64::from(most),
+        KeptEntries::UpTo(most) => kept < u64::from(most),
         KeptEntries::Dropped => false,
     }
 }
@@ -55,8 +64,12 @@ pub(crate) struct LockedBook<S: PurgeStore> {
     pub(crate) alloc: Global,
     /// The master, and the open page of its calls.
     pub(crate) book: MasterBook<S>,
+    /// What the entries of the open page weigh.
+    pub(crate) weight: u64,
     /// The entries of the pages that were filed.
     pub(crate) kept: Vec<MasterEntry>,
+    /// What these weigh.
+    pub(crate) kept_weight: u64,
     /// What becomes of the entries of a page that is filed.
     pub(crate) to_keep: KeptEntries,
     /// Whether a CLR may be due.
@@ -69,6 +82,7 @@ impl<S: PurgeStore> Model for LockedBook<S> {
     ghost use Rattle.std.specs.Prelude.{◌≡◌, false};
     ghost use Rattle.std.specs.Coded.{codes};
     ghost use Rattle.cluster_master.specs.LockedBook.{LockedBookView, IsNothingDue};
+    ghost use Rattle.cluster_master.specs.Weight.{weight_of_all};
 
     ghost Value = { LockedBookView S };
 
@@ -76,7 +90,9 @@ impl<S: PurgeStore> Model for LockedBook<S> {
 
     ghost view = { λ locked. record { book = locked.book; kept = locked.kept.items; to_keep = locked.to_keep; may_be_due = locked.may_be_due } };
 
-    ghost invariant = { λ locked. locked.may_be_due ≡ false → IsNothingDue locked.book.master };
+    ghost invariant = { λ locked. (locked.may_be_due ≡ false → IsNothingDue locked.book.master)
+        × (locked.weight ≡ weight_of_all locked.book.entries)
+        × (locked.kept_weight ≡ weight_of_all locked.kept.items) };
 }
 
 /// Puts the book's entries behind those that are kept, or leaves both unchanged where there is no
@@ -108,13 +124,26 @@ impl<S: PurgeStore> LockedBook<S> {
         ensures filed { OnOk result (self.new ≡ filed self.old) }
         ensures refused { OnErr result (self.new ≡ self.old) }
     {
-        if has_place(self.to_keep, self.kept.len()) {
-            return keep(&mut self.kept, &mut self.book);
+        if has_place(self.to_keep, self.kept_weight) {
+            keep(&mut self.kept, &mut self.book)?;
+            self.kept_weight = self.kept_weight.saturating_add(self.weight);
+            self.weight = 0;
+            return Ok(());
         }
         let _page = self.book.take_entries();
         self.kept.clear();
+        self.weight = 0;
+        self.kept_weight = 0;
         self.to_keep = KeptEntries::Dropped;
         Ok(())
+    }
+
+    /// Whether the open page takes no entry more: it has 4,096, or they weigh as much as so many.
+    fn is_full(&self) -> bool
+        ensures value { result ≡ is_full_page self.now.book.entries }
+        ensures room { IsFalse result → length self.now.book.entries < 4096 }
+    {
+        MOST_WEIGHT <= self.weight || MOST_ENTRIES <= self.book.entries().len()
     }
 
     /// Makes room for an entry: a page that is full is filed.
@@ -123,7 +152,7 @@ impl<S: PurgeStore> LockedBook<S> {
         ensures room { OnOk result (length self.new.book.entries < 4096) }
         ensures refused { OnErr result (self.new ≡ self.old) }
     {
-        if self.book.entries().len() >= MOST_ENTRIES {
+        if self.is_full() {
             return self.file_page();
         }
         Ok(())
@@ -143,7 +172,13 @@ impl<S: PurgeStore> LockedBook<S> {
     {
         self.make_ready()?;
         let place = self.places.draw();
+        let octets = call_octets(&call);
+        let before = self.book.entries().len();
         let answer = self.book.call(place, call);
+        if before < self.book.entries().len() {
+            let entered = entry_weight(octets, answer_octets(&answer));
+            self.weight = self.weight.saturating_add(entered);
+        }
         self.may_be_due = may_be_due_after(&answer, self.may_be_due);
         answer
     }
@@ -178,7 +213,10 @@ impl<S: PurgeStore> LockedBook<S> {
         ensures whole { self.old.kept ≡ [] → result.items ≡ self.old.book.entries }
     {
         // (a page that is not kept now stays in the book)
-        let _ = keep(&mut self.kept, &mut self.book);
+        if keep(&mut self.kept, &mut self.book).is_ok() {
+            self.weight = 0;
+        }
+        self.kept_weight = 0;
         replace(&mut self.kept, Vec::new(self.alloc))
     }
 

@@ -98,8 +98,8 @@ impl Schedule {
         }
     }
 
-    /// Forgets when CLRs were sent: each pending purge up to this number, that of the last purge, is
-    /// due at once.
+    /// Forgets when CLRs were sent: each pending purge up to this number, that of the last purge,
+    /// is due at once.
     pub(crate) fn restart(&mut self, last: u32) {
         self.row.clear();
         self.look = 0;

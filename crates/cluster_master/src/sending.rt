@@ -98,8 +98,8 @@ impl MasterSender {
         }
     }
 
-    /// Enters a new purge, so that its CLRs are sent again from 20 milliseconds on, and has the loop
-    /// look.
+    /// Enters a new purge, so that its CLRs are sent again from 20 milliseconds on, and has the
+    /// loop look.
     fn enter<R: Wait + Clock>(&self, rt: &R, number: u32) {
         // (without a clock the CLRs are sent again at once)
         let now = moment(rt).unwrap_or(0);
@@ -108,9 +108,9 @@ impl MasterSender {
         let _ = self.line.waker.wake();
     }
 
-    /// Has the loop send the CLR of each pending purge up to this number, that of the last purge, as
-    /// soon as it may, whenever it was sent before. The owner calls it once the members run, while
-    /// nobody issues a purge: what was sent to the members before is lost.
+    /// Has the loop send the CLR of each pending purge up to this number, that of the last purge,
+    /// as soon as it may, whenever it was sent before. The owner calls it once the members run,
+    /// while nobody issues a purge: what was sent to the members before is lost.
     pub fn send_afresh<R: Wait>(&self, rt: &R, last: u32) {
         self.line.schedule.lock(rt).restart(last);
         // (a loop that is not woken looks within 100 milliseconds)

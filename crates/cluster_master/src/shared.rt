@@ -4,6 +4,7 @@ ghost use Rattle.htcp_wire.specs.Written.{Fits};
 ghost use Rattle.cluster_master.specs.Answers.{IsToldOf, IsClearOf};
 
 use crate::locked_book::{KeptEntries, LockedBook};
+use crate::weight::weight_of_all;
 use htcp_wire::Htcp;
 use node_seats::Places;
 use purge_master::{MasterBook, MasterEntry};
@@ -26,10 +27,13 @@ impl<S: PurgeStore> SharedMaster<S> {
         places: Places,
         to_keep: KeptEntries,
     ) -> SharedMaster<S> {
+        let weight = weight_of_all(book.entries());
         let locked_book = LockedBook {
             alloc,
             book,
+            weight,
             kept: Vec::new(alloc),
+            kept_weight: 0,
             to_keep,
             may_be_due: true,
             places,

@@ -1,6 +1,7 @@
 -- The response to a request can be written: its body has at most 1,035 octets, and its one field has a text. What is
 -- written of it is its text, or a front of that after Io.
-use Rattle.std.proofs.Common.{◌≡◌, ℕ, ◌≤◌, true, List, [], ◌∷◌, length, nat_le, Option, Some, None, Result, Ok, Err, IfErr, refl, sym, ◌∙◌, subst, arith, if◌then◌else◌}
+use Rattle.std.proofs.Common.{◌≡◌, ℕ, ◌≤◌, true, List, [], ◌∷◌, length, nat_le, Option, Some, None, Result, Ok, Err, IfErr, refl, sym, ◌∙◌, subst, arith}
+use Rattle.std.proofs.Common.{if◌then◌else◌}
 use Rattle.std.proofs.lemmas.Option.{none-some}
 use Rattle.std.proofs.lemmas.Bool.{le-leb}
 use Rattle.values_plain.specs.Writing.{Writes}

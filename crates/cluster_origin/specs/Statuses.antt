@@ -1,7 +1,8 @@
 -- The statuses that refuse a request (RFC 9110, section 15).
 use Rattle.std.specs.Prelude.{ℕ, Option, Some, None}
 use Rattle.http_messages.specs.declared.fault.FetchFault.{FetchFault}
-use Rattle.http_messages.specs.declared.fault.FetchFault.TheVariants.{Io, EndOfInput, BadHead, HeadTooLong, BadTarget, MethodNotServed, Credentials, BadBody, BodyTooLong, TooManyTurns, NoMemory}
+use Rattle.http_messages.specs.declared.fault.FetchFault.TheVariants.{Io, EndOfInput, BadHead, HeadTooLong, BadTarget, MethodNotServed, Credentials, BadBody}
+use Rattle.http_messages.specs.declared.fault.FetchFault.TheVariants.{BodyTooLong, TooManyTurns, NoMemory}
 
 -- the status for a request that was not read, by what was wrong with it (431: RFC 6585, section 5); nothing is told to
 -- a client whose request has no end

@@ -1,8 +1,11 @@
--- A member that is found to be ahead of a number is one of those that are.
-use Rattle.std.proofs.Common.{◌≡◌, ℕ, ◌<◌, Bool, true, false, cond, ◌||◌, Option, Some, None, List, [], ◌∷◌, map, find, refl, sym, subst, ap, ◌∙◌, arith}
+-- A member that is found to be ahead of a number is one of those that are. Where the members are judged well, none is.
+use Rattle.std.proofs.Common.{◌≡◌, ℕ, ◌<◌, Bool, true, false, cond, ◌||◌, Option, Some, None, List, [], ◌∷◌, map, find, Result, Ok, Err, OnOk, refl, sym, subst}
+use Rattle.std.proofs.Common.{ap, ◌∙◌, arith}
 use Rattle.std.proofs.lemmas.Bool.Decides.{nat_tests}
 use Rattle.std.specs.Prelude.{nat_lt}
 use Rattle.std.specs.List.{list_any}
+use Rattle.cluster_process.specs.Numbers.{has_ahead, IsJudged}
+use Rattle.cluster_process.specs.declared.fault.ClusterFault.{ClusterFault}
 
 module _ {X : Type 0} (seen : X → ℕ) (last : ℕ) where
   -- by whether the first is ahead
@@ -28,3 +31,8 @@ module _ {X : Type 0} (seen : X → ℕ) (last : ℕ) where
   pub none_ahead : (xs : List X) → find (λ n. nat_lt last (seen n)) xs ≡ None → list_any (nat_lt last) (map seen xs) ≡ false
   none_ahead [] is = refl
   none_ahead (y ∷ ys) is = none_by y ys (nat_lt last (seen y)) refl is (none_ahead ys)
+
+-- where the members are judged well, none is ahead
+pub judged_well : (last : ℕ) (greatest : List ℕ) (told : Result (Unit {0}) ClusterFault) → IsJudged last greatest told → OnOk told (has_ahead last greatest ≡ false)
+judged_well last greatest (Ok done) judged = judged
+judged_well last greatest (Err fault) judged = tt

@@ -1,3 +1,4 @@
 pub mod Names
+pub mod Folder
 pub mod Numbers
 pub mod Kept

@@ -53,19 +53,20 @@ struct Common<'a> {
 }
 
 /// Runs the hierarchy of a roster in this process, over stores that
-/// [`open_stores`](crate::open_stores) has opened, until the input ends, cannot be read, or has a line
-/// `quit`: one thread for the master, and `workers` workers for each member.
+/// [`open_stores`](crate::open_stores) has opened, until the input ends, cannot be read, or has a
+/// line `quit`: one thread for the master, and `workers` workers for each member.
 ///
-/// The lines are those of [`answer_lines`](cluster_console::answer_lines). Once the members run, the
-/// master sends afresh what is pending, and a thread says on standard error which members close.
-/// Where the input has no line, standard error says so.
+/// The lines are those of [`answer_lines`](cluster_console::answer_lines). Once the members run,
+/// the master sends afresh what is pending, and a thread says on standard error which members
+/// close. Where the input has no line, standard error says so.
 ///
 /// For `check`, what the members and the master did is kept in memory: `history` pages of each
-/// member and of the master, of 4,096 steps or calls each. A member's page is shorter where its
-/// events have brought 4 MiB along. All that is kept may not be more than so many steps and calls;
-/// four floors, copies or pending requests in the opening or closing state of a record count as
-/// one, and so do 1,024 octets that its events brought along. Where there would be more, all of it
-/// is dropped, and `check` prints `forgotten` from then on. With 0 nothing is kept.
+/// member and of the master, of 4,096 steps or calls each. A page is shorter where a member's
+/// events, or the URLs and lists of the master's calls, have brought 4 MiB along. All that is kept
+/// may not be more than so many steps and calls; four floors, copies or pending requests in the
+/// opening or closing state of a record count as one, and so do 1,024 octets that events, URLs and
+/// lists have brought along. Where there would be more, all of it is dropped, and `check` prints
+/// `forgotten` from then on. With 0 nothing is kept.
 ///
 /// What is kept at the end is returned, if it is all that was done until then; each verdict that
 /// was printed is the one on a front of it, which was gathered when that line came.
@@ -73,8 +74,9 @@ struct Common<'a> {
 /// Faults, the first that comes: those of the master's purges, its socket and its thread; of the
 /// members' floors, sockets and threads, by ascending id, and of the thread that watches them;
 /// `Input` where the input could not be read, and `Output` where some answer could not be written,
-/// once each line was answered. After any of them every thread has ended, and every socket and store
-/// is closed.
+/// once each line was answered. After any of them every socket and store is closed, and every
+/// thread has ended, but for the one that watches the members where standard error has taken
+/// nothing for a second: it has none of them, and ends with the process.
 pub fn run_cluster<
     R: Threads
         + Wait

@@ -14,14 +14,15 @@ use thiserror::Error;
 /// of it is open.
 #[derive(Debug, Drop, Error)]
 pub enum ClusterFault {
-    /// The folder has a master's file, and the members that have a file there are not those of the
-    /// roster.
+    /// A file in the folder is that of no member of the roster; or the folder has a master's file,
+    /// and lacks that of a member.
     #[error("the files in {dir} are those of other members than the roster's")]
     OtherRoster {
         /// The folder.
         dir: String,
     },
-    /// The file of a member or of the master could not be opened.
+    /// The file of a member or of the master could not be opened, or it is lost: only its log is
+    /// there.
     #[error("the file {path} could not be opened")]
     File {
         /// The file.

@@ -2,8 +2,10 @@
 ghost use Rattle.std.specs.Prelude.{◌≡◌, ◌==◌, ◌++◌, None, OnOk, option_map};
 ghost use Rattle.std.specs.List.{list_any};
 ghost use Rattle.cluster_console.specs.Checked.{GoesOn};
-ghost use Rattle.cluster_process.specs.Kept.{gathered_at_first, gathered_in, tells_nothing, with_record};
+ghost use Rattle.cluster_process.specs.Kept.{gathered_at_first, gathered_in, tells_nothing};
+ghost use Rattle.cluster_process.specs.Kept.{with_record};
 
+use cluster_master::weight_of_all;
 use node_book::{MOST_ENTRIES, NodeEntry, Record};
 use node_seats::octets_of;
 use purge_master::MasterEntry;
@@ -88,7 +90,7 @@ impl Kept {
         self.records
             .iter()
             .map(|record| weight(record))
-            .fold(self.entries.len() as u64, |sum, each| {
+            .fold(weight_of_all(self.entries.as_slice()), |sum, each| {
                 u64::saturating_add(sum, each)
             })
     }

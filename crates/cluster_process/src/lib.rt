@@ -3,12 +3,14 @@
 //!
 //! [`open_stores`] opens the files of the members and of the master in one folder. [`run_cluster`]
 //! starts the master's thread and each member's workers (`node_workers`), has the lines of an input
-//! answered (`cluster_console`), and stops and joins every thread, whatever happened. For the line
+//! answered (`cluster_console`), and stops and joins every thread, whatever happened, but for one
+//! that waits for standard error. For the line
 //! `check` it holds all members, gathers their records and the master's entries, lets them go on,
 //! and has `run_check` judge all that is kept.
 //!
 //! Order of reading: `src/cluster.rt` (start, answer, stop); `src/stores.rt`, `src/node_floors.rt`
-//! and `src/files.rt` (the files), `specs/Numbers.antt` (when a master is behind);
+//! and `src/files.rt` (the files), `specs/Folder.antt` (which of them there may be),
+//! `specs/Numbers.antt` (when a master is behind);
 //! `src/master_thread.rt`; `src/watch.rt` (who says that a member has closed); `src/judge.rt`,
 //! `src/kept.rt` and `specs/Kept.antt` (what is gathered, and how much of it is kept);
 //! `src/fault.rt` and `specs/Names.antt` (which file, port or member is at fault);

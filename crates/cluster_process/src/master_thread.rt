@@ -80,7 +80,7 @@ fn kept_entries_of(most: u32) -> KeptEntries {
 }
 
 /// A flag that is not set.
-fn flag(alloc: Global) -> Result<Arc<AtomicBool, Global>, ClusterFault> {
+pub(crate) fn flag(alloc: Global) -> Result<Arc<AtomicBool, Global>, ClusterFault> {
     match Arc::new(alloc, AtomicBool::new(false)) {
         Ok(flag) => Ok(flag),
         Err(_) => Err(ClusterFault::NoMemory),
@@ -89,7 +89,7 @@ fn flag(alloc: Global) -> Result<Arc<AtomicBool, Global>, ClusterFault> {
 
 impl<S: PurgeStore + Drop + Send + 'static> MasterThread<S> {
     /// Opens the master's socket, and starts its thread. `history` pages of its book are kept, of
-    /// 4,096 entries each.
+    /// 4,096 entries each, or fewer that weigh so much.
     ///
     /// Faults: `MasterOpen`, `MasterStart`, `NoThread` and `NoMemory`. After a fault nothing runs
     /// or is open.

@@ -1,6 +1,9 @@
 //! The files of a cluster, in one folder: `node-N.db` for each member N, and `master.db`.
-ghost use Rattle.std.specs.Prelude.{◌≡◌, find, map, nat_lt, option_map, IfOk};
-ghost use Rattle.cluster_process.specs.Numbers.{IsJudged};
+ghost use Rattle.std.specs.Prelude.{◌≡◌, ◌==◌, ◌≤◌, ℕ, false, find, insert, length, map, nat_lt};
+ghost use Rattle.std.specs.Prelude.{option_map, IfOk, OnErr, OnOk};
+ghost use Rattle.std.specs.List.{list_any};
+ghost use Rattle.cluster_process.specs.Folder.{file_fits};
+ghost use Rattle.cluster_process.specs.Numbers.{has_ahead, IsJudged};
 
 use crate::fault::ClusterFault;
 use crate::files::{MasterStore, NodeStore};
@@ -13,6 +16,7 @@ use roster::{LAST_MEMBER, Roster};
 use sqlite::{Connection, Error, ErrorCode, File, FileStore};
 use std::alloc::{AllocError, Global};
 use std::fs;
+use std::io::ErrorKind;
 
 /// The stores of a cluster, each over a file: those of the members by ascending id, and the
 /// master's.
@@ -22,14 +26,32 @@ pub struct Stores {
     pub(crate) purges: MasterStore,
 }
 
+/// What becomes of the file of a member that is not there, or is empty.
+#[derive(Clone, Copy)]
+enum Lacking {
+    /// It stays so.
+    Left,
+    /// It is made.
+    Made,
+}
+
 /// Opens the files of a roster's members and of its master in a folder that exists: `node-N.db` for
-/// each member N, by ascending id, and `master.db`. A file that does not exist is made.
+/// each member N, by ascending id, and `master.db`. Files that are not there, and those that are
+/// empty, are made once the others are judged.
 ///
-/// Faults: `OtherRoster`, before any file is opened, where the folder has a master's file and the
-/// members that have a file there are not those of the roster. For the first file that is not
-/// opened, `File` or `NoMemory`, or the fault of its tables. `MasterBehind`, where a member has
-/// stored a number that is greater than the last one of the master; no master's file is made then.
-/// After a fault no file is open.
+/// Faults, the first that comes:
+///
+/// - `OtherRoster`, before any file is opened: a file is that of no member; or the folder has a
+///   master's file, and lacks that of a member. (Without a master's file a first start may have
+///   been cut off.)
+/// - For the first of the files that hold something, or have only left their log, the members' by
+///   ascending id and then the master's, `File` or `NoMemory`, or the fault of its tables.
+/// - `MasterBehind`: a member has stored a number that is greater than the last one of the master,
+///   0 where it has no file.
+/// - The same faults as above for the first of the other files, which are made only now.
+///
+/// After a fault no file is open. Before the last kind no file was made, and those that are there
+/// hold what they held, though the database may have put a log beside one of them.
 pub fn open_stores(
     files: &HostRuntime,
     alloc: Global,
@@ -41,45 +63,60 @@ pub fn open_stores(
             dir: String::from_str(alloc, dir)?,
         });
     }
-    let nodes = open_nodes(files, alloc, roster, dir)?;
-    match open_level_master(files, alloc, dir, nodes.as_slice()) {
-        Ok(purges) => Ok(Stores { nodes, purges }),
+    let mut nodes = Vec::with_capacity(alloc, roster.members().len())?;
+    open_nodes(files, alloc, roster, dir, Lacking::Left, &mut nodes)?;
+    match filled_master(files, alloc, dir) {
+        Ok(Some((purges, last))) => match complete(files, alloc, roster, dir, last, &mut nodes) {
+            Ok(()) => Ok(Stores { nodes, purges }),
+            Err(fault) => Err(fault),
+        },
+        Ok(None) => {
+            complete(files, alloc, roster, dir, 0, &mut nodes)?;
+            match open_master(files, alloc, dir) {
+                Ok(purges) => Ok(Stores { nodes, purges }),
+                Err(fault) => Err(fault),
+            }
+        }
         Err(fault) => Err(fault),
     }
 }
 
-/// Opens the master's file over those of these members, if it has given each number that they have
-/// stored. A file that does not exist is made only then.
-fn open_level_master<F: FloorStore>(
+/// Opens the master's file, with the last number that it has given; none, where it is not there or
+/// empty.
+fn filled_master(
     files: &HostRuntime,
     alloc: Global,
     dir: &str,
-    nodes: &[NodeFloors<F>],
-) -> Result<MasterStore, ClusterFault> {
-    if !is_there(files, master_path(alloc, dir)?)? {
-        judge_numbers(String::from_str(alloc, dir)?, 0, nodes)?;
+) -> Result<Option<(MasterStore, u32)>, ClusterFault> {
+    if !is_filled(files, alloc, master_path(alloc, dir)?)? {
+        return Ok(None);
     }
     match open_master(files, alloc, dir) {
-        Ok(purges) => level(alloc, dir, purges, nodes),
+        Ok(mut purges) => match last_of(alloc, &mut purges) {
+            Ok(last) => Ok(Some((purges, last))),
+            Err(fault) => Err(unread(master_path(alloc, dir)?, fault)),
+        },
         Err(fault) => Err(fault),
     }
 }
 
-/// The master's store, if it has given each number that the members have stored.
-fn level<F: FloorStore>(
+/// Judges the members' files that are open by the last number of the master. Only then makes the
+/// others.
+#[tactic(auto, using(crate::proofs::Numbers::judged_well))]
+fn complete(
+    files: &HostRuntime,
     alloc: Global,
+    roster: &Roster,
     dir: &str,
-    mut purges: MasterStore,
-    nodes: &[NodeFloors<F>],
-) -> Result<MasterStore, ClusterFault> {
-    let last = match last_of(alloc, &mut purges) {
-        Ok(last) => last,
-        Err(fault) => return Err(unread(master_path(alloc, dir)?, fault)),
-    };
-    match judge_numbers(String::from_str(alloc, dir)?, last, nodes) {
-        Ok(()) => Ok(purges),
-        Err(fault) => Err(fault),
-    }
+    last: u32,
+    nodes: &mut Vec<NodeFloors<NodeStore>>,
+) -> Result<(), ClusterFault>
+    ensures { OnOk result (has_ahead last (map (λ n. n.seen) nodes.new.items) ≡ false) }
+{
+    judge_numbers(String::from_str(alloc, dir)?, last, nodes.as_slice())?;
+    open_nodes(files, alloc, roster, dir, Lacking::Made, nodes)?;
+    // (so are those that were made)
+    judge_numbers(String::from_str(alloc, dir)?, last, nodes.as_slice())
 }
 
 /// Why the purges of the master's file were not read.
@@ -128,19 +165,29 @@ fn judge_numbers<F: FloorStore>(
     }
 }
 
-/// Whether the members that have a file in the folder are those of the roster. It is also so where
-/// the folder has no master's file: then no cluster has used it yet.
+/// Whether a folder may have, or lack, the file of a cache that may be a member: it has that of no
+/// other cache, and lacks that of a member only where it has no master's file.
+fn may_be(has_master: bool, is_member: bool, has_file: bool) -> bool
+    ensures { result ≡ file_fits has_master is_member has_file }
+{
+    if has_file {
+        is_member
+    } else {
+        !(has_master && is_member)
+    }
+}
+
+/// Whether the folder may be one of this roster, by the names of its files. They are not opened.
 fn is_of_roster(
     files: &HostRuntime,
     alloc: Global,
     roster: &Roster,
     dir: &str,
 ) -> Result<bool, ClusterFault> {
-    if !is_there(files, master_path(alloc, dir)?)? {
-        return Ok(true);
-    }
+    let has_master = is_there(files, master_path(alloc, dir)?)?;
     for id in 1..=LAST_MEMBER {
-        if is_there(files, node_path(alloc, dir, id)?)? != roster.is_member(id) {
+        let has_file = is_there(files, node_path(alloc, dir, id)?)?;
+        if !may_be(has_master, roster.is_member(id), has_file) {
             return Ok(false);
         }
     }
@@ -155,6 +202,21 @@ fn is_there(files: &HostRuntime, path: String) -> Result<bool, ClusterFault> {
     }
 }
 
+/// Whether this file exists and is not empty. `File` comes also where the file is lost: its log is
+/// there without it.
+fn is_filled(files: &HostRuntime, alloc: Global, path: String) -> Result<bool, ClusterFault> {
+    match fs::metadata(files, path.as_str()) {
+        Ok(found) => Ok(0 < found.len()),
+        Err(error) if error.kind() == ErrorKind::NotFound => {
+            if is_there(files, log_path(alloc, path.as_str())?)? {
+                return Err(ClusterFault::File { path });
+            }
+            Ok(false)
+        }
+        Err(_) => Err(ClusterFault::File { path }),
+    }
+}
+
 /// The path of the master's file.
 fn master_path(alloc: Global, dir: &str) -> Result<String, AllocError> {
     Ok(format!(in alloc; "{dir}/master.db")?)
@@ -165,7 +227,13 @@ fn node_path(alloc: Global, dir: &str, id: u8) -> Result<String, AllocError> {
     Ok(format!(in alloc; "{dir}/node-{id}.db")?)
 }
 
-/// Opens the files of the members by ascending id. A file that does not exist is made.
+/// The path of the log that the database keeps beside a file.
+fn log_path(alloc: Global, path: &str) -> Result<String, AllocError> {
+    Ok(format!(in alloc; "{path}-wal")?)
+}
+
+/// Opens the files of the members that are not open yet, by ascending id. Those that are not there
+/// or are empty are left, or made.
 ///
 /// Faults: for the first file that is not opened, `File` or `NoMemory`, or the fault of its tables.
 fn open_nodes(
@@ -173,17 +241,42 @@ fn open_nodes(
     alloc: Global,
     roster: &Roster,
     dir: &str,
-) -> Result<Vec<NodeFloors<NodeStore>>, ClusterFault> {
-    let mut nodes = Vec::with_capacity(alloc, roster.members().len())?;
+    lacking: Lacking,
+    nodes: &mut Vec<NodeFloors<NodeStore>>,
+) -> Result<(), ClusterFault> {
     for id in 1..=LAST_MEMBER {
-        if roster.is_member(id) {
-            open_node(rt, alloc, dir, id, &mut nodes)?;
+        if roster.is_member(id)
+            && !is_open(nodes.as_slice(), id)
+            && is_opened(rt, alloc, dir, id, lacking)?
+        {
+            open_node(rt, alloc, dir, id, nodes)?;
         }
     }
-    Ok(nodes)
+    Ok(())
 }
 
-/// Opens the file of a member, and puts its store behind those that are open.
+/// Whether the floors of this member are open.
+fn is_open<F: FloorStore>(nodes: &[NodeFloors<F>], id: u8) -> bool
+    ensures { result ≡ list_any (λ n. n.id == id) nodes.now }
+{
+    nodes.iter().any(|node| node.id == id)
+}
+
+/// Whether the file of a member is opened: it holds something, or it is made.
+fn is_opened(
+    files: &HostRuntime,
+    alloc: Global,
+    dir: &str,
+    id: u8,
+    lacking: Lacking,
+) -> Result<bool, ClusterFault> {
+    match lacking {
+        Lacking::Left => is_filled(files, alloc, node_path(alloc, dir, id)?),
+        Lacking::Made => Ok(true),
+    }
+}
+
+/// Opens the file of a member, and puts its store among those that are open.
 fn open_node(
     rt: &HostRuntime,
     alloc: Global,
@@ -202,12 +295,18 @@ fn open_node(
     }
 }
 
-/// Puts a member's floors behind those that are there.
+/// Puts a member's floors among those that are there, which ascend by id.
 fn put_node<F: FloorStore + Drop>(
     nodes: &mut Vec<NodeFloors<F>>,
     node: NodeFloors<F>,
-) -> Result<(), ClusterFault> {
-    match nodes.push(node) {
+) -> Result<(), ClusterFault>
+    ensures put { OnOk result ((place : ℕ) × (place ≤ length nodes.old.items)
+        × (nodes.new.items ≡ insert nodes.old.items place node)) }
+    ensures same { OnErr result (nodes.new.items ≡ nodes.old.items) }
+{
+    let id = node.id;
+    let place = nodes.as_slice().partition_point(|other| other.id < id);
+    match nodes.insert(place, node) {
         Ok(()) => Ok(()),
         Err(_) => Err(ClusterFault::NoMemory),
     }

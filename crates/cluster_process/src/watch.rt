@@ -1,6 +1,7 @@
 //! The thread that says on standard error which members have closed.
 use crate::cluster::Running;
 use crate::fault::ClusterFault;
+use crate::master_thread::flag;
 use node_workers::{CloseCause, Closing};
 use std::alloc::Global;
 use std::sync::atomic::{AtomicBool, Ordering};
@@ -13,6 +14,12 @@ const PAUSE: u64 = 100;
 
 /// How many looks pass at least between two lines on a member's want of descriptors: a second.
 const LOOKS: u32 = 10;
+
+/// How many milliseconds pass from one look at the thread that is to end to the next.
+const STEP: u64 = 10;
+
+/// How many of these looks are made: for a second.
+const STEPS: u32 = 100;
 
 /// A member that is watched.
 #[derive(Drop)]
@@ -33,12 +40,15 @@ struct Watched {
 struct Watching {
     members: Vec<Watched>,
     is_stopped: Arc<AtomicBool, Global>,
+    is_over: Arc<AtomicBool, Global>,
 }
 
 /// A thread that watches the members.
 #[derive(Drop)]
 pub(crate) struct Watch {
     is_stopped: Arc<AtomicBool, Global>,
+    /// Whether the thread writes no more.
+    is_over: Arc<AtomicBool, Global>,
     thread: JoinHandle<()>,
 }
 
@@ -80,7 +90,8 @@ impl Watched {
 }
 
 impl Watching {
-    /// Looks at the members again and again until it is told to stop.
+    /// Looks at the members again and again until it is told to stop. It waits while standard error
+    /// takes nothing.
     fn run<R: Wait + Clock + Eprint>(mut self, rt: &R) {
         for _ in rt.forever() {
             let is_last = self.is_stopped.load(Ordering::SeqCst);
@@ -89,6 +100,7 @@ impl Watching {
                 member.tell_want(rt);
             }
             if is_last {
+                self.is_over.store(true, Ordering::SeqCst);
                 return;
             }
             thread::sleep(rt, Duration::from_millis(PAUSE));
@@ -122,22 +134,40 @@ impl Watch {
         alloc: Global,
         running: &[Running],
     ) -> Result<Watch, ClusterFault> {
-        let Ok(is_stopped) = Arc::new(alloc, AtomicBool::new(false)) else {
-            return Err(ClusterFault::NoMemory);
-        };
+        let (is_stopped, is_over) = (flag(alloc)?, flag(alloc)?);
         let watching = Watching {
             members: members_of(alloc, running)?,
             is_stopped: Arc::try_clone(&is_stopped)?,
+            is_over: Arc::try_clone(&is_over)?,
         };
         match thread::spawn(&rt, move || watching.run(&rt)) {
-            Ok(thread) => Ok(Watch { is_stopped, thread }),
+            Ok(thread) => Ok(Watch {
+                is_stopped,
+                is_over,
+                thread,
+            }),
             Err(_) => Err(ClusterFault::NoThread),
         }
     }
 
-    /// Tells the thread to stop, which it does within 100 milliseconds, and waits for its end.
-    pub(crate) fn stop<R: Threads>(self, rt: &R) {
+    /// Whether the thread writes no more within a second.
+    fn is_soon_over<R: Wait + Clock>(&self, rt: &R) -> bool {
+        for _ in 0..STEPS {
+            if self.is_over.load(Ordering::SeqCst) {
+                return true;
+            }
+            thread::sleep(rt, Duration::from_millis(STEP));
+        }
+        false
+    }
+
+    /// Tells the thread to stop, which it does within 100 milliseconds, and waits for its end. A
+    /// thread that is not over after a second waits for standard error, which takes nothing: it is
+    /// left, and ends with the process.
+    pub(crate) fn stop<R: Threads + Wait + Clock>(self, rt: &R) {
         self.is_stopped.store(true, Ordering::SeqCst);
-        self.thread.join(rt);
+        if self.is_soon_over(rt) {
+            self.thread.join(rt);
+        }
     }
 }

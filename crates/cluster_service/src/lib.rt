@@ -2,28 +2,30 @@
 //!
 //! - A [`Worker`] does jobs. It hands a datagram, an HTTP request, a timer or the end of a fetch to
 //!   the node, sends the datagrams that the step asks for, and answers its client or leaves it in
-//!   the tables. It writes what a client takes at once. The rest of a response it leaves to the event
-//!   loop, and so does it with each fetch. So no worker waits for a client, a peer or an origin.
-//! - [`Questions`] answers ICP queries and HTCP TST requests on the thread of the event loop, without
-//!   a job. It also tells the loop whose a datagram is, and whether a client still waits for a fetch.
+//!   the tables. It writes what a client takes at once. The rest of a response it leaves to the
+//!   event loop, and so does it with each fetch. So no worker waits for a client, a peer or an
+//!   origin.
+//! - [`Questions`] answers ICP queries and HTCP TST requests on the thread of the event loop,
+//!   without a job. It also tells the loop whose a datagram is, and whether a client still waits
+//!   for a fetch.
 //!
 //! Both take the node's steps through a [`Stepper`](node_bytes::Stepper), so this crate does not
 //! stand on the seats. They share a [`Station`]: the tables, the roster, the senders and the loop's
-//! inbox. A [`Gate`] (a trait) is called before an origin is read. No lock is held while a socket is
-//! waited for. A request may take 15 seconds; then its client is told 504 ([`tell_late`]).
+//! inbox. A [`Gate`] (a trait) is called before an origin is read. No lock is held while a socket
+//! is waited for. A request may take 15 seconds; then its client is told 504 ([`tell_late`]).
 //!
 //! Order of reading: `specs/Steps.antt` (which steps each thread takes), `specs/Questions.antt`,
 //! `specs/Addresses.antt`; `src/station.rt` (what is shared); `src/worker.rt`, `src/questions.rt`;
-//! `src/seated.rt` (what workers do with a step); `src/telling.rt`, `src/client.rt` (how a client is
-//! answered); `src/closing.rt`; `src/gate.rt`; `proofs/Steps.antt` (what steps add up to).
+//! `src/seated.rt` (what workers do with a step); `src/telling.rt`, `src/client.rt` (how a client
+//! is answered); `src/closing.rt`; `src/gate.rt`; `proofs/Steps.antt` (what steps add up to).
 //!
 //! The crate reads and writes sockets without waiting, reads the clock, and waits at the station's
 //! locks. It starts no thread and opens no listener or connection.
 //!
 //! Contracts say which steps are taken, with which events, and that what is done next is what the
 //! step before it asks for. They also say which octets are a question (`is_question`) and whom a
-//! fetch asks, and where (`fetch_of`). No contract says what is done over sockets, or at which time:
-//! tests show it.
+//! fetch asks, and where (`fetch_of`). No contract says what is done over sockets, or at which
+//! time: tests show it.
 #![tactic(auto)]
 
 mod client;
@@ -43,5 +45,5 @@ pub use peers::peers_of;
 pub use questions::Questions;
 pub use seated::Seated;
 pub use station::{Station, milliseconds};
-pub use telling::{refuse_all, tell_late};
+pub use telling::{refuse_all, refuse_job, tell_late};
 pub use worker::Worker;

@@ -84,8 +84,8 @@ impl<N: Stepper + Drop, G: Gate + Drop> Questions<'_, N, G> {
         }
     }
 
-    /// Has what a step asks for sent. What a question never asks for (to serve a client, or to begin
-    /// a fetch) is carried out at once, without the others.
+    /// Has what a step asks for sent. What a question never asks for (to serve a client, or to
+    /// begin a fetch) is carried out at once, without the others.
     fn carry_out<R: Wait + Clock>(&mut self, rt: &R, turn: Turn)
         ensures node { self.new.node ≡ self.old.node }
         ensures held { CarriesOut turn.serve turn.begin self.old.held turn self.new.held }

@@ -1,6 +1,7 @@
 //! What workers do with the steps of a node.
 ghost use Rattle.std.specs.Prelude.{◌≡◌};
-ghost use Rattle.cluster_service.specs.Steps.{TakesOne, BeginsAtMost, BeginsRound, EndsRound, FailsFetch};
+ghost use Rattle.cluster_service.specs.Steps.{TakesOne, BeginsAtMost, BeginsRound, EndsRound};
+ghost use Rattle.cluster_service.specs.Steps.{FailsFetch};
 
 use crate::client::Client;
 use crate::gate::Gate;
@@ -26,7 +27,8 @@ pub struct Seated<'a, N: Stepper + Drop, G: Gate + Drop, R> {
     pub station: &'a Station<G>,
     /// What takes its steps.
     pub node: N,
-    /// Where short pieces of a response are kept while it is written.
+    /// Where short pieces of a response are kept while it is written: a buffer that has room for
+    /// them from the start, so that a client is answered also where there is no memory.
     pub kept: Vec<u8>,
 }
 

@@ -167,8 +167,8 @@ impl<G: Drop> Station<G> {
         Duration::from_millis(self.roster.limits().answer_wait)
     }
 
-    /// Notes whom a round waits for, before it sends these questions: its peers that are not thought
-    /// dead. Where there is no memory for the note, the round waits for all.
+    /// Notes whom a round waits for, before it sends these questions: its peers that are not
+    /// thought dead. Where there is no memory for the note, the round waits for all.
     pub(crate) fn ask<R: Wait>(&self, rt: &R, serial: u32, questions: &[Packet]) {
         let mut peers = 0;
         for question in questions {
@@ -214,9 +214,9 @@ impl<G: Drop> Station<G> {
         }
     }
 
-    /// Sends, serves and begins what a turn asks for, on the thread of the event loop: a round waits,
-    /// a fetch is left in the inbox, and so is a response. Where there is no memory for that, it is
-    /// lost, as a reply is for which there is none.
+    /// Sends, serves and begins what a turn asks for, on the thread of the event loop: a round
+    /// waits, a fetch is left in the inbox, and so is a response. Where there is no memory for
+    /// that, it is lost, as a reply is for which there is none.
     pub(crate) fn carry_out<R: Wait + Clock>(&self, rt: &R, turn: Turn) {
         let Turn { serve, send, begin } = turn;
         self.send_all(send.as_slice());

@@ -2,6 +2,7 @@
 use crate::client::Client;
 use crate::gate::Gate;
 use crate::station::{Station, milliseconds};
+use cluster_jobs::Job;
 use cluster_sockets::{Delivered, Delivery, Errand};
 use cluster_waiting::MOST_WAITING;
 use mio::net::TcpStream;
@@ -57,8 +58,8 @@ pub(crate) fn tell_client<G: Gate + Drop, R: Wait + Clock>(
     }
 }
 
-/// Notes when the request of a block takes too long: after the roster's `ask_wait`. Where there is no
-/// memory for that, it may take any time.
+/// Notes when the request of a block takes too long: after the roster's `ask_wait`. Where there is
+/// no memory for that, it may take any time.
 pub(crate) fn begin_ask<G: Gate + Drop, R: Wait + Clock>(rt: &R, station: &Station<G>, block: u32) {
     let until = milliseconds(rt).saturating_add(station.roster.limits().ask_wait);
     match station.tables.begin_ask(rt, until, block) {
@@ -95,6 +96,20 @@ fn give_up<G: Gate + Drop, R: Wait + Clock>(
     match station.tables.leave(rt, block, Client::Told) {
         Ok(Some((_told, answer))) => tell_client(rt, station, kept, client, answer.serve),
         Ok(None) | Err(_) => tell_client(rt, station, kept, client, status(504)),
+    }
+}
+
+/// Answers 503 to the client of a job that is not done any more, if it has one. The client may
+/// still send, since its request was not read to the end.
+pub fn refuse_job<G: Gate + Drop, R: Wait + Clock>(
+    rt: &R,
+    station: &Station<G>,
+    kept: &mut Vec<u8>,
+    job: Job,
+) {
+    match job {
+        Job::Stream { stream, .. } => tell(rt, station, kept, stream, status(503), true),
+        Job::Datagram { .. } | Job::Timer { .. } | Job::Fetched(_) => {}
     }
 }
 

@@ -2,7 +2,9 @@
 ghost use Rattle.std.specs.Prelude.{◌≡◌, true};
 ghost use Rattle.roster.specs.Lookups.{is_member};
 ghost use Rattle.node_rules.specs.State.{serial_of as serial_begun};
-ghost use Rattle.cluster_service.specs.Steps.{AsksOnce, EndsFetch, TakesDatagram, TakesMessage, TakesRequest, TakesJob, DoesJob, GoesOn, GivesUp, CarriesOn, HandsOver, begun_in};
+ghost use Rattle.cluster_service.specs.Steps.{AsksOnce, EndsFetch, TakesDatagram, TakesMessage};
+ghost use Rattle.cluster_service.specs.Steps.{TakesRequest, TakesJob, DoesJob, GoesOn, GivesUp};
+ghost use Rattle.cluster_service.specs.Steps.{CarriesOn, HandsOver, begun_in};
 
 use crate::client::Client;
 use crate::gate::Gate;
@@ -118,8 +120,8 @@ impl<N: Stepper + Drop, G: Gate + Drop, R: Wait + Clock> Worker<'_, N, G, R> {
         }
     }
 
-    /// Takes the step of a datagram. Where a round waits for no living peer after it, takes the step
-    /// of that round, whose time is over then.
+    /// Takes the step of a datagram. Where a round waits for no living peer after it, takes the
+    /// step of that round, whose time is over then.
     fn take_message(&mut self, udp: Udp, from: Address, octets: &[u8]) -> Option<Turn>
         ensures { TakesMessage N.takes udp from octets.now self.old.seated.node
             self.new.seated.node result }

@@ -3,6 +3,7 @@ ghost use Rattle.std.specs.Prelude.{IsTrue};
 ghost use Rattle.http_writing.specs.Name.{is_name as names_cache};
 
 use crate::delivery::{Delivered, Delivery};
+use crate::lingering::Lingering;
 use crate::streams::Streams;
 use mio::{Registry, Token};
 use node_rules::{Serve, Served};
@@ -20,16 +21,12 @@ const MOST_NOTED: usize = 1024;
 /// How many connections are told at a poll at most that they are refused.
 const MOST_REFUSED: usize = 256;
 
-/// How many connections stay open behind their responses until their clients close them, at most.
-/// Further ones are closed once their response is written.
-const MOST_LINGERING: usize = 256;
-
 /// The responses under way, each under a key.
 #[derive(Drop)]
 pub(crate) struct Deliveries {
     under_way: Slab<Delivery>,
-    /// How many of them linger.
-    lingering: usize,
+    /// How many of them linger, or will once they are written.
+    lingering: Lingering,
     ready: Vec<usize>,
     /// Those that may go on at once after they have gone on.
     again: Vec<usize>,
@@ -48,10 +45,10 @@ impl Deliveries {
     ) -> Result<Deliveries, AllocError> {
         Ok(Deliveries {
             under_way: Slab::new(alloc),
-            lingering: 0,
+            lingering: Lingering::new(),
             ready: Vec::with_capacity(alloc, MOST_NOTED)?,
             again: Vec::new(alloc),
-            kept: Vec::with_capacity(alloc, 16_384)?,
+            kept: Delivery::buffer(alloc)?,
             first_token,
             patience,
         })
@@ -63,40 +60,45 @@ impl Deliveries {
         Ok(self.ready.push(key)?)
     }
 
-    /// Goes on with a response, and keeps it until its client takes more. Where 4,096 are under way,
-    /// or there is no memory, its connection is closed.
+    /// Goes on with a response, and keeps it until its client takes more. Where 4,096 are under
+    /// way, or there is no memory, its connection is closed. One that would linger behind 256
+    /// others is closed once it is written, also where a worker has written it.
     pub(crate) fn add(&mut self, registry: &Registry, mut delivery: Delivery, via: &[u8])
         requires { IsTrue (names_cache via.now) }
     {
-        if self.lingering >= MOST_LINGERING {
+        if delivery.lingers() && !self.lingering.begin() {
             delivery.set_short();
         }
-        let delivered = delivery.go_on(&mut self.kept, via);
-        if delivered == Delivered::Ended || self.under_way.len() >= MOST_DELIVERIES {
-            return;
-        }
         let lingers = delivery.lingers();
-        let Ok(key) = self.under_way.insert(delivery) else {
-            return;
-        };
-        self.lingering = self.lingering.saturating_add(usize::from(lingers));
-        self.note_more(key, delivered);
-        let token = Token(self.first_token.saturating_add(key));
-        let is_told = match self.under_way.get_mut(key) {
-            Some(delivery) => delivery.register(registry, token).is_ok(),
-            None => true,
-        };
-        if !is_told {
-            self.remove(key);
+        let delivered = delivery.go_on(&mut self.kept, via);
+        let is_kept = delivered != Delivered::Ended && self.keep(registry, delivery, delivered);
+        if lingers && !is_kept {
+            self.lingering.end();
+        }
+    }
+
+    /// Keeps a response until its client takes more. Returns whether it is kept: it is closed where
+    /// 4,096 are under way, the poll does not take it, or there is no memory.
+    fn keep(&mut self, registry: &Registry, mut delivery: Delivery, delivered: Delivered) -> bool {
+        let token = Token(self.first_token.saturating_add(self.under_way.vacant_key()));
+        if self.under_way.len() >= MOST_DELIVERIES || delivery.register(registry, token).is_err() {
+            return false;
+        }
+        match self.under_way.insert(delivery) {
+            Ok(key) => {
+                self.note_more(key, delivered);
+                true
+            }
+            Err(_) => false,
         }
     }
 
     /// Closes the connection of the response under this key.
     fn remove(&mut self, key: usize) {
         if let Some(delivery) = self.under_way.try_remove(key) {
-            self.lingering = self
-                .lingering
-                .saturating_sub(usize::from(delivery.lingers()));
+            if delivery.lingers() {
+                self.lingering.end();
+            }
         }
     }
 
@@ -163,7 +165,8 @@ impl Deliveries {
         swap(&mut self.ready, &mut self.again);
     }
 
-    /// Closes the connections whose clients take too little.
+    /// Closes the connections whose clients take too little, and those that have lingered for five
+    /// seconds.
     pub(crate) fn end_late(&mut self, now: Instant) {
         if self.under_way.is_empty() {
             return;
@@ -174,19 +177,6 @@ impl Deliveries {
                 None => false,
             };
             if is_late {
-                self.remove(key);
-            }
-        }
-    }
-
-    /// Closes the connections whose responses are written.
-    pub(crate) fn end_written(&mut self) {
-        for key in 0..MOST_DELIVERIES {
-            let is_written = match self.under_way.get(key) {
-                Some(delivery) => delivery.is_written(),
-                None => false,
-            };
-            if is_written {
                 self.remove(key);
             }
         }

@@ -1,12 +1,14 @@
 //! A response that its client has not taken whole.
-ghost use Rattle.std.specs.Prelude.{◌≡◌, IsTrue};
+ghost use Rattle.std.specs.Prelude.{◌≡◌, ◌≤◌, [], IsTrue, IfOk};
+ghost use Rattle.std.specs.Vec.{vec_capacity};
 ghost use Rattle.http_writing.specs.Name.{is_name as names_cache};
 
-use crate::outgoing::Outgoing;
+use crate::outgoing::{KEPT, Outgoing};
 use mio::net::TcpStream;
 use mio::{Interest, Registry, Token};
 use node_http::finish;
 use node_rules::Serve;
+use std::alloc::{AllocError, Global};
 use std::io::{self, ErrorKind, Read, Write};
 use std::net::Shutdown;
 use std::time::{Duration, Instant};
@@ -16,6 +18,9 @@ const LEAST: u128 = 1024;
 
 /// How many pieces of what a client sends after its request are read, and dropped, at once.
 const MOST_DROPPED: u32 = 64;
+
+/// How many seconds a connection lingers at most.
+const MOST_LINGERED: u64 = 5;
 
 /// How a delivery stands.
 #[derive(Clone, Copy, Debug, PartialEq, Eq)]
@@ -36,15 +41,26 @@ pub struct Delivery {
     sent: usize,
     lingers: bool,
     is_written: bool,
+    /// Since when it has lingered, as far as a look for late ones has found.
+    lingers_since: Option<Instant>,
     patience: Duration,
     until: Instant,
     sent_before: usize,
 }
 
 impl Delivery {
+    /// A buffer for the short pieces of one response at a time. It has room for all that is kept at
+    /// once, so that writing takes no more memory. `AllocError` comes where there is none for it.
+    pub fn buffer(alloc: Global) -> Result<Vec<u8>, AllocError>
+        ensures empty { IfOk result (λ buffer. buffer.items ≡ []) }
+        ensures room { IfOk result (λ buffer. 16384 ≤ vec_capacity buffer) }
+    {
+        Vec::with_capacity(alloc, KEPT)
+    }
+
     /// A response from its beginning, which begins at this moment. `lingers` where its client may
-    /// still send, since its request was not read to the end. After `patience`, and again after each
-    /// such time, a client that has taken fewer than 1,024 octets a second of it is given up.
+    /// still send, since its request was not read to the end. After `patience`, and again after
+    /// each such time, a client that has taken fewer than 1,024 octets a second of it is given up.
     pub fn new(
         stream: TcpStream,
         serve: Serve<()>,
@@ -63,6 +79,7 @@ impl Delivery {
             sent: 0,
             lingers,
             is_written: false,
+            lingers_since: None,
             patience,
             until: now.checked_add(patience).unwrap_or(now),
             sent_before: 0,
@@ -73,8 +90,9 @@ impl Delivery {
     /// `kept` is where short pieces are kept meanwhile.
     ///
     /// Once all is written it has ended. But where the client may still send, the sending side is
-    /// closed first, and what comes is read and dropped until the client closes its side: if the
-    /// connection were closed while it sends, it might lose the response (RFC 9112, section 9.6).
+    /// closed first, and what comes is read and dropped until the client closes its side, for five
+    /// seconds at most: if the connection were closed while it sends, it might lose the response
+    /// (RFC 9112, section 9.6).
     pub fn go_on(&mut self, kept: &mut Vec<u8>, via: &[u8]) -> Delivered
         requires { IsTrue (names_cache via.now) }
     {
@@ -96,17 +114,17 @@ impl Delivery {
     /// send.
     fn end(&mut self) -> Delivered {
         self.is_written = true;
+        if self.lingers && self.stream.shutdown(Shutdown::Write).is_err() {
+            return Delivered::Ended;
+        }
+        self.drop_rest()
+    }
+
+    /// Reads and drops what the client still sends, where the connection lingers.
+    fn drop_rest(&mut self) -> Delivered {
         if !self.lingers {
             return Delivered::Ended;
         }
-        match self.stream.shutdown(Shutdown::Write) {
-            Ok(()) => self.drop_rest(),
-            Err(_) => Delivered::Ended,
-        }
-    }
-
-    /// Reads and drops what the client still sends.
-    fn drop_rest(&mut self) -> Delivered {
         let mut piece = [0; 1024];
         for _ in 0..MOST_DROPPED {
             match self.stream.read(&mut piece) {
@@ -125,14 +143,9 @@ impl Delivery {
         self.lingers
     }
 
-    /// Has the connection be closed once the response is written.
+    /// Has the connection be closed once the response is written, also where it is written already.
     pub(crate) fn set_short(&mut self) {
         self.lingers = false;
-    }
-
-    /// Whether all of it is written: it only waits for its client to close its side.
-    pub(crate) fn is_written(&self) -> bool {
-        self.is_written
     }
 
     /// Has a poll tell, under this token, when it may go on.
@@ -141,9 +154,20 @@ impl Delivery {
         registry.register(&mut self.stream, token, interest)
     }
 
+    /// Whether its connection has lingered for five seconds since this was first asked.
+    fn has_lingered(&mut self, now: Instant) -> bool {
+        let since = self.lingers_since.unwrap_or(now);
+        self.lingers_since = Some(since);
+        now.saturating_duration_since(since).as_secs() >= MOST_LINGERED
+    }
+
     /// Whether its client takes it too slowly at this moment: the time for it has passed, since it
-    /// began or since it was last late, in which fewer than 1,024 octets a second were taken.
+    /// began or since it was last late, in which fewer than 1,024 octets a second were taken. Once
+    /// it is written: whether its connection has lingered for five seconds.
     pub(crate) fn is_late(&mut self, now: Instant) -> bool {
+        if self.is_written {
+            return self.has_lingered(now);
+        }
         if now < self.until {
             return false;
         }
@@ -151,6 +175,6 @@ impl Delivery {
         let least = self.patience.as_millis().saturating_mul(LEAST) / 1000;
         self.sent_before = self.sent;
         self.until = now.checked_add(self.patience).unwrap_or(now);
-        self.is_written || taken < least
+        taken < least
     }
 }

@@ -1,6 +1,7 @@
 //! The fetches that are under way, and those that wait for their turn.
-ghost use Rattle.std.specs.Prelude.{IsTrue};
+ghost use Rattle.std.specs.Prelude.{◌≡◌, IsTrue};
 ghost use Rattle.http_writing.specs.Name.{is_name as names_cache};
+ghost use Rattle.cluster_sockets.specs.Counts.{gets_place as may_have_one};
 
 use crate::at_once::AtOnce;
 use cluster_fetch::{Fetch, Fetched, Fetching};
@@ -37,8 +38,18 @@ struct Placed {
     line: usize,
 }
 
+/// Whether an address gets one fetch more that has this many under way: fewer than it may have at
+/// most, and fewer than places are free. So each address that does not answer leaves half of the
+/// places that it finds to others.
+fn gets_place(most: u64, free: u64, own: u64) -> bool
+    ensures { result ≡ may_have_one most free own }
+{
+    own < most.min(free)
+}
+
 /// The fetches of a node. Each address has a line of its own, so one that does not answer holds up
-/// its own fetches alone. Where all 1,024 places are taken, the lines take turns.
+/// its own fetches alone. Of the 1,024 places an address gets one more only while more are free
+/// than it has. The lines take turns.
 #[derive(Drop)]
 pub(crate) struct Fetches {
     alloc: Global,
@@ -141,10 +152,9 @@ impl Fetches {
 
     /// Whether one more connection may be opened to the address of this line.
     fn has_room(&self, place: usize) -> bool {
+        let free = MOST_FETCHES.saturating_sub(self.under_way.len()) as u64;
         match self.lines.get(place) {
-            Some(line) => {
-                line.under_way < self.most_of_address && self.under_way.len() < MOST_FETCHES
-            }
+            Some(line) => gets_place(self.most_of_address, free, line.under_way),
             None => false,
         }
     }
@@ -168,13 +178,13 @@ impl Fetches {
         }
     }
 
-    /// Keeps a fetch that has begun. It comes back as one that has failed where the poll does not
-    /// take it, or there is no memory.
+    /// Keeps a fetch that has begun. It comes back as one that has failed, by no fault of the other
+    /// side, where the poll does not take it, or there is no memory.
     fn keep(&mut self, registry: &Registry, mut placed: Placed) -> Option<Fetched> {
         let token = Token(self.first_token.saturating_add(self.under_way.vacant_key()));
         let line = placed.line;
         if placed.fetching.register(registry, token).is_err() {
-            return Some(placed.fetching.into_fetched(None));
+            return Some(placed.fetching.into_lacked());
         }
         match self.under_way.insert(placed) {
             Ok(_) => {
@@ -183,7 +193,7 @@ impl Fetches {
                 }
                 None
             }
-            Err(failed) => Some(failed.value.fetching.into_fetched(None)),
+            Err(failed) => Some(failed.value.fetching.into_lacked()),
         }
     }
 
@@ -252,8 +262,8 @@ impl Fetches {
         self.begin(rt, registry, place, fetch, via, now)
     }
 
-    /// Goes on with what may go on, until a fetch has ended, and gives that one. There is none where
-    /// all wait.
+    /// Goes on with what may go on, until a fetch has ended, and gives that one. There is none
+    /// where all wait.
     pub(crate) fn next_ended<A: AtOnce, R: Net + Wait>(
         &mut self,
         rt: &R,

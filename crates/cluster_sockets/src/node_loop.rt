@@ -129,8 +129,8 @@ impl NodeLoop {
         Ok((opened, senders))
     }
 
-    /// Where other threads leave errands to the loop. `AllocError` comes where one more owner cannot
-    /// be counted.
+    /// Where other threads leave errands to the loop. `AllocError` comes where one more owner
+    /// cannot be counted.
     pub fn inbox(&self) -> Result<Arc<Inbox, Global>, AllocError> {
         Arc::try_clone(&self.inbox)
     }
@@ -260,8 +260,8 @@ impl NodeLoop {
         self.streams.put_accepted(rt, registry, jobs, pass, now)
     }
 
-    /// Tells those whose connections are refused, writes responses on, and ends those that are taken
-    /// too slowly.
+    /// Tells those whose connections are refused, writes responses on, and ends those that are
+    /// taken too slowly.
     fn go_on(&mut self, now: Instant) {
         let registry = self.poll.registry();
         let via = self.via.as_slice();
@@ -276,8 +276,8 @@ impl NodeLoop {
         }
     }
 
-    /// Deals with the next errand. Returns a fetch that has failed at once, and whether there was an
-    /// errand.
+    /// Deals with the next errand. Returns a fetch that has failed at once, and whether there was
+    /// an errand.
     fn do_errand<A: AtOnce, R: Net + Wait>(
         &mut self,
         rt: &R,
@@ -317,8 +317,8 @@ impl NodeLoop {
         }
     }
 
-    /// Deals with what is in the inbox, and puts the fetches that have ended. One that finds no room
-    /// is owed: it is put first the next time.
+    /// Deals with what is in the inbox, and puts the fetches that have ended. One that finds no
+    /// room is owed: it is put first the next time.
     fn put_fetches<Q: Run, A: AtOnce, R: Net + Wait>(
         &mut self,
         rt: &R,
@@ -355,15 +355,15 @@ impl NodeLoop {
         pass
     }
 
-    /// Writes the responses that are under way or in the inbox on, for five seconds at most, and
-    /// does nothing else. Ends once all are written; then no connection lingers.
+    /// Writes the responses that are under way or in the inbox on, and has their connections linger
+    /// where their clients may still send, for five seconds at most in all, and does nothing else.
+    /// Ends once none is left.
     pub fn finish<R: Wait + Clock>(&mut self, rt: &R) {
         let Ok(begun) = Instant::now(rt) else {
             return;
         };
         for _ in 0..MOST_LAST_POLLS {
             self.take_deliveries(rt);
-            self.deliveries.end_written();
             let is_over = match Instant::now(rt) {
                 Ok(now) => now.saturating_duration_since(begun).as_secs() >= LAST,
                 Err(_) => true,

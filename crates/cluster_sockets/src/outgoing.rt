@@ -6,11 +6,11 @@ use mio::net::TcpStream;
 use std::io::{self, Error, ErrorKind, Write};
 
 /// How many octets are kept at most before they are sent.
-const KEPT: usize = 16_384;
+pub(crate) const KEPT: usize = 16_384;
 
-/// Writes a response from a place on: what was sent before is passed over. Short pieces are kept and
-/// sent together. Where the socket takes no more, a call fails, and `is_blocked` tells so; `sent`
-/// tells how far the response has come.
+/// Writes a response from a place on: what was sent before is passed over. Short pieces are kept
+/// and sent together. Where the socket takes no more, a call fails, and `is_blocked` tells so;
+/// `sent` tells how far the response has come.
 #[derive(Drop)]
 pub(crate) struct Outgoing<'w> {
     stream: &'w mut TcpStream,

@@ -1,6 +1,6 @@
 //! How many of the connections that wait come from each address.
 ghost use Rattle.std.specs.Prelude.{◌≡◌, ◌<◌, ◌+◌, true, false, pred};
-ghost use Rattle.cluster_sockets.specs.Counts.{count_at};
+ghost use Rattle.cluster_sockets.specs.Counts.{count_at, goes_first};
 
 use std::alloc::Global;
 use std::collections::BTreeMap;
@@ -24,6 +24,18 @@ impl PerAddress {
         ensures { result ≡ count_at self.now.counts ip }
     {
         self.counts.get(&ip).copied().unwrap_or(0)
+    }
+
+    /// Whose connection goes where no more may wait and one more comes from this address: its own
+    /// where `most` of its connections wait, and anybody's (`None`) where fewer do.
+    pub(crate) fn goes_first(&self, most: u32, ip: u32) -> Option<u32>
+        ensures { result ≡ goes_first most (count_at self.now.counts ip) ip }
+    {
+        if self.count(ip) < most {
+            None
+        } else {
+            Some(ip)
+        }
     }
 
     /// Counts one more connection of an address. Returns false, and counts nothing, where there is

@@ -138,8 +138,8 @@ impl Streams {
         !self.refused.is_empty()
     }
 
-    /// Takes out a connection that is refused, and that has not been told so, and whether its client
-    /// has sent something.
+    /// Takes out a connection that is refused, and that has not been told so, and whether its
+    /// client has sent something.
     pub(crate) fn next_refused(&mut self) -> Option<(TcpStream, bool)> {
         self.refused.pop_front()
     }
@@ -278,8 +278,8 @@ impl Streams {
         }
     }
 
-    /// Refuses those connections from an IPv4 address that have waited longest, two at most, if they
-    /// have waited for a second.
+    /// Refuses those connections from an IPv4 address that have waited longest, two at most, if
+    /// they have waited for a second.
     fn refuse_idle(&mut self, registry: &Registry, ip: u32, now: Instant) {
         for _ in 0..2 {
             match self.oldest(Some(ip)) {
@@ -290,11 +290,13 @@ impl Streams {
     }
 
     /// Makes room for a connection that is to wait. Where 1,024 wait, the one that has waited
-    /// longest is refused. Where as many wait from its address as may, two that have waited for a
-    /// second are: requests of connections that come at once may take a moment.
+    /// longest is refused: of its address, if as many wait from there as may, or else of all. Where
+    /// as many wait from its address as may, two that have waited for a second are: requests of
+    /// connections that come at once may take a moment.
     fn make_room(&mut self, registry: &Registry, ip: u32, now: Instant) {
         if self.heads.len() >= MOST_HEADS {
-            if let Some(key) = self.oldest(None) {
+            let whose = self.per_address.goes_first(self.most_of_address, ip);
+            if let Some(key) = self.oldest(whose) {
                 self.refuse_at(registry, key);
             }
         }

@@ -8,8 +8,8 @@
 //! `TimedOut`. What is written is kept, up to 16,384 octets, until there is no space for the next
 //! piece or the caller calls `flush`.
 //!
-//! Order of reading: `src/timed.rt` (reading and writing until a deadline), `src/stream_poll.rt` (the
-//! poll of one thread).
+//! Order of reading: `src/timed.rt` (reading and writing until a deadline), `src/stream_poll.rt`
+//! (the poll of one thread).
 //!
 //! The crate uses sockets that are passed in, opens a poll instance, and reads the clock.
 //!

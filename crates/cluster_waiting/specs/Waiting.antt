@@ -1,5 +1,6 @@
 -- What waits at a node: clients, early answers, rounds of queries, and errands.
-use Rattle.std.specs.Prelude.{◌≡◌, ◌≤◌, ◌<◌, ◌⊎◌, ℕ, Bool, true, false, not, ◌==◌, max, filter, List, [], ◌∷◌, ◌++◌, length, All, Option, Some, None, IsSome, Result, Ok, MatchResult}
+use Rattle.std.specs.Prelude.{◌≡◌, ◌≤◌, ◌<◌, ◌⊎◌, ℕ, Bool, true, false, not, ◌==◌, max, filter, List, [], ◌∷◌, ◌++◌, length, All, Option, Some, None, IsSome}
+use Rattle.std.specs.Prelude.{Result, Ok, MatchResult}
 use Rattle.std.specs.Ordering.{nat_cmp}
 use Rattle.std.specs.Map.{lookup, remove_entry}
 use Rattle.std.specs.BTreeMap.{is_at, insert_entry}

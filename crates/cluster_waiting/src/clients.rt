@@ -1,6 +1,7 @@
 //! Clients that wait for their answers, and answers that came before their clients.
 ghost use Rattle.std.specs.Prelude.{◌≡◌, ◌≤◌, [], length, option_map, MatchOption, MatchResult};
-ghost use Rattle.cluster_waiting.specs.Waiting.{Answers, IsPut, IsHandedBack, Leaves, TakesClient, found_at, without};
+ghost use Rattle.cluster_waiting.specs.Waiting.{Answers, IsPut, IsHandedBack, Leaves, TakesClient};
+ghost use Rattle.cluster_waiting.specs.Waiting.{found_at, without};
 
 use crate::fault::{HandedBack, TableFault};
 use std::alloc::Global;

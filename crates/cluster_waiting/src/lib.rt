@@ -1,5 +1,5 @@
-//! What the threads of a node share beside the node: waiting clients, early answers, waiting rounds,
-//! the deadlines of requests, how its peers answer, and queues of errands.
+//! What the threads of a node share beside the node: waiting clients, early answers, waiting
+//! rounds, the deadlines of requests, how its peers answer, and queues of errands.
 //!
 //! One thread may take a request and another take the step that serves it. [`WaitingClients`] is
 //! where the two meet: the client is left there under the block of serials of its request, the
@@ -7,20 +7,21 @@
 //! rounds of queries that wait for replies, in the order of their deadlines; the deadlines of
 //! requests are kept in the same way, by their blocks. [`Outstanding`] says which peers each round
 //! waits for, and [`Peers`] which of them are thought dead. [`WaitTables`] has all of it but the
-//! peers, each part under a lock of its own; [`PeerTable`] has the peers under a lock. [`Queue`] holds what one thread leaves to another.
+//! peers, each part under a lock of its own; [`PeerTable`] has the peers under a lock. [`Queue`]
+//! holds what one thread leaves to another.
 //!
 //! Order of reading: `specs/Waiting.antt`, `specs/Peers.antt` (all definitions); `src/clients.rt`,
 //! `src/rounds.rt`, `src/outstanding.rt`, `src/peers.rt`, `src/queue.rt` (the types that contracts
 //! see); `src/wait_tables.rt`, `src/peer_table.rt` (the tables under their locks); `src/fault.rt`.
 //!
-//! The crate waits at its own locks, and touches no socket, file or clock: its caller passes moments
-//! in.
+//! The crate waits at its own locks, and touches no socket, file or clock: its caller passes
+//! moments in.
 //!
 //! A contract sees no value under a lock. So everything is said of `WaitingClients`, `Rounds`,
-//! `Outstanding`, `Peers` and `Queue`, and each function of `WaitTables` is one call of theirs under the lock,
-//! or two, each under its own. No contract says
-//! that memory is there, so a body that always answers `NoMemory` although it is there meets the
-//! contracts; that calls succeed with ample memory is tested.
+//! `Outstanding`, `Peers` and `Queue`, and each function of `WaitTables` is one call of theirs
+//! under the lock, or two, each under its own. No contract says that memory is there, so a body
+//! that always answers `NoMemory` although it is there meets the contracts; that calls succeed with
+//! ample memory is tested.
 #![tactic(auto)]
 
 mod clients;

@@ -30,8 +30,8 @@ impl PeerTable {
         }
     }
 
-    /// Whom a question by this protocol to this address has a round wait for: the peer that is asked
-    /// there, or nobody where it is thought dead.
+    /// Whom a question by this protocol to this address has a round wait for: the peer that is
+    /// asked there, or nobody where it is thought dead.
     pub fn waits_for<R: Wait>(&self, rt: &R, by: Udp, at: Address) -> u32 {
         let peers = self.peers.lock(rt);
         match peers.place(by, at) {

@@ -1,6 +1,8 @@
 //! The peers that a node asks, and how they answer.
 ghost use Rattle.std.specs.Prelude.{◌≡◌, ◌++◌, ◌∷◌, [], OnOk, OnErr};
-ghost use Rattle.cluster_waiting.specs.Peers.{is_dead as is_thought_dead, is_dead_at, fresh, changed, missed as missed_one, failed as failed_one, answered as answered_one};
+ghost use Rattle.cluster_waiting.specs.Peers.{is_dead as is_thought_dead, is_dead_at, fresh};
+ghost use Rattle.cluster_waiting.specs.Peers.{changed, missed as missed_one, failed as failed_one};
+ghost use Rattle.cluster_waiting.specs.Peers.{answered as answered_one};
 
 use std::alloc::{AllocError, Global};
 use std::marker::Model;
@@ -83,8 +85,8 @@ impl Peers {
         }
     }
 
-    /// Adds a peer that has left nothing unanswered. `AllocError` comes where there are 31, or where
-    /// there is no memory; nothing changes then.
+    /// Adds a peer that has left nothing unanswered. `AllocError` comes where there are 31, or
+    /// where there is no memory; nothing changes then.
     pub fn add(&mut self, id: u8, by: Udp, at: Address) -> Result<(), AllocError>
         ensures ok { OnOk result (self.new ≡ self.old ++ fresh id by at ∷ []) }
         ensures err { OnErr result (self.new ≡ self.old) }

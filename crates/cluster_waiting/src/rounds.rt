@@ -1,5 +1,6 @@
 //! Rounds of queries that wait for their answers.
-ghost use Rattle.std.specs.Prelude.{◌≡◌, ◌≤◌, ◌<◌, ◌++◌, ◌∷◌, [], length, max, MatchOption, OnOk, OnErr};
+ghost use Rattle.std.specs.Prelude.{◌≡◌, ◌≤◌, ◌<◌, ◌++◌, ◌∷◌, [], length, max, MatchOption, OnOk};
+ghost use Rattle.std.specs.Prelude.{OnErr};
 ghost use Rattle.cluster_waiting.specs.Waiting.{IsDue, NoneIsDue, added, rounds_without};
 
 use std::alloc::{AllocError, Global};

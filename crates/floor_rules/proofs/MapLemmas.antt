@@ -1,6 +1,7 @@
 -- A tree of texts and numbers as a finite map. Both are sorted by the same order, so a look-up and
 -- an insertion do the same in either; two maps with the same look-ups are one.
-use Rattle.std.proofs.Common.{◌≡◌, inl, ℕ, ◌+◌, Bool, true, false, cond, List, [], ◌∷◌, map, length, Some, None, Option, refl, sym, ap, ◌∙◌, is_some, add-one, max, unwrap_or, ◌≤◌, ◌<◌, arith}
+use Rattle.std.proofs.Common.{◌≡◌, ℕ, ◌+◌, Bool, true, false, cond, List, [], ◌∷◌, map, length, Some, None, Option, refl, sym, ap, ◌∙◌, is_some, add-one, max}
+use Rattle.std.proofs.Common.{unwrap_or, ◌≤◌, arith}
 use Rattle.std.specs.List.{AllByRecursion, AllZip}
 use Rattle.std.specs.List.Sorted.{IsStrictlySortedBy}
 use Rattle.std.specs.declared.alloc.Global.{Global}
@@ -13,9 +14,10 @@ use Rattle.std.specs.Ordering.{nat_cmp, is_eq, match_ordering}
 use Rattle.std.specs.declared.cmp.Ordering.{Ordering}
 use Rattle.std.specs.FinMap.Entries.{put, by_order}
 use Rattle.std.specs.Cmp.Lexicographic.{slice_cmp, nat_list_cmp_total}
-use Rattle.std.specs.FinMap.{empty, get, insert, len, len-entries, entries, from_entries, find, get-from_entries, get-insert, get-entries, entries-insert, len-insert, len-empty, same_map, nat_cmp-IsAntisymmetric, slice_cmp-IsAntisymmetric}
+use Rattle.std.specs.FinMap.{empty, get, insert, len, len-entries, entries, from_entries, find, get-from_entries, get-insert, get-entries, entries-insert}
+use Rattle.std.specs.FinMap.{len-insert, len-empty, same_map, nat_cmp-IsAntisymmetric, slice_cmp-IsAntisymmetric}
 use Rattle.std.proofs.lemmas.Map.Keys.{sorted_head, sorted_tail}
-use Rattle.floor_rules.specs.Floors.{FloorMap, HasRoom, floor, raised, seen, greatest}
+use Rattle.floor_rules.specs.Floors.{FloorRows, FloorTable, row, raised, raised_row, greatest, greatest_row}
 use Rattle.floor_rules.proofs.Urls.{same_url, equal_urls, own_url, swapped}
 
 abbrev pub Url : Type 0
@@ -30,7 +32,7 @@ url_cmp a b = slice_cmp nat_cmp a.items b.items
 abbrev pub url_entry : Url × ℕ → List ℕ × ℕ
 url_entry entry = (entry.0.items, entry.1)
 
-abbrev pub map_of : Rows → FloorMap
+abbrev pub map_of : Rows → FloorRows
 map_of rows = from_entries (map url_entry rows.entries)
 
 abbrev pub found_in : Rows → List ℕ → Option ℕ
@@ -118,8 +120,8 @@ greatest_put (e ∷ entries) k n low = go (slice_cmp nat_cmp k e.0) low (greates
     go Equal h more = above_next e.1 n (greatest (map (λ (x : List ℕ × ℕ). x.1) entries)) h
     go Greater h more = moved _ _ n (more h) e.1
 
-pub seen_set : (m : FloorMap) (k : List ℕ) (n : ℕ) → floor m k ≤ n → seen (insert m k n) ≡ max (seen m) n
-seen_set m k n low = ap (λ es. greatest (map (λ (e : List ℕ × ℕ). e.1) es)) (entries-insert nat_list_cmp_total m k n)
+pub greatest_set : (m : FloorRows) (k : List ℕ) (n : ℕ) → row m k ≤ n → greatest_row (insert m k n) ≡ max (greatest_row m) n
+greatest_set m k n low = ap (λ es. greatest (map (λ (e : List ℕ × ℕ). e.1) es)) (entries-insert nat_list_cmp_total m k n)
     ∙ greatest_put (entries m) k n (rw (← get-entries m k) low)
 
 above : (k : Url) (entries : List (Url × ℕ)) → AllByRecursion (λ y. url_cmp k y ≡ Less) (map (λ (e : Url × ℕ). e.0) entries)
@@ -132,30 +134,26 @@ pub length_is : (entries : List (Url × ℕ)) → IsStrictlySortedBy url_cmp (ma
 length_is [] up = len-empty (slice_cmp nat_cmp) ℕ
 length_is (e ∷ entries) up =
     let rest = map (λ (x : Url × ℕ). x.0) entries in
-    let m : FloorMap = from_entries (map url_entry entries) in
+    let m : FloorRows = from_entries (map url_entry entries) in
     let none : get m e.0.items ≡ None = get-from_entries nat_list_cmp_total (map url_entry entries) e.0.items
     ∙ above e.0 entries (sorted_head url_cmp e.0 rest up) in
     len-insert nat_list_cmp_total m e.0.items e.1 ∙ ap (λ (o : Option ℕ). cond (is_some o) (len m) (len m + 1)) none
     ∙ ap (λ n. n + 1) (length_is entries (sorted_tail url_cmp e.0 rest up)) ∙ add-one (length entries)
 
-pub some_of : (o : Option ℕ) (n : ℕ) → 1 ≤ n → n ≤ unwrap_or o 0 → o ≡ Some (unwrap_or o 0)
-some_of None n low h = absurd (omega arith)
-some_of (Some m) n low h = refl
-
-kept : (m : FloorMap) (u q : List ℕ) (b : Bool) → same_url q u ≡ b → get m u ≡ Some (floor m u) → cond b (Some (floor m u)) (get m q) ≡ get m q
-kept m u q true is has = sym has ∙ ap (get m) (sym (equal_urls q u is))
-kept m u q false is has = refl
+kept : (m : FloorRows) (u q : List ℕ) (r : ℕ) (b : Bool) → same_url q u ≡ b → get m u ≡ Some r → cond b (Some r) (get m q) ≡ get m q
+kept m u q r true is has = sym has ∙ ap (get m) (sym (equal_urls q u is))
+kept m u q r false is has = refl
 
 -- a number that is no greater changes nothing
-pub raised_same : (m : FloorMap) (u : List ℕ) (n : ℕ) → 1 ≤ n → n ≤ floor m u → raised m u n ≡ m
-raised_same m u n low h =
-    let top : max (floor m u) n ≡ floor m u = omega arith in
-    let has : get m u ≡ Some (floor m u) = some_of (get m u) n low h in
+pub raised_same : (m : FloorRows) (u : List ℕ) (r n : ℕ) → get m u ≡ Some r → n ≤ r → insert m u (max r n) ≡ m
+raised_same m u r n has low =
+    let top : max r n ≡ r = omega arith in
     rw top (same_map nat_list_cmp_total (slice_cmp-IsAntisymmetric nat_cmp-IsAntisymmetric) _ _
-    (λ q. get-insert nat_list_cmp_total m u (floor m u) q ∙ kept m u q (same_url q u) refl has))
+    (λ q. get-insert nat_list_cmp_total m u r q ∙ kept m u q r (same_url q u) refl has))
 
-pub raised_higher : (m : FloorMap) (u : List ℕ) (n : ℕ) → floor m u < n → raised m u n ≡ insert m u n
-raised_higher m u n h = let top : max (floor m u) n ≡ n = omega arith in rw top
+-- nor does it where the key has a row that is no less
+pub raised_kept : (f : FloorTable) (u : List ℕ) (r n : ℕ) → get f.rows u ≡ Some r → n ≤ r → raised f u n ≡ f
+raised_kept f u r n has low = ap (λ o. raised_row o f u n) has ∙ ap (λ rows. record f { rows = rows }) (raised_same f.rows u r n has low)
 
 same_items : (xs ys : List ℕ) → AllZip (λ a b. b ≡ a) xs ys → ys ≡ xs
 same_items [] [] h = refl
@@ -177,8 +175,8 @@ same_entries (x ∷ a) (y ∷ b) h =
 pub cloned : (m n : Rows) → AllZip AreCopies m.entries n.entries → map_of n ≡ map_of m
 cloned m n h = ap (from_entries {R = slice_cmp nat_cmp}) (same_entries m.entries n.entries h)
 
-pub seen_empty : 0 ≡ seen (empty {X = ℕ} {R = slice_cmp nat_cmp})
-seen_empty = ap (λ es. greatest (map (λ (e : List ℕ × ℕ). e.1) es)) (sym (empty_entries))
+pub greatest_empty : 0 ≡ greatest_row (empty {X = ℕ} {R = slice_cmp nat_cmp})
+greatest_empty = ap (λ es. greatest (map (λ (e : List ℕ × ℕ). e.1) es)) (sym (empty_entries))
   where
     no_entries : (es : List (List ℕ × ℕ)) → length es ≡ 0 → es ≡ []
     no_entries [] is = refl
@@ -186,7 +184,3 @@ seen_empty = ap (λ es. greatest (map (λ (e : List ℕ × ℕ). e.1) es)) (sym 
 
     empty_entries : entries (empty {X = ℕ} {R = slice_cmp nat_cmp}) ≡ []
     empty_entries = no_entries _ (sym (len-entries (empty {X = ℕ} {R = slice_cmp nat_cmp})) ∙ len-empty (slice_cmp nat_cmp) ℕ)
-
--- a key with a number has room
-pub room_there : (m : FloorMap) (u : List ℕ) (n : ℕ) → 1 ≤ n → n ≤ floor m u → HasRoom m u
-room_there m u n low h = inl (rw (some_of (get m u) n low h) refl)

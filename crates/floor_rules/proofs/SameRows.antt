@@ -1,6 +1,6 @@
 -- Two trees are the same finite map exactly if their rows are the same. Each tree is strictly
 -- sorted, so the map's entries are its rows in its own order.
-use Rattle.std.proofs.Common.{◌≡◌, ◌↔◌, ℕ, Bool, true, false, cond, ◌&&◌, List, [], ◌∷◌, map, length, nat_eq, eqb-true, refl, sym, ap, ◌∙◌, subst, arith}
+use Rattle.std.proofs.Common.{◌≡◌, ℕ, Bool, true, false, ◌&&◌, List, [], ◌∷◌, map, length, nat_eq, eqb-true, refl, sym, ap, ◌∙◌, subst, arith}
 use lib.Pointwise.{pointwise}
 use Rattle.std.specs.List.{AllByRecursion}
 use Rattle.std.specs.List.Sorted.{IsStrictlySortedBy}
@@ -9,9 +9,9 @@ use Rattle.std.specs.declared.cmp.Ordering.TheVariants.{Less}
 use Rattle.std.specs.Ordering.{nat_cmp}
 use Rattle.std.specs.FinMap.Entries.{put, by_order}
 use Rattle.std.specs.Cmp.Lexicographic.{slice_cmp, nat_list_cmp_total}
-use Rattle.std.specs.FinMap.{empty, insert, entries, from_entries, len-entries, len-empty, entries-insert}
+use Rattle.std.specs.FinMap.{empty, entries, from_entries, len-entries, len-empty, entries-insert}
 use Rattle.std.proofs.lemmas.Map.Keys.{sorted_head, sorted_tail}
-use Rattle.floor_rules.specs.Floors.{FloorMap}
+use Rattle.floor_rules.specs.Floors.{FloorRows}
 use Rattle.floor_rules.proofs.MapLemmas.{Url, Rows, url_cmp, url_entry, map_of}
 
 no_entries : (es : List (List ℕ × ℕ)) → length es ≡ 0 → es ≡ []
@@ -32,13 +32,13 @@ pub rows_are : (es : List (Url × ℕ)) → IsStrictlySortedBy url_cmp (map (λ 
 rows_are [] up = no_entries _ (sym (len-entries (empty {X = ℕ} {R = slice_cmp nat_cmp})) ∙ len-empty (slice_cmp nat_cmp) ℕ)
 rows_are (e ∷ es) up =
     let rest = map (λ (x : Url × ℕ). x.0) es in
-    let m : FloorMap = from_entries (map url_entry es) in
+    let m : FloorRows = from_entries (map url_entry es) in
     entries-insert nat_list_cmp_total m e.0.items e.1 ∙ ap (λ l. put (slice_cmp nat_cmp) e.0.items e.1 l) (rows_are es (sorted_tail url_cmp e.0 rest up))
     ∙ put_first e.0 e.1 es (sorted_head url_cmp e.0 rest up)
 
 pub same_rows : (m n : Rows) → IsStrictlySortedBy url_cmp (map (λ (e : Url × ℕ). e.0) m.entries) →
     IsStrictlySortedBy url_cmp (map (λ (e : Url × ℕ). e.0) n.entries) → map_of m ≡ map_of n → map url_entry m.entries ≡ map url_entry n.entries
-same_rows m n up also same = sym (rows_are m.entries up) ∙ ap (λ (f : FloorMap). entries f) same ∙ rows_are n.entries also
+same_rows m n up also same = sym (rows_are m.entries up) ∙ ap (λ (f : FloorRows). entries f) same ∙ rows_are n.entries also
 
 -- Comparing rows
 

@@ -1,3 +1,5 @@
+pub mod Coded
 pub mod Fault
 pub mod Floors
+pub mod Raising
 pub mod Store

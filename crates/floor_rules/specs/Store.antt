@@ -1,11 +1,10 @@
 -- Words for the contract of a store of floors (`FloorStore`).
 use Rattle.std.specs.Prelude.{◌≡◌, ◌⊎◌, ℕ, ◌<◌, ◌-◌, ◌^◌, List}
-use Rattle.floor_rules.specs.Floors.{FloorMap, HasRoom, raised}
+use Rattle.floor_rules.specs.Floors.{FloorTable, raised}
 
--- the floors from before the raise, or from after it if there was room for it [Floor 4]
-abbrev pub IsBeforeOrAfter : FloorMap → List ℕ → ℕ → FloorMap → Type 0
-IsBeforeOrAfter before url number floors = (floors ≡ before)
-    ⊎ (HasRoom before url × (floors ≡ raised before url number))
+-- the floors from before the raise, or from after it [Floor 4]
+abbrev pub IsBeforeOrAfter : FloorTable → List ℕ → ℕ → FloorTable → Type 0
+IsBeforeOrAfter before url number floors = (floors ≡ before) ⊎ (floors ≡ raised before url number)
 
 -- the count of failures has risen, or stands at its maximum [Floor 4]
 abbrev pub HaveRisen : ℕ → ℕ → Type 0

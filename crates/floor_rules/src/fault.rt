@@ -7,10 +7,6 @@ use thiserror::Error;
 /// Why a call on a store of floors fails.
 #[derive(Clone, Copy, Debug, PartialEq, Eq, Error)]
 pub enum FloorFault {
-    /// 65,536 keys have floors, and this key has none. Nothing has changed. Only a raise returns
-    /// it.
-    #[error("no key more can have a number")]
-    FloorsFull,
     /// The store failed, now or earlier. `failures` rose, or stays at its maximum. Open the store
     /// again.
     #[error("the store failed")]
@@ -30,7 +26,6 @@ impl FloorFault {
         ensures { result.now ≡ floor_fault_name self }
     {
         match self {
-            FloorFault::FloorsFull => "FloorsFull",
             FloorFault::StoreFault => "StoreFault",
             FloorFault::BadTable => "BadTable",
             FloorFault::NoMemory => "NoMemory",

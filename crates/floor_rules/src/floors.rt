@@ -1,96 +1,95 @@
-ghost use Rattle.std.specs.Prelude.{◌≡◌, ◌↔◌, ◌≤◌, false, is_some, IsTrue, IfOk, OnOk, OnErr};
-ghost use Rattle.std.specs.FinMap.{empty, get, insert, len};
-ghost use Rattle.floor_rules.specs.Floors.{HasRoom, IsFull, floor, raised, seen};
+//! The floors of all keys.
+ghost use Rattle.std.specs.Prelude.{◌≡◌, ◌≢◌, ◌↔◌, ◌≤◌, ◌<◌, false, None, max, IsTrue, IfOk, OnOk};
+ghost use Rattle.std.specs.Prelude.{OnErr};
+ghost use Rattle.std.specs.FinMap.{get, len};
+ghost use Rattle.floor_rules.specs.Floors.{base_only, floor, new_base, no_floors, raised, row};
+ghost use Rattle.floor_rules.specs.Floors.{seen, with_row};
+ghost use Rattle.floor_rules.specs.Raising.{LowersNone, after};
 
+use crate::rows::Rows;
 use std::alloc::{AllocError, Global};
-use std::collections::BTreeMap;
 use std::marker::Model;
 use url_key::Key;
 
-/// The most keys that a store of floors keeps.
+/// The most rows of a table of floors.
 pub const MOST_ROWS: usize = 65536;
 
-/// The floor of each key that was purged.
-///
-/// A contract sees a finite map from the text of a key to its floor.
+/// What a raise makes of a table of floors.
+#[derive(Clone, Copy, Debug, PartialEq, Eq)]
+pub enum Raising {
+    /// Nothing changes.
+    Nothing,
+    /// The key's row gets this number.
+    Row(u32),
+    /// All rows are dropped, and this is the base.
+    Base(u32),
+}
+
+/// The floors of all keys: the numbers of those keys that have rows, and a base.
 #[derive(Debug, Drop)]
 pub struct Floors {
-    // the floor of each key, by the key's text
-    rows: BTreeMap<Vec<u8>, u32>,
-    // the greatest of these floors, or 0
-    seen: u32,
+    /// The numbers of keys.
+    rows: Rows,
+    /// What the floor of every key is at least.
+    base: u32,
 }
 
 impl Model for Floors {
-    ghost use Rattle.std.specs.Prelude.{◌≡◌, map};
-    ghost use Rattle.std.specs.Coded.{coded_list, coded_ℕ};
-    ghost use Rattle.std.specs.FinMap.{code, from_entries};
-    ghost use Rattle.floor_rules.specs.Floors.{FloorMap, seen as greatest_of};
+    ghost use Rattle.floor_rules.specs.Coded.{floors_code};
+    ghost use Rattle.floor_rules.specs.Floors.{FloorTable};
 
-    ghost Value = { FloorMap };
+    ghost Value = { FloorTable };
 
-    ghost coded = { code (coded_list coded_ℕ) coded_ℕ };
+    ghost coded = { floors_code };
 
-    ghost view = { λ floors. from_entries (map (λ entry. (entry.0.items, entry.1)) floors.rows.entries) };
-
-    ghost invariant = { λ floors. floors.seen ≡ greatest_of (from_entries (map (λ entry. (entry.0.items, entry.1)) floors.rows.entries)) };
+    ghost view = { λ floors. record { rows = floors.rows; base = floors.base } };
 }
 
 impl Floors {
-    /// No key has a floor. Allocates nothing.
+    /// The floor of every key is 0. Allocates nothing.
     pub fn new(alloc: Global) -> Floors
-        ensures { result ≡ empty }
+        ensures { result ≡ no_floors }
     {
         Floors {
-            rows: BTreeMap::new(alloc),
-            seen: 0,
+            rows: Rows::new(alloc),
+            base: 0,
         }
     }
 
-    /// The key's floor, or 0 if it has none. Searches the tree.
+    /// The key's floor: the greater of its number, 0 if it has no row, and the base. Searches the
+    /// tree.
     pub fn floor(&self, key: &Key) -> u32
         ensures { result ≡ floor self.now key.now }
     {
-        match self.rows.get(key.text()) {
-            Some(number) => *number,
-            None => 0,
-        }
+        self.rows.number(key).max(self.base)
     }
 
-    /// The greatest floor of all keys, or 0 if there is none. Searches nothing.
+    /// The base: no floor is less. Takes no memory.
+    pub fn base(&self) -> u32
+        ensures { result ≡ self.now.base }
+    {
+        self.base
+    }
+
+    /// The greatest floor: of all rows and the base. Searches nothing.
     pub fn seen(&self) -> u32
         ensures { result ≡ seen self.now }
     {
-        self.seen
+        self.rows.greatest().max(self.base)
     }
 
-    /// How many keys have a floor.
+    /// How many keys have rows.
     pub fn rows(&self) -> usize
-        ensures { result ≡ len self.now }
+        ensures { result ≡ len self.now.rows }
     {
         self.rows.len()
     }
 
-    /// Whether the key has a floor.
-    pub fn has(&self, key: &Key) -> bool
-        ensures { result ≡ is_some (get self.now key.now) }
-    {
-        self.rows.contains_key(key.text())
-    }
-
-    /// Whether a store may raise the key: it has a floor, or fewer than 65,536 keys have one.
-    pub fn has_room(&self, key: &Key) -> bool
-        ensures yes { IsTrue result → HasRoom self.now key.now }
-        ensures no { result ≡ false → IsFull self.now key.now }
-    {
-        self.rows() < MOST_ROWS || self.has(key)
-    }
-
-    /// Whether the same keys have the same floors in both. Allocates nothing.
+    /// Whether both have the same rows and the same base. Allocates nothing.
     pub fn same(&self, other: &Floors) -> bool
         ensures { IsTrue result ↔ (self.now ≡ other.now) }
     {
-        self.rows.len() == other.rows.len() && self.rows == other.rows
+        self.base == other.base && self.rows.same(&other.rows)
     }
 
     /// A second copy of the floors.
@@ -98,35 +97,84 @@ impl Floors {
         ensures { IfOk result (λ floors. floors ≡ self.now) }
     {
         Ok(Floors {
-            rows: self.rows.clone()?,
-            seen: self.seen,
+            rows: self.rows.copy()?,
+            base: self.base,
         })
     }
 
-    /// Sets the key's floor to the greater of its floor and this number, which is at least 1. If an
-    /// allocation fails, nothing changes. The caller asks `has_room` first; this call does not.
+    /// What a raise of the key to this number makes of the floors: see [`Raising`]. A row that is
+    /// no less stays. A key without a row gets one, unless the base is no less than the number;
+    /// where there are 65,536 rows, the base becomes the greater of the number and the greatest
+    /// floor. Takes no memory.
+    pub fn raising(&self, key: &Key, number: u32) -> Raising
+        ensures after { raised self.now key.now number ≡ after result self.now key.now }
+        ensures row { LowersNone (row self.now.rows key.now) result }
+    {
+        match self.rows.get(key) {
+            Some(row) if number <= row => Raising::Nothing,
+            Some(_) => Raising::Row(number),
+            None if number <= self.base => Raising::Nothing,
+            None if self.rows.len() < MOST_ROWS => Raising::Row(number),
+            None => Raising::Base(number.max(self.seen())),
+        }
+    }
+
+    /// The base after a raise of the key to this number, where it rises, else 0. If it rises, no
+    /// row is left. Takes no memory.
+    pub fn new_base(&self, key: &Key, number: u32) -> u32
+        ensures value { result ≡ new_base self.now key.now number }
+        ensures rises { 0 < result → raised self.now key.now number ≡ base_only result }
+    {
+        match self.raising(key, number) {
+            Raising::Base(base) if self.base < base => base,
+            _ => 0,
+        }
+    }
+
+    /// Adds a row for a key that has none, whatever the base is. `false` if the key has a row; then
+    /// nothing changes, as if an allocation fails.
+    pub fn add(&mut self, alloc: Global, key: &Key, number: u32) -> Result<bool, AllocError>
+        ensures added { IfOk result (λ is_new. IsTrue is_new →
+            (get self.old.rows key.now ≡ None) × (self.new ≡ with_row self.old key.now number)) }
+        ensures there { IfOk result (λ is_new. is_new ≡ false →
+            (get self.old.rows key.now ≢ None) × (self.new ≡ self.old)) }
+        ensures err { OnErr result (self.new ≡ self.old) }
+    {
+        if self.rows.get(key).is_some() {
+            return Ok(false);
+        }
+        self.rows.set(alloc, key, number)?;
+        Ok(true)
+    }
+
+    /// Raises the base to this number at least. Rows stay.
+    pub fn raise_base(&mut self, number: u32)
+        ensures { self.new ≡ record self.old { base = max self.old.base number } }
+    {
+        self.base = self.base.max(number);
+    }
+
+    /// Drops all rows, and makes this the base. Takes no memory.
+    pub fn rebase(&mut self, alloc: Global, base: u32)
+        ensures { self.new ≡ base_only base }
+    {
+        self.rows = Rows::new(alloc);
+        self.base = base;
+    }
+
+    /// Raises the key's floor to this number at least, as [`Floors::raising`] says. If an
+    /// allocation fails, nothing changes.
     pub fn raise(&mut self, alloc: Global, key: &Key, number: u32) -> Result<(), AllocError>
-        requires { 1 ≤ number }
         ensures ok { OnOk result (self.new ≡ raised self.old key.now number) }
         ensures err { OnErr result (self.new ≡ self.old) }
     {
-        if number <= self.floor(key) {
-            return Ok(());
+        match self.raising(key, number) {
+            Raising::Nothing => Ok(()),
+            Raising::Row(number) => self.rows.set(alloc, key, number),
+            Raising::Base(base) => {
+                self.rebase(alloc, base);
+                Ok(())
+            }
         }
-        self.set(alloc, key, number)
-    }
-
-    /// Sets the key's floor to this number, which is at least 1 and no less than its floor now. If
-    /// an allocation fails, nothing changes. The caller asks `has_room` first; this call does not.
-    pub fn set(&mut self, alloc: Global, key: &Key, number: u32) -> Result<(), AllocError>
-        requires number { 1 ≤ number }
-        requires order { floor self.old key.now ≤ number }
-        ensures ok { OnOk result (self.new ≡ insert self.old key.now number) }
-        ensures err { OnErr result (self.new ≡ self.old) }
-    {
-        let text = Vec::from_slice(alloc, key.text())?;
-        self.rows.insert(text, number)?;
-        self.seen = self.seen.max(number);
-        Ok(())
     }
 }

@@ -1,6 +1,6 @@
 //! A store of floors in memory, for the world and for tests.
 ghost use Rattle.std.specs.Prelude.{◌≡◌, ⊤, true};
-ghost use Rattle.std.specs.FinMap.{empty};
+ghost use Rattle.floor_rules.specs.Floors.{no_floors};
 
 use crate::fault::FloorFault;
 use crate::floors::Floors;
@@ -11,20 +11,19 @@ use url_key::Key;
 
 /// A store of floors in memory. No crash changes it, and no call returns `StoreFault`.
 ///
-/// A contract sees a finite map.
+/// A contract sees a table of floors.
 #[derive(Debug, Drop)]
 pub struct MemoryFloors {
     floors: Floors,
 }
 
 impl Model for MemoryFloors {
-    ghost use Rattle.std.specs.Coded.{coded_list, coded_ℕ};
-    ghost use Rattle.std.specs.FinMap.{code};
-    ghost use Rattle.floor_rules.specs.Floors.{FloorMap};
+    ghost use Rattle.floor_rules.specs.Coded.{floors_code};
+    ghost use Rattle.floor_rules.specs.Floors.{FloorTable};
 
-    ghost Value = { FloorMap };
+    ghost Value = { FloorTable };
 
-    ghost coded = { code (coded_list coded_ℕ) coded_ℕ };
+    ghost coded = { floors_code };
 
     ghost view = { λ store. store.floors };
 }
@@ -32,7 +31,7 @@ impl Model for MemoryFloors {
 impl MemoryFloors {
     /// No key has a floor. Allocates nothing.
     pub fn new(alloc: Global) -> MemoryFloors
-        ensures { result ≡ empty }
+        ensures { result ≡ no_floors }
     {
         MemoryFloors {
             floors: Floors::new(alloc),
@@ -58,13 +57,7 @@ impl FloorStore for MemoryFloors {
     }
 
     fn raise(&mut self, alloc: Global, key: &Key, number: u32) -> Result<(), FloorFault> {
-        if number <= self.floors.floor(key) {
-            return Ok(());
-        }
-        if !self.floors.has_room(key) {
-            return Err(FloorFault::FloorsFull);
-        }
-        self.floors.set(alloc, key, number)?;
+        self.floors.raise(alloc, key, number)?;
         Ok(())
     }
 

@@ -1,6 +1,7 @@
 //! The contract of a store of floors.
-ghost use Rattle.std.specs.Prelude.{◌≡◌, ◌≢◌, ◌⊎◌, ◌≤◌, ℕ, ◌+◌, List, Bool, false, IsTrue, IfOk, OnOk, Err};
-ghost use Rattle.floor_rules.specs.Floors.{FloorMap, HasRoom, IsFull, raised};
+ghost use Rattle.std.specs.Prelude.{◌≡◌, ◌≢◌, ◌⊎◌, ◌≤◌, ℕ, ◌+◌, List, Bool, false, IsTrue, IfOk};
+ghost use Rattle.std.specs.Prelude.{OnOk, Err};
+ghost use Rattle.floor_rules.specs.Floors.{FloorTable, raised};
 ghost use Rattle.floor_rules.specs.Store.{IsBeforeOrAfter, HaveRisen};
 
 use crate::fault::FloorFault;
@@ -17,10 +18,10 @@ use url_key::Key;
 /// not demand it.
 pub trait FloorStore {
     // The floors that the last commit left.
-    ghost content: { Self → FloorMap };
+    ghost content: { Self → FloorTable };
 
     // The floors that an open may find after a crash at this moment.
-    ghost may_find: { Self → FloorMap → Type 0 };
+    ghost may_find: { Self → FloorTable → Type 0 };
 
     // The disk is honest: nobody else has written it, and it has returned what was written.
     ghost is_honest: { Self → Type 0 };
@@ -45,20 +46,20 @@ pub trait FloorStore {
         ensures usable { OnOk result (IsTrue (is_usable self.new)) }
         ensures kept { content self.new ≡ content self.old }
         ensures honest { is_honest self.new → is_honest self.old }
-        ensures left { (found : FloorMap) → may_find self.new found → may_find self.old found }
+        ensures left { (found : FloorTable) → may_find self.new found → may_find self.old found }
         ensures once { failed self.new ≤ failed self.old + 1 }
         ensures fault { result ≡ Err FloorFault.StoreFault →
             HaveRisen (failed self.old) (failed self.new) }
         ensures cause { result ≡ Err FloorFault.StoreFault → is_usable self.old ≡ false }
-        ensures named { (result ≢ Err FloorFault.FloorsFull) × (result ≢ Err FloorFault.BadTable) };
+        ensures named { result ≢ Err FloorFault.BadTable };
 
-    /// Commits the greater of the key's floor and this number, which is at least 1.
+    /// Commits the raise of the key's floor to this number, which is at least 1 (`raised`): rows
+    /// and base in one transaction.
     ///
     /// Once it has returned Ok, no crash undoes it. Whatever it returned on a usable store, a crash
-    /// at its end leaves the floors from before or after it; from before it if there was no room.
+    /// at its end leaves the floors from before or after it.
     ///
-    /// Errors: `FloorsFull` if 65,536 keys have floors and this one has none, and then nothing
-    /// changes; `StoreFault` if the database refused the raise, or an earlier call failed;
+    /// Errors: `StoreFault` if the database refused the raise, or an earlier call failed;
     /// `NoMemory` if an allocation failed. A store that failed earlier returns only `StoreFault`,
     /// and an open after a crash can find nothing that it could not find before.
     fn raise(&mut self, alloc: Global, key: &Key, number: u32) -> Result<(), FloorFault>
@@ -66,21 +67,17 @@ pub trait FloorStore {
         ensures honest { is_honest self.new → is_honest self.old }
         ensures committed { OnOk result (is_honest self.new →
             content self.new ≡ raised (content self.old) key.now number) }
-        ensures durable { OnOk result (is_honest self.new → (found : FloorMap) →
+        ensures durable { OnOk result (is_honest self.new → (found : FloorTable) →
             may_find self.new found → found ≡ raised (content self.old) key.now number) }
-        ensures crash { is_honest self.new → IsTrue (is_usable self.old) → (found : FloorMap) →
+        ensures crash { is_honest self.new → IsTrue (is_usable self.old) → (found : FloorTable) →
             may_find self.new found → IsBeforeOrAfter (content self.old) key.now number found }
         ensures refused { is_usable self.old ≡ false → result ≡ Err FloorFault.StoreFault }
-        ensures left { is_usable self.old ≡ false → (found : FloorMap) → may_find self.new found →
+        ensures left { is_usable self.old ≡ false → (found : FloorTable) → may_find self.new found →
             may_find self.old found }
         ensures usable { OnOk result (IsTrue (is_usable self.new)) }
         ensures spent { result ≡ Err FloorFault.StoreFault → is_usable self.new ≡ false }
-        ensures full { result ≡ Err FloorFault.FloorsFull → is_honest self.new →
-            IsFull (content self.old) key.now }
-        ensures room { OnOk result (is_honest self.new → HasRoom (content self.old) key.now) }
         ensures cause { result ≡ Err FloorFault.StoreFault → is_honest self.new →
             IsTrue (is_usable self.old) → has_cause self.old self.new key.now number }
-        ensures unchanged { result ≡ Err FloorFault.FloorsFull → self.new ≡ self.old }
         ensures counted { (result ≡ Err FloorFault.StoreFault)
             ⊎ (failed self.new ≡ failed self.old) }
         ensures once { failed self.new ≤ failed self.old + 1 }

@@ -1,6 +1,7 @@
 -- Each member has a node, and nobody else has one: the nodes' ids are the members' ids, in the same
 -- order. So who is found by an address also has a node.
-use Rattle.std.proofs.Common.{◌≡◌, ℕ, zero, suc, Bool, true, false, cond, List, [], ◌∷◌, map, set, option_map, is_some, find, MatchOption, Option, Some, None, refl, sym, ◌∙◌, ap, subst, nat_eq}
+use Rattle.std.proofs.Common.{◌≡◌, ℕ, zero, suc, Bool, true, false, cond, List, [], ◌∷◌, map, set, option_map, is_some, find, MatchOption, Option, Some, None}
+use Rattle.std.proofs.Common.{refl, sym, ◌∙◌, ap, subst, nat_eq}
 use Rattle.std.specs.List.{AllByRecursion}
 use Rattle.std.proofs.lemmas.Option.{none-some}
 use Rattle.node_rules.proofs.Cases.{same_Some}

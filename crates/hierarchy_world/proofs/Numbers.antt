@@ -1,9 +1,10 @@
 -- Ascending numbers, by induction; and CLRs to all members: members_of keeps the possible ids 1 to
 -- 16 that are members, and for every other id no datagram is made.
-use Rattle.std.proofs.Common.{◌≡◌, ℕ, zero, suc, ◌+◌, ◌<◌, Bool, true, false, cond, List, [], ◌∷◌, ◌++◌, length, take, get_or, filter, flat_map, is_some, Option, Some, None, refl, sym, ◌∙◌, ap, arith}
+use Rattle.std.proofs.Common.{◌≡◌, ℕ, zero, suc, ◌+◌, ◌<◌, Bool, true, false, cond, List, [], ◌∷◌, ◌++◌, length, take, get_or, filter, map, flat_map, is_some}
+use Rattle.std.proofs.Common.{Option, Some, None, refl, sym, ◌∙◌, ap, arith}
 use Rattle.std.specs.List.{cons_option}
 use Rattle.std.proofs.lemmas.Grind.{flat_map-append}
-use Rattle.std.proofs.lemmas.List.{append-nil}
+use Rattle.std.proofs.lemmas.List.{append-nil, map-append}
 use Rattle.std.proofs.Math.Seq.{take-suc}
 use Rattle.node_rules.proofs.Cases.{true_not_false}
 use Rattle.values_tables.specs.declared.plain.Member.{Member}
@@ -49,3 +50,14 @@ made_more f xs i j d so_far now o is_next less before is more =
     more ∙ ap (λ l. l ++ cons_option o []) before ∙ ap (λ l. flat_map f (take i xs) ++ l) (sym is ∙ sym (append-nil (f (get_or xs i d))))
     ∙ sym (flat_map-append f (take i xs) (get_or xs i d ∷ []))
     ∙ ap (λ l. flat_map f l) (sym (take-suc xs i d less)) ∙ ap (λ (n : ℕ). flat_map f (take n xs)) (sym is_next)
+
+-- one more item, which makes one
+pub mapped_more : {X Y : Type 0} (f : X → Y) (xs : List X) (i j : ℕ) (x : X) (y : Y) (so_far : List Y) → j ≡ i + 1 → i < length xs → x ≡ get_or xs i x → y ≡ f x →
+    so_far ≡ map f (take i xs) → so_far ++ y ∷ [] ≡ map f (take j xs)
+mapped_more f xs i j x y so_far is_next less here is before =
+    let next : j ≡ suc i = omega (arith, is_next) in
+    ap (λ l. l ++ y ∷ []) before
+    ∙ ap (λ v. map f (take i xs) ++ v ∷ []) (is ∙ ap f here)
+    ∙ sym (map-append f (take i xs) (get_or xs i x ∷ []))
+    ∙ ap (map f) (sym (take-suc xs i x less))
+    ∙ ap (λ (n : ℕ). map f (take n xs)) (sym next)

@@ -1,6 +1,7 @@
 -- The node at a member's index is the one that the model's look-up by id finds, also after it was
 -- replaced: by induction over the nodes, whose first match both take.
-use Rattle.std.proofs.Common.{◌≡◌, ℕ, suc, Bool, true, false, cond, List, [], ◌∷◌, map, slice_get, set, option_map, Option, Some, None, refl, sym, ◌∙◌, ap, subst, nat_eq}
+use Rattle.std.proofs.Common.{◌≡◌, ℕ, suc, Bool, true, false, cond, List, [], ◌∷◌, map, slice_get, set, option_map, Option, Some, None, refl, sym, ◌∙◌, ap}
+use Rattle.std.proofs.Common.{subst, nat_eq}
 use Rattle.std.proofs.lemmas.Option.{none-some}
 use Rattle.node_rules.specs.declared.state.NodeState.{NodeState}
 use Rattle.node_rules.proofs.Cases.{same_Some}

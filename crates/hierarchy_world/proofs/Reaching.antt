@@ -1,7 +1,8 @@
 -- What arrives at a member or at the master has the consequence that the model defines. Each lemma takes
 -- the results of the code's look-ups (item, member, pending fetch) and computes the model's consequence
 -- with them.
-use Rattle.std.proofs.Common.{◌≡◌, ℕ, ◌<◌, Bool, true, false, cond, nat_eq, List, length, find, get_or, slice_get, Option, Some, None, Result, Ok, Err, refl, sym, ◌∙◌, ap, subst, unwrap_or}
+use Rattle.std.proofs.Common.{◌≡◌, ℕ, ◌<◌, Bool, true, false, cond, nat_eq, List, length, find, get_or, slice_get, Option, Some, None, Result, Ok, Err, refl}
+use Rattle.std.proofs.Common.{sym, ◌∙◌, ap, subst, unwrap_or}
 use Rattle.std.proofs.lemmas.Option.{slice_get_read}
 use Rattle.htcp_wire.specs.declared.message.Content.{Content}
 use Rattle.htcp_wire.specs.declared.message.Content.TheVariants as content
@@ -25,7 +26,8 @@ use Rattle.world_rules.specs.declared.outcome.WorldFault.TheVariants as fault
 use Rattle.node_rules.specs.Messages.{protocol_of as udp_of, clear_answer, clear_answer_in}
 use Rattle.node_rules.specs.Spelled.{decoded_by}
 use Rattle.world_rules.specs.World.{World, Datagram, PeerAsk, PeerAnswer}
-use Rattle.world_rules.specs.Consequence.{Nothing, Consequence, NodeSteps, Ends, Refused, at_member, master_hears_htcp, master_hears, delivered_to, delivered, octets_reach, ask_delivered, answer_delivered, origin_by, origin_to, foreign_by, foreign_to, fetching_at}
+use Rattle.world_rules.specs.Consequence.{Nothing, Consequence, NodeSteps, Ends, Refused, at_member, master_hears_htcp, master_hears, delivered_to, delivered}
+use Rattle.world_rules.specs.Consequence.{octets_reach, ask_delivered, answer_delivered, origin_by, origin_to, foreign_by, foreign_to, fetching_at}
 use Rattle.hierarchy_world.specs.declared.parts.Parts.{Parts}
 use Rattle.hierarchy_world.specs.declared.telling.Seen.{Seen as SeenHere}
 use Rattle.hierarchy_world.specs.declared.telling.Seen.TheVariants as here

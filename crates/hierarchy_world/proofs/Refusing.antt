@@ -24,7 +24,9 @@ use Rattle.world_rules.specs.declared.outcome.WorldFault.TheVariants as fault
 use Rattle.node_rules.specs.Messages.{protocol_of as udp_of}
 use Rattle.node_rules.specs.Spelled.{decoded_by}
 use Rattle.world_rules.specs.World.{World, Datagram, PeerAsk, PeerAnswer, item}
-use Rattle.world_rules.specs.Consequence.{Consequence, NodeSteps, Ends, Refused, at_member, acknowledged_by, master_hears_htcp, master_hears, delivered_to, delivered, octets_reach, octets_come, ask_delivered, answer_delivered, origin_by, origin_to, foreign_by, foreign_to, fetching_at, issue_by, consequence}
+use Rattle.world_rules.specs.Consequence.{Consequence, NodeSteps, Ends, Refused, at_member, acknowledged_by, master_hears_htcp, master_hears, delivered_to}
+use Rattle.world_rules.specs.Consequence.{delivered, octets_reach, octets_come, ask_delivered, answer_delivered, origin_by, origin_to, foreign_by, foreign_to}
+use Rattle.world_rules.specs.Consequence.{fetching_at, issue_by, consequence}
 
 -- the two faults of refused events
 abbrev IsOfEvents : WorldFault → Type 0

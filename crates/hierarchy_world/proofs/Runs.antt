@@ -1,6 +1,7 @@
 -- Whole runs are safe. By induction over the events, a list of applied events is one that the model
 -- plays, and the laws of world_rules hold of it. The second part is the loop of World::run.
-use Rattle.std.proofs.Common.{◌≡◌, ℕ, suc, ◌+◌, ◌<◌, false, All, List, [], ◌∷◌, ◌++◌, length, map, take, drop, get_or, Err, refl, sym, ◌∙◌, ap, subst, inr, arith, length-append}
+use Rattle.std.proofs.Common.{◌≡◌, ℕ, suc, ◌+◌, ◌<◌, false, All, List, [], ◌∷◌, ◌++◌, length, map, take, drop, get_or, Err, refl, sym, ◌∙◌, ap, subst, inr}
+use Rattle.std.proofs.Common.{arith, length-append}
 use Rattle.std.proofs.Math.Seq.{drop-cons}
 use Rattle.std.proofs.lemmas.List.{map-id, take-append-drop}
 use Rattle.std.proofs.lemmas.List.Elements.{All-nil, All-push}

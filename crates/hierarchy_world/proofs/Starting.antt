@@ -2,8 +2,7 @@
 -- nothing. By induction over the members.
 use Rattle.std.proofs.Common.{◌≡◌, ℕ, List, [], ◌∷◌, map, refl, sym, ◌∙◌, ap, subst}
 use Rattle.std.specs.List.{AllByRecursion}
-use Rattle.std.specs.FinMap.{empty}
-use Rattle.floor_rules.specs.Floors.{FloorMap}
+use Rattle.floor_rules.specs.Floors.{FloorTable, no_floors}
 use Rattle.values_tables.specs.declared.plain.Member.{Member}
 use Rattle.values_tables.specs.declared.plain.Tables.{Tables}
 use Rattle.node_rules.specs.declared.state.NodeState.{NodeState}
@@ -16,19 +15,19 @@ use Rattle.hierarchy_world.specs.declared.parts.Parts.{Parts}
 use Rattle.hierarchy_world.specs.Parts.{MemberNode, member_states, IsMemberNode, IsSound, world_of}
 use Rattle.hierarchy_world.proofs.Changing.{same_world}
 
-abbrev node_by : Tables → ℕ → NodeState ℕ → FloorMap → MemberNode
+abbrev node_by : Tables → ℕ → NodeState ℕ → FloorTable → MemberNode
 node_by t id state store = record { roster = t; id = id; state = state; store = store }
 
 -- a new node of a member
 abbrev pub node_of : Tables → ℕ → MemberNode
-node_of t id = node_by t id (opened empty) empty
+node_of t id = node_by t id (opened no_floors) no_floors
 
-pub node_is : (n : MemberNode) (t : Tables) (id : ℕ) → n.roster ≡ t → n.id ≡ id → n.state ≡ opened empty → n.store ≡ empty → n ≡ node_of t id
+pub node_is : (n : MemberNode) (t : Tables) (id : ℕ) → n.roster ≡ t → n.id ≡ id → n.state ≡ opened no_floors → n.store ≡ no_floors → n ≡ node_of t id
 node_is n t id roster same_id state store =
     ap (λ (x : Tables). node_by x n.id n.state n.store) roster
     ∙ ap (λ (x : ℕ). node_by t x n.state n.store) same_id
     ∙ ap (λ (x : NodeState ℕ). node_by t id x n.store) state
-    ∙ ap (λ (x : FloorMap). node_by t id (opened empty) x) store
+    ∙ ap (λ (x : FloorTable). node_by t id (opened no_floors) x) store
 
 abbrev pub nodes_of : Tables → List Member → List MemberNode
 nodes_of t members = map (λ m. node_of t m.cache.id) members

@@ -10,13 +10,15 @@ use Rattle.node_rules.specs.declared.reply.Serve.{Serve}
 use Rattle.node_rules.specs.declared.reply.StepFault.{StepFault}
 use Rattle.node_rules.specs.Relation.{Steps}
 use Rattle.node_rules.specs.State.{setting}
-use Rattle.world_rules.specs.World.{Datagram, PeerAsk, PeerAnswer, Waiting, Answered, node_at, datagrams_from, asks_in, answers_in, waits_now, asked_by, asked_now, answer_to, reply_in, after_node}
+use Rattle.world_rules.specs.World.{Datagram, PeerAsk, PeerAnswer, Waiting, Answered, node_at, datagrams_from, asks_in, answers_in, waits_now, asked_by}
+use Rattle.world_rules.specs.World.{asked_now, answer_to, reply_in, after_node}
 use Rattle.world_rules.specs.Asked.{block_begun}
 use Rattle.world_rules.specs.Consequence.{NodeSteps}
 use Rattle.world_rules.proofs.Items.{append_nil}
 use Rattle.hierarchy_world.specs.declared.parts.Parts.{Parts}
 use Rattle.hierarchy_world.specs.declared.telling.Seen.TheVariants as here
-use Rattle.hierarchy_world.specs.Parts.{MemberNode, member_states, world_of, IsMemberNode, IsSound, IsPlace, IsStep, HasStepped, with_state, Adds, IsMemberChanged, HasTaken}
+use Rattle.hierarchy_world.specs.Parts.{MemberNode, member_states, world_of, IsMemberNode, IsSound, IsPlace, IsStep, HasStepped, with_state, Adds}
+use Rattle.hierarchy_world.specs.Parts.{IsMemberChanged, HasTaken}
 use Rattle.hierarchy_world.specs.Posted.{answered, answers_by, waits_by, serial_of}
 use Rattle.hierarchy_world.proofs.Changing.{same_world, was_id, was_member_node, was_state, still_sound, states_are}
 use Rattle.hierarchy_world.proofs.Serving.{waits_here}

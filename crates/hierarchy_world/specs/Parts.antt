@@ -1,8 +1,9 @@
 -- The parts of a world: the world that they are, their invariant (IsSound), and what an event does to
 -- them (IsTaken).
-use Rattle.std.specs.Prelude.{◌≡◌, ◌≢◌, ℕ, zero, suc, ◌^◌, Bool, ◌==◌, false, List, [], ◌∷◌, ◌++◌, map, option_map, Option, Some, None, Result, Ok, Err, if◌then◌else◌}
+use Rattle.std.specs.Prelude.{◌≡◌, ◌≢◌, ℕ, zero, suc, ◌^◌, Bool, ◌==◌, false, List, [], ◌∷◌, ◌++◌, map, option_map, Option, Some, None, Result, Ok, Err}
+use Rattle.std.specs.Prelude.{if◌then◌else◌}
 use Rattle.std.specs.List.{AllByRecursion}
-use Rattle.floor_rules.specs.Floors.{FloorMap}
+use Rattle.floor_rules.specs.Floors.{FloorTable}
 use Rattle.values_tables.specs.declared.plain.Tables.{Tables}
 use Rattle.purge_rules.specs.Members.{members_of}
 use Rattle.purge_rules.specs.Purges.{PurgeList}
@@ -29,7 +30,7 @@ use Rattle.hierarchy_world.specs.View.{WorldView, TellsNoLack, HasHappened}
 
 -- a member's node, over floors in memory
 abbrev pub MemberNode : Type 0
-MemberNode = NodeText ℕ FloorMap
+MemberNode = NodeText ℕ FloorTable
 
 -- the node as the model has it: its id and its state
 abbrev pub member_state : MemberNode → MemberState

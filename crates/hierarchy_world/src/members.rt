@@ -1,11 +1,13 @@
 //! The members' nodes: a step, a closing, a restart.
-ghost use Rattle.std.specs.Prelude.{◌≡◌, ◌<◌, ◌==◌, not, true, false, length, map, filter, IfOk, IfErr, IfSome, MatchOption, OnOk};
+ghost use Rattle.std.specs.Prelude.{◌≡◌, ◌<◌, ◌==◌, not, true, false, length, map, filter, IfOk};
+ghost use Rattle.std.specs.Prelude.{IfErr, IfSome, MatchOption, OnOk};
 ghost use Rattle.roster.specs.Lookups.{is_member};
 ghost use Rattle.node_rules.specs.State.{opened, closed_node};
 ghost use Rattle.world_rules.specs.declared.outcome.WorldFault.TheVariants.{NoMemory};
 ghost use Rattle.world_rules.specs.World.{World, node_at};
 ghost use Rattle.world_rules.specs.Consequence.{with_member_state};
-ghost use Rattle.hierarchy_world.specs.Parts.{IsSound, IsStored, IsStep, HasStepped, IsPlace, place_of as place_of_id, world_of, IsMemberChanged};
+ghost use Rattle.hierarchy_world.specs.Parts.{IsSound, IsStored, IsStep, HasStepped, IsPlace};
+ghost use Rattle.hierarchy_world.specs.Parts.{place_of as place_of_id, world_of, IsMemberChanged};
 
 use crate::parts::Parts;
 use floor_rules::MemoryFloors;

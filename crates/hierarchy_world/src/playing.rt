@@ -1,10 +1,11 @@
 //! `World`, and whole runs of it.
-ghost use Rattle.std.specs.Prelude.{◌≡◌, ◌≢◌, ◌↔◌, ◌^◌, map, true, false, IsTrue, IfOk, IfErr, OnOk, Err};
+ghost use Rattle.std.specs.Prelude.{◌≡◌, ◌≢◌, ◌↔◌, ◌^◌, map, true, false, IsTrue, IfOk, IfErr};
+ghost use Rattle.std.specs.Prelude.{OnOk, Err};
 ghost use Rattle.world_rules.specs.declared.outcome.WorldFault.TheVariants.{NoMemory, PlacesSpent};
 ghost use Rattle.world_rules.specs.World.{new_world};
 ghost use Rattle.world_rules.specs.Noise.{IsNoise};
 ghost use Rattle.node_rules.specs.State.{opened};
-ghost use Rattle.std.specs.FinMap.{empty};
+ghost use Rattle.floor_rules.specs.Floors.{no_floors};
 ghost use Rattle.roster.specs.Judged.{IsRoster};
 ghost use Rattle.hierarchy_world.specs.View.{IsApplied, TellsNoLack};
 ghost use Rattle.hierarchy_world.specs.Runs.{HasRun, HasStopped};
@@ -34,16 +35,14 @@ pub struct World {
 
 impl Model for World {
     ghost use Rattle.std.specs.Prelude.{◌≡◌, false};
-    ghost use Rattle.std.specs.Coded.{codes, coded_list, coded_ℕ};
-    ghost use Rattle.std.specs.FinMap.{code as map_code};
-    ghost use Rattle.std.specs.Ordering.{nat_cmp};
-    ghost use Rattle.std.specs.Cmp.Lexicographic.{slice_cmp};
+    ghost use Rattle.std.specs.Coded.{codes};
+    ghost use Rattle.floor_rules.specs.Coded.{floors_code};
     ghost use Rattle.hierarchy_world.specs.View.{WorldView};
     ghost use Rattle.hierarchy_world.specs.Parts.{IsSound, world_of, next_place};
 
     ghost Value = { WorldView };
 
-    ghost coded = { Prim.hlevel (codes, map_code {R = slice_cmp nat_cmp} (coded_list coded_ℕ) coded_ℕ) };
+    ghost coded = { Prim.hlevel (codes, floors_code) };
 
     ghost view = { λ w. record { roster = w.parts.roster; place = next_place w.parts.place; spoilt = w.spoilt; world = world_of w.parts } };
 
@@ -60,7 +59,7 @@ fn is_spoiling(answer: &Result<Outcome, WorldFault>) -> bool
 /// A new node of a member, which holds nothing.
 fn new_node(alloc: Global, roster: &Roster, id: u8) -> Result<Node<u64, MemoryFloors>, WorldFault>
     ensures made { IfOk result (λ node.
-        node ≡ record { roster = roster.now; id = id; state = opened empty; store = empty }) }
+        node ≡ record { roster = roster.now; id = id; state = opened no_floors; store = no_floors }) }
     ensures fault { IfErr result (λ fault. fault ≡ NoMemory) }
 {
     let copy = roster.copy(alloc)?;
@@ -77,8 +76,8 @@ fn new_nodes(alloc: Global, roster: &Roster) -> Result<Vec<Node<u64, MemoryFloor
           roster = roster.now;
           id = m.cache.id;
           state =
-              opened empty;
-          store = empty;
+              opened no_floors;
+          store = no_floors;
         }) roster.now.members) }
     ensures fault { IfErr result (λ fault. fault ≡ NoMemory) }
 {

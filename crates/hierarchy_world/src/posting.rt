@@ -1,5 +1,6 @@
 //! A step of a node, with all that its reply sends.
-ghost use Rattle.std.specs.Prelude.{◌≡◌, ◌≤◌, ◌<◌, length, ◌==◌, ◌&&◌, true, [], map, find, Option, Some, None, IfOk, OnOk};
+ghost use Rattle.std.specs.Prelude.{◌≡◌, ◌≤◌, ◌<◌, length, ◌==◌, ◌&&◌, true, [], map, find, Option};
+ghost use Rattle.std.specs.Prelude.{Some, None, IfOk, OnOk};
 ghost use Rattle.std.specs.List.{cons_option};
 ghost use Rattle.http_messages.specs.Field.{field_text};
 ghost use Rattle.roster.specs.Lookups.{member_of as member_by_id};
@@ -8,7 +9,9 @@ ghost use Rattle.world_rules.specs.World as world;
 ghost use Rattle.world_rules.specs.Asked.{block_begun as begun_block};
 ghost use Rattle.world_rules.specs.Consequence.{NodeSteps};
 ghost use Rattle.hierarchy_world.specs.Parts.{IsSound, IsPlace, IsTaken, Adds};
-ghost use Rattle.hierarchy_world.specs.Posted.{IsWritten, IsWrittenIn, IsWrittenBy, answered as answered_by, answers_by, waits_by, serial_of};
+ghost use Rattle.hierarchy_world.specs.Posted.{IsWritten, IsWrittenIn, IsWrittenBy};
+ghost use Rattle.hierarchy_world.specs.Posted.{answered as answered_by, answers_by, waits_by};
+ghost use Rattle.hierarchy_world.specs.Posted.{serial_of};
 
 use crate::network::{Arrived, Datagram, PeerAnswer, PeerAsk, Waiting};
 use crate::parts::Parts;

@@ -1,5 +1,6 @@
 //! What the master does: its calls, and the CLRs that they send.
-ghost use Rattle.std.specs.Prelude.{◌≡◌, [], Option, Some, None, option_map, Result, Ok, IfOk, OnOk};
+ghost use Rattle.std.specs.Prelude.{◌≡◌, [], Option, Some, None, option_map, Result, Ok, IfOk};
+ghost use Rattle.std.specs.Prelude.{OnOk};
 ghost use Rattle.std.specs.List.{cons_option, flat_map};
 ghost use Rattle.url_key.specs.Key.{IsKey};
 ghost use Rattle.htcp_wire.specs.Written.{Fits};

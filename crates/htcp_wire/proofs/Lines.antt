@@ -1,6 +1,7 @@
 -- What the loops of `number_in` keep: the values found so far, and those of the lines that are
 -- left, are those of the whole text.
-use Rattle.std.proofs.Common.{◌≡◌, ℕ, ◌+◌, ◌-◌, ◌<◌, ◌≤◌, true, false, List, [], ◌∷◌, ◌++◌, length, take, drop, get_or, Option, Some, None, Err, refl, sym, ap, subst, ◌∙◌, append_assoc, add-one, arith}
+use Rattle.std.proofs.Common.{◌≡◌, ℕ, ◌+◌, ◌-◌, ◌<◌, ◌≤◌, true, false, List, [], ◌∷◌, ◌++◌, length, take, drop, get_or, Option, Some, None, Err, refl, sym, ap}
+use Rattle.std.proofs.Common.{subst, ◌∙◌, append_assoc, add-one, arith}
 use Rattle.std.specs.Prelude.{option_to_list}
 use Rattle.std.specs.List.{filter_map, cons_option, suffix_len}
 use Rattle.std.proofs.Math.Seq.{drop-cons, drop-length}

@@ -1,9 +1,15 @@
-ghost use Rattle.std.specs.Prelude.{◌≡◌, ◌+◌, ◌-◌, ◌≤◌, Ok, Err, Some, None, not, List, [], ◌∷◌, ◌++◌, length, take, IsTrue, IfErr, MatchOption, MatchResult, position, codes, option_copied, option_to_list, if◌then◌else◌};
+ghost use Rattle.std.specs.Prelude.{◌≡◌, ◌+◌, ◌-◌, ◌≤◌, Ok, Err, Some, None, not, List, [], ◌∷◌};
+ghost use Rattle.std.specs.Prelude.{◌++◌, length, take, IsTrue, IfErr, MatchOption, MatchResult};
+ghost use Rattle.std.specs.Prelude.{position, codes, option_copied, option_to_list, if◌then◌else◌};
 ghost use Rattle.std.specs.List.{list_all, position_or_len, suffix_len};
 ghost use Rattle.std.specs.Option.{option_map};
 ghost use Rattle.std.specs.Char.{is_ascii_digit};
 ghost use Rattle.std.specs.Str.Parse.{digits_value};
-ghost use Rattle.htcp_wire.specs.Numbers.{number_in_text, number_of_values, line_name, ends_line as is_line_feed, is_blank as is_blank_octet, is_colon, is_number, trim_front as without_front_blanks, trim_end as without_end_blanks, is_same_name as same_name, value_in as value_of_line};
+ghost use Rattle.htcp_wire.specs.Numbers.{number_in_text, number_of_values, line_name};
+ghost use Rattle.htcp_wire.specs.Numbers.{ends_line as is_line_feed, is_blank as is_blank_octet};
+ghost use Rattle.htcp_wire.specs.Numbers.{is_colon, is_number, trim_front as without_front_blanks};
+ghost use Rattle.htcp_wire.specs.Numbers.{trim_end as without_end_blanks};
+ghost use Rattle.htcp_wire.specs.Numbers.{is_same_name as same_name, value_in as value_of_line};
 
 use crate::HtcpFault;
 
@@ -14,6 +20,8 @@ pub enum HeaderKind {
     PurgeNumber,
     /// `X-Purge-Stamp: n` in CACHE-HDRS of a response to TST: the stamp of a copy.
     PurgeStamp,
+    /// `X-Purge-Base: n` in REQ-HDRS of a CLR: the number under which a node is admitted.
+    PurgeBase,
 }
 
 impl HeaderKind {
@@ -24,6 +32,7 @@ impl HeaderKind {
         match self {
             HeaderKind::PurgeNumber => b"X-Purge-Number",
             HeaderKind::PurgeStamp => b"X-Purge-Stamp",
+            HeaderKind::PurgeBase => b"X-Purge-Base",
         }
     }
 }

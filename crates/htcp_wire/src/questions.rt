@@ -21,8 +21,8 @@ pub fn is_test(octets: &[u8]) -> bool
     }
 }
 
-/// Whether octets begin like a response (RFC 2756, "DATA"): RR, the lowest bit of the eighth, is set.
-/// Nothing else is read, so they may be no message at all. Allocates nothing.
+/// Whether octets begin like a response (RFC 2756, "DATA"): RR, the lowest bit of the eighth, is
+/// set. Nothing else is read, so they may be no message at all. Allocates nothing.
 pub fn is_response(octets: &[u8]) -> bool
     ensures { result ≡ begins_response octets.now }
 {
@@ -32,8 +32,8 @@ pub fn is_response(octets: &[u8]) -> bool
     }
 }
 
-/// TRANS-ID (RFC 2756, "DATA") of octets that are long enough to have one: the ninth to the twelfth.
-/// Nothing else is read, so they may be no message at all. Allocates nothing.
+/// TRANS-ID (RFC 2756, "DATA") of octets that are long enough to have one: the ninth to the
+/// twelfth. Nothing else is read, so they may be no message at all. Allocates nothing.
 pub fn trans_in(octets: &[u8]) -> Option<u32>
     // The field, if it is there.
     ensures field { result ≡ trans_at octets.now }

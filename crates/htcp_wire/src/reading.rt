@@ -1,9 +1,11 @@
-ghost use Rattle.std.specs.Prelude.{◌≡◌, ◌≢◌, ◌⊎◌, ◌≤◌, length, Some, None, IfOk, IfErr, MatchResult};
+ghost use Rattle.std.specs.Prelude.{◌≡◌, ◌≢◌, ◌⊎◌, ◌≤◌, length, Some, None, IfOk, IfErr};
+ghost use Rattle.std.specs.Prelude.{MatchResult};
 ghost use Rattle.std.specs.Option.{option_map};
 ghost use Rattle.htcp_wire.specs.Cut.{content_seen, data_seen};
 ghost use Rattle.htcp_wire.specs.Grammar.{Spells};
 ghost use Rattle.htcp_wire.specs.Faults.{first_fault, is_bad_auth as has_bad_auth, fault_behind};
-ghost use Rattle.htcp_wire.specs.Reading.{Holds, content_at, minor_field, trans_field, data_field, auth_field};
+ghost use Rattle.htcp_wire.specs.Reading.{Holds, content_at, minor_field, trans_field, data_field};
+ghost use Rattle.htcp_wire.specs.Reading.{auth_field};
 
 use crate::cut::{ContentCut, cut_answer, cut_ask};
 use crate::{Content, Htcp, HtcpFault};

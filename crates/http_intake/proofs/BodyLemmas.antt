@@ -1,7 +1,8 @@
 -- A body among the octets of its message. The octets after `start` that came with the head, and
 -- those read later, are together the octets after `start` of the whole message; a fault of the
 -- reader comes while the body is not whole.
-use Rattle.std.proofs.Common.{◌≡◌, ◌≢◌, ℕ, ◌+◌, ◌*◌, ◌<◌, ◌≤◌, ◌⊎◌, IsTrue, inl, inr, min, List, ◌++◌, length, take, drop, Option, refl, sym, ap, ◌∙◌, subst, arith, append-nil, length-append, length-drop, length-take, length-take-le, take_all}
+use Rattle.std.proofs.Common.{◌≡◌, ◌≢◌, ℕ, ◌+◌, ◌*◌, ◌<◌, ◌≤◌, ◌⊎◌, IsTrue, inl, inr, min, List, ◌++◌, length, take, drop, Option, refl, sym, ap, ◌∙◌, subst}
+use Rattle.std.proofs.Common.{arith, append-nil, length-append, length-drop, length-take, length-take-le, take_all}
 use Rattle.std.proofs.lemmas.List.{take-append-le, drop-append-le, nil_from_length}
 use Rattle.std.proofs.Math.Decide.{dec_le}
 use Rattle.std.specs.Io.KnownBytes.{IsAtEnd}

@@ -1,7 +1,8 @@
 -- Chunks among the octets. A line, the octets that it announces and CRLF are a chunk, which is
 -- added to those before it; octets that come later do not change what stands before them; and a
 -- fault stops reading at a chunk that is not whole.
-use Rattle.std.proofs.Common.{◌≡◌, ◌≢◌, ℕ, IsTrue, Option, zero, suc, ◌+◌, ◌-◌, ◌≤◌, List, [], ◌∷◌, ◌++◌, length, take, drop, get_or, refl, sym, ap, ap₂, ◌∙◌, arith, append_assoc, append-nil, length-append, length-drop, length-take-le, take_all}
+use Rattle.std.proofs.Common.{◌≡◌, ◌≢◌, ℕ, IsTrue, Option, zero, suc, ◌+◌, ◌-◌, ◌≤◌, List, [], ◌∷◌, ◌++◌, length, take, drop, get_or, refl, sym, ap, ap₂, ◌∙◌}
+use Rattle.std.proofs.Common.{arith, append_assoc, append-nil, length-append, length-drop, length-take-le, take_all}
 use Rattle.std.proofs.lemmas.List.{take_more, get_or-drop, drop-drop, drop-append-le, take-append-le}
 use Rattle.httparse.specs.Grammar.{ChunkLine, print_chunk_line}
 use Rattle.httparse.specs.Spans.{IsChunkLineAt}

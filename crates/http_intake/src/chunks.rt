@@ -3,7 +3,8 @@ ghost use Rattle.std.specs.Prelude.{◌≡◌, ◌≤◌, length, drop, vec_len,
 ghost use Rattle.httparse.specs.Outcome.{IfComplete, OnPartial};
 ghost use Rattle.http_intake.specs.Reading.{Takes, most_turns, calls_made};
 ghost use Rattle.http_messages.specs.Answer.{longest_body};
-ghost use Rattle.http_intake.specs.Chunks.{longest_line, HasLine, HasBadLine, IsOpenLine, IsStep, RefusesStep, HoldsChunks, StopsInChunks};
+ghost use Rattle.http_intake.specs.Chunks.{longest_line, HasLine, HasBadLine, IsOpenLine, IsStep};
+ghost use Rattle.http_intake.specs.Chunks.{RefusesStep, HoldsChunks, StopsInChunks};
 
 use crate::Intake;
 use http_messages::{FetchFault, LONGEST_BODY};

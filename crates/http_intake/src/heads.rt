@@ -2,8 +2,10 @@
 ghost use Rattle.std.specs.Prelude.{◌≡◌, ◌<◌, ◌≤◌, length, IfErr, IsErrOf};
 ghost use Rattle.httparse.specs.Grammar.{NeverHasRequest, NeverHasResponse};
 ghost use Rattle.httparse.specs.Outcome.{IfComplete, OnPartial};
-ghost use Rattle.httparse.specs.Spans.{IsRequestOf, IsRequestWithin, IsResponseOf, IsResponseWithin};
-ghost use Rattle.http_intake.specs.Heads.{most_fields, longest_head, IsLongRequest, IsLongResponse, IsOpenRequest, IsOpenResponse, IsHeadRefusal};
+ghost use Rattle.httparse.specs.Spans.{IsRequestOf, IsRequestWithin, IsResponseOf};
+ghost use Rattle.httparse.specs.Spans.{IsResponseWithin};
+ghost use Rattle.http_intake.specs.Heads.{most_fields, longest_head, IsLongRequest, IsLongResponse};
+ghost use Rattle.http_intake.specs.Heads.{IsOpenRequest, IsOpenResponse, IsHeadRefusal};
 
 use crate::head_end::LONGEST_HEAD;
 use http_messages::FetchFault;

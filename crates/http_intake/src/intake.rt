@@ -1,10 +1,15 @@
 //! The octets read so far of one message, and the search for heads in them.
-ghost use Rattle.std.specs.Prelude.{◌≡◌, ◌+◌, ◌*◌, ◌<◌, ◌≤◌, length, drop, vec_len, max, OnOk, OnErr, IfOk, IfErr, IsErrOf};
+ghost use Rattle.std.specs.Prelude.{◌≡◌, ◌+◌, ◌*◌, ◌<◌, ◌≤◌, length, drop, vec_len, max, OnOk};
+ghost use Rattle.std.specs.Prelude.{OnErr, IfOk, IfErr, IsErrOf};
 ghost use Rattle.std.specs.Io.KnownBytes.{IsAtEnd};
 ghost use Rattle.httparse.specs.Grammar.{NeverHasRequest, NeverHasResponse};
-ghost use Rattle.httparse.specs.Spans.{IsRequestOf, IsRequestWithin, IsResponseOf, IsResponseWithin};
-ghost use Rattle.http_intake.specs.Reading.{Held, nothing_held, Takes, most_turns, calls_made, IsReadFault};
-ghost use Rattle.http_intake.specs.Heads.{head_window, longest_head, longest_read, most_fields, IsLongRequest, IsLongResponse, IsOpenRequest, IsOpenResponse, IsHeadFault};
+ghost use Rattle.httparse.specs.Spans.{IsRequestOf, IsRequestWithin, IsResponseOf};
+ghost use Rattle.httparse.specs.Spans.{IsResponseWithin};
+ghost use Rattle.http_intake.specs.Reading.{Held, nothing_held, Takes, most_turns, calls_made};
+ghost use Rattle.http_intake.specs.Reading.{IsReadFault};
+ghost use Rattle.http_intake.specs.Heads.{head_window, longest_head, longest_read, most_fields};
+ghost use Rattle.http_intake.specs.Heads.{IsLongRequest, IsLongResponse, IsOpenRequest};
+ghost use Rattle.http_intake.specs.Heads.{IsOpenResponse, IsHeadFault};
 
 use crate::head_end::LONGEST_HEAD;
 use crate::head_watch::HeadWatch;

@@ -4,7 +4,8 @@ ghost use Rattle.httparse.specs.Outcome.{IfComplete, OnPartial};
 ghost use Rattle.http_intake.specs.Reading.{Takes, most_turns, calls_made, IsReadFault};
 ghost use Rattle.http_intake.specs.Heads.{longest_head, head_window};
 ghost use Rattle.http_messages.specs.Answer.{longest_body};
-ghost use Rattle.http_intake.specs.Trailer.{HoldsTrailer, IsOpenTrailer, RefusesTrailer, StopsInTrailer, HoldsChunkedBody, StopsInChunkedBody};
+ghost use Rattle.http_intake.specs.Trailer.{HoldsTrailer, IsOpenTrailer, RefusesTrailer};
+ghost use Rattle.http_intake.specs.Trailer.{StopsInTrailer, HoldsChunkedBody, StopsInChunkedBody};
 
 use crate::Intake;
 use crate::head_end::LONGEST_HEAD;

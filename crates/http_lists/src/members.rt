@@ -1,6 +1,7 @@
 //! Cutting a field value into its members (RFC 9110, section 5.6.1).
 
-ghost use Rattle.std.specs.Prelude.{◌≡◌, ◌+◌, ◌≤◌, [], ◌∷◌, length, take, drop, nat_lt, if◌then◌else◌};
+ghost use Rattle.std.specs.Prelude.{◌≡◌, ◌+◌, ◌≤◌, [], ◌∷◌, length, take, drop, nat_lt};
+ghost use Rattle.std.specs.Prelude.{if◌then◌else◌};
 ghost use Rattle.http_lists.specs.Left.{members_left};
 ghost use Rattle.http_lists.specs.Members.{members, quoting_after, ends_member as is_end};
 

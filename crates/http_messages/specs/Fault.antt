@@ -1,7 +1,8 @@
 -- The names of the faults of reading and writing messages.
 use Rattle.std.specs.Prelude.{List, ℕ, codes}
 use Rattle.http_messages.specs.declared.fault.FetchFault.{FetchFault}
-use Rattle.http_messages.specs.declared.fault.FetchFault.TheVariants.{Io, EndOfInput, BadHead, HeadTooLong, BadTarget, MethodNotServed, Credentials, BadBody, BodyTooLong, TooManyTurns, NoMemory}
+use Rattle.http_messages.specs.declared.fault.FetchFault.TheVariants.{Io, EndOfInput, BadHead, HeadTooLong, BadTarget, MethodNotServed, Credentials, BadBody}
+use Rattle.http_messages.specs.declared.fault.FetchFault.TheVariants.{BodyTooLong, TooManyTurns, NoMemory}
 
 -- the name of a fault, as scripts print it
 abbrev pub fetch_fault_name : FetchFault → List ℕ

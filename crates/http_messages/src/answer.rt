@@ -1,7 +1,12 @@
-ghost use Rattle.std.specs.Prelude.{◌≡◌, ◌-◌, ◌≤◌, length, nat_le, IfOk, IsTrue, map, Some, None, SomeIff, if◌then◌else◌};
+ghost use Rattle.std.specs.Prelude.{◌≡◌, ◌-◌, ◌≤◌, length, nat_le, IfOk, IsTrue, map, Some, None};
+ghost use Rattle.std.specs.Prelude.{SomeIff, if◌then◌else◌};
 ghost use Rattle.std.specs.List.{list_all};
-ghost use Rattle.http_messages.specs.Field.{FieldText, field_text, is_dropped_name as is_dropped, is_trimmed as has_no_blank_end, is_kept_field as may_be_kept, are_few_fields as have_room, line_length, lines_length};
-ghost use Rattle.http_messages.specs.Answer.{AnswerText, is_writable as has_text, is_body_of as fits_status, answer_size};
+ghost use Rattle.http_messages.specs.Field.{FieldText, field_text, is_dropped_name as is_dropped};
+ghost use Rattle.http_messages.specs.Field.{is_trimmed as has_no_blank_end};
+ghost use Rattle.http_messages.specs.Field.{is_kept_field as may_be_kept};
+ghost use Rattle.http_messages.specs.Field.{are_few_fields as have_room, line_length, lines_length};
+ghost use Rattle.http_messages.specs.Answer.{AnswerText, is_writable as has_text};
+ghost use Rattle.http_messages.specs.Answer.{is_body_of as fits_status, answer_size};
 
 use crate::{Body, Field, Fields};
 use std::alloc::AllocError;

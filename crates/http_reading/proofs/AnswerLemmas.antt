@@ -1,18 +1,22 @@
 -- From the places that the parser gave to the head that stands there, and from heads and body to a
 -- response. Octets that come later change nothing before them, so what a head says still holds
 -- once its body was read.
-use Rattle.std.proofs.Common.{◌≡◌, ℕ, ◌≤◌, ◌<◌, ◌+◌, ◌⊎◌, Bool, true, false, not, nat_le, if◌then◌else◌, List, [], ◌∷◌, ◌++◌, length, take, drop, Option, Some, None, Result, Ok, Err, IfOk, IfErr, refl, sym, ◌∙◌, ap, subst, inl, inr, arith, length-take, length-append, take-append-drop, drop-drop, append_assoc, append-nil}
+use Rattle.std.proofs.Common.{◌≡◌, ℕ, ◌≤◌, ◌<◌, ◌+◌, ◌⊎◌, Bool, true, false, not, nat_le, if◌then◌else◌, List, [], ◌∷◌, ◌++◌, length, take, drop, Option, Some}
+use Rattle.std.proofs.Common.{None, Result, Ok, Err, IfOk, IfErr, refl, sym, ◌∙◌, ap, subst, inl, inr, arith, length-take, length-append, take-append-drop}
+use Rattle.std.proofs.Common.{drop-drop, append_assoc, append-nil}
 use Rattle.std.proofs.KnownBytes.{Consumes-trans}
 use Rattle.std.proofs.lemmas.List.{length-map, take-append-le, drop-append-le, take_at, drop_at}
 use Rattle.std.specs.List.{AllByRecursion, flat_map}
-use Rattle.httparse.specs.Grammar.{ResponseHead, print_response, print_blank, print_version, print_reason, print_end, print_section, ReadsResponse, NeverHasResponse, status_code}
+use Rattle.httparse.specs.Grammar.{ResponseHead, print_response, print_blank, print_version, print_reason, print_end, print_section, ReadsResponse}
+use Rattle.httparse.specs.Grammar.{NeverHasResponse, status_code}
 use Rattle.httparse.specs.declared.spans.HeaderSpan.{HeaderSpan}
 use Rattle.httparse.specs.declared.spans.ResponseSpans.{ResponseSpans}
 use Rattle.httparse.specs.Spans.{header_bytes, name_and_value, AreFieldsAt, IsResponseAt, IsResponseOf}
 use Rattle.http_messages.specs.Answer.{AnswerText, has_no_body, longest_body}
 use Rattle.http_messages.specs.Field.{are_few_fields}
 use Rattle.http_messages.specs.declared.fault.FetchFault.{FetchFault}
-use Rattle.http_messages.specs.declared.fault.FetchFault.TheVariants.{Io, EndOfInput, BadHead, HeadTooLong, BadTarget, MethodNotServed, Credentials, BadBody, BodyTooLong, TooManyTurns, NoMemory}
+use Rattle.http_messages.specs.declared.fault.FetchFault.TheVariants.{Io, EndOfInput, BadHead, HeadTooLong, BadTarget, MethodNotServed, Credentials, BadBody}
+use Rattle.http_messages.specs.declared.fault.FetchFault.TheVariants.{BodyTooLong, TooManyTurns, NoMemory}
 use Rattle.http_reading.specs.Fields.{fields_of}
 use Rattle.std.specs.Io.KnownBytes.{IsAtEnd}
 use Rattle.http_intake.specs.Reading.{Held, Takes, calls_made, IsReadFault}

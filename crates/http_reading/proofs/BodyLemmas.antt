@@ -1,6 +1,7 @@
 -- What `http_intake` says of each kind of body is what `specs/Answers` says of the body of a
 -- response, once the octets are held as a `Body` or there was no memory for that.
-use Rattle.std.proofs.Common.{◌≡◌, ℕ, ◌≤◌, ◌+◌, List, [], length, Option, Some, None, Result, Ok, Err, IfOk, IfErr, MatchResult, refl, sym, ◌∙◌, subst, inl, inr, append-nil, vec_len, arith}
+use Rattle.std.proofs.Common.{◌≡◌, ℕ, ◌≤◌, ◌+◌, List, [], length, Option, Some, None, Result, Ok, Err, IfOk, IfErr, MatchResult, refl, sym, ◌∙◌, subst, inl}
+use Rattle.std.proofs.Common.{inr, append-nil, vec_len, arith}
 use Rattle.std.specs.Prelude.{Vec}
 use Rattle.std.specs.declared.alloc.Global.{Global}
 use Rattle.std.specs.Io.KnownBytes.{Consumes}

@@ -1,6 +1,7 @@
 -- Numbers read one digit at a time: a number cut to the cap at each digit is the whole number cut
 -- to the cap, and 19 digits never reach the greatest number of 64 bits.
-use Rattle.std.proofs.Common.{◌≡◌, ℕ, ◌+◌, ◌-◌, ◌*◌, ◌^◌, ◌<◌, ◌≤◌, Bool, true, false, ◌&&◌, cond, leb, List, [], ◌∷◌, length, take, get_or, min, Some, None, refl, ap, lit<, arith}
+use Rattle.std.proofs.Common.{◌≡◌, ℕ, ◌+◌, ◌-◌, ◌*◌, ◌^◌, ◌<◌, ◌≤◌, Bool, true, false, ◌&&◌, cond, leb, List, [], ◌∷◌, length, take, get_or, min, Some, None}
+use Rattle.std.proofs.Common.{refl, ap, lit<, arith}
 use Rattle.std.specs.List.{list_all}
 use Rattle.std.proofs.Math.Nat.{pow-le-pow_right}
 use Rattle.std.proofs.lemmas.Bool.{and_parts, le-leb}

@@ -1,5 +1,6 @@
 -- Which octets spell a response, and why reading stops (RFC 9112, sections 4 to 7).
-use Rattle.std.specs.Prelude.{◌≡◌, ℕ, ◌<◌, ◌≤◌, ◌+◌, ◌⊎◌, ⊤, true, false, List, [], length, drop, take, flat_map, Option, Some, None, Result, Ok, Err, IfOk, MatchResult}
+use Rattle.std.specs.Prelude.{◌≡◌, ℕ, ◌<◌, ◌≤◌, ◌+◌, ◌⊎◌, ⊤, true, false, List, [], length, drop, take, flat_map, Option, Some, None, Result, Ok, Err, IfOk}
+use Rattle.std.specs.Prelude.{MatchResult}
 use Rattle.std.specs.List.{AllByRecursion}
 use Rattle.std.specs.Io.KnownBytes.{IsAtEnd}
 use Rattle.httparse.specs.Grammar.{ResponseHead, IsResponseHead, print_response, status_code, ReadsResponse, NeverHasResponse}

@@ -6,7 +6,8 @@ ghost use Rattle.http_intake.specs.Reading.{most_turns};
 ghost use Rattle.http_intake.specs.Heads.{head_window, most_fields};
 ghost use Rattle.http_reading.specs.AnswerHead as head_rules;
 ghost use Rattle.http_reading.specs.AnswerHead.{told_text, is_fit};
-ghost use Rattle.http_reading.specs.Answers.{PassesInterim, ReadsAnswer, ReadsOn, ReadsRest, answer_of as answer_text_of};
+ghost use Rattle.http_reading.specs.Answers.{PassesInterim, ReadsAnswer, ReadsOn, ReadsRest};
+ghost use Rattle.http_reading.specs.Answers.{answer_of as answer_text_of};
 
 use crate::body::read_body;
 use crate::told::{Told, is_interim, tell};

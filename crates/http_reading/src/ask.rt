@@ -1,5 +1,6 @@
 //! Reading requests.
-ghost use Rattle.std.specs.Prelude.{◌≡◌, ◌⊎◌, ◌++◌, IfOk, IfErr, IsTrue, MatchResult, codes, Ok, Err};
+ghost use Rattle.std.specs.Prelude.{◌≡◌, ◌⊎◌, ◌++◌, IfOk, IfErr, IsTrue, MatchResult, codes, Ok};
+ghost use Rattle.std.specs.Prelude.{Err};
 ghost use Rattle.httparse.specs.Spans.{IsRequestWithin};
 ghost use Rattle.http_reading.specs.AskFields.{host_text};
 ghost use Rattle.http_reading.specs.AskHead as head_rules;

@@ -1,13 +1,17 @@
 //! The fields that a response keeps (RFC 9110, section 7.6.1).
 
-ghost use Rattle.std.specs.Prelude.{◌≡◌, ◌-◌, ◌≤◌, ◌↔◌, ◌⊎◌, ◌&&◌, false, length, map, List, All, IsTrue, IfOk, IfErr, IsErrOf, SomeIff, bytes_eq, take, drop};
+ghost use Rattle.std.specs.Prelude.{◌≡◌, ◌-◌, ◌≤◌, ◌↔◌, ◌⊎◌, ◌&&◌, false, length, map, List, All};
+ghost use Rattle.std.specs.Prelude.{IsTrue, IfOk, IfErr, IsErrOf, SomeIff, bytes_eq, take, drop};
 ghost use Rattle.std.specs.List.{list_all, list_any};
 ghost use Rattle.httparse.specs.Grammar as grammar;
 ghost use Rattle.httparse.specs.Spans.{header_bytes, name_and_value};
 ghost use Rattle.http_header.specs.FieldName.{IsFieldName};
 ghost use Rattle.http_header.specs.FieldValue.{IsFieldValue};
 ghost use Rattle.http_header.specs.Token.{lowercase};
-ghost use Rattle.http_messages.specs.Field.{field_text, dropped_names, is_dropped_name as is_dropped, is_kept_field, are_few_fields, line_length, is_trimmed as has_no_blank_end};
+ghost use Rattle.http_messages.specs.Field.{field_text, dropped_names};
+ghost use Rattle.http_messages.specs.Field.{is_dropped_name as is_dropped, is_kept_field};
+ghost use Rattle.http_messages.specs.Field.{are_few_fields, line_length};
+ghost use Rattle.http_messages.specs.Field.{is_trimmed as has_no_blank_end};
 ghost use Rattle.http_reading.specs.Fields.{fields_of};
 ghost use Rattle.http_reading.specs.Kept as spec;
 

@@ -1,7 +1,8 @@
 ghost use Rattle.std.specs.Prelude.{◌≡◌, IfErr, IsTrue, map};
 ghost use Rattle.values_plain.specs.Writing.{Writes};
 ghost use Rattle.http_messages.specs.Field.{field_text};
-ghost use Rattle.http_writing.specs.Answer.{answer_text, status_line, kept_line, kept_lines, first_lines, number_lines, told_length};
+ghost use Rattle.http_writing.specs.Answer.{answer_text, status_line, kept_line, kept_lines};
+ghost use Rattle.http_writing.specs.Answer.{first_lines, number_lines, told_length};
 ghost use Rattle.http_writing.specs.Name.{is_name as names_cache};
 
 use crate::lines::{write, write_field, write_last_lines, write_number, write_three};

@@ -1,6 +1,7 @@
 ghost use Rattle.std.specs.Prelude.{◌≡◌, IfErr, IsTrue};
 ghost use Rattle.values_plain.specs.Writing.{Writes};
-ghost use Rattle.http_writing.specs.Ask.{ask_text, target as target_text, request_line, key_lines, cache_control_line};
+ghost use Rattle.http_writing.specs.Ask.{ask_text, target as target_text, request_line, key_lines};
+ghost use Rattle.http_writing.specs.Ask.{cache_control_line};
 ghost use Rattle.http_writing.specs.Name.{is_name as names_cache};
 
 use crate::lines::{write, write_field, write_last_lines, write_number, write_three};

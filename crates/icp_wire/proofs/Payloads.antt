@@ -1,6 +1,7 @@
 -- A payload without a fault is one that the grammar allows, and such a payload has no fault: the
 -- first zero octet ends the URL, which has none in it.
-use Rattle.std.proofs.Common.{◌≡◌, ℕ, ◌^◌, ◌<◌, Bool, true, false, cond, eqb, List, [], ◌∷◌, ◌++◌, length, take, drop, Option, Some, None, refl, sym, ap, ◌∙◌, append_assoc, arith}
+use Rattle.std.proofs.Common.{◌≡◌, ℕ, ◌^◌, ◌<◌, Bool, true, false, cond, eqb, List, [], ◌∷◌, ◌++◌, length, take, drop, Option, Some, None, refl, sym, ap, ◌∙◌}
+use Rattle.std.proofs.Common.{append_assoc, arith}
 use Rattle.std.specs.Prelude.{Contains, is_none, position}
 use Rattle.std.specs.List.{before_first, after_first}
 use Rattle.std.proofs.lemmas.Bool.{eqb-true}

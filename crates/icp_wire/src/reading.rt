@@ -1,8 +1,11 @@
-ghost use Rattle.std.specs.Prelude.{◌≡◌, ◌≢◌, ◌⊎◌, Some, None, IfOk, IfErr, IsSome, MatchOption, MatchResult, position};
+ghost use Rattle.std.specs.Prelude.{◌≡◌, ◌≢◌, ◌⊎◌, Some, None, IfOk, IfErr, IsSome, MatchOption};
+ghost use Rattle.std.specs.Prelude.{MatchResult, position};
 ghost use Rattle.std.specs.List.{before_first, after_first};
 ghost use Rattle.icp_wire.specs.Grammar.{Spells};
 ghost use Rattle.icp_wire.specs.Faults.{first_fault, payload_fault, rest_fault};
-ghost use Rattle.icp_wire.specs.Reading.{is_zero, op_of as op_of_code, opcode_field, number_field, payload_field, from_url as url_onwards, Holds, url_in, object_in, object_behind};
+ghost use Rattle.icp_wire.specs.Reading.{is_zero, op_of as op_of_code, opcode_field, number_field};
+ghost use Rattle.icp_wire.specs.Reading.{payload_field, from_url as url_onwards, Holds, url_in};
+ghost use Rattle.icp_wire.specs.Reading.{object_in, object_behind};
 
 use crate::message::{ADDRESS_LENGTH, HEADER_LENGTH, LONGEST_MESSAGE, VERSION};
 use crate::{Icp, IcpFault, IcpOp};

@@ -9,7 +9,7 @@ use Rattle.node_rules.specs.declared.event.Event.{Event}
 use Rattle.node_rules.specs.declared.reply.Reply.{Reply}
 use Rattle.node_rules.specs.declared.state.NodeState.{NodeState}
 use Rattle.node_rules.specs.State.{Setting, setting}
-use Rattle.floor_rules.specs.Floors.{FloorMap}
+use Rattle.floor_rules.specs.Floors.{FloorTable}
 use Rattle.node_bytes.specs.Nodes.{TakesStep}
 use Rattle.node_rules.specs.Relation.{Steps}
 use Rattle.node_core.specs.View.{NodeText, IsSameMember, setting_of}
@@ -48,7 +48,7 @@ book_more before after opening es all e event filed book few more same_event sam
     (subst (λ l. IsBook before.roster before.id after.state opening l filed) (sym more) here))
 
 -- an entry behind the others, of a step that the node has taken
-pub is_applied : {S : Type 0} {honest : Type 0} {may_find : FloorMap → Type 0} {have_risen : Type 0} {before after : BookView S} {seat place : ℕ}
+pub is_applied : {S : Type 0} {honest : Type 0} {may_find : FloorTable → Type 0} {have_risen : Type 0} {before after : BookView S} {seat place : ℕ}
     {event : Event (Unit {0})} {told : Result (Reply (Unit {0})) BookFault} (e : NodeEntry) →
     after.entries ≡ before.entries ++ e ∷ [] → e ≡ record { seat = seat; place = place; event = event; outcome = e.outcome } → after.opening ≡ before.opening →
     after.filed ≡ before.filed → IsToldOf e.outcome told →

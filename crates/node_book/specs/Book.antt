@@ -1,6 +1,6 @@
 -- The book of a node's steps.
 use Rattle.std.specs.Prelude.{◌≡◌, ◌⊎◌, ℕ, ◌+◌, ◌≤◌, List, [], ◌∷◌, ◌++◌, length, Result, Ok, Err}
-use Rattle.floor_rules.specs.Floors.{FloorMap}
+use Rattle.floor_rules.specs.Floors.{FloorTable}
 use Rattle.values_tables.specs.declared.plain.Tables.{Tables}
 use Rattle.node_rules.specs.declared.event.Event.{Event}
 use Rattle.node_rules.specs.declared.reply.Reply.{Reply}
@@ -48,7 +48,7 @@ IsToldOf (Err fault) told = told ≡ Err (faults.Step fault)
 
 -- One entry stands behind the others, with the outcome that is told. The node has taken that step,
 -- and its store is as the step leaves it. [Book 1]
-pub record IsApplied {S : Type 0} (honest : Type 0) (may_find : FloorMap → Type 0) (have_risen : Type 0)
+pub record IsApplied {S : Type 0} (honest : Type 0) (may_find : FloorTable → Type 0) (have_risen : Type 0)
     (before after : BookView S) (seat place : ℕ) (e : Event (Unit {0})) (told : Result (Reply (Unit {0})) BookFault) :
     Type 0 where
   pub outcome : Result (Reply (Unit {0})) StepFault

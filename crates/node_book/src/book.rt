@@ -1,4 +1,5 @@
-ghost use Rattle.std.specs.Prelude.{◌≡◌, ◌⊎◌, ◌<◌, ◌≤◌, ◌+◌, [], length, IsTrue, IsFalse, IfOk, IfErr, Ok, Err};
+ghost use Rattle.std.specs.Prelude.{◌≡◌, ◌⊎◌, ◌<◌, ◌≤◌, ◌+◌, [], length, IsTrue, IsFalse, IfOk};
+ghost use Rattle.std.specs.Prelude.{IfErr, Ok, Err};
 ghost use Rattle.std.specs.Vec.{vec_len, vec_capacity};
 ghost use Rattle.floor_rules.specs.Store.{HaveRisen};
 ghost use Rattle.node_book.specs.Book.{IsApplied, IsReplayed, IsToldOf};

@@ -4,8 +4,8 @@
 //! The main type is [`NodeBook`]. [`NodeBook::open`] takes a node; [`NodeBook::apply`] takes a step
 //! and enters it as a [`NodeEntry`]; [`NodeBook::close`] gives the node back, with a [`Record`] of
 //! its steps. The entries stand on pages of 4,096 at most, and a full page is filed by
-//! [`NodeBook::file_page`], which copies nothing. [`NodeBook::end_record`] makes a record of all pages
-//! and goes on without entries.
+//! [`NodeBook::file_page`], which copies nothing. [`NodeBook::end_record`] makes a record of all
+//! pages and goes on without entries.
 //!
 //! Where to read:
 //!

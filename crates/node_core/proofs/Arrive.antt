@@ -1,6 +1,7 @@
 -- What the rules of an arrival come to: by the place of the request, its present fetch, the floor
 -- and the status, each rule is what the code does there.
-use Rattle.std.proofs.Common.{◌≡◌, ◌≢◌, ◌∙◌, ℕ, ◌<◌, ◌≤◌, ◌==◌, nat_le, true, false, List, [], ◌∷◌, ◌++◌, Option, Some, None, slice_get, refl, ap, sym, arith, rules}
+use Rattle.std.proofs.Common.{◌≡◌, ◌≢◌, ◌∙◌, ℕ, ◌<◌, ◌≤◌, ◌==◌, nat_le, true, false, List, [], ◌∷◌, ◌++◌, Option, Some, None, slice_get, refl, ap, sym, arith}
+use Rattle.std.proofs.Common.{rules}
 use Rattle.std.proofs.lemmas.Bool.Decides.{nat_tests}
 use Rattle.std.proofs.lemmas.Grind.{common_steps}
 use Rattle.std.proofs.lemmas.Option.{same_Some}
@@ -15,7 +16,8 @@ use Rattle.node_rules.specs.declared.state.Fetch.{Fetch}
 use Rattle.node_rules.specs.declared.state.Fetch.TheVariants.{Nowhere, AtPeer, AtOrigin}
 use Rattle.node_rules.specs.State.{Setting, replies, quiet, serving, with_copies, with_pending, changing, ended, served_age, is_idle}
 use Rattle.node_rules.specs.Fetching.{go_on, give_up}
-use Rattle.node_rules.specs.Arrivals.{unknown, new_copy, stored, use_answer, try_on, is_gateway_fault, peer_gave, from_peer, peer_answer_to, origin_gave, from_origin, origin_answer_to, fails, failure_of, not_fetching, with_round, round_moves, expires, expiry_of}
+use Rattle.node_rules.specs.Arrivals.{unknown, new_copy, stored, use_answer, try_on, is_gateway_fault, peer_gave, from_peer, peer_answer_to, origin_gave}
+use Rattle.node_rules.specs.Arrivals.{from_origin, origin_answer_to, fails, failure_of, not_fetching, with_round, round_moves, expires, expiry_of}
 use Rattle.node_waiting.specs.CanGoOn.{CanGoOn}
 
 -- a response becomes a copy, which is stored before its request ends

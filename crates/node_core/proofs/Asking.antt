@@ -20,7 +20,8 @@ use Rattle.node_rules.specs.declared.reply.Begin.TheVariants as begin
 use Rattle.node_rules.specs.declared.reply.Reply.{Reply}
 use Rattle.node_rules.specs.Known.{has_origin}
 use Rattle.node_rules.specs.State.{Setting, Stepped, replies, refuses, served_age, with_copies, beginning, serving}
-use Rattle.node_rules.specs.Asks.{taking, free_block, new_ask, begin_round, begin_with_read, begin_ask, begin_if_free, ask_around, is_cached_only, not_held, copy_for, by_copy, ask_comes, question_to}
+use Rattle.node_rules.specs.Asks.{taking, free_block, new_ask, begin_round, begin_with_read, begin_ask, begin_if_free, ask_around, is_cached_only, not_held}
+use Rattle.node_rules.specs.Asks.{copy_for, by_copy, ask_comes, question_to}
 use Rattle.node_rules.specs.Fetching.{fetching, origin_ask}
 
 module _ {X : Type 0} (g : Setting) (s : NodeState X) (asker : Option ℕ) (ask : Ask) (block now : ℕ) (mark : X) where

@@ -1,6 +1,7 @@
 -- What answers to a round lead to: whether there is a round, whether a peer of it sent the answer,
 -- and whether it is that peer's first, the code tests as the rule does.
-use Rattle.std.proofs.Common.{◌≡◌, ℕ, ◌<◌, ◌==◌, ◌&&◌, length, inl, inr, arith, Bool, true, false, cond, find, slice_get, IfSome, List, Option, Some, None, Result, refl, ap, sym, subst, ◌∙◌}
+use Rattle.std.proofs.Common.{◌≡◌, ℕ, ◌<◌, ◌==◌, ◌&&◌, length, inl, inr, arith, Bool, true, false, cond, find, slice_get, IfSome, List, Option, Some, None}
+use Rattle.std.proofs.Common.{Result, refl, ap, sym, subst, ◌∙◌}
 use Rattle.std.specs.Option.{option_and_then}
 use Rattle.std.proofs.lemmas.Option.{none-some, slice_get_cases}
 use Rattle.icp_wire.specs.declared.message.Icp.{Icp}

@@ -2,11 +2,8 @@
 -- allocation fails takes a step of the relation; only a purge may meet a fault of the store, which
 -- closes the node.
 use Rattle.std.proofs.Common.{◌≡◌, ℕ, false, true, ◌⊎◌, inl, inr, List, Option, Some, Result, Ok, Err, ◌∙◌, ap, subst, sym}
-use Rattle.std.specs.Prelude.{⊤, Bool}
-use Rattle.std.specs.Prelude.{◌<◌, ◌≤◌, IsSome, None}
-use Rattle.std.proofs.Math.Nat.{not-le_of_lt}
-use Rattle.std.specs.FinMap.{get, len}
-use Rattle.floor_rules.specs.Floors.{FloorMap, HasRoom, raised}
+use Rattle.std.specs.Prelude.{⊤}
+use Rattle.floor_rules.specs.Floors.{FloorTable, raised}
 use Rattle.floor_rules.specs.Store.{IsBeforeOrAfter, HaveRisen}
 use Rattle.floor_rules.specs.declared.fault.FloorFault.{FloorFault}
 use Rattle.floor_rules.specs.declared.fault.FloorFault.TheVariants as floor_fault
@@ -47,7 +44,6 @@ pub closes : {X : Type 0} (to : Stepped X) (s next : NodeState X) (key : List �
     MayClose to s (Some (key, n)) (Err (step_fault_of f)) next
 closes to s next key n floor_fault.NoMemory h = inr h
 closes to s next key n floor_fault.StoreFault h = h
-closes to s next key n floor_fault.FloorsFull h = h
 closes to s next key n floor_fault.BadTable h = h
 
 -- an open node takes the step of an open node
@@ -75,13 +71,13 @@ unfolding step step_if
 closed_steps g s e mark is_closed = ap (step_if g s e mark) is_closed
 
 -- what a crash at a raise leaves, if the floors in memory were raised too
-pub found_either : (stored before after found : FloorMap) (key : List ℕ) (n : ℕ) → stored ≡ before → after ≡ raised before key n →
+pub found_either : (stored before after found : FloorTable) (key : List ℕ) (n : ℕ) → stored ≡ before → after ≡ raised before key n →
     IsBeforeOrAfter stored key n found → (found ≡ before) ⊎ (found ≡ after)
 found_either stored before after found key n e raise (inl same) = inl (same ∙ e)
-found_either stored before after found key n e raise (inr (room, new)) = inr (new ∙ ap (λ f. raised f key n) e ∙ sym raise)
+found_either stored before after found key n e raise (inr new) = inr (new ∙ ap (λ f. raised f key n) e ∙ sym raise)
 
 -- the same for an equal node
-pub keeps_by : {X S : Type 0} (honest : S → Type 0) (may_find : S → FloorMap → Type 0) (before now after : NodeText X S) (out : Result (Reply X) StepFault) →
+pub keeps_by : {X S : Type 0} (honest : S → Type 0) (may_find : S → FloorTable → Type 0) (before now after : NodeText X S) (out : Result (Reply X) StepFault) →
     now ≡ after →
     KeepsStore (honest after.store) (may_find after.store) before after out → KeepsStore (honest now.store) (may_find now.store) before now out
 keeps_by honest may_find before now after out e h = subst (λ v. KeepsStore (honest v.store) (may_find v.store) before v out) (sym e) h
@@ -97,28 +93,18 @@ pub without_fault_by : {X : Type 0} (honest risen : Type 0) (to : (List ℕ → 
     ((k : List ℕ → Option (List ℕ)) → GivesKeys k → Leads (to k) s out next) → FailsWithCause honest risen out
 without_fault_by honest risen to s next out h = without_fault honest risen (to key_of) s next out (h key_of gives_keys)
 
-abbrev IsFalse : Bool → Type 0
-IsFalse false = ⊤
-IsFalse true = ⊥
-
--- a store with the same floors as memory is not full if memory has room
-pub not_full : (stored floors : FloorMap) (key : List ℕ) → stored ≡ floors → HasRoom floors key → (65536 ≤ len stored) × (get stored key ≡ None) → ⊥
-not_full stored floors key e (inl has) full = subst IsFalse (subst IsSome (ap (λ m. get m key) (sym e) ∙ full.1) has) tt
-not_full stored floors key e (inr few) full = not-le_of_lt (subst (λ m. len m < 65536) (sym e) few) full.0
-
 -- the fault of the step is StoreFault
 abbrev pub IsStoreFault : {X : Type 0} → Result (Reply X) StepFault → Type 0
 IsStoreFault (Err fault.StoreFault) = ⊤
 IsStoreFault _ = ⊥
 
--- StoreFault comes of a failure of the store, since the store is not full
+-- StoreFault comes of a failure of the store
 pub caused : (X : Type 0) (f : FloorFault) (out : Result (Unit {0}) FloorFault) (risen : Type 0) → out ≡ Err f →
-    (out ≡ Err floor_fault.StoreFault → risen) → (out ≡ Err floor_fault.BadTable → ⊥) → (out ≡ Err floor_fault.FloorsFull → ⊥) →
+    (out ≡ Err floor_fault.StoreFault → risen) → (out ≡ Err floor_fault.BadTable → ⊥) →
     IsStoreFault {X = X} (Err (step_fault_of f)) → risen
-caused X floor_fault.NoMemory out risen is store bad full e = absurd e
-caused X floor_fault.StoreFault out risen is store bad full e = store is
-caused X floor_fault.BadTable out risen is store bad full e = absurd (bad is)
-caused X floor_fault.FloorsFull out risen is store bad full e = absurd (full is)
+caused X floor_fault.NoMemory out risen is store bad e = absurd e
+caused X floor_fault.StoreFault out risen is store bad e = store is
+caused X floor_fault.BadTable out risen is store bad e = absurd (bad is)
 
 -- the same for an equal node
 pub fails_by : {X S : Type 0} (honest : S → Type 0) (failed : S → ℕ) (before : ℕ) (now after : NodeText X S) (out : Result (Reply X) StepFault) → now ≡ after →

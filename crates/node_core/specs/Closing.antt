@@ -1,6 +1,6 @@
 -- A node whose store of floors fails, and what a step leaves in the store.
 use Rattle.std.specs.Prelude.{◌≡◌, ◌⊎◌, Result, Ok, Err}
-use Rattle.floor_rules.specs.Floors.{FloorMap}
+use Rattle.floor_rules.specs.Floors.{FloorTable}
 use Rattle.floor_rules.specs.declared.fault.FloorFault.{FloorFault}
 use Rattle.floor_rules.specs.declared.fault.FloorFault.TheVariants as floor_fault
 use Rattle.node_rules.specs.declared.reply.Reply.{Reply}
@@ -15,12 +15,12 @@ step_fault_of _ = fault.StoreFault
 
 -- The store is as it was, or an honest one is left so: after a reply, an open after a crash finds
 -- the floors as they are now. After a fault it finds them from before the step or as they are now. [Floor 2]
-abbrev pub KeepsStore : {X S : Type 0} → Type 0 → (FloorMap → Type 0) → NodeText X S → NodeText X S →
+abbrev pub KeepsStore : {X S : Type 0} → Type 0 → (FloorTable → Type 0) → NodeText X S → NodeText X S →
     Result (Reply X) StepFault → Type 0
 KeepsStore honest may_find before after (Ok reply) =
-    (after.store ≡ before.store) ⊎ (honest → (found : FloorMap) → may_find found → found ≡ after.state.floors)
+    (after.store ≡ before.store) ⊎ (honest → (found : FloorTable) → may_find found → found ≡ after.state.floors)
 KeepsStore honest may_find before after (Err f) =
-    (after.store ≡ before.store) ⊎ (honest → (found : FloorMap) → may_find found →
+    (after.store ≡ before.store) ⊎ (honest → (found : FloorTable) → may_find found →
     (found ≡ before.state.floors) ⊎ (found ≡ after.state.floors))
 
 -- An honest store's fault is given only if the count of failures rose.

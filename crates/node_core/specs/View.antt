@@ -4,7 +4,7 @@ use Rattle.url_key.specs.declared.fault.KeyFault.{KeyFault}
 use Rattle.url_key.specs.Key.{HasKey}
 use Rattle.values_keys.specs.KeyOf.{key_in}
 use Rattle.object_store.specs.Held.{Held}
-use Rattle.floor_rules.specs.Floors.{FloorMap}
+use Rattle.floor_rules.specs.Floors.{FloorTable}
 use Rattle.values_tables.specs.declared.plain.Limits.{Limits}
 use Rattle.values_tables.specs.declared.plain.Tables.{Tables}
 use Rattle.roster.specs.Lookups.{is_member}
@@ -39,7 +39,7 @@ pub record IsNode {X : Type 0} (roster : Tables) (id : ℕ) (held : Held X) (pen
 
 -- While the node is open, no call of its store has failed, and an honest store has committed its
 -- floors.
-abbrev pub IsTied : Bool → FloorMap → Bool → Type 0 → FloorMap → Type 0
+abbrev pub IsTied : Bool → FloorTable → Bool → Type 0 → FloorTable → Type 0
 IsTied closed floors usable honest stored = closed ≡ false → IsTrue usable × (honest → stored ≡ floors)
 
 -- Roster, id and store of floors stay.

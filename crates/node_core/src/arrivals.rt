@@ -1,6 +1,7 @@
 //! A response to a fetch arrives, a fetch fails, or a round expires (`specs/Arrivals` of
 //! `node_rules`).
-ghost use Rattle.std.specs.Prelude.{◌≡◌, ◌<◌, ◌++◌, ◌∷◌, [], ℕ, List, Option, Some, find, length, unwrap_or, IfOk, IfSome, false, true, slice_get};
+ghost use Rattle.std.specs.Prelude.{◌≡◌, ◌<◌, ◌++◌, ◌∷◌, [], ℕ, List, Option, Some, find, length};
+ghost use Rattle.std.specs.Prelude.{unwrap_or, IfOk, IfSome, false, true, slice_get};
 ghost use Rattle.node_rules.specs.State as state;
 ghost use Rattle.node_rules.specs.Arrivals as arrivals;
 ghost use Rattle.node_rules.specs.declared.state.Fetch.TheVariants.{AtPeer, AtOrigin};

@@ -1,5 +1,6 @@
 //! A client's or a member's request arrives (`specs/Asks` of `node_rules`).
-ghost use Rattle.std.specs.Prelude.{◌≡◌, ◌≤◌, ℕ, List, [], Option, None, Some, IfOk, OnOk, OnErr, false};
+ghost use Rattle.std.specs.Prelude.{◌≡◌, ◌≤◌, ℕ, List, [], Option, None, Some, IfOk, OnOk, OnErr};
+ghost use Rattle.std.specs.Prelude.{false};
 ghost use Rattle.roster.specs.Lookups.{is_member};
 ghost use Rattle.object_store.specs.Listed.{to_front};
 ghost use Rattle.node_rules.specs.State as state;

@@ -1,6 +1,7 @@
 //! How a pending request goes on: to a peer, to the origin, or to its end (`specs/Fetching` of
 //! `node_rules`).
-ghost use Rattle.std.specs.Prelude.{◌≡◌, ◌<◌, ◌≤◌, ◌+◌, ◌*◌, ℕ, List, Option, length, true, IfOk, IfSome, Some, None, slice_get};
+ghost use Rattle.std.specs.Prelude.{◌≡◌, ◌<◌, ◌≤◌, ◌+◌, ◌*◌, ℕ, List, Option, length, true, IfOk};
+ghost use Rattle.std.specs.Prelude.{IfSome, Some, None, slice_get};
 ghost use Rattle.node_rules.specs.State as state;
 ghost use Rattle.node_rules.specs.Fetching as fetching;
 ghost use Rattle.node_rules.specs.declared.state.Fetch.TheVariants.{AtPeer, AtOrigin};

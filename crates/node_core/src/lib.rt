@@ -27,14 +27,15 @@
 //! A purge is the one step that writes to the store. Its order, in `purge` of `src/purges.rt`:
 //!
 //! 1. make the response;
-//! 2. raise the floor in memory;
-//! 3. raise it in the store, which commits it;
-//! 4. drop an older copy;
-//! 5. return the response, so the acknowledgement leaves only after the commit.
+//! 2. where the base of the floors is to rise, drop all copies below the new base;
+//! 3. raise the floor in memory;
+//! 4. raise it in the store, which commits it;
+//! 5. drop an older copy of the key;
+//! 6. return the response, so the acknowledgement leaves only after the commit.
 //!
-//! If the store fails at 3, even for lack of memory, the node closes: it drops its pending requests
+//! If the store fails at 4, even for lack of memory, the node closes: it drops its pending requests
 //! and answers `Closed` from then on. The store then has the floors from before the purge or from
-//! after it.
+//! after it, and the copies that 2 dropped are gone.
 //!
 //! # What contracts see
 //!

@@ -1,5 +1,7 @@
-ghost use Rattle.std.specs.Prelude.{◌≡◌, ◌==◌, find, option_map};
-ghost use Rattle.node_rules.specs.State.{fetch_serial, closed_node};
+ghost use Rattle.std.specs.Prelude.{◌≡◌, ◌==◌, find, option_map, OnOk, OnErr};
+ghost use Rattle.floor_rules.specs.Floors.{new_base};
+ghost use Rattle.object_store.specs.Listed.{without_all_below};
+ghost use Rattle.node_rules.specs.State.{fetch_serial, closed_node, with_copies};
 ghost use Rattle.node_core.specs.View.{IsSameNode, IsTied};
 
 use floor_rules::{FloorStore, Floors};
@@ -7,8 +9,9 @@ use node_rules::Pending;
 use node_waiting::PendingList;
 use object_store::Store;
 use roster::Roster;
-use std::alloc::Global;
+use std::alloc::{AllocError, Global};
 use std::marker::Model;
+use url_key::Key;
 
 /// A node of the hierarchy, over a store of its floors. `T` is the type of the tags of its copies.
 ///
@@ -64,6 +67,14 @@ impl<T, S: FloorStore> Node<T, S> {
         self.closed
     }
 
+    /// The base of its floors after a purge of the key with this number, where the base rises, else
+    /// 0. Takes no memory.
+    pub fn new_base(&self, key: &Key, number: u32) -> u32
+        ensures { result ≡ new_base self.now.state.floors key.now number }
+    {
+        self.floors.new_base(key, number)
+    }
+
     /// Its id in the roster.
     pub fn id(&self) -> u8
         ensures { result ≡ self.now.id }
@@ -98,5 +109,17 @@ impl<T: Drop, S: FloorStore> Node<T, S> {
     {
         self.closed = true;
         self.pending = PendingList::new(self.alloc);
+    }
+
+    /// Drops all copies with a stamp less than this base, as a purge does whose raise makes the
+    /// base. `AllocError`: an allocation failed, and nothing changes.
+    pub fn drop_below(&mut self, base: u32) -> Result<(), AllocError>
+        ensures same { IsSameNode self.old self.new }
+        ensures ok { OnOk result (self.new.state ≡ with_copies self.old.state
+            (without_all_below base self.old.state.copies)) }
+        ensures err { OnErr result (self.new.state ≡ self.old.state) }
+    {
+        self.copies.clear_all_below(base)?;
+        Ok(())
     }
 }

@@ -91,8 +91,7 @@ impl<T, S: FloorStore + Drop> Node<T, S> {
         ensures store { IfOk result (λ node. node.store ≡ store) }
         ensures cause { result ≡ Err (OpenFault.Floors FloorFault.StoreFault) →
             S.is_usable store ≡ false }
-        ensures named { (result ≢ Err (OpenFault.Floors FloorFault.FloorsFull))
-            × (result ≢ Err (OpenFault.Floors FloorFault.BadTable)) }
+        ensures named { result ≢ Err (OpenFault.Floors FloorFault.BadTable) }
     {
         Node::open_over(alloc, roster, id, store, None)
     }
@@ -116,8 +115,7 @@ impl<T, S: FloorStore + Drop> Node<T, S> {
         ensures store { IfOk result (λ node. node.store ≡ store) }
         ensures cause { result ≡ Err (OpenFault.Floors FloorFault.StoreFault) →
             S.is_usable store ≡ false }
-        ensures named { (result ≢ Err (OpenFault.Floors FloorFault.FloorsFull))
-            × (result ≢ Err (OpenFault.Floors FloorFault.BadTable)) }
+        ensures named { result ≢ Err (OpenFault.Floors FloorFault.BadTable) }
     {
         Node::open_over(alloc, roster, id, store, Some(keys))
     }
@@ -139,8 +137,7 @@ impl<T, S: FloorStore + Drop> Node<T, S> {
         ensures store { IfOk result (λ node. node.store ≡ store) }
         ensures cause { result ≡ Err (OpenFault.Floors FloorFault.StoreFault) →
             S.is_usable store ≡ false }
-        ensures named { (result ≢ Err (OpenFault.Floors FloorFault.FloorsFull))
-            × (result ≢ Err (OpenFault.Floors FloorFault.BadTable)) }
+        ensures named { result ≢ Err (OpenFault.Floors FloorFault.BadTable) }
     {
         if !roster.is_member(id) {
             return Err(OpenFault::NoSuchNode);

@@ -1,25 +1,29 @@
 //! Purges: an HTCP CLR arrives (RFC 2756, "CLR").
-ghost use Rattle.std.specs.Prelude.{◌≡◌, ◌≤◌, ℕ, List, Option, Some, None, option_map, IfOk, false, Err};
+ghost use Rattle.std.specs.Prelude.{◌≡◌, ◌≤◌, ℕ, List, Option, Some, None, option_map, IfOk, OnOk};
+ghost use Rattle.std.specs.Prelude.{OnErr, false, Err};
 ghost use Rattle.node_rules.specs.State as state;
 ghost use Rattle.node_rules.specs.Datagrams as datagrams;
 ghost use Rattle.node_rules.specs.Relation.{purge_meant};
-ghost use Rattle.object_store.specs.Listed.{copy_of};
-ghost use Rattle.object_store.specs.Held.{is_older_than};
+ghost use Rattle.object_store.specs.Listed.{copy_of, without_all_below};
+ghost use Rattle.object_store.specs.Held.{is_older_than, with_copies};
+ghost use Rattle.floor_rules.specs.Floors.{new_base, raised};
 ghost use Rattle.node_rules.specs.declared.state.NodeState.{NodeState};
 ghost use Rattle.values_keys.specs.KeyOf.{GivesKeys};
 ghost use Rattle.node_core.specs.View.{IsSameNode, IsSameMember, setting_of};
 ghost use Rattle.floor_rules.specs.Store.{HaveRisen};
-ghost use Rattle.node_core.specs.Closing.{step_fault_of as answer_to_fault, KeepsStore, FailsWithCause};
+ghost use Rattle.node_core.specs.Closing.{step_fault_of as answer_to_fault, KeepsStore};
+ghost use Rattle.node_core.specs.Closing.{FailsWithCause};
 ghost use Rattle.node_core.specs.Leads.{Leads, MayClose};
 
 use crate::Node;
 use crate::questions::key_of_text;
 use crate::replies::sends_if;
-use floor_rules::{FloorFault, FloorStore};
+use floor_rules::{FloorFault, FloorStore, Floors};
 use htcp_wire::{CLR, HeaderKind, NOT_ALLOWED, Specifier, number_in};
 use node_messages::{clr_answer, is_known, overall_answer};
 use node_rules::{Reply, StepFault};
 use node_waiting::PendingList;
+use object_store::Store;
 use roster::{Address, Udp};
 use std::alloc::{AllocError, Global};
 use url_key::Key;
@@ -41,6 +45,29 @@ fn refused<T: Drop>(
     )
 }
 
+/// Raises the key's floor in memory to this number at least. Where the base rises, all copies with
+/// a lesser stamp than the new base go. If an allocation fails, nothing changes.
+fn raise_in_memory<T: Drop>(
+    alloc: Global,
+    floors: &mut Floors,
+    copies: &mut Store<T>,
+    key: &Key,
+    number: u32,
+) -> Result<(), AllocError>
+    ensures floors { OnOk result (floors.new ≡ raised floors.old key.now number) }
+    ensures copies { OnOk result (copies.new ≡ with_copies copies.old
+        (without_all_below (new_base floors.old key.now number) copies.old.copies)) }
+    ensures err { OnErr result ((floors.new ≡ floors.old) × (copies.new ≡ copies.old)) }
+{
+    let base = floors.new_base(key, number);
+    if base == 0 {
+        return floors.raise(alloc, key, number);
+    }
+    copies.clear_all_below(base)?;
+    floors.rebase(alloc, base);
+    Ok(())
+}
+
 /// The fault of a step whose store gave this fault. Any other fault than `NoMemory` tells no more
 /// than that the store failed.
 fn step_fault_of(fault: FloorFault) -> StepFault
@@ -48,9 +75,7 @@ fn step_fault_of(fault: FloorFault) -> StepFault
 {
     match fault {
         FloorFault::NoMemory => StepFault::NoMemory,
-        FloorFault::StoreFault | FloorFault::FloorsFull | FloorFault::BadTable => {
-            StepFault::StoreFault
-        }
+        FloorFault::StoreFault | FloorFault::BadTable => StepFault::StoreFault,
     }
 }
 
@@ -153,9 +178,10 @@ impl<T: Copy + Drop, S: FloorStore> Node<T, S> {
         }
     }
 
-    /// Purges a key. In this order: the response is made, the floor rises in memory, the store
-    /// commits it, and an older copy goes. If the store fails, the node closes: no request is
-    /// pending then, and copies and next block stay as they were.
+    /// Purges a key. In this order: the response is made; where the base is to rise, all copies
+    /// below the new base go; the floor rises in memory; the store commits it; and an older copy of
+    /// the key goes. If the store fails, the node closes: no request is pending then, and the next
+    /// block and all copies that are left stay as they were.
     #[tactic(auto, unfolding(node_rules::specs::Datagrams::purge))]
     fn purge(
         &mut self,
@@ -175,12 +201,9 @@ impl<T: Copy + Drop, S: FloorStore> Node<T, S> {
         ensures leads { MayClose (datagrams.purge self.old.state from trans desired key.now number)
             self.old.state (Some (key.now, number)) result self.new.state }
     {
-        if !self.floors.has_room(key) {
-            return Ok(refused(self.alloc, from, trans, desired)?);
-        }
-        let dropped = self.holds_below(key, number);
+        let dropped = self.holds_below(key, number.max(self.floors.new_base(key, number)));
         let reply = sends_if(self.alloc, desired, clr_answer(from, trans, dropped))?;
-        self.floors.raise(self.alloc, key, number)?;
+        raise_in_memory(self.alloc, &mut self.floors, &mut self.copies, key, number)?;
         match self.store.raise(self.alloc, key, number) {
             Ok(()) => {
                 self.copies.clear_below(key, number);

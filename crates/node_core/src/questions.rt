@@ -1,5 +1,6 @@
 //! Queries of other caches, and answers of peers to a round.
-ghost use Rattle.std.specs.Prelude.{◌≡◌, ◌<◌, ℕ, List, Option, Some, None, length, option_map, IfOk, IfSome, slice_get, false};
+ghost use Rattle.std.specs.Prelude.{◌≡◌, ◌<◌, ℕ, List, Option, Some, None, length, option_map};
+ghost use Rattle.std.specs.Prelude.{IfOk, IfSome, slice_get, false};
 ghost use Rattle.node_rules.specs.State as state;
 ghost use Rattle.node_rules.specs.Datagrams as datagrams;
 ghost use Rattle.node_rules.specs.Texts.{IsSendable};

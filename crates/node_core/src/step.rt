@@ -61,7 +61,8 @@ impl<T: Copy + Drop, S: FloorStore> Node<T, S> {
     /// request waits at this serial, with this key and this source), `Busy` (1,024 requests are
     /// pending). `StoreFault` (the floor store failed) closes the node. `NoMemory` (an allocation
     /// failed) changes nothing, but closes the node if the floor store gave it. A node that closes
-    /// has no pending request left, and keeps its copies and its next block.
+    /// has no pending request left. It keeps its next block and its copies, but those below a base
+    /// that was to rise.
     #[tactic(auto, using(crate::proofs::Outcomes::closed_steps))]
     pub fn step(&mut self, event: Event<T>, mark: T) -> Result<Reply<T>, StepFault>
         ensures same { IsSameMember self.old self.new }

@@ -1,7 +1,8 @@
 -- The statuses that refuse a request (RFC 9110, section 15), and the names of faults.
 use Rattle.std.specs.Prelude.{ℕ, List, Option, Some, None}
 use Rattle.http_messages.specs.declared.fault.FetchFault.{FetchFault}
-use Rattle.http_messages.specs.declared.fault.FetchFault.TheVariants.{Io, EndOfInput, BadHead, HeadTooLong, BadTarget, MethodNotServed, Credentials, BadBody, BodyTooLong, TooManyTurns, NoMemory}
+use Rattle.http_messages.specs.declared.fault.FetchFault.TheVariants.{Io, EndOfInput, BadHead, HeadTooLong, BadTarget, MethodNotServed, Credentials, BadBody}
+use Rattle.http_messages.specs.declared.fault.FetchFault.TheVariants.{BodyTooLong, TooManyTurns, NoMemory}
 use Rattle.http_messages.specs.Fault.{fetch_fault_name}
 use Rattle.node_rules.specs.Names.{step_fault_name}
 use Rattle.node_http.specs.declared.fault.ServeFault.{ServeFault}

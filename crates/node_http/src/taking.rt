@@ -3,7 +3,8 @@ ghost use Rattle.std.specs.Prelude.{◌≡◌, ◌⊎◌, ℕ, Option, Ok, Err, 
 ghost use Rattle.roster.specs.Lookups.{is_member as is_member_of};
 ghost use Rattle.node_bytes.specs.Stepping.{AnswersAsker};
 ghost use Rattle.node_bytes.specs.Turns.{turn_of};
-ghost use Rattle.node_http.specs.Asking.{IsTaken, TakesAsk, TakesFor, event_by as event_from, block_of as block_begun};
+ghost use Rattle.node_http.specs.Asking.{IsTaken, TakesAsk, TakesFor, event_by as event_from};
+ghost use Rattle.node_http.specs.Asking.{block_of as block_begun};
 
 use crate::ServeFault;
 use crate::roster_names::asker_of;

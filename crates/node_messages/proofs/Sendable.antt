@@ -1,7 +1,8 @@
 -- The messages that a node sends can be encoded. A key has no zero octet and at most 1,024 octets,
 -- so queries are short enough; a response is as long as the miss that must fit; a stamp has at most
 -- ten digits.
-use Rattle.std.proofs.Common.{◌≡◌, ◌≢◌, ℕ, ◌≤◌, ◌<◌, ◌+◌, ◌^◌, true, false, subst, List, [], ◌∷◌, ◌++◌, length, Some, Ok, Err, refl, sym, inl, inr, codes, decimal, arith, length-append, Contains}
+use Rattle.std.proofs.Common.{◌≡◌, ◌≢◌, ℕ, ◌≤◌, ◌<◌, ◌+◌, ◌^◌, true, false, subst, List, [], ◌∷◌, ◌++◌, length, Some, Ok, Err, refl, sym, inl, inr, codes}
+use Rattle.std.proofs.Common.{decimal, arith, length-append, Contains}
 use Rattle.std.specs.List.{list_all}
 use Rattle.std.proofs.lemmas.Bool.{cases_Bool, le-ltb}
 use Rattle.std.proofs.lemmas.List.Sums.{AllPass-from_list_all}

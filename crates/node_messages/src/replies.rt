@@ -1,5 +1,6 @@
 //! A node's responses to datagrams.
-ghost use Rattle.std.specs.Prelude.{◌≡◌, ◌≢◌, ◌<◌, ◌++◌, ◌∷◌, [], IfOk, IfSome, codes, decimal, option_map};
+ghost use Rattle.std.specs.Prelude.{◌≡◌, ◌≢◌, ◌<◌, ◌++◌, ◌∷◌, [], IfOk, IfSome, codes, decimal};
+ghost use Rattle.std.specs.Prelude.{option_map};
 ghost use Rattle.icp_wire.specs.declared.message.IcpOp.TheVariants as ops;
 ghost use Rattle.htcp_wire.specs.declared.message.Content.TheVariants as content;
 ghost use Rattle.node_rules.specs.Texts.{IsSendable, IsAnswerable};

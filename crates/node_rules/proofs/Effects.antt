@@ -1,6 +1,7 @@
 -- Each rule of the step has one of the five effects, and keeps what each keeps. The proof goes over
 -- the rules in the order of specs/: each lemma NAME_does is about the rule NAME.
-use Rattle.std.proofs.Common.{◌≡◌, ℕ, ◌*◌, ◌≤◌, Bool, true, false, cond, not, ◌&&◌, ◌||◌, max, List, [], ◌∷◌, option_map, find, map, filter, Option, Some, None, Result, Ok, Err, refl, sym, ◌∙◌, ap, inr, nat_le, nat_eq, subst, arith, rules}
+use Rattle.std.proofs.Common.{◌≡◌, ℕ, ◌*◌, ◌≤◌, Bool, true, false, cond, not, ◌&&◌, ◌||◌, List, [], ◌∷◌, option_map, find, map, filter, Option, Some, None}
+use Rattle.std.proofs.Common.{Result, Ok, Err, refl, sym, ◌∙◌, ap, inr, nat_le, nat_eq, subst, rules}
 use Rattle.std.specs.List.{AllByRecursion, Contains, cons_option, filter_map}
 use Rattle.std.specs.Prelude.{bytes_eq}
 use Rattle.node_rules.specs.declared.message.Outgoing.{Outgoing}
@@ -16,7 +17,7 @@ use Rattle.htcp_wire.specs.declared.message.Content.{Content}
 use Rattle.htcp_wire.specs.declared.message.Content.TheVariants as content
 use Rattle.node_rules.specs.declared.message.Message.{Message}
 use Rattle.node_rules.specs.declared.message.Message.TheVariants as message
-use Rattle.floor_rules.specs.Floors.{FloorMap, seen}
+use Rattle.floor_rules.specs.Floors.{FloorTable, seen}
 use Rattle.object_store.specs.declared.copy.WebCopy.{WebCopy}
 use Rattle.http_messages.specs.declared.ask.Ask.{Ask}
 use Rattle.http_messages.specs.Answer.{AnswerText}
@@ -42,16 +43,22 @@ use Rattle.object_store.specs.Listed.{copy_of}
 use Rattle.reuse_rules.specs.Lifetime.{lifetime}
 use Rattle.htcp_wire.specs.declared.fault.HtcpFault.{HtcpFault}
 use Rattle.values_plain.specs.declared.address.Udp.TheVariants as udp
-use Rattle.node_rules.specs.Effect.{copy_served, sent, IsOwnFault, ServesBareStatus, ComesFrom, HasRaised, IsObedient, IsUnderWay, IsReadOf, IsAt, IsFromOrigin, IsFromPeer, IsAnswerTo, IsAnswerOf, Effect, Stays, Serves, Brings, Purges, Drops, IsHeldAbove, state_of}
+use Rattle.node_rules.specs.Effect.{copy_served, sent, IsOwnFault, ServesBareStatus, ComesFrom, HasRaised, IsObedient, IsUnderWay, IsReadOf, IsAt, IsFromOrigin}
+use Rattle.node_rules.specs.Effect.{IsFromPeer, IsAnswerTo, IsAnswerOf, Effect, Stays, Serves, Brings, Purges, Drops, IsHeldAbove, state_of}
 use Rattle.node_rules.specs.State.{Setting, Stepped, replies, refuses, quiet, fetch_serial, is_idle, is_of_block, inserted, age_of, is_good, if_good, good_copy}
 use Rattle.reuse_rules.specs.Freshness.{is_fresh}
 use Rattle.node_rules.specs.Fetching.{fetching, ask_peer, begin_read, read_origin, go_to, go_on}
-use Rattle.node_rules.specs.Asks.{new_ask, question_to, is_cached_only, begin_round, begin_with_read, ask_around, begin_ask, begin_if_free, not_held, by_copy, copy_for, ask_comes}
-use Rattle.node_rules.specs.Arrivals.{new_copy, is_fetch, with_round, use_answer, try_on, is_gateway_fault, peer_gave, origin_gave, from_peer, peer_answer_to, peer_answer, foreign_answer, from_origin, origin_answer_to, origin_answer, fails, failure_of, fetch_failed, round_moves, expires, expiry_of, round_expired}
-use Rattle.node_rules.specs.Datagrams.{is_full, sends_back, tst_answer, copy_meant, purged, purge_of, if_desired, icp_query, htcp_tst, hears, told_by, told_to, icp_told, htcp_told, clr_done, purge, numbered_clr, dropped, plain_clr, clr_by_line, htcp_clr, icp_comes, tst_refused, htcp_comes, datagram}
+use Rattle.node_rules.specs.Asks.{new_ask, question_to, is_cached_only, begin_round, begin_with_read, ask_around, begin_ask, begin_if_free, not_held, by_copy}
+use Rattle.node_rules.specs.Asks.{copy_for, ask_comes}
+use Rattle.node_rules.specs.Arrivals.{new_copy, is_fetch, with_round, use_answer, try_on, is_gateway_fault, peer_gave, origin_gave, from_peer, peer_answer_to}
+use Rattle.node_rules.specs.Arrivals.{peer_answer, foreign_answer, from_origin, origin_answer_to, origin_answer, fails, failure_of, fetch_failed, round_moves}
+use Rattle.node_rules.specs.Arrivals.{expires, expiry_of, round_expired}
+use Rattle.node_rules.specs.Datagrams.{sends_back, tst_answer, copy_meant, purged, purge_of, if_desired, icp_query, htcp_tst, hears, told_by, told_to, icp_told}
+use Rattle.node_rules.specs.Datagrams.{htcp_told, clr_done, purge, numbered_clr, dropped, plain_clr, clr_by_line, htcp_clr, icp_comes, tst_refused, htcp_comes}
+use Rattle.node_rules.specs.Datagrams.{datagram}
 use Rattle.node_rules.specs.Step.{open_step, step_if, step}
 use Rattle.node_rules.proofs.Cases.{branches, both_true, test_le, unless_refused, same_Some, true_not_false}
-use Rattle.node_rules.proofs.FloorLaws.{floor-raise, same_text, text_same}
+use Rattle.node_rules.proofs.FloorLaws.{raise_reaches, same_text}
 use Rattle.node_rules.proofs.Pendings.{all_mapped, all_contained, found, found_passes, all_changed, all_left, under_way, all_under_way, read_of}
 use Rattle.node_rules.proofs.Blocks.{all_inserted}
 use Rattle.std.proofs.lemmas.Option.{cond_some, none-some}
@@ -76,7 +83,7 @@ is_at serial key p h =
 other_round : {X : Type 0} {s : NodeState X} (p : Pending X) (r : RoundText) → IsUnderWay s p → IsUnderWay s (with_round p r)
 other_round p r h = record { was = h.was; waits = h.waits; fetch = h.fetch; ask = h.ask; serial = h.serial }
 
-query_obeys : {X : Type 0} (g : Setting) (e : Event X) (rows : FloorMap) (serial : ℕ) (key : List ℕ) (by : Udp) (address : Address) →
+query_obeys : {X : Type 0} (g : Setting) (e : Event X) (rows : FloorTable) (serial : ℕ) (key : List ℕ) (by : Udp) (address : Address) →
     IsObedient g e rows (to address (query by serial key))
 query_obeys g e rows serial key udp.Icp address = tt
 query_obeys g e rows serial key udp.Htcp address = tt
@@ -87,10 +94,8 @@ query_first : {P : Outgoing → Type 0} (o : Option Outgoing) (rest : List Outgo
 query_first None rest h all = all
 query_first (Some x) rest h all = (h x refl, all)
 
-pub raised_to : (rows : FloorMap) (key : List ℕ) (n m : ℕ) → n ≡ m → m ≤ floor (raised rows key n) key
-raised_to rows key n m same =
-    subst (λ k. m ≤ k) (sym (floor-raise rows key key n)) (subst (λ b. m ≤ cond b (max (floor rows key) n) (floor rows key)) (sym (text_same key key refl))
-    (omega (arith, same)))
+pub raised_to : (floors : FloorTable) (key : List ℕ) (n m : ℕ) → n ≡ m → m ≤ floor (raised floors key n) key
+raised_to floors key n m same = subst (λ k. k ≤ floor (raised floors key n) key) same (raise_reaches floors key n)
 
 purge_number_is : (g : Setting) (from : Address) (trans : ℕ) (key : Option (List ℕ)) (n : ℕ) (x : List ℕ × ℕ) → purge_of g from trans key n ≡ Some x →
     x.1 ≡ trans
@@ -100,7 +105,7 @@ purge_number_is g from trans (Some key) n x e =
     ap (λ (y : List ℕ × ℕ). y.1) (sym same) ∙ same_number n trans (and_parts (is_master g.roster from) (nat_eq n trans) (and_parts _ (nat_le 1 n) good).0).1
 
 -- a copy that is chosen for a key is held, and not below its floor
-good_is_held : {X : Type 0} (rows : FloorMap) (copies : List (WebCopy X)) (key : List ℕ) (now : ℕ) (o : Option (WebCopy X)) (c : WebCopy X) →
+good_is_held : {X : Type 0} (rows : FloorTable) (copies : List (WebCopy X)) (key : List ℕ) (now : ℕ) (o : Option (WebCopy X)) (c : WebCopy X) →
     copy_of key copies ≡ o → if_good (floor rows key) now o ≡ Some c → IsHeldAbove rows copies key c
 good_is_held rows copies key now None c is e = absurd (none-some c e)
 good_is_held {X} rows copies key now (Some d) c is e =
@@ -426,11 +431,10 @@ module _ {X : Type 0} (g : Setting) (s : NodeState X) (e : Event X) (mark : X) w
       Does (purge s from trans desired key n)
   unfolding purge
   purge_does from trans desired key n comes same is =
-      branches Does (is_full s.floors key) _ _ (λ _. if_desired_does desired from _ tt)
-      (λ _. done_does (purged s key n) from trans desired _ comes
+      done_does (purged s key n) from trans desired _ comes
       (subst (λ o. HasRaised (raised s.floors key n) o trans) (sym is) (same, raised_to s.floors key n trans same))
       (λ outcome none bare obeys plain. Purges key n s.pending s.next outcome is none
-      (record { reads = reads_of s.pending outcome all_stay; statuses = bare; acknowledges = obeys; faults = plain })))
+      (record { reads = reads_of s.pending outcome all_stay; statuses = bare; acknowledges = obeys; faults = plain }))
 
   numbered_clr_does : (from : Address) (trans : ℕ) (desired : Bool) (o : Option (List ℕ × ℕ)) → ComesFrom e from → purge_in g e ≡ o →
       ((x : List ℕ × ℕ) → o ≡ Some x → x.1 ≡ trans) → Does (numbered_clr s from trans desired o)

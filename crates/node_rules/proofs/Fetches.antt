@@ -1,7 +1,8 @@
 -- The blocks of pending requests stay apart, and a fetch that runs keeps its request pending until an
 -- event ends it. One lemma for each rule: a rule changes or ends only the request that the event
 -- names, and of that one the fetch has ended with the event, does not run, or goes on.
-use Rattle.std.proofs.Common.{◌≡◌, ◌≢◌, ◌⊎◌, ℕ, ◌+◌, ◌<◌, ◌≤◌, zero, suc, Bool, true, false, cond, not, ◌&&◌, ◌||◌, List, [], ◌∷◌, ◌++◌, find, Option, Some, None, Result, Ok, Err, refl, sym, ◌∙◌, ap, subst, inl, inr, nat_le, nat_lt, nat_eq, arith}
+use Rattle.std.proofs.Common.{◌≡◌, ◌≢◌, ◌⊎◌, ℕ, ◌+◌, ◌<◌, ◌≤◌, zero, suc, Bool, true, false, cond, not, ◌&&◌, ◌||◌, List, [], ◌∷◌, ◌++◌, find, Option, Some}
+use Rattle.std.proofs.Common.{None, Result, Ok, Err, refl, sym, ◌∙◌, ap, subst, inl, inr, nat_le, nat_lt, nat_eq, arith}
 use Rattle.std.specs.List.{AllByRecursion, Contains}
 use Rattle.std.proofs.lemmas.Bool.Decides.{nat_tests}
 use Rattle.icp_wire.specs.declared.message.IcpOp.{IcpOp}
@@ -37,9 +38,13 @@ use Rattle.node_rules.specs.declared.reply.StepFault.{StepFault}
 use Rattle.node_rules.specs.Known.{has_origin, is_known}
 use Rattle.node_rules.specs.State.{Setting, Stepped, inserted, changed, ended as without_block, changing, is_idle, is_of_block, fetch_serial}
 use Rattle.node_rules.specs.Fetching.{fetching, ask_peer, begin_read, read_origin, go_to, go_on}
-use Rattle.node_rules.specs.Asks.{IsBlock, new_ask, is_cached_only, free_block, taking, begin_round, begin_with_read, ask_around, begin_ask, begin_if_free, not_held, by_copy, ask_comes}
-use Rattle.node_rules.specs.Arrivals.{is_fetch, not_fetching, with_round, use_answer, try_on, is_gateway_fault, peer_gave, origin_gave, from_peer, peer_answer_to, peer_answer, foreign_answer, from_origin, origin_answer_to, origin_answer, fails, failure_of, fetch_failed, round_moves, expires, expiry_of, round_expired}
-use Rattle.node_rules.specs.Datagrams.{is_full, purged, if_desired, icp_query, htcp_tst, hears, told_by, told_to, icp_told, htcp_told, purge, numbered_clr, dropped, plain_clr, clr_by_line, htcp_clr, icp_comes, tst_refused, htcp_comes, datagram}
+use Rattle.node_rules.specs.Asks.{IsBlock, new_ask, is_cached_only, free_block, taking, begin_round, begin_with_read, ask_around, begin_ask, begin_if_free}
+use Rattle.node_rules.specs.Asks.{not_held, by_copy, ask_comes}
+use Rattle.node_rules.specs.Arrivals.{is_fetch, not_fetching, with_round, use_answer, try_on, is_gateway_fault, peer_gave, origin_gave, from_peer}
+use Rattle.node_rules.specs.Arrivals.{peer_answer_to, peer_answer, foreign_answer, from_origin, origin_answer_to, origin_answer, fails, failure_of}
+use Rattle.node_rules.specs.Arrivals.{fetch_failed, round_moves, expires, expiry_of, round_expired}
+use Rattle.node_rules.specs.Datagrams.{purged, if_desired, icp_query, htcp_tst, hears, told_by, told_to, icp_told, htcp_told, purge, numbered_clr, dropped}
+use Rattle.node_rules.specs.Datagrams.{plain_clr, clr_by_line, htcp_clr, icp_comes, tst_refused, htcp_comes, datagram}
 use Rattle.node_rules.specs.Step.{open_step, step_if, step}
 use Rattle.node_rules.specs.Relation.{Steps, ClosesOn, purge_in}
 use Rattle.node_rules.specs.Effect.{IsUnderWay}
@@ -421,9 +426,7 @@ module _ {X : Type 0} (g : Setting) (s : NodeState X) (e : Event X) (mark : X) (
 
   purge_holds : (from : Address) (trans : ℕ) (desired : Bool) (key : List ℕ) (n : ℕ) → Holds (purge s from trans desired key n)
   unfolding purge
-  purge_holds from trans desired key n =
-      branches Holds (is_full s.floors key) _ _ (λ _. if_desired_holds s stays desired from _)
-      (λ _. if_desired_holds (purged s key n) (same _ refl) desired from _)
+  purge_holds from trans desired key n = if_desired_holds (purged s key n) (same _ refl) desired from _
 
   numbered_holds : (from : Address) (trans : ℕ) (desired : Bool) (o : Option (List ℕ × ℕ)) → Holds (numbered_clr s from trans desired o)
   unfolding numbered_clr

@@ -1,6 +1,7 @@
 -- No step leaves more than 1,024 requests pending, and the next block stays a block. Only a new
 -- request adds one, and only where there is a block for it; all other rules change or end requests. One lemma for each rule.
-use Rattle.std.proofs.Common.{◌≡◌, ℕ, ◌+◌, ◌<◌, ◌≤◌, Bool, true, false, cond, not, ◌&&◌, ◌||◌, List, [], ◌∷◌, length, Option, Some, None, Result, Ok, Err, refl, sym, subst, nat_le, nat_eq, arith}
+use Rattle.std.proofs.Common.{◌≡◌, ℕ, ◌+◌, ◌<◌, ◌≤◌, Bool, true, false, cond, not, ◌&&◌, ◌||◌, List, [], ◌∷◌, length, Option, Some, None, Result, Ok, Err, refl}
+use Rattle.std.proofs.Common.{sym, subst, nat_le, nat_eq, arith}
 use Rattle.std.proofs.lemmas.List.{length-map}
 use Rattle.icp_wire.specs.declared.message.IcpOp.{IcpOp}
 use Rattle.icp_wire.specs.declared.message.IcpOp.TheVariants as op
@@ -35,9 +36,13 @@ use Rattle.node_rules.specs.declared.reply.StepFault.{StepFault}
 use Rattle.node_rules.specs.Known.{has_origin, is_known}
 use Rattle.node_rules.specs.State.{Setting, Stepped, changing, ending, is_idle, is_of_block}
 use Rattle.node_rules.specs.Fetching.{fetching, ask_peer, begin_read, read_origin, go_to, go_on}
-use Rattle.node_rules.specs.Asks.{IsBlock, new_ask, is_cached_only, free_block, taking, begin_round, begin_with_read, ask_around, begin_ask, begin_if_free, not_held, by_copy, ask_comes}
-use Rattle.node_rules.specs.Arrivals.{with_round, use_answer, try_on, is_gateway_fault, peer_gave, origin_gave, from_peer, peer_answer_to, peer_answer, foreign_answer, from_origin, origin_answer_to, origin_answer, fails, failure_of, fetch_failed, round_moves, expires, expiry_of, round_expired}
-use Rattle.node_rules.specs.Datagrams.{is_full, purged, if_desired, icp_query, htcp_tst, hears, told_by, told_to, icp_told, htcp_told, purge, numbered_clr, dropped, plain_clr, clr_by_line, htcp_clr, icp_comes, tst_refused, htcp_comes, datagram}
+use Rattle.node_rules.specs.Asks.{IsBlock, new_ask, is_cached_only, free_block, taking, begin_round, begin_with_read, ask_around, begin_ask, begin_if_free}
+use Rattle.node_rules.specs.Asks.{not_held, by_copy, ask_comes}
+use Rattle.node_rules.specs.Arrivals.{with_round, use_answer, try_on, is_gateway_fault, peer_gave, origin_gave, from_peer, peer_answer_to, peer_answer}
+use Rattle.node_rules.specs.Arrivals.{foreign_answer, from_origin, origin_answer_to, origin_answer, fails, failure_of, fetch_failed, round_moves, expires}
+use Rattle.node_rules.specs.Arrivals.{expiry_of, round_expired}
+use Rattle.node_rules.specs.Datagrams.{purged, if_desired, icp_query, htcp_tst, hears, told_by, told_to, icp_told, htcp_told, purge, numbered_clr, dropped}
+use Rattle.node_rules.specs.Datagrams.{plain_clr, clr_by_line, htcp_clr, icp_comes, tst_refused, htcp_comes, datagram}
 use Rattle.node_rules.specs.Step.{open_step, step_if, step}
 use Rattle.node_rules.specs.Relation.{Steps, ClosesOn, purge_in}
 use Rattle.node_rules.proofs.Cases.{branches}
@@ -225,9 +230,7 @@ module _ {X : Type 0} (g : Setting) (s : NodeState X) (mark : X) where
 
   purge_few : (from : Address) (trans : ℕ) (desired : Bool) (key : List ℕ) (n : ℕ) → Few (purge s from trans desired key n)
   unfolding purge
-  purge_few from trans desired key n =
-      branches Few (is_full s.floors key) _ _ (λ _. if_desired_few s few desired from _)
-      (λ _. if_desired_few (purged s key n) (record { most = few.most; next = few.next }) desired from _)
+  purge_few from trans desired key n = if_desired_few (purged s key n) (record { most = few.most; next = few.next }) desired from _
 
   numbered_clr_few : (from : Address) (trans : ℕ) (desired : Bool) (o : Option (List ℕ × ℕ)) → Few (numbered_clr s from trans desired o)
   unfolding numbered_clr

@@ -11,7 +11,7 @@ use Rattle.node_rules.specs.declared.reply.StepFault.{StepFault}
 use Rattle.node_rules.specs.declared.reply.StepFault.TheVariants as fault
 use Rattle.floor_rules.specs.Floors.{floor, seen, raised}
 use Rattle.object_store.specs.Copy.{is_of}
-use Rattle.object_store.specs.Listed.{copy_of}
+use Rattle.object_store.specs.Listed.{copy_of, without_below}
 use Rattle.node_rules.specs.State.{Setting, Stepped}
 use Rattle.node_rules.specs.Step.{step}
 use Rattle.node_rules.specs.Relation.{Steps, Closes, ClosesOn, purge_in}
@@ -56,7 +56,8 @@ module _ {X : Type 0} (g : Setting) (s : NodeState X) (e : Event X) (mark : X) w
   effect_held r (Serves key c pending next outcome was_open h is keeps) is_open = all_to_front (HasOrGets s e) key s.copies (has_held is_open)
   effect_held r (Brings c life pending next outcome was_open came h is keeps) is_open = all_stored (HasOrGets s e) g.roster.limits c life s.copies
       (is_open, inr came) (has_held is_open)
-  effect_held r (Purges key n pending next outcome purge none keeps) is_open = all_kept (HasOrGets s e) _ s.copies (has_held is_open)
+  effect_held r (Purges key n pending next outcome purge none keeps) is_open =
+      all_kept (HasOrGets s e) _ (without_below key n s.copies) (all_kept (HasOrGets s e) _ s.copies (has_held is_open))
   effect_held r (Drops key pending next outcome none keeps) is_open = all_kept (HasOrGets s e) _ s.copies (has_held is_open)
 
   effect_serves : (r : Stepped X) → Effect g s e mark r → (c : WebCopy X) → copy_served r.outcome ≡ Some c → HasOrGets s e c
@@ -83,7 +84,7 @@ module _ {X : Type 0} (g : Setting) (s : NodeState X) (e : Event X) (mark : X) w
   closed_on_seen None next h = absurd h
   closed_on_seen (Some x) next h = elim h.floors [
     | inl same ↦ subst (λ rows. seen rows ≤ max (seen s.floors) x.1) (sym same) (omega arith)
-    | inr after ↦ subst (λ rows. seen rows ≤ max (seen s.floors) x.1) (sym after.1) (seen-raise s.floors x.0 x.1)
+    | inr after ↦ subst (λ rows. seen rows ≤ max (seen s.floors) x.1) (sym after) (seen-raise s.floors x.0 x.1)
   ]
 
   closed_on_pending : (o : Option (List ℕ × ℕ)) (next : NodeState X) → ClosesOn s o next → next.pending ≡ []

@@ -39,7 +39,7 @@ module _ {X : Type 0} (g : Setting) (s : NodeState X) (e : Event X) (mark : X) w
   closed_on_rises None next u h = absurd h
   closed_on_rises (Some x) next u h = elim h.floors [
     | inl same ↦ subst (λ rows. floor s.floors u ≤ floor rows u) (sym same) (omega arith)
-    | inr after ↦ subst (λ rows. floor s.floors u ≤ floor rows u) (sym after.1) (raise_rises s.floors x.0 u x.1)
+    | inr after ↦ subst (λ rows. floor s.floors u ≤ floor rows u) (sym after) (raise_rises s.floors x.0 u x.1)
   ]
 
   pub floors_never_fall : (outcome : Result (Reply X) StepFault) (next : NodeState X) (u : List ℕ) → Steps g s e mark outcome next →

@@ -1,6 +1,7 @@
 -- What the store's operations keep. Each of them filters the list of copies or moves or puts one
 -- copy in front, so what holds of all copies still does, and so do the limits.
-use Rattle.std.proofs.Common.{◌≡◌, ℕ, ◌+◌, ◌-◌, ◌≤◌, Bool, true, false, cond, not, ◌&&◌, List, [], ◌∷◌, length, sum_by, filter, find, Option, Some, None, refl, sym, ◌∙◌, ap, subst, nat_lt, nat_le, arith}
+use Rattle.std.proofs.Common.{◌≡◌, ℕ, ◌+◌, ◌-◌, ◌≤◌, Bool, true, false, cond, not, ◌&&◌, List, [], ◌∷◌, length, sum_by, filter, find, Option, Some, None, refl}
+use Rattle.std.proofs.Common.{sym, ◌∙◌, ap, subst, nat_lt, nat_le, le-ltb, arith}
 use Rattle.std.specs.List.{AllByRecursion}
 use Rattle.std.proofs.lemmas.Option.{none-some}
 use Rattle.object_store.specs.declared.copy.WebCopy.{WebCopy}
@@ -8,7 +9,7 @@ use Rattle.values_tables.specs.declared.plain.Limits.{Limits}
 use Rattle.object_store.specs.declared.store.Put.{Put}
 use Rattle.object_store.specs.declared.store.Put.TheVariants.{TooLarge, Kept, Stored}
 use Rattle.object_store.specs.Copy.{size, is_of}
-use Rattle.object_store.specs.Listed.{copy_of, without, in_front, to_front, fitting, octets, OneEach}
+use Rattle.object_store.specs.Listed.{copy_of, without, in_front, to_front, fitting, octets, without_all_below, OneEach}
 use Rattle.object_store.specs.Held.{copies_after}
 use Rattle.node_rules.specs.Arrivals.{stored, store_of}
 use Rattle.node_rules.specs.Good.{AreStored}
@@ -50,6 +51,13 @@ sum_filter f test (x ∷ xs) =
     (λ _. omega (arith, sum_filter f test xs, sum_by-cons f x xs))
 
 -- Copies
+
+-- no copy has a stamp below 0
+pub none_below : {X : Type 0} (copies : List (WebCopy X)) → without_all_below 0 copies ≡ copies
+none_below [] = refl
+none_below (c ∷ copies) =
+    ap (λ b. cond (not b) (c ∷ without_all_below 0 copies) (without_all_below 0 copies)) (le-ltb c.stamp 0 (omega arith))
+    ∙ ap (λ cs. c ∷ cs) (none_below copies)
 
 pub all_fitting : {X : Type 0} (P : WebCopy X → Type 0) (count bytes : ℕ) (copies : List (WebCopy X)) → AllByRecursion P copies →
     AllByRecursion P (fitting count bytes copies)

@@ -1,6 +1,7 @@
 -- Another tag in the place of each tag, through lists and stores: no operation of the store looks
 -- at tags, so it gives the same with other tags.
-use Rattle.std.proofs.Common.{◌≡◌, ℕ, zero, suc, ◌-◌, Bool, true, false, cond, not, ◌&&◌, ◌||◌, List, [], ◌∷◌, length, map, filter, find, Option, Some, None, refl, ◌∙◌, ap, nat_lt, nat_le}
+use Rattle.std.proofs.Common.{◌≡◌, ℕ, zero, suc, ◌-◌, Bool, true, false, cond, not, ◌&&◌, ◌||◌, List, [], ◌∷◌, length, map, filter, find, Option, Some, None}
+use Rattle.std.proofs.Common.{refl, ◌∙◌, ap, nat_lt, nat_le}
 use Rattle.std.specs.Prelude.{option_map}
 use Rattle.std.proofs.lemmas.List.{length-map}
 use Rattle.object_store.specs.declared.copy.WebCopy.{WebCopy}
@@ -12,7 +13,7 @@ use Rattle.floor_rules.specs.Floors.{floor}
 use Rattle.object_store.specs.declared.store.Put.{Put}
 use Rattle.object_store.specs.declared.store.Put.TheVariants.{TooLarge, Kept, Stored}
 use Rattle.object_store.specs.Copy.{size, is_of}
-use Rattle.object_store.specs.Listed.{copy_of, without, in_front, to_front, fitting, without_below, is_below}
+use Rattle.object_store.specs.Listed.{copy_of, without, in_front, to_front, fitting, without_below, without_all_below, is_below}
 use Rattle.object_store.specs.Held.{is_outdone_by, put_answer, copies_after}
 use Rattle.node_rules.specs.State.{is_of_block, inserted, is_good, if_good, good_copy}
 use Rattle.node_rules.specs.Asks.{block_after, is_taken, first_free, free_block, copy_for}
@@ -47,6 +48,10 @@ module _ {X Y : Type 0} (f : X → Y) where
   pub without_below-retag : (u : List ℕ) (n : ℕ) (copies : List (WebCopy X)) → without_below u n (map (retag_copy f) copies) ≡ map (retag_copy f)
       (without_below u n copies)
   without_below-retag u n copies = filter_of_map (retag_copy f) (λ c. not (is_below u n c)) copies
+
+  pub without_all_below-retag : (n : ℕ) (copies : List (WebCopy X)) → without_all_below n (map (retag_copy f) copies) ≡ map (retag_copy f)
+      (without_all_below n copies)
+  without_all_below-retag n copies = filter_of_map (retag_copy f) (λ c. not (nat_lt c.stamp n)) copies
 
   in_front-retag : (o : Option (WebCopy X)) (copies : List (WebCopy X)) → in_front (option_map (retag_copy f) o) (map (retag_copy f) copies) ≡ map
       (retag_copy f) (in_front o copies)

@@ -1,5 +1,5 @@
--- The relation never looks at tags either: the function does not, and the rule of closing keeps all
--- copies and leaves no request.
+-- The relation never looks at tags either: the function does not, and the rule of closing keeps
+-- copies by their stamps alone and leaves no request.
 use Rattle.std.proofs.Common.{◌≡◌, ℕ, List, map, Option, Some, None, Result, Ok, Err, refl, sym, ◌∙◌, ap, subst, inl, inr}
 use Rattle.node_rules.specs.declared.state.NodeState.{NodeState}
 use Rattle.node_rules.specs.declared.event.Event.{Event}
@@ -7,9 +7,11 @@ use Rattle.node_rules.specs.declared.event.Event.TheVariants as event
 use Rattle.node_rules.specs.declared.reply.Reply.{Reply}
 use Rattle.node_rules.specs.declared.reply.StepFault.{StepFault}
 use Rattle.node_rules.specs.declared.reply.StepFault.TheVariants as fault
+use Rattle.floor_rules.specs.Floors.{new_base}
 use Rattle.node_rules.specs.State.{Setting}
 use Rattle.node_rules.specs.Relation.{Steps, Closes, ClosesOn, purge_in}
 use Rattle.node_rules.specs.Tags.{retag_copy, retag_pending, retag_state, retag_event, retag_outcome, retag_stepped}
+use Rattle.node_rules.proofs.TagLists.{without_all_below-retag}
 use Rattle.node_rules.proofs.TagSteps.{step-retag}
 
 module _ {X Y : Type 0} (f : X → Y) (g : Setting) (s : NodeState X) where
@@ -22,7 +24,7 @@ module _ {X Y : Type 0} (f : X → Y) (g : Setting) (s : NodeState X) where
   closes_on-retag (Some x) next h = record {
     closed = h.closed;
     pending = ap (map (retag_pending f)) h.pending;
-    copies = ap (map (retag_copy f)) h.copies;
+    copies = ap (map (retag_copy f)) h.copies ∙ sym (without_all_below-retag f (new_base s.floors x.0 x.1) s.copies);
     block = h.block;
     floors = h.floors;
   }

@@ -1,7 +1,8 @@
 -- The step function never looks at tags: with other tags it leads to the same step with other tags.
 -- One lemma for each rule, in the order of specs/; each test in a rule gives the same with other
 -- tags.
-use Rattle.std.proofs.Common.{◌≡◌, ℕ, ◌+◌, Bool, true, false, not, ◌&&◌, ◌||◌, cond, List, [], ◌∷◌, ◌++◌, Option, Some, None, refl, nat_le, nat_eq, ap, unwrap_or}
+use Rattle.std.proofs.Common.{◌≡◌, ℕ, ◌+◌, Bool, true, false, not, ◌&&◌, ◌||◌, cond, List, [], ◌∷◌, ◌++◌, Option, Some, None, refl, nat_le, nat_eq, max, ap}
+use Rattle.std.proofs.Common.{unwrap_or}
 use Rattle.std.specs.Prelude.{bytes_eq}
 use Rattle.values_plain.specs.declared.address.Address.{Address}
 use Rattle.values_plain.specs.declared.address.Udp.{Udp}
@@ -27,12 +28,12 @@ use Rattle.node_rules.specs.declared.state.Pending.{Pending}
 use Rattle.node_rules.specs.declared.state.NodeState.{NodeState}
 use Rattle.node_rules.specs.declared.event.Event.{Event}
 use Rattle.node_rules.specs.declared.event.Event.TheVariants as event
-use Rattle.floor_rules.specs.Floors.{floor, seen, raised}
+use Rattle.floor_rules.specs.Floors.{FloorTable, floor, seen, raised, new_base}
 use Rattle.values_tables.specs.Ranges.{is_foreign_id}
 use Rattle.roster.specs.Lookups.{is_master}
 use Rattle.node_rules.specs.Known.{has_origin, is_known}
 use Rattle.peer_chooser.specs.Round.{has_answered, answered, ended, started}
-use Rattle.object_store.specs.Listed.{copy_of}
+use Rattle.object_store.specs.Listed.{copy_of, without_below, without_all_below}
 use Rattle.object_store.specs.Held.{is_older_than}
 use Rattle.reuse_rules.specs.Lifetime.{lifetime}
 use Rattle.htcp_wire.specs.declared.fault.HtcpFault.{HtcpFault}
@@ -41,9 +42,14 @@ use Rattle.htcp_wire.specs.Numbers.{number_in_text}
 use Rattle.values_plain.specs.declared.address.Udp.TheVariants as udp
 use Rattle.node_rules.specs.State.{Setting, Stepped, is_idle, good_copy, served_age, round_serial, fetch_serial}
 use Rattle.node_rules.specs.Fetching.{ask_peer, begin_read, read_origin, go_to, go_on, choice_of}
-use Rattle.node_rules.specs.Asks.{is_cached_only, free_block, block_after, begin_round, begin_with_read, ask_around, begin_ask, begin_if_free, not_held, by_copy, copy_for, ask_comes, peers_to_ask}
-use Rattle.node_rules.specs.Arrivals.{stored, not_fetching, use_answer, try_on, is_gateway_fault, peer_gave, origin_gave, is_fetch, from_peer, peer_answer_to, peer_answer, foreign_answer, from_origin, origin_answer_to, origin_answer, fails, failure_of, fetch_failed, with_round, round_moves, expires, expiry_of, round_expired}
-use Rattle.node_rules.specs.Datagrams.{if_desired, icp_query, htcp_tst, hears, told_by, told_to, peer_at, icp_told, icp_said, is_key, htcp_told, clr_done, purge, purge_of, numbered_clr, held, dropped, is_full, plain_clr, clr_by_line, htcp_clr, icp_comes, tst_refused, htcp_comes, datagram}
+use Rattle.node_rules.specs.Asks.{is_cached_only, free_block, block_after, begin_round, begin_with_read, ask_around, begin_ask, begin_if_free, not_held}
+use Rattle.node_rules.specs.Asks.{by_copy, copy_for, ask_comes, peers_to_ask}
+use Rattle.node_rules.specs.Arrivals.{stored, not_fetching, use_answer, try_on, is_gateway_fault, peer_gave, origin_gave, is_fetch, from_peer, peer_answer_to}
+use Rattle.node_rules.specs.Arrivals.{peer_answer, foreign_answer, from_origin, origin_answer_to, origin_answer, fails, failure_of, fetch_failed, with_round}
+use Rattle.node_rules.specs.Arrivals.{round_moves, expires, expiry_of, round_expired}
+use Rattle.node_rules.specs.Datagrams.{if_desired, icp_query, htcp_tst, hears, told_by, told_to, peer_at, icp_told, icp_said, is_key, htcp_told, clr_done}
+use Rattle.node_rules.specs.Datagrams.{purge, purge_of, numbered_clr, held, dropped, left_by, plain_clr, clr_by_line, htcp_clr, icp_comes, tst_refused}
+use Rattle.node_rules.specs.Datagrams.{htcp_comes, datagram}
 use Rattle.node_rules.specs.Step.{open_step, step_if, step}
 use Rattle.std.specs.Prelude.{option_map, is_some}
 use Rattle.std.proofs.Common.{◌∙◌}
@@ -61,7 +67,8 @@ use Rattle.node_rules.specs.Datagrams.{sends_back, icp_answer, hit_or_miss, tst_
 use Rattle.node_rules.specs.Effect.{state_of}
 use Rattle.node_rules.specs.State.{replies, with_copies, with_pending, changing, ending, serving, beginning, quiet}
 use Rattle.node_rules.specs.Tags.{retag_copy, retag_fetch, retag_pending, retag_state, retag_event, retag_reply, retag_stepped}
-use Rattle.node_rules.proofs.TagLists.{both_ways, copy_of-retag, without-retag, without_below-retag, to_front-retag, stored-retag, good_copy-retag, copy_for-retag, inserted-retag, free_block-retag, changing-retag, ending-retag, find-retag}
+use Rattle.node_rules.proofs.TagLists.{both_ways, copy_of-retag, without-retag, without_below-retag, without_all_below-retag, to_front-retag, stored-retag}
+use Rattle.node_rules.proofs.TagLists.{good_copy-retag, copy_for-retag, inserted-retag, free_block-retag, changing-retag, ending-retag, find-retag}
 
 some-retag : {A B : Type 0} (h : A → B) (o : Option A) → is_some (option_map h o) ≡ is_some o
 some-retag h None = refl
@@ -383,16 +390,22 @@ module _ {X Y : Type 0} (f : X → Y) (g : Setting) where
   below-retag n None = refl
   below-retag n (Some c) = refl
 
+  left_by-retag : (floors : FloorTable) (key : List ℕ) (n : ℕ) (copies : List (WebCopy X)) →
+      left_by floors key n (map (retag_copy f) copies) ≡ map (retag_copy f) (left_by floors key n copies)
+  left_by-retag floors key n copies =
+      ap (without_all_below (new_base floors key n)) (without_below-retag f key n copies)
+      ∙ without_all_below-retag f (new_base floors key n) (without_below key n copies)
+
   purge-retag : (s : NodeState X) (from : Address) (trans : ℕ) (desired : Bool) (key : List ℕ) (n : ℕ) →
       purge (retag_state f s) from trans desired key n ≡ to (purge s from trans desired key n)
   unfolding purge
   purge-retag s from trans desired key n =
-      both_ways (retag_stepped f) (is_full s.floors key) _ _ _ _ (if_desired-retag s desired from _)
-      (ap (λ b. clr_done (purged (retag_state f s) key n) from trans desired b)
-      (ap (is_older_than n) (copy_of-retag f key s.copies) ∙ below-retag n (copy_of key s.copies))
+      let least = max n (new_base s.floors key n) in
+      ap (λ b. clr_done (purged (retag_state f s) key n) from trans desired b)
+      (ap (is_older_than least) (copy_of-retag f key s.copies) ∙ below-retag least (copy_of key s.copies))
       ∙ ap (λ cs. if_desired (state_of (raised s.floors key n) cs s.closed (map (retag_pending f) s.pending) s.next) desired from
-      (htcp trans (content.ClrAnswer (clr_code (is_older_than n (copy_of key s.copies)))))) (without_below-retag f key n s.copies)
-      ∙ if_desired-retag (purged s key n) desired from _)
+      (htcp trans (content.ClrAnswer (clr_code (is_older_than least (copy_of key s.copies)))))) (left_by-retag s.floors key n s.copies)
+      ∙ if_desired-retag (purged s key n) desired from _
 
   numbered_clr-retag : (s : NodeState X) (from : Address) (trans : ℕ) (desired : Bool) (o : Option (List ℕ × ℕ)) →
       numbered_clr (retag_state f s) from trans desired o ≡ to (numbered_clr s from trans desired o)

@@ -16,7 +16,8 @@ use Rattle.node_rules.specs.declared.state.Pending.{Pending}
 use Rattle.node_rules.specs.declared.state.NodeState.{NodeState}
 use Rattle.node_rules.specs.declared.reply.Served.TheVariants.{Copy}
 use Rattle.node_rules.specs.declared.reply.StepFault.TheVariants.{UnknownSerial}
-use Rattle.node_rules.specs.State.{Setting, Stepped, replies, refuses, quiet, serving, with_copies, changing, ending, served_age, round_serial, fetch_serial, is_idle}
+use Rattle.node_rules.specs.State.{Setting, Stepped, replies, refuses, quiet, serving, with_copies, changing, ending, served_age, round_serial, fetch_serial}
+use Rattle.node_rules.specs.State.{is_idle}
 use Rattle.node_rules.specs.Fetching.{go_on, give_up}
 
 -- The event names no pending request. Nothing changes.

@@ -18,7 +18,8 @@ use Rattle.node_rules.specs.declared.reply.Begin.TheVariants as begin
 use Rattle.node_rules.specs.declared.reply.StepFault.TheVariants.{Busy}
 use Rattle.node_rules.specs.Messages.{to, query}
 use Rattle.node_rules.specs.Known.{cache_of, has_origin}
-use Rattle.node_rules.specs.State.{Setting, Stepped, replies, refuses, beginning, serving, with_copies, is_of_block, adding, good_copy, served_age, round_serial, fetch_serial}
+use Rattle.node_rules.specs.State.{Setting, Stepped, replies, refuses, beginning, serving, with_copies, is_of_block, adding, good_copy, served_age}
+use Rattle.node_rules.specs.State.{round_serial, fetch_serial}
 use Rattle.node_rules.specs.Fetching.{fetching, origin_ask}
 
 -- The entry of the member that sent the request names this node a sibling.

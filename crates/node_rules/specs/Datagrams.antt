@@ -1,6 +1,6 @@
 -- A datagram arrives: queries, answers to a round, purges. The rule is `datagram`, at the end.
-use Rattle.std.specs.Prelude.{ℕ, Bool, true, false, not, ◌&&◌, ◌||◌, ◌==◌, nat_le, bytes_eq, List, [], ◌∷◌, find, is_some, Option, Some, None, Result, Ok, Err, codes, if◌then◌else◌}
-use Rattle.std.specs.FinMap.{get, len}
+use Rattle.std.specs.Prelude.{ℕ, Bool, true, false, ◌&&◌, ◌||◌, ◌==◌, max, nat_le, bytes_eq, List, [], ◌∷◌, find, is_some, Option, Some, None, Result, Ok, Err}
+use Rattle.std.specs.Prelude.{codes, if◌then◌else◌}
 use Rattle.icp_wire.specs.declared.message.Icp.{Icp}
 use Rattle.icp_wire.specs.declared.message.IcpOp.{IcpOp}
 use Rattle.icp_wire.specs.declared.message.IcpOp.TheVariants as op
@@ -12,9 +12,9 @@ use Rattle.htcp_wire.specs.declared.numbers.HeaderKind.TheVariants.{PurgeNumber,
 use Rattle.htcp_wire.specs.Grammar.{tst, clr, not_allowed, not_implemented, was_dropped, was_not_held}
 use Rattle.htcp_wire.specs.Numbers.{number_in_text}
 use Rattle.object_store.specs.declared.copy.WebCopy.{WebCopy}
-use Rattle.object_store.specs.Listed.{copy_of, without, without_below}
+use Rattle.object_store.specs.Listed.{copy_of, without, without_all_below, without_below}
 use Rattle.object_store.specs.Held.{is_older_than}
-use Rattle.floor_rules.specs.Floors.{FloorMap, most_rows, raised}
+use Rattle.floor_rules.specs.Floors.{FloorTable, new_base, raised}
 use Rattle.values_tables.specs.Ranges.{is_foreign_id}
 use Rattle.values_plain.specs.declared.address.Address.{Address}
 use Rattle.values_plain.specs.declared.address.Udp.{Udp}
@@ -166,21 +166,20 @@ clr_refused s from trans desired = if_desired s desired from (overall trans clr 
 abbrev pub clr_done : {X : Type 0} → NodeState X → Address → ℕ → Bool → Bool → Stepped X
 clr_done s from trans desired dropped = if_desired s desired from (htcp trans (content.ClrAnswer (clr_code dropped)))
 
--- 65,536 keys have floors, and this key has none. [Purge 3]
-abbrev pub is_full : FloorMap → List ℕ → Bool
-is_full floors key = nat_le most_rows (len floors) && not (is_some (get floors key))
+-- The copies that a raise leaves: no copy of the key below the number, and, where the base rises, none at all below
+-- the base. [Purge 3]
+abbrev pub left_by : {X : Type 0} → FloorTable → List ℕ → ℕ → List (WebCopy X) → List (WebCopy X)
+left_by floors key n copies = without_all_below (new_base floors key n) (without_below key n copies)
 
--- The state after a purge: the key's floor is raised, and no copy of it below the number is held. [Purge 2]
+-- The state after a purge: the key's floor is raised, and no copy below its floor is held. [Purge 2]
 abbrev pub purged : {X : Type 0} → NodeState X → List ℕ → ℕ → NodeState X
-purged s key n = record s { floors = raised s.floors key n; copies = without_below key n s.copies }
+purged s key n = record s { floors = raised s.floors key n; copies = left_by s.floors key n s.copies }
 
--- A purge. The floor is raised, an older copy goes, and the response says whether one went. That
+-- A purge. The floor is raised, older copies go, and the response says whether one of the key went. That
 -- the raise is committed first is said where the store is: KeepsStore of node_core. [Purge 2]
 unfoldable pub purge : {X : Type 0} → NodeState X → Address → ℕ → Bool → List ℕ → ℕ → Stepped X
 purge s from trans desired key n =
-    if is_full s.floors key
-    then clr_refused s from trans desired
-    else clr_done (purged s key n) from trans desired (is_older_than n (copy_of key s.copies))
+    clr_done (purged s key n) from trans desired (is_older_than (max n (new_base s.floors key n)) (copy_of key s.copies))
 
 -- The key and the number of a good numbered CLR. It comes from the master, its URI has a key, and
 -- its number is its TRANS-ID and at least 1. [Purge 1]

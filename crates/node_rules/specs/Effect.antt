@@ -10,7 +10,7 @@ use Rattle.node_rules.specs.declared.message.Message.{Message}
 use Rattle.node_rules.specs.declared.message.Message.TheVariants as message
 use Rattle.node_rules.specs.declared.message.Outgoing.{Outgoing}
 use Rattle.http_messages.specs.Answer.{AnswerText}
-use Rattle.floor_rules.specs.Floors.{FloorMap}
+use Rattle.floor_rules.specs.Floors.{FloorTable}
 use Rattle.object_store.specs.declared.copy.WebCopy.{WebCopy}
 use Rattle.node_rules.specs.declared.state.Fetch.{Fetch}
 use Rattle.node_rules.specs.declared.state.Fetch.TheVariants.{Nowhere, AtPeer, AtOrigin}
@@ -26,10 +26,11 @@ use Rattle.node_rules.specs.declared.reply.Reply.{Reply}
 use Rattle.node_rules.specs.declared.reply.StepFault.{StepFault}
 use Rattle.node_rules.specs.declared.reply.StepFault.TheVariants as fault
 use Rattle.floor_rules.specs.Floors.{floor, seen, raised}
-use Rattle.object_store.specs.Listed.{copy_of, to_front, without, without_below}
+use Rattle.object_store.specs.Listed.{copy_of, to_front, without}
 use Rattle.node_rules.specs.State.{Setting, Stepped, fetch_serial}
 use Rattle.node_rules.specs.Fetching.{origin_ask}
 use Rattle.node_rules.specs.Arrivals.{stored, is_gateway_fault}
+use Rattle.node_rules.specs.Datagrams.{left_by}
 use Rattle.node_rules.specs.Relation.{purge_in}
 use Rattle.node_rules.specs.Questions.{begun}
 
@@ -97,18 +98,18 @@ ComesFrom (event.Datagram from m now) address = from ≡ address
 ComesFrom _ address = ⊥
 
 -- A purge that the event brings has this number, and the floor of its key is at least the number.
-abbrev pub HasRaised : FloorMap → Option (List ℕ × ℕ) → ℕ → Type 0
+abbrev pub HasRaised : FloorTable → Option (List ℕ × ℕ) → ℕ → Type 0
 HasRaised rows None n = Unit {0}
 HasRaised rows (Some x) n = (x.1 ≡ n) × (n ≤ floor rows x.0)
 
 -- What is acknowledged goes to the sender of the event, and its floor is raised.
-abbrev pub Acknowledges : {X : Type 0} → Setting → Event X → FloorMap → Address → Option ℕ → Type 0
+abbrev pub Acknowledges : {X : Type 0} → Setting → Event X → FloorTable → Address → Option ℕ → Type 0
 Acknowledges g e rows to None = Unit {0}
 Acknowledges g e rows to (Some n) = ComesFrom e to × HasRaised rows (purge_in g e) n
 
 -- An acknowledgement goes to the sender of the event; if that was a numbered CLR of the master, its
 -- floor is raised.
-abbrev pub IsObedient : {X : Type 0} → Setting → Event X → FloorMap → Outgoing → Type 0
+abbrev pub IsObedient : {X : Type 0} → Setting → Event X → FloorTable → Outgoing → Type 0
 IsObedient g e rows o = Acknowledges g e rows o.to (acknowledged o.message)
 
 -- Reads
@@ -184,12 +185,12 @@ IsAnswerOf s e c = (p : Pending _) × Contains s.pending p × IsAnswerTo e p c
 -- The effects
 
 -- A state of these parts.
-abbrev pub state_of : {X : Type 0} → FloorMap → List (WebCopy X) → Bool → List (Pending X) → ℕ → NodeState X
+abbrev pub state_of : {X : Type 0} → FloorTable → List (WebCopy X) → Bool → List (Pending X) → ℕ → NodeState X
 state_of rows copies closed pending next =
     record { floors = rows; copies = copies; pending = pending; next = next; closed = closed }
 
 -- This is the key's copy, and it is not below the floor.
-abbrev pub IsHeldAbove : {X : Type 0} → FloorMap → List (WebCopy X) → List ℕ → WebCopy X → Type 0
+abbrev pub IsHeldAbove : {X : Type 0} → FloorTable → List (WebCopy X) → List ℕ → WebCopy X → Type 0
 IsHeldAbove rows copies key c = (copy_of key copies ≡ Some c) × (floor rows key ≤ c.stamp)
 
 -- What a step keeps, whatever its effect.
@@ -226,15 +227,15 @@ pub data Effect {X : Type 0} (g : Setting) (s : NodeState X) (e : Event X) (mark
             next;
         outcome = outcome;
       }
-  -- the purge that the event brings raises its floor, and no copy stays below it
+  -- the purge that the event brings raises its floor, and no copy stays below its floor
   Purges : (key : List ℕ) (n : ℕ) (pending : List (Pending X)) (next : ℕ) (outcome : Result (Reply X) StepFault) →
       purge_in g e ≡ Some (key, n) → copy_served outcome ≡ None →
       Keeps g s e mark record {
-        state = state_of (raised s.floors key n) (without_below key n s.copies) s.closed pending
+        state = state_of (raised s.floors key n) (left_by s.floors key n s.copies) s.closed pending
             next;
         outcome = outcome;
       } → Effect g s e mark record {
-        state = state_of (raised s.floors key n) (without_below key n s.copies) s.closed pending next;
+        state = state_of (raised s.floors key n) (left_by s.floors key n s.copies) s.closed pending next;
         outcome =
             outcome;
       }

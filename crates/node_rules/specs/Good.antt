@@ -1,7 +1,7 @@
 -- What stays true of an open node's state.
 use Rattle.std.specs.Prelude.{◌≡◌, ◌≢◌, ℕ, ◌≤◌, List, Some}
 use Rattle.std.specs.List.{AllByRecursion}
-use Rattle.floor_rules.specs.Floors.{FloorMap, floor}
+use Rattle.floor_rules.specs.Floors.{FloorTable, floor}
 use Rattle.object_store.specs.declared.copy.WebCopy.{WebCopy}
 use Rattle.object_store.specs.Held.{IsStore}
 use Rattle.values_tables.specs.declared.plain.Limits.{Limits}
@@ -10,7 +10,7 @@ use Rattle.node_rules.specs.Asks.{IsBlock, free_block}
 use Rattle.node_rules.specs.Arrivals.{store_of}
 
 -- A copy whose stamp is at least the floor of its key.
-abbrev pub IsAbove : {X : Type 0} → FloorMap → WebCopy X → Type 0
+abbrev pub IsAbove : {X : Type 0} → FloorTable → WebCopy X → Type 0
 IsAbove floors c = floor floors c.key ≤ c.stamp
 
 -- No copy that is held is below its floor.

@@ -7,6 +7,8 @@ use Rattle.htcp_wire.specs.declared.message.Specifier.{Specifier}
 use Rattle.htcp_wire.specs.declared.fault.HtcpFault.{HtcpFault}
 use Rattle.htcp_wire.specs.declared.numbers.HeaderKind.TheVariants.{PurgeNumber}
 use Rattle.htcp_wire.specs.Numbers.{number_in_text}
+use Rattle.object_store.specs.Listed.{without_all_below}
+use Rattle.floor_rules.specs.Floors.{new_base}
 use Rattle.floor_rules.specs.Store.{IsBeforeOrAfter}
 use Rattle.values_plain.specs.declared.address.Address.{Address}
 use Rattle.node_rules.specs.declared.message.Message.{Message}
@@ -47,12 +49,13 @@ abbrev pub purge_in : {X : Type 0} → Setting → Event X → Option (List ℕ 
 purge_in g (event.Datagram from message now) = purge_in_message g from message
 purge_in g _ = None
 
--- A node that a purge has closed: no request is pending, copies and next block are as they were,
--- and the raise stands in the floors, if they had room for it, or does not. [Refusal 4]
+-- A node that a purge has closed: no request is pending, and copies below a base that was to rise
+-- are gone. All other copies and the next block are as they were, and the raise stands in the
+-- floors, or does not. [Refusal 4]
 pub record IsClosed {X : Type 0} (s : NodeState X) (key : List ℕ) (n : ℕ) (next : NodeState X) : Type 0 where
   pub closed : next.closed ≡ true
   pub pending : next.pending ≡ []
-  pub copies : next.copies ≡ s.copies
+  pub copies : next.copies ≡ without_all_below (new_base s.floors key n) s.copies
   pub block : next.next ≡ s.next
   pub floors : IsBeforeOrAfter s.floors key n next.floors
 

@@ -1,9 +1,10 @@
 -- A node's setting, what a step leads to, and the words for both. Later files use them throughout.
-use Rattle.std.specs.Prelude.{ℕ, ◌+◌, ◌*◌, min, Bool, true, false, not, ◌&&◌, ◌==◌, nat_le, nat_lt, List, [], ◌∷◌, map, filter, unwrap_or, Option, Some, None, Result, Ok, Err, if◌then◌else◌}
+use Rattle.std.specs.Prelude.{ℕ, ◌+◌, ◌*◌, min, Bool, true, false, not, ◌&&◌, ◌==◌, nat_le, nat_lt, List, [], ◌∷◌, map, filter, unwrap_or, Option, Some, None}
+use Rattle.std.specs.Prelude.{Result, Ok, Err, if◌then◌else◌}
 use Rattle.values_keys.specs.KeyOf.{key_of}
 use Rattle.object_store.specs.declared.copy.WebCopy.{WebCopy}
 use Rattle.object_store.specs.Listed.{copy_of}
-use Rattle.floor_rules.specs.Floors.{FloorMap, floor}
+use Rattle.floor_rules.specs.Floors.{FloorTable, floor}
 use Rattle.reuse_rules.specs.Freshness.{age_now, is_fresh}
 use Rattle.values_tables.specs.declared.plain.Tables.{Tables}
 use Rattle.node_rules.specs.declared.message.Outgoing.{Outgoing}
@@ -69,7 +70,7 @@ serving waiter asker served = record {
 -- Words of a state
 
 -- A node as it opens: it has these floors, and neither copies nor requests. [Node 3]
-abbrev pub opened : {X : Type 0} → FloorMap → NodeState X
+abbrev pub opened : {X : Type 0} → FloorTable → NodeState X
 opened floors = record { floors = floors; copies = []; pending = []; next = 1; closed = false }
 
 -- The state with these copies.

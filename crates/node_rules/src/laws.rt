@@ -2,6 +2,7 @@
 ghost use Rattle.std.specs.Prelude.{◌≡◌, ◌≤◌, ◌<◌, ℕ, List, length, Result, Some, true, false};
 ghost use Rattle.std.specs.List.{AllByRecursion};
 ghost use Rattle.object_store.specs.declared.copy.WebCopy.{WebCopy};
+ghost use Rattle.object_store.specs.Listed.{without_all_below};
 ghost use Rattle.floor_rules.specs.Floors.{floor};
 ghost use Rattle.node_rules.specs.declared.state.NodeState.{NodeState};
 ghost use Rattle.node_rules.specs.declared.event.Event.{Event};
@@ -22,6 +23,11 @@ ghost use Rattle.node_rules.specs.Good.{AllAbove, IsAbove, AreStored, HasFreeBlo
 pub fn the_function_is_a_step<T>()
     ensures { (g : Setting) (s : NodeState T) (e : Event T) (mark : T) →
         Steps g s e mark (step g s e mark).outcome (step g s e mark).state }
+{}
+
+/// A base of 0 drops no copies: a purge whose raise makes no base keeps all copies but the key's.
+pub fn a_base_of_0_drops_no_copies<T>()
+    ensures { (copies : List (WebCopy T)) → without_all_below 0 copies ≡ copies }
 {}
 
 /// The function never closes a node. Only a failed allocation or a floor store that fails does.

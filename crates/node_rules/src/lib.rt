@@ -12,8 +12,8 @@
 //!   serials, and whether the node is closed.
 //! - [`Reply`] is the output: what to serve ([`Serve`]), which datagrams to send ([`Outgoing`]),
 //!   what to begin ([`Begin`]). A step that is refused gives a [`StepFault`] instead.
-//! - [`Received`] is a message that octets spell, so it can be answered; [`Sent`] is one that can be
-//!   encoded. Their types say so, and no step has to check it again.
+//! - [`Received`] is a message that octets spell, so it can be answered; [`Sent`] is one that can
+//!   be encoded. Their types say so, and no step has to check it again.
 //!
 //! # The definition: `specs/`, in this order
 //!

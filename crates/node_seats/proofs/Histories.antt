@@ -2,7 +2,7 @@
 use Rattle.std.proofs.Common.{◌≡◌, Option, None, Some, List, [], ◌∷◌, ◌++◌, refl, sym, subst, Result}
 use Rattle.values_keys.specs.KeyOf.{key_of}
 use Rattle.values_keys.proofs.Outcomes.{gives_keys}
-use Rattle.floor_rules.specs.Floors.{FloorMap}
+use Rattle.floor_rules.specs.Floors.{FloorTable}
 use Rattle.node_rules.specs.declared.event.Event.{Event}
 use Rattle.node_rules.specs.declared.reply.Reply.{Reply}
 use Rattle.node_rules.specs.declared.reply.StepFault.{StepFault}
@@ -27,7 +27,7 @@ is_history b [] state leads = tt
 is_history b (x ∷ xs) state leads = (state, leads)
 
 -- the step of a node, as the rules of its setting have it
-step_of : {honest : Type 0} {may_find : FloorMap → Type 0} {have_risen : Type 0} {S : Type 0} (b : Beginning) (before after : NodeText (Unit {0}) S)
+step_of : {honest : Type 0} {may_find : FloorTable → Type 0} {have_risen : Type 0} {S : Type 0} (b : Beginning) (before after : NodeText (Unit {0}) S)
     (event : Event (Unit {0})) (outcome : Result (Reply (Unit {0})) StepFault) → before.roster ≡ b.roster → before.id ≡ b.id →
     TakesStep honest may_find have_risen before event outcome after → Steps (setting b.roster b.id) before.state event tt outcome after.state
 step_of b before after event outcome roster id takes =
@@ -35,7 +35,7 @@ step_of b before after event outcome roster id takes =
     (subst (λ i. Steps (setting before.roster i) before.state event tt outcome after.state) id (takes.steps key_of gives_keys))
 
 -- a history that leads to a node leads, with the entry of its step, to the node after the step
-pub leads_more : {honest : Type 0} {may_find : FloorMap → Type 0} {have_risen : Type 0} {S : Type 0} (b : Option Beginning) (log : List NodeEntry)
+pub leads_more : {honest : Type 0} {may_find : FloorTable → Type 0} {have_risen : Type 0} {S : Type 0} (b : Option Beginning) (log : List NodeEntry)
     (before after : NodeText (Unit {0}) S) (event : Event (Unit {0})) (e : NodeEntry) → e.event ≡ event → LeadsToNode b log before →
     TakesStep honest may_find have_risen before event e.outcome after → LeadsToNode b (log ++ e ∷ []) after
 leads_more None log before after event e same leads takes = absurd leads

@@ -7,7 +7,7 @@ use Rattle.node_book.specs.declared.book.NodeEntry.{NodeEntry}
 use Rattle.node_book.specs.declared.record.Record.{Record}
 use Rattle.node_seats.specs.declared.steps.Steps.{Steps}
 use Rattle.node_seats.specs.declared.steps.Steps.TheVariants.{Recorded, Alone}
-use Rattle.floor_rules.specs.Floors.{FloorMap}
+use Rattle.floor_rules.specs.Floors.{FloorTable}
 use Rattle.node_bytes.specs.Nodes.{TakesStep}
 use Rattle.node_rules.specs.declared.event.Event.{Event}
 use Rattle.node_rules.specs.declared.reply.Reply.{Reply}
@@ -71,7 +71,7 @@ AreNewSteps node (Alone alone) = alone ≡ node
 
 -- The node has taken the step of a call, which is entered in the book behind the others, and its outcome is what is
 -- told.
-pub record IsTakenIn {S : Type 0} (honest : Type 0) (may_find : FloorMap → Type 0) (have_risen : Type 0)
+pub record IsTakenIn {S : Type 0} (honest : Type 0) (may_find : FloorTable → Type 0) (have_risen : Type 0)
     (before after : BookView S) (seat : ℕ) (event : Event (Unit {0})) (told : Result (Reply (Unit {0})) StepFault) :
     Type 0 where
   pub entry : NodeEntry

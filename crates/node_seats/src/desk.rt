@@ -2,7 +2,8 @@
 ghost use Rattle.std.specs.Prelude.{◌≡◌, [], Some, IfOk, IfSome, IsFalse, OnErr};
 ghost use Rattle.node_bytes.specs.Stepping.{AnswersAsk};
 ghost use Rattle.node_seats.specs.Beginning.{beginning_of};
-ghost use Rattle.node_seats.specs.Desks.{AreNewSteps, HasRoom, IsEndedIn, IsWithoutBook, with_page_filed};
+ghost use Rattle.node_seats.specs.Desks.{AreNewSteps, HasRoom, IsEndedIn, IsWithoutBook};
+ghost use Rattle.node_seats.specs.Desks.{with_page_filed};
 ghost use Rattle.node_seats.specs.Records.{IsPart, keeps};
 ghost use Rattle.node_seats.specs.Seats.{Called, IsNext};
 
@@ -46,16 +47,14 @@ pub(crate) struct Desk<S: FloorStore, J: Origin> {
 }
 
 impl<S: FloorStore, J: Origin> Model for Desk<S, J> {
-    ghost use Rattle.std.specs.Coded.{codes, coded_list, coded_ℕ};
-    ghost use Rattle.std.specs.FinMap.{code as map_code};
-    ghost use Rattle.std.specs.Ordering.{nat_cmp};
-    ghost use Rattle.std.specs.Cmp.Lexicographic.{slice_cmp};
+    ghost use Rattle.std.specs.Coded.{codes};
+    ghost use Rattle.floor_rules.specs.Coded.{floors_code};
     ghost use Rattle.node_seats.specs.Desks.{DeskView};
     ghost use Rattle.node_seats.specs.Records.{Stands};
 
     ghost Value = { DeskView S };
 
-    ghost coded = { Prim.hlevel (codes, map_code {R = slice_cmp nat_cmp} (coded_list coded_ℕ) coded_ℕ) };
+    ghost coded = { Prim.hlevel (codes, floors_code) };
 
     ghost view = { λ desk. record {
       log = desk.whole;

@@ -1,6 +1,11 @@
 //! How many octets an event brings along.
 ghost use Rattle.std.specs.Prelude.{◌≡◌, ◌≤◌};
-ghost use Rattle.node_seats.specs.Weight.{content_octets as octets_of_content, detail_octets as octets_of_detail, message_octets as octets_of_message, octets_of as octets_of_event, specifier_octets as octets_of_specifier, text_octets as octets_of_text};
+ghost use Rattle.node_seats.specs.Weight.{content_octets as octets_of_content};
+ghost use Rattle.node_seats.specs.Weight.{detail_octets as octets_of_detail};
+ghost use Rattle.node_seats.specs.Weight.{message_octets as octets_of_message};
+ghost use Rattle.node_seats.specs.Weight.{octets_of as octets_of_event};
+ghost use Rattle.node_seats.specs.Weight.{specifier_octets as octets_of_specifier};
+ghost use Rattle.node_seats.specs.Weight.{text_octets as octets_of_text};
 
 use htcp_wire::{Content, Detail, Specifier};
 use node_rules::{Event, Message};

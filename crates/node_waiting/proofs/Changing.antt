@@ -1,6 +1,7 @@
 -- Requests in order stay so as one is added, changes or ends: a new one comes before those of
 -- greater blocks, a change keeps the block, and removing one element keeps the order.
-use Rattle.std.proofs.Common.{◌≡◌, ◌≢◌, ℕ, zero, suc, ◌<◌, ◌≤◌, ◌==◌, Bool, true, false, cond, not, nat_lt, List, [], ◌∷◌, map, filter, All, length, get_or, set, slice_get, Some, refl, inl, inr, sym, ap, ◌∙◌, subst, arith, length-set, get_or-set_same, get_or-set_other}
+use Rattle.std.proofs.Common.{◌≡◌, ◌≢◌, ℕ, zero, suc, ◌<◌, ◌≤◌, ◌==◌, Bool, true, false, cond, not, nat_lt, List, [], ◌∷◌, map, filter, All, length, get_or}
+use Rattle.std.proofs.Common.{set, slice_get, Some, refl, inl, inr, sym, ap, ◌∙◌, subst, arith, length-set, get_or-set_same, get_or-set_other}
 use Rattle.std.specs.List.{insert, remove}
 use Rattle.std.specs.List.Sorted.{IsNonDecreasingBy, IsPartitionPoint}
 use Rattle.std.proofs.lemmas.Bool.Decides.{nat_tests}

@@ -1,5 +1,6 @@
 //! Laws of pending requests. Each function does nothing: its contract states the law.
-ghost use Rattle.std.specs.Prelude.{◌≡◌, ◌≤◌, ◌<◌, ◌+◌, ◌++◌, [], ◌∷◌, ℕ, Bool, true, List, length, Option, Some, None};
+ghost use Rattle.std.specs.Prelude.{◌≡◌, ◌≤◌, ◌<◌, ◌+◌, ◌++◌, [], ◌∷◌, ℕ, Bool, true, List, length};
+ghost use Rattle.std.specs.Prelude.{Option, Some, None};
 ghost use Rattle.http_messages.specs.declared.ask.Ask.{Ask};
 ghost use Rattle.values_tables.specs.declared.plain.Peer.{Peer};
 ghost use Rattle.peer_chooser.specs.declared.said.Said.{Said};

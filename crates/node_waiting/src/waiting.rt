@@ -1,4 +1,6 @@
-ghost use Rattle.std.specs.Prelude.{◌≡◌, ◌<◌, ◌==◌, ◌&&◌, Bool, All, length, [], ◌∷◌, ◌++◌, find, slice_get, Some, MatchBool, MatchOption, IfSome, IfErr, OnOk, OnErr};
+ghost use Rattle.std.specs.Prelude.{◌≡◌, ◌<◌, ◌==◌, ◌&&◌, Bool, All, length, [], ◌∷◌, ◌++◌, find};
+ghost use Rattle.std.specs.Prelude.{slice_get, Some, MatchBool, MatchOption, IfSome, IfErr, OnOk};
+ghost use Rattle.std.specs.Prelude.{OnErr};
 ghost use Rattle.std.specs.Option.{option_and_then};
 ghost use Rattle.node_rules.specs.declared.state.Pending.{Pending};
 ghost use Rattle.node_rules.specs.State.{inserted, changed, ended, round_serial, fetch_serial};

@@ -1,11 +1,11 @@
 //! A node that runs: its sockets and its threads.
 //!
-//! [`Workers::start`] opens a node's sockets and starts the node's thread. That thread starts 2 to 8
-//! workers. It then polls the [`NodeLoop`](cluster_sockets::NodeLoop) until the node is stopped, and
-//! queues a timer for each round of queries that has waited for the roster's `query_wait`.
-//! `cluster_service` says what a worker does with a job, and the event loop with a question. Workers
-//! leave fetches, and responses that clients do not take at once, to the event loop, which waits for
-//! all of them together. So no worker waits for a client, a peer or an origin.
+//! [`Workers::start`] opens a node's sockets and starts the node's thread. That thread starts 2 to
+//! 8 workers. It then polls the [`NodeLoop`](cluster_sockets::NodeLoop) until the node is stopped,
+//! and queues a timer for each round of queries that has waited for the roster's `query_wait`.
+//! `cluster_service` says what a worker does with a job, and the event loop with a question.
+//! Workers leave fetches, and responses that clients do not take at once, to the event loop, which
+//! waits for all of them together. So no worker waits for a client, a peer or an origin.
 //!
 //! Each thread owns a seat of the node (`node_seats`) and takes its steps by it. The node's lock is
 //! held for one step, and no lock is held while a socket is waited for. A page of its record that

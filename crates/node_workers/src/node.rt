@@ -47,6 +47,8 @@ pub(crate) struct Edge<G: Drop> {
     pub(crate) signals: Signals,
     /// The event loop.
     pub(crate) poller: NodeLoop,
+    /// Where the node's thread keeps short pieces of a response while it is written.
+    pub(crate) kept: Vec<u8>,
 }
 
 /// Runs the threads of a node until it is stopped. Then answers 503 to those who still wait, and
@@ -70,6 +72,7 @@ fn run_edge<
         station,
         signals,
         mut poller,
+        mut kept,
     } = edge;
     let (jobs, pass) = queue;
     let shared = Shared {
@@ -80,8 +83,8 @@ fn run_edge<
         jobs: &jobs,
         node,
     };
-    run_threads(&shared, count, seats, &mut poller, pass);
-    refuse_all(rt, &station, &mut Vec::new(alloc));
+    run_threads(&shared, count, seats, &mut poller, &mut kept, pass);
+    refuse_all(rt, &station, &mut kept);
     poller.finish(rt);
 }
 

@@ -5,8 +5,10 @@ use crate::fault::{StopFault, Unready};
 use crate::halt::{Halt, Taken};
 use crate::signals::Signals;
 use cluster_jobs::{Job, Jobs, Pass, Run};
-use cluster_service::{Gate, Questions, Seated, Station, Worker, milliseconds, tell_late};
-use cluster_sockets::NodeLoop;
+use cluster_service::{
+    Gate, Questions, Seated, Station, Worker, milliseconds, refuse_job, tell_late,
+};
+use cluster_sockets::{Delivery, NodeLoop};
 use floor_rules::FloorStore;
 use node_bytes::Stepper;
 use node_seats::{AtSeat, Held, Origin, Seat, SharedNode};
@@ -38,10 +40,12 @@ pub(crate) struct Shared<'a, Q: Run, S: FloorStore + Drop, J: Origin, G: Gate + 
     pub(crate) node: &'a SharedNode<S, J>,
 }
 
-/// What takes the steps of a node by this seat, for the thread that owns it.
+/// What takes the steps of a node by this seat, for the thread that owns it. `kept` is where short
+/// pieces of a response are kept.
 fn seated<'a, Q: Run, S: FloorStore + Drop, J: Origin, G: Gate + Drop, R: Wait>(
     shared: &Shared<'a, Q, S, J, G, R>,
     seat: Seat<J>,
+    kept: Vec<u8>,
 ) -> Seated<'a, AtSeat<'a, S, J, R>, G, R> {
     Seated {
         rt: shared.rt,
@@ -51,7 +55,7 @@ fn seated<'a, Q: Run, S: FloorStore + Drop, J: Origin, G: Gate + Drop, R: Wait>(
             node: shared.node,
             seat,
         },
-        kept: Vec::new(shared.alloc),
+        kept,
     }
 }
 
@@ -79,20 +83,21 @@ fn do_jobs<N: Stepper + Drop, Q: Run, G: Gate + Drop, R: Wait + Clock>(
     }
 }
 
-/// Runs the thread of a worker, which owns this seat.
+/// Runs the thread of a worker, which owns this seat and this buffer.
 fn work<Q: Run, S: FloorStore + Drop, J: Origin, G: Gate + Drop, R: Wait + Clock>(
     shared: &Shared<'_, Q, S, J, G, R>,
     seat: Seat<J>,
+    kept: Vec<u8>,
     pass: Pass<Q>,
 ) {
     let mut worker = Worker {
-        seated: seated(shared, seat),
+        seated: seated(shared, seat, kept),
     };
     do_jobs(&mut worker, shared.jobs, pass);
 }
 
-/// Starts this many workers, each with a seat and a pass of its own. Returns the pass that is left,
-/// and whether all were started.
+/// Starts this many workers, each with a seat, a pass and a buffer of its own. Returns the pass
+/// that is left, and why not all were started, if so.
 fn start_workers<
     's,
     E,
@@ -107,18 +112,23 @@ fn start_workers<
     count: u8,
     seats: &mut IntoIter<Seat<J>>,
     mut pass: Pass<Q>,
-) -> (Pass<Q>, bool) {
-    let mut are_all = true;
+) -> (Pass<Q>, Result<(), Unready>) {
+    let mut started = Ok(());
     for _number in 0..count {
         let Some(seat) = seats.next() else {
-            return (pass, false);
+            return (pass, Err(Unready::NoThread));
         };
-        let (kept, own) = shared.jobs.split(shared.rt, pass);
-        pass = kept;
-        let started = scope.spawn(move || work(shared, seat, own));
-        are_all = are_all && started.is_ok();
+        let Ok(kept) = Delivery::buffer(shared.alloc) else {
+            return (pass, Err(Unready::NoMemory));
+        };
+        let (left, own) = shared.jobs.split(shared.rt, pass);
+        pass = left;
+        let spawned = scope.spawn(move || work(shared, seat, kept, own));
+        if spawned.is_err() {
+            started = Err(Unready::NoThread);
+        }
     }
-    (pass, are_all)
+    (pass, started)
 }
 
 /// Queues a timer for each round whose deadline has come, 256 at most. A timer that finds its lane
@@ -165,20 +175,45 @@ fn hold<S: FloorStore + Drop, J: Origin, R: Wait>(rt: &R, halt: &Halt, node: &Sh
     }
 }
 
-/// Polls the event loop until the node is to stop, and holds the node whenever that is wanted.
+/// Answers 503 to the clients whose requests wait for a worker, at a node that is to stop: no
+/// worker takes them. Nothing is put any more, so this ends.
+fn refuse_rest<Q: Run, G: Gate + Drop, R: Wait + Clock>(
+    rt: &R,
+    station: &Station<G>,
+    jobs: &Jobs<Q>,
+    mut pass: Pass<Q>,
+    kept: &mut Vec<u8>,
+) {
+    for _ in rt.forever() {
+        let (after, job) = jobs.take(rt, pass);
+        pass = after;
+        match job {
+            Some(job) => refuse_job(rt, station, kept, job),
+            None => break,
+        }
+    }
+}
+
+/// Polls the event loop until the node is to stop, and holds the node whenever that is wanted. Then
+/// answers 503 to the clients whose requests wait for a worker.
 fn poll_until_stopped<
     Q: Run,
     S: FloorStore + Drop,
     J: Origin,
     G: Gate + Drop,
     R: Net + Wait + Clock,
->(shared: &Shared<'_, Q, S, J, G, R>, seat: Seat<J>, poller: &mut NodeLoop, mut pass: Pass<Q>) {
+>(
+    shared: &Shared<'_, Q, S, J, G, R>,
+    seat: Seat<J>,
+    poller: &mut NodeLoop,
+    kept: &mut Vec<u8>,
+    mut pass: Pass<Q>,
+) {
     let (rt, station, jobs) = (shared.rt, shared.station, shared.jobs);
     let halt = &shared.signals.halt;
     let node = shared.node;
     let mut questions = Questions::new(station, AtSeat { rt, node, seat });
     let mut owed = None;
-    let mut kept = Vec::new(shared.alloc);
     for _ in rt.forever() {
         if station.is_stopped() {
             break;
@@ -189,16 +224,18 @@ fn poll_until_stopped<
         let (after, _) = poller.poll_once(rt, jobs, pass, &mut questions);
         // (what came before a deadline is queued before it)
         pass = put_due(rt, station, jobs, after, &mut owed);
-        tell_late(rt, station, &mut kept);
+        tell_late(rt, station, kept);
         if poller.has_lacked_descriptors() {
             shared.signals.has_lacked.store(true, Ordering::SeqCst);
         }
     }
+    refuse_rest(rt, station, jobs, pass, kept);
 }
 
 /// Runs the workers and the event loop until the node is to stop. First tells whether all threads
 /// were started; where one was not, the others end at once. `count` is the number of workers. Each
 /// thread owns one of the seats: the first are the workers', and the last is the event loop's.
+/// `kept` is where the thread of the event loop keeps short pieces of a response.
 pub(crate) fn run_threads<
     Q: Run + Send + Sync,
     S: FloorStore + Drop + Send,
@@ -210,6 +247,7 @@ pub(crate) fn run_threads<
     count: u8,
     seats: Vec<Seat<J>>,
     poller: &mut NodeLoop,
+    kept: &mut Vec<u8>,
     pass: Pass<Q>,
 ) {
     let (rt, jobs) = (shared.rt, shared.jobs);
@@ -221,13 +259,14 @@ pub(crate) fn run_threads<
         move |scope|
             requires { IsSend Q.row × IsSend S.row × IsSend J.row × IsSend G.row }
         {
-            let (pass, are_all) = start_workers(scope, shared, count, &mut seats, pass);
-            match seats.next() {
-                Some(seat) if are_all => {
+            let (pass, started) = start_workers(scope, shared, count, &mut seats, pass);
+            match (started, seats.next()) {
+                (Ok(()), Some(seat)) => {
                     report.tell(rt, Ok(()));
-                    poll_until_stopped(shared, seat, poller, pass);
+                    poll_until_stopped(shared, seat, poller, kept, pass);
                 }
-                _ => report.tell(rt, Err(Unready::NoThread)),
+                (Ok(()), None) => report.tell(rt, Err(Unready::NoThread)),
+                (Err(fault), _) => report.tell(rt, Err(fault)),
             }
             jobs.end(rt);
         },

@@ -10,7 +10,7 @@ use crate::halt::Halt;
 use crate::node::{Edge, Start, run_node};
 use crate::signals::Signals;
 use cluster_service::{CloseCause, Closing, Gate, Station};
-use cluster_sockets::{Inbox, NodeLoop, Senders};
+use cluster_sockets::{Delivery, Inbox, NodeLoop, Senders};
 use cluster_waiting::{AskedPeer, PeerTable};
 use floor_rules::FloorStore;
 use node_book::Record;
@@ -69,8 +69,7 @@ fn open_node<S: FloorStore + Drop>(
         fault ≡ starting.Open (opening.Floors storing.StoreFault) →
         S.is_usable floors ≡ false) }
     ensures named { IfErr result (λ fault.
-        (fault ≢ starting.Open (opening.Floors storing.FloorsFull))
-        × (fault ≢ starting.Open (opening.Floors storing.BadTable))) }
+        fault ≢ starting.Open (opening.Floors storing.BadTable)) }
 {
     let roster = roster.copy(alloc)?;
     match Node::open_with_random_keys(alloc, roster, id, floors, keys) {
@@ -140,6 +139,7 @@ fn edge_of<G: Gate + Drop, R: Net + Clock>(
         station,
         signals: told,
         poller,
+        kept: Delivery::buffer(alloc)?,
     };
     Ok((edge, signals))
 }
@@ -198,11 +198,11 @@ fn run_and_tell<
 }
 
 impl Workers {
-    /// Starts a node of the roster with this many workers, 2 to 8, over a store of floors. When this
-    /// returns, the node can be reached at its addresses.
+    /// Starts a node of the roster with this many workers, 2 to 8, over a store of floors. When
+    /// this returns, the node can be reached at its addresses.
     ///
-    /// Faults: `Open` where the node is not opened, `Loop` where its sockets are not, `NoThread` where a thread cannot be started, `NoMemory`. After a
-    /// fault nothing of it runs or is open.
+    /// Faults: `Open` where the node is not opened, `Loop` where its sockets are not, `NoThread`
+    /// where a thread cannot be started, `NoMemory`. After a fault nothing of it runs or is open.
     pub fn start<
         S: FloorStore + Drop + Send + 'static,
         G: Gate + Drop + Send + Sync + 'static,
@@ -234,8 +234,7 @@ impl Workers {
             fault ≡ starting.Open (opening.Floors storing.StoreFault) →
             S.is_usable ground.floors ≡ false) }
         ensures named { IfErr result (λ fault.
-            (fault ≢ starting.Open (opening.Floors storing.FloorsFull))
-            × (fault ≢ starting.Open (opening.Floors storing.BadTable))) }
+            fault ≢ starting.Open (opening.Floors storing.BadTable)) }
     {
         if !roster.is_member(id) {
             return Err(StartFault::Open(OpenFault::NoSuchNode));
@@ -319,8 +318,9 @@ impl Workers {
     }
 
     /// Stops the node, also one that is held, and waits for its end. Its workers end the jobs that
-    /// they have. Those who wait get 503; responses that clients have not taken whole are written on
-    /// for five seconds at most. Then its sockets are closed. Returns the record of the steps since the last one, if it is kept.
+    /// they have. Those who wait get 503, also those whose requests wait for a worker; responses
+    /// that clients have not taken whole are written on for five seconds at most. Then its sockets
+    /// are closed. Returns the record of the steps since the last one, if it is kept.
     ///
     /// Fault: `NoMemory` where there is no memory to end the record, or for the seats at the start;
     /// the record is lost then.

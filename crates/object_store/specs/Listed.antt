@@ -1,5 +1,6 @@
 -- A bounded store as a list of copies, the most recent first.
-use Rattle.std.specs.Prelude.{◌≡◌, ℕ, ◌-◌, ◌≤◌, Bool, not, ◌&&◌, nat_le, nat_lt, List, [], ◌∷◌, length, take, sum_by, filter, find, Option, Some, None, if◌then◌else◌, ⊤}
+use Rattle.std.specs.Prelude.{◌≡◌, ℕ, ◌-◌, ◌≤◌, Bool, not, ◌&&◌, nat_le, nat_lt, List, [], ◌∷◌, length, take, sum_by, filter, find, Option, Some, None}
+use Rattle.std.specs.Prelude.{if◌then◌else◌, ⊤}
 use Rattle.std.specs.List.{AllByRecursion}
 use Rattle.object_store.specs.declared.copy.WebCopy.{WebCopy}
 use Rattle.object_store.specs.Copy.{size, is_of}

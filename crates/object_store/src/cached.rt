@@ -1,7 +1,8 @@
 //! What the store's calls do with the map of its copies.
 ghost use Rattle.std.specs.Prelude.{◌≡◌, ◌∷◌, IfOk, IfErr, OnOk, OnErr, map, filter, nat_lt};
 ghost use Rattle.object_store.specs.Cached.{IsCached, copies_in, without_each};
-ghost use Rattle.object_store.specs.Listed.{without as without_key, fitting, octets as octets_in, OneEach};
+ghost use Rattle.object_store.specs.Listed.{without as without_key, fitting, octets as octets_in};
+ghost use Rattle.object_store.specs.Listed.{OneEach};
 
 use crate::hashing::Hashing;
 use crate::{WebCopy, size};

@@ -1,6 +1,10 @@
-ghost use Rattle.std.specs.Prelude.{◌≡◌, ◌≤◌, ◌+◌, ◌-◌, [], ◌∷◌, MatchOption, Some, None, IfOk, IfErr, OnOk, OnErr, option_map, is_some, length, nat_eq, nat_lt, count_by, slice_get};
+ghost use Rattle.std.specs.Prelude.{◌≡◌, ◌≤◌, ◌+◌, ◌-◌, [], ◌∷◌, MatchOption, Some, None, IfOk};
+ghost use Rattle.std.specs.Prelude.{IfErr, OnOk, OnErr, option_map, is_some, length, nat_eq};
+ghost use Rattle.std.specs.Prelude.{nat_lt, count_by, slice_get};
 ghost use Rattle.object_store.specs.Copy.{size as size_of_copy};
-ghost use Rattle.object_store.specs.Listed.{copy_of as copy_by_key, without as without_key, to_front, fitting, octets, without_below, without_all_below};
+ghost use Rattle.object_store.specs.Listed.{copy_of as copy_by_key, without as without_key};
+ghost use Rattle.object_store.specs.Listed.{to_front, fitting, octets, without_below};
+ghost use Rattle.object_store.specs.Listed.{without_all_below};
 ghost use Rattle.std.specs.Borrow.{sem};
 
 use crate::cached::{copy_all, drop_each, keys_below, make_room, put_first};
@@ -59,7 +63,8 @@ impl<T> Model for Store<T> {
 
 impl<T> Store<T> {
     ghost use Rattle.object_store.specs.Looked.{EndsInFront};
-    ghost use Rattle.object_store.specs.Held.{Held, IsStore, is_outdone_by, put_answer, after_put, with_copies};
+    ghost use Rattle.object_store.specs.Held.{Held, IsStore, is_outdone_by, put_answer, after_put};
+    ghost use Rattle.object_store.specs.Held.{with_copies};
 
     /// An empty store for at most `limit_count` copies with at most `limit_bytes` octets together,
     /// both at least 1.
@@ -198,7 +203,8 @@ impl<T: Copy> Store<T> {
 }
 
 impl<T: Drop> Store<T> {
-    ghost use Rattle.object_store.specs.Held.{Held, is_outdone_by, is_older_than, put_answer, after_put, with_copies};
+    ghost use Rattle.object_store.specs.Held.{Held, is_outdone_by, is_older_than, put_answer};
+    ghost use Rattle.object_store.specs.Held.{after_put, with_copies};
 
     /// Puts a copy into the store as the most recent, unless it alone is too large or the store
     /// holds a copy of the key with a greater stamp. A copy with an equal stamp is replaced.

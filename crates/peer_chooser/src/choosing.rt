@@ -2,7 +2,8 @@
 
 ghost use Rattle.std.specs.Prelude.{◌≡◌, ◌==◌, find, option_map};
 ghost use Rattle.std.specs.List.{list_all, list_any};
-ghost use Rattle.peer_chooser.specs.Round.{RoundText, may_ask as may_be_asked, has_answered as has_answered_in};
+ghost use Rattle.peer_chooser.specs.Round.{RoundText, may_ask as may_be_asked};
+ghost use Rattle.peer_chooser.specs.Round.{has_answered as has_answered_in};
 ghost use Rattle.peer_chooser.specs.Choice as spec;
 
 use crate::{FirstAnswer, Said, Source};

@@ -1,6 +1,8 @@
-ghost use Rattle.std.specs.Prelude.{◌≡◌, ◌≤◌, ◌==◌, true, length, find, option_map, Some, None, if◌then◌else◌};
+ghost use Rattle.std.specs.Prelude.{◌≡◌, ◌≤◌, ◌==◌, true, length, find, option_map, Some, None};
+ghost use Rattle.std.specs.Prelude.{if◌then◌else◌};
 ghost use Rattle.roster.specs.Lookups.{is_member, peers_of as peers_of_member};
-ghost use Rattle.peer_chooser.specs.Round.{RoundText, started, answered, ended, has_answered as has_answered_in};
+ghost use Rattle.peer_chooser.specs.Round.{RoundText, started, answered, ended};
+ghost use Rattle.peer_chooser.specs.Round.{has_answered as has_answered_in};
 ghost use Rattle.peer_chooser.specs.Choice.{choice};
 
 use crate::choosing::{choose, has_answered, may_ask};

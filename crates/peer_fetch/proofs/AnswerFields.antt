@@ -1,7 +1,8 @@
 -- The fields that a response is written with, and what they say. No kept field has the name of one
 -- that the writer adds, so age, stamp and length are those written, and the kept fields are kept
 -- again.
-use Rattle.std.proofs.Common.{◌≡◌, ℕ, ◌<◌, ◌^◌, true, false, not, List, [], ◌∷◌, ◌++◌, map, filter, get_or, Option, Some, None, refl, sym, ap, ap₂, ◌∙◌, inl, inr, arith, append_assoc, append-nil, codes, decimal, bytes_eq, unwrap_or}
+use Rattle.std.proofs.Common.{◌≡◌, ℕ, ◌<◌, ◌^◌, true, false, not, List, [], ◌∷◌, ◌++◌, map, filter, get_or, Option, Some, None, refl, sym, ap, ap₂, ◌∙◌, inl}
+use Rattle.std.proofs.Common.{inr, arith, append_assoc, append-nil, codes, decimal, bytes_eq, unwrap_or}
 use Rattle.std.specs.Prelude.{option_map}
 use Rattle.std.specs.Option.{option_to_list}
 use Rattle.std.specs.List.{list_all, flat_map, AllByRecursion}

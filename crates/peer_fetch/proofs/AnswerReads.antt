@@ -1,12 +1,14 @@
 -- An input that begins with the text of a response is read as it. Its head and body are the only
 -- ones there, so every other fault would need octets that are not those of the input.
-use Rattle.std.proofs.Common.{◌≡◌, ℕ, ◌+◌, ◌≤◌, Bool, true, false, cond, List, [], ◌∷◌, ◌++◌, length, take, drop, Option, Some, None, Result, Ok, Err, MatchResult, refl, sym, ap, ◌∙◌, subst, inl, inr, arith, append_assoc, append-nil, length-append, length-take, take-append-drop}
+use Rattle.std.proofs.Common.{◌≡◌, ℕ, ◌+◌, ◌≤◌, Bool, true, false, cond, List, [], ◌∷◌, ◌++◌, length, take, drop, Option, Some, None, Result, Ok, Err}
+use Rattle.std.proofs.Common.{MatchResult, refl, sym, ap, ◌∙◌, subst, inl, inr, arith, append_assoc, append-nil, length-append, length-take, take-append-drop}
 use Rattle.std.specs.List.{flat_map, AllByRecursion}
 use Rattle.httparse.specs.Grammar.{ResponseHead, ReadsResponse, HasNoResponse, NeverHasResponse, print_response, status_code}
 use Rattle.httparse.proofs.GrammarLemmas.{response_unique}
 use Rattle.http_messages.specs.Answer.{AnswerText, has_no_body}
 use Rattle.http_messages.specs.declared.fault.FetchFault.{FetchFault}
-use Rattle.http_messages.specs.declared.fault.FetchFault.TheVariants.{Io, EndOfInput, BadHead, HeadTooLong, BadTarget, MethodNotServed, Credentials, BadBody, BodyTooLong, TooManyTurns, NoMemory}
+use Rattle.http_messages.specs.declared.fault.FetchFault.TheVariants.{Io, EndOfInput, BadHead, HeadTooLong, BadTarget, MethodNotServed, Credentials, BadBody}
+use Rattle.http_messages.specs.declared.fault.FetchFault.TheVariants.{BodyTooLong, TooManyTurns, NoMemory}
 use Rattle.http_writing.specs.Name.{is_name}
 use Rattle.http_writing.specs.Answer.{answer_text}
 use Rattle.http_reading.specs.declared.framing.Framing.TheVariants.{Length}

@@ -1,6 +1,7 @@
 -- The text of a response spells it: its head stands first, no interim head before it, and the body
 -- follows as its length says.
-use Rattle.std.proofs.Common.{◌≡◌, ℕ, ◌+◌, ◌≤◌, Bool, true, false, cond, List, [], ◌++◌, length, take, drop, Some, None, Ok, refl, sym, ap, ◌∙◌, arith, append_assoc, length-append}
+use Rattle.std.proofs.Common.{◌≡◌, ℕ, ◌+◌, ◌≤◌, Bool, true, false, cond, List, [], ◌++◌, length, take, drop, Some, None, Ok, refl, sym, ap, ◌∙◌, arith}
+use Rattle.std.proofs.Common.{append_assoc, length-append}
 use Rattle.std.proofs.lemmas.List.{drop_at, take_at}
 use Rattle.httparse.specs.Grammar.{ReadsResponse, print_response}
 use Rattle.http_messages.specs.Answer.{AnswerText, has_no_body}

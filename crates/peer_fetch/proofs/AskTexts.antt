@@ -1,6 +1,7 @@
 -- The text of a request spells it: it is a head of the grammar within its limits, and its fields
 -- and target make the request that was written.
-use Rattle.std.proofs.Common.{◌≡◌, ℕ, ◌+◌, ◌≤◌, Bool, true, false, List, [], ◌∷◌, ◌++◌, length, map, drop, Option, Some, None, Ok, sym, ap, ◌∙◌, subst, arith, append_assoc, append-nil, length-append, length-take, length-drop, codes, decimal}
+use Rattle.std.proofs.Common.{◌≡◌, ℕ, ◌+◌, ◌≤◌, Bool, true, false, List, [], ◌∷◌, ◌++◌, length, map, drop, Option, Some, None, Ok, sym, ap, ◌∙◌, subst, arith}
+use Rattle.std.proofs.Common.{append_assoc, append-nil, length-append, length-take, length-drop, codes, decimal}
 use Rattle.std.specs.List.{flat_map}
 use Rattle.std.proofs.lemmas.List.{length-map}
 use Rattle.std.proofs.lemmas.Fmt.{length-decimal-le}
@@ -23,7 +24,8 @@ use Rattle.peer_fetch.proofs.KeyReads.{key_reads}
 use Rattle.peer_fetch.proofs.Targets.{IsTargetOf, target_is}
 use Rattle.peer_fetch.proofs.Pairs.{ArePlain, pair_line, field_of, fields_read}
 use Rattle.peer_fetch.proofs.Heads.{request_of, request_reads}
-use Rattle.peer_fetch.proofs.AskFields.{control_pairs, number_pairs, ask_pairs, ask_lines, ask_plain, part_visible, IsNameText, name_text, SaysAsk, pairs_say, member_back}
+use Rattle.peer_fetch.proofs.AskFields.{control_pairs, number_pairs, ask_pairs, ask_lines, ask_plain, part_visible, IsNameText, name_text, SaysAsk, pairs_say}
+use Rattle.peer_fetch.proofs.AskFields.{member_back}
 
 -- the key of the request has its own text for a URL
 own_key : (ask : Ask) → IsWritableAsk ask → HasKey ask.key (Ok ask.key)

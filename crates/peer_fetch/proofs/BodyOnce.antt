@@ -1,6 +1,7 @@
 -- A body with a length or in chunks ends at one place and is one body, whatever follows: each
 -- chunk's line gives the end of its chunk, and lines and trailer are read in one way only.
-use Rattle.std.proofs.Common.{◌≡◌, ℕ, ◌+◌, ◌-◌, ◌≤◌, List, [], ◌∷◌, ◌++◌, length, take, drop, Option, Some, None, refl, sym, ap, ap₂, ◌∙◌, subst, arith, append_assoc, length-append, length-take, length-drop, take-append-drop}
+use Rattle.std.proofs.Common.{◌≡◌, ℕ, ◌+◌, ◌-◌, ◌≤◌, List, [], ◌∷◌, ◌++◌, length, take, drop, Option, Some, None, refl, sym, ap, ap₂, ◌∙◌, subst, arith}
+use Rattle.std.proofs.Common.{append_assoc, length-append, length-take, length-drop, take-append-drop}
 use Rattle.std.specs.List.{flat_map, AllByRecursion, All}
 use Rattle.std.proofs.lemmas.List.{append_cancel_left, take_at, drop_at, drop-drop, drop-append-le}
 use Rattle.httparse.specs.Grammar.{LineEnd, Field, IsField, print_section, ChunkLine, print_chunk_line, IsChunkLine, chunk_size}

@@ -6,7 +6,8 @@ use Rattle.std.specs.Prelude.{⊤}
 use Rattle.std.specs.List.{flat_map, All}
 use Rattle.std.specs.Char.{is_ascii_digit}
 use Rattle.std.proofs.lemmas.List.{append_cancel_right}
-use Rattle.httparse.specs.Grammar.{LineEnd, crlf, lf, print_end, print_blank, print_version, Field, print_field, IsField, print_section, RequestHead, IsRequestHead, ReadsRequest, ResponseHead, IsResponseHead, ReadsResponse, print_reason, AllPass}
+use Rattle.httparse.specs.Grammar.{LineEnd, crlf, lf, print_end, print_blank, print_version, Field, print_field, IsField, print_section, RequestHead}
+use Rattle.httparse.specs.Grammar.{IsRequestHead, ReadsRequest, ResponseHead, IsResponseHead, ReadsResponse, print_reason, AllPass}
 use Rattle.httparse.specs.Lines.{code_digits}
 use Rattle.httparse.specs.Pieces.{Section, RequestStart, ResponseStart, Code}
 use Rattle.httparse.proofs.GrammarLemmas.{request_tree, print_request-append, print_response-append, request_pieces, response_pieces}

@@ -8,7 +8,8 @@ use Rattle.std.proofs.lemmas.List.Elements.{All-weaker, All-nil}
 use Rattle.std.proofs.lemmas.List.Sums.{AllPass-from_list_all}
 use Rattle.std.proofs.lemmas.Str.{IsUtf8-from_ascii}
 use Rattle.std.proofs.lemmas.Str.Ascii.{IsAscii-from_all}
-use Rattle.httparse.specs.Grammar.{RequestHead, IsRequestHead, ReadsRequest, ResponseHead, IsResponseHead, ReadsResponse, print_field, print_response, print_section, is_uri_byte, is_value_byte, AllPass}
+use Rattle.httparse.specs.Grammar.{RequestHead, IsRequestHead, ReadsRequest, ResponseHead, IsResponseHead, ReadsResponse, print_field, print_response}
+use Rattle.httparse.specs.Grammar.{print_section, is_uri_byte, is_value_byte, AllPass}
 use Rattle.httparse.specs.Grammar as grammar
 use Rattle.httparse.proofs.GrammarLemmas.{print_request-append, print_response-append}
 use Rattle.url_key.specs.Text.{is_visible}

@@ -1,13 +1,16 @@
 -- The key of a text is the key of its own text: the canonical text spells a URI with the same
 -- parts, so its key is itself.
-use Rattle.std.proofs.Common.{◌≡◌, ◌≢◌, ℕ, ◌+◌, ◌<◌, ◌≤◌, ◌==◌, ◌||◌, not, is_some, false, cond, IsTrue, IfSome, List, [], ◌∷◌, ◌++◌, length, get_or, take, drop, bytes_eq, Option, Some, None, unwrap_or, Result, Ok, Err, refl, sym, ap, ◌∙◌, subst, arith, inl, inr, one-add, append-nil, append_assoc, take_all, take-append-drop, length-take-le, get_or-take, lt-ltb, le-ltb, ne_eqb, length-append, rules, codes}
+use Rattle.std.proofs.Common.{◌≡◌, ◌≢◌, ℕ, ◌+◌, ◌<◌, ◌≤◌, ◌==◌, ◌||◌, not, is_some, false, cond, IsTrue, IfSome, List, [], ◌∷◌, ◌++◌, length, get_or, take}
+use Rattle.std.proofs.Common.{drop, bytes_eq, Option, Some, None, unwrap_or, Result, Ok, Err, refl, sym, ap, ◌∙◌, subst, arith, inl, inr, one-add, append-nil}
+use Rattle.std.proofs.Common.{append_assoc, take_all, take-append-drop, length-take-le, get_or-take, lt-ltb, le-ltb, ne_eqb, length-append, rules, codes}
 use Rattle.std.specs.List.{list_any}
 use Rattle.std.proofs.lemmas.Bool.{cases_lt, cases_Bool}
 use Rattle.std.proofs.lemmas.List.{drop_more}
 use Rattle.std.proofs.lemmas.Str.{IsUtf8-append}
 use Rattle.http_uri.specs.declared.uri.Uri.{Uri}
 use Rattle.http_uri.specs.ByteClasses.{lowercase, is_query_byte, is_delimiter, index_of, split_once_front, split_once_back, framed_text}
-use Rattle.http_uri.specs.Grammar.{AllPass, IsScheme, IsAuthority, IsPathAndQuery, IsPathInput, StartsPath, IsTail, IsAbsoluteForm, IsForm, normal_scheme, without_fragment, or_slash, path_of, query_of}
+use Rattle.http_uri.specs.Grammar.{AllPass, IsScheme, IsAuthority, IsPathAndQuery, IsPathInput, StartsPath, IsTail, IsAbsoluteForm, IsForm, normal_scheme}
+use Rattle.http_uri.specs.Grammar.{without_fragment, or_slash, path_of, query_of}
 use Rattle.http_uri.specs.Uri.{Spells, uri_scheme, uri_authority, uri_data, uri_path, uri_query}
 use Rattle.http_uri.proofs.RunLemmas.{index_of_is, index_of_found, index_of_before, index_of_le}
 use Rattle.http_uri.proofs.PathLemmas.{IsPathAndQuery_slash}

@@ -1,5 +1,6 @@
 //! Laws that join writing and reading. Each function does nothing; its contract states the law.
-ghost use Rattle.std.specs.Prelude.{◌≡◌, ◌≢◌, ℕ, List, [], ◌++◌, length, Option, Some, Result, IsTrue, MatchResult};
+ghost use Rattle.std.specs.Prelude.{◌≡◌, ◌≢◌, ℕ, List, [], ◌++◌, length, Option, Some, Result};
+ghost use Rattle.std.specs.Prelude.{IsTrue, MatchResult};
 ghost use Rattle.http_messages.specs.Answer.{AnswerText};
 ghost use Rattle.http_messages.specs.declared.ask.Ask.{Ask};
 ghost use Rattle.http_messages.specs.declared.fault.FetchFault.{FetchFault};

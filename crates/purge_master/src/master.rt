@@ -4,7 +4,8 @@ ghost use Rattle.purge_rules.specs.declared.calls.MasterCall.TheVariants as call
 ghost use Rattle.purge_rules.specs.declared.calls.MasterAnswer.TheVariants as answers;
 ghost use Rattle.purge_rules.specs.Calls.{Calls, status_of};
 ghost use Rattle.purge_rules.specs.Clear.{message_of};
-ghost use Rattle.purge_master.specs.View.{issue_outcome, acknowledge_outcome, due_outcome, fault_of as answer_to_fault};
+ghost use Rattle.purge_master.specs.View.{issue_outcome, acknowledge_outcome, due_outcome};
+ghost use Rattle.purge_master.specs.View.{fault_of as answer_to_fault};
 ghost use Rattle.purge_master.specs.Store.{IsCalled, witness};
 
 use crate::news::{News, news_of};

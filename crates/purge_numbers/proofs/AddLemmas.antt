@@ -1,7 +1,8 @@
 -- Adding rows in turn makes the floors of the table, in whatever order a query shows them. For each
 -- url the count of its rows and the sum of their numbers do not depend on the order; each url has
 -- one row at most, so that sum is its floor.
-use Rattle.std.proofs.Common.{◌≡◌, inl, inr, ℕ, ◌+◌, ◌≤◌, Bool, true, false, cond, List, [], ◌∷◌, map, Some, None, Option, is_some, refl, sym, ap, ◌∙◌, arith, sum_by}
+use Rattle.std.proofs.Common.{◌≡◌, inl, inr, ℕ, ◌+◌, ◌≤◌, Bool, true, false, cond, List, [], ◌∷◌, map, Some, None, Option, is_some, refl, sym, ap, ◌∙◌, arith}
+use Rattle.std.proofs.Common.{sum_by}
 use Rattle.std.specs.List.{AllByRecursion, list_any}
 use Rattle.std.specs.List.Sorted.{IsPermutation}
 use Rattle.std.specs.Ordering.{nat_cmp}
@@ -13,7 +14,7 @@ use Rattle.std.proofs.lemmas.List.Sums.{sum_by-cons}
 use Rattle.std.proofs.lemmas.List.Elements.{All-from_recursion, recursion_from_All}
 use Rattle.sqlite_value.specs.Order.{Row}
 use Rattle.sqlite_trees.specs.Tree.{IsAscending}
-use Rattle.floor_rules.specs.Floors.{FloorMap}
+use Rattle.floor_rules.specs.Floors.{FloorRows}
 use Rattle.purge_numbers.specs.Tables.{floor_entry, IsFloorRow, IsFloorTable}
 use Rattle.purge_numbers.specs.Rows.{Adds, IsFloor, shown_row}
 use Rattle.floor_rules.proofs.Urls.{same_url, equal_urls, own_url}
@@ -26,7 +27,7 @@ Apart a b = same_url (url_of a) (url_of b) ≡ false
 number_of : Row → ℕ
 number_of row = (floor_entry row).1
 
-pub adds_floors : (m : FloorMap) (rows : List Row) (all : FloorMap) → Adds m rows all → AllByRecursion IsFloor rows
+pub adds_floors : (m : FloorRows) (rows : List Row) (all : FloorRows) → Adds m rows all → AllByRecursion IsFloor rows
 adds_floors m [] all h = tt
 adds_floors m (r ∷ rows) all h = (h.0, adds_floors (insert m (url_of r) (floor_entry r).1) rows all h.2)
 
@@ -34,7 +35,7 @@ still_some : (b : Bool) (v : ℕ) (o : Option ℕ) → is_some o ≡ true → is
 still_some true v o h = refl
 still_some false v o h = h
 
-fresh : (m : FloorMap) (rows : List Row) (all : FloorMap) (u : List ℕ) → is_some (get m u) ≡ true → Adds m rows all →
+fresh : (m : FloorRows) (rows : List Row) (all : FloorRows) (u : List ℕ) → is_some (get m u) ≡ true → Adds m rows all →
     AllByRecursion (λ r. same_url u (url_of r) ≡ false) rows
 fresh m [] all u has h = tt
 fresh m (r ∷ rows) all u has h = (
@@ -44,10 +45,10 @@ fresh m (r ∷ rows) all u has h = (
       ∙ still_some (same_url u (url_of r)) (floor_entry r).1 (get m u) has) h.2,
 )
 
-own_some : (m : FloorMap) (u : List ℕ) (n : ℕ) → is_some (get (insert m u n) u) ≡ true
+own_some : (m : FloorRows) (u : List ℕ) (n : ℕ) → is_some (get (insert m u n) u) ≡ true
 own_some m u n = ap is_some (get-insert nat_list_cmp_total m u n u) ∙ rw (own_url u) refl
 
-pub adds_apart : (m : FloorMap) (rows : List Row) (all : FloorMap) → Adds m rows all → IsAscending Apart rows
+pub adds_apart : (m : FloorRows) (rows : List Row) (all : FloorRows) → Adds m rows all → IsAscending Apart rows
 adds_apart m [] all h = tt
 adds_apart m (r ∷ rows) all h = (
   fresh (insert m (url_of r) (floor_entry r).1) rows all (url_of r) (own_some m (url_of r) (floor_entry r).1) h.2,
@@ -62,7 +63,7 @@ abbrev either_of : Option ℕ → Option ℕ → Option ℕ
 either_of (Some n) other = Some n
 either_of None other = other
 
-gets_all : (m : FloorMap) (rows : List Row) (all : FloorMap) (q : List ℕ) → Adds m rows all → get all q ≡ either_of (look rows q) (get m q)
+gets_all : (m : FloorRows) (rows : List Row) (all : FloorRows) (q : List ℕ) → Adds m rows all → get all q ≡ either_of (look rows q) (get m q)
 gets_all m [] all q h = ap (λ x. get x q) h
 gets_all m (r ∷ rows) all q h =
     gets_all (insert m (url_of r) (floor_entry r).1) rows all q h.2 ∙ ap (either_of (look rows q))
@@ -75,7 +76,7 @@ gets_all m (r ∷ rows) all q h =
       | inr other ↦ rw (other) refl
     ]
 
-pub adds_all : (rows : List Row) (all : FloorMap) → Adds empty rows all → all ≡ from_entries (map floor_entry rows)
+pub adds_all : (rows : List Row) (all : FloorRows) → Adds empty rows all → all ≡ from_entries (map floor_entry rows)
 adds_all rows all h = same_map nat_list_cmp_total (slice_cmp-IsAntisymmetric nat_cmp-IsAntisymmetric) _ _ (λ q.
     gets_all empty rows all q h ∙ ap (either_of (look rows q)) (get-empty (slice_cmp nat_cmp) q) ∙ no_other (look rows q) ∙ sym (looks rows q))
   where
@@ -184,7 +185,7 @@ pub permuted_apart : (xs ys : List Row) → IsPermutation xs ys → IsAscending 
 permuted_apart xs ys same h = counted_once ys (λ u. omega (arith, sum_by-IsPermutation (one_at u) xs ys same, once_counted xs u h))
 
 -- the rows that a query showed, in any order, make the floors of the table
-pub reads_floors : (table rows : List Row) (all : FloorMap) → IsPermutation (map shown_row table) rows → Adds empty rows all
+pub reads_floors : (table rows : List Row) (all : FloorRows) → IsPermutation (map shown_row table) rows → Adds empty rows all
     → AllByRecursion IsFloor table × IsAscending Apart table × (all ≡ from_entries (map floor_entry table))
 reads_floors table rows all same h =
     let back = IsPermutation-sym (map shown_row table) rows same in
@@ -205,14 +206,14 @@ other_url : (u v : List ℕ) → same_url u v ≡ false → same_url v u ≡ fal
 other_url u v other = false_from_ne_true _
     (λ same. absurd (let own : same_url u v ≡ true = rw (equal_urls v u same) (own_url u) in let bad : false ≡ true = sym other ∙ own in cc))
 
-abbrev IsNew : FloorMap → Row → Type 0
+abbrev IsNew : FloorRows → Row → Type 0
 IsNew m r = get m (url_of r) ≡ None
 
 still_none : (b : Bool) (v : ℕ) (o : Option ℕ) → b ≡ false → o ≡ None → cond b (Some v) o ≡ None
 still_none true v o off h = absurd (cc)
 still_none false v o off h = h
 
-still_new : (m : FloorMap) (r : Row) (n : ℕ) (rows : List Row) → AllByRecursion (Apart r) rows → AllByRecursion (IsNew m) rows →
+still_new : (m : FloorRows) (r : Row) (n : ℕ) (rows : List Row) → AllByRecursion (Apart r) rows → AllByRecursion (IsNew m) rows →
     AllByRecursion (IsNew (insert m (url_of r) n)) rows
 still_new m r n [] apart new = tt
 still_new m r n (x ∷ rows) apart new = (
@@ -221,8 +222,8 @@ still_new m r n (x ∷ rows) apart new = (
   still_new m r n rows apart.1 new.1,
 )
 
-can_add : (m : FloorMap) (rows : List Row) → AllByRecursion IsFloor rows → IsAscending Apart rows → AllByRecursion (IsNew m) rows →
-    (all : FloorMap) × Adds m rows all
+can_add : (m : FloorRows) (rows : List Row) → AllByRecursion IsFloor rows → IsAscending Apart rows → AllByRecursion (IsNew m) rows →
+    (all : FloorRows) × Adds m rows all
 can_add m [] floors apart new = (m, refl)
 can_add m (r ∷ rows) floors apart new =
     let more = can_add (insert m (url_of r) (floor_entry r).1) rows floors.1 apart.1 (still_new m r (floor_entry r).1 rows apart.0 new.1) in
@@ -246,7 +247,7 @@ to_shown_apart (r ∷ rows) h = (to_shown_all r rows h.0, to_shown_apart rows h.
 
 -- rows that are floors of different urls can all be added, in whatever order a query shows them
 pub shown_add : (table rows : List Row) → IsPermutation (map shown_row table) rows → AllByRecursion IsFloor table → IsFloorTable table →
-    (all : FloorMap) × Adds empty rows all
+    (all : FloorRows) × Adds empty rows all
 shown_add table rows same floors once =
     can_add empty rows (permuted_all IsFloor (map shown_row table) rows same (to_shown_floors table floors))
     (permuted_apart (map shown_row table) rows same (to_shown_apart table once.1)) (none_in_empty rows)

@@ -1,6 +1,6 @@
--- The CHECK of `floors` as a list of nodes, each with the indices of its operands. It is the wanted
--- term exactly if the node is AND and both operands are the wanted comparisons; with fewer than
--- three nodes no term is so deep.
+-- A CHECK as a list of nodes, each with the indices of its operands. It is the wanted term exactly
+-- if the node is AND and both operands are the wanted comparisons; with fewer than three nodes no
+-- term is so deep. A comparison alone needs two.
 use Rattle.std.proofs.Common.{◌≡◌, ◌≢◌, ℕ, suc, zero, ◌≤◌, ◌<◌, List, length, slice_index_or, ap, sym, ◌∙◌, arith}
 use Rattle.sqlite.specs.declared.types.Value.{Value}
 use Rattle.sqlite.specs.declared.types.Value.TheVariants.{Null}
@@ -73,3 +73,24 @@ shallow_to ops at (suc (suc (suc n))) by by2 a b s t few e = absurd (omega (arit
 
 pub shallow : (ops : List Op) (at : ℕ) (by by2 : BinaryOp) (a b : ℕ) (s t : Term) → length ops < 3 → term_in ops at ≢ op2 by (op2 by2 (col a b) s) t
 shallow ops at = shallow_to ops at (length ops)
+
+-- ---- a comparison alone
+
+deep_enough : (P : ℕ → Type 0) (n : ℕ) → 2 ≤ n → ((d : ℕ) → P (suc (suc d))) → P n
+deep_enough P zero deep f = absurd (omega (arith, deep))
+deep_enough P (suc zero) deep f = absurd (omega (arith, deep))
+deep_enough P (suc (suc d)) deep f = f d
+
+pub compares : (ops : List Op) (at : ℕ) (t : Term) → 2 ≤ length ops → ((d : ℕ) → term_to ops (suc (suc d)) at ≡ t) → term_in ops at ≡ t
+compares ops at t deep f = deep_enough (λ n. term_to ops n at ≡ t) (length ops) deep f
+
+pub compares_not : (ops : List Op) (at : ℕ) (t : Term) → 2 ≤ length ops → ((d : ℕ) → term_to ops (suc (suc d)) at ≢ t) → term_in ops at ≢ t
+compares_not ops at t deep f = deep_enough (λ n. term_to ops n at ≢ t) (length ops) deep f
+
+single_to : (ops : List Op) (at n : ℕ) (by : BinaryOp) (a b : ℕ) (t : Term) → n < 2 → term_to ops n at ≢ op2 by (col a b) t
+single_to ops at zero by a b t few e = lit_op2 e
+single_to ops at (suc zero) by a b t few e = lit_col (is_op2 _ _ by _ t e).3
+single_to ops at (suc (suc n)) by a b t few e = absurd (omega (arith, few))
+
+pub single : (ops : List Op) (at : ℕ) (by : BinaryOp) (a b : ℕ) (t : Term) → length ops < 2 → term_in ops at ≢ op2 by (col a b) t
+single ops at = single_to ops at (length ops)

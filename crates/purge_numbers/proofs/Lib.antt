@@ -1,12 +1,15 @@
--- In this order, beside those of `purge_tables`. Schema: `CheckLemmas` (the CHECK). Statements:
--- `Texts` (what each text means), `LookLemmas` and `PutLemmas` (a raise on the rows), `CallLemmas`
--- (a raise on a connection). Opening: `LoadLemmas` (the query of floors), `AddLemmas` (its rows as
--- floors), `OpenLemmas` (a file that was read or refused), `MakeLemmas` (a blank file).
+-- In this order, beside those of `purge_tables`. Schema: `CheckLemmas` (a CHECK). Statements: `Texts`
+-- (what each text means), `CommitLemmas` (a transaction, and the floors of each form), `LookLemmas`
+-- and `PutLemmas` (a raise on the rows), `CallLemmas` (a raise on a connection), `RebaseLemmas` (a
+-- raise of the base). Opening: `LoadLemmas` (the queries), `AddLemmas` (rows as floors), `OpenLemmas`
+-- (a file that was read or refused), `MakeLemmas` (a blank file, and one of form 1).
 pub mod CheckLemmas
 pub mod Texts
+pub mod CommitLemmas
 pub mod LookLemmas
 pub mod PutLemmas
 pub mod CallLemmas
+pub mod RebaseLemmas
 pub mod LoadLemmas
 pub mod AddLemmas
 pub mod OpenLemmas

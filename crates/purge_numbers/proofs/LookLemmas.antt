@@ -4,15 +4,22 @@ use Rattle.std.proofs.Common.{◌≡◌, ℕ, Bool, true, false, cond, List, [],
 use Rattle.std.specs.List.{AllByRecursion}
 use Rattle.std.specs.declared.cmp.Ordering.{Ordering}
 use Rattle.std.specs.declared.cmp.Ordering.TheVariants.{Less, Equal, Greater}
-use Rattle.std.specs.Ordering.{nat_cmp, match_ordering}
+use Rattle.std.specs.Ordering.{nat_cmp, is_eq, match_ordering}
+use Rattle.std.specs.Cmp.{eq_by_cmp_equiv}
 use Rattle.std.specs.Cmp.Lexicographic.{slice_cmp, nat_list_cmp_total}
 use Rattle.std.specs.FinMap.{get, insert, from_entries, find, get-from_entries, get-insert, same_map, nat_cmp-IsAntisymmetric, slice_cmp-IsAntisymmetric}
 use Rattle.std.proofs.lemmas.Bool.{cases_Bool}
+use Rattle.sqlite.specs.declared.types.Value.{Value}
 use Rattle.sqlite_value.specs.Order.{Row, value_cmp}
+use Rattle.sqlite_value.proofs.OrderLemmas.{value_cmp_total}
 use Rattle.sqlite_trees.specs.Tree.{rowid, put_row}
 use Rattle.sqlite_rules.specs.Edit.{is_taken}
 use Rattle.floor_rules.proofs.Urls.{same_url, equal_urls, swapped}
 use Rattle.purge_numbers.specs.Tables.{floor_entry}
+
+-- a value equals itself
+pub own_value : (v : Value) → is_eq (value_cmp v v) ≡ true
+own_value v = (eq_by_cmp_equiv value_cmp_total).refl v
 
 abbrev pub url_of : Row → List ℕ
 url_of row = (floor_entry row).0

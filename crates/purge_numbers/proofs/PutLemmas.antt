@@ -1,7 +1,8 @@
 -- The statement of a raise inserts a row for the url, or sets the number of the one row that has
 -- it. A row conflicts with the new one exactly if it has the url. Without conflict the new row goes
 -- in beside rows of other urls; with one, the update finds that row by its rowid and replaces it.
-use Rattle.std.proofs.Common.{◌≡◌, ℕ, ℤ, pos, Bool, true, false, not, cond, List, [], ◌∷◌, map, filter, Some, None, Option, Ok, arith, refl, sym, ap, subst, ◌∙◌, inl, inr, drop, ◌&&◌, ◌||◌, unwrap_or, if◌then◌else◌}
+use Rattle.std.proofs.Common.{◌≡◌, ℕ, ℤ, pos, Bool, true, false, not, cond, List, [], ◌∷◌, map, filter, Some, None, Option, Ok, arith, refl, sym, ap, subst}
+use Rattle.std.proofs.Common.{◌∙◌, inl, inr, drop, ◌&&◌, ◌||◌, ◌==◌, unwrap_or, if◌then◌else◌}
 use Rattle.std.specs.List.{AllByRecursion, list_all, flat_map}
 use Rattle.sqlite.specs.Query.{IsAnswer, output}
 use Rattle.sqlite.specs.Term.{holds}
@@ -48,7 +49,8 @@ use Rattle.sqlite_catalog.proofs.LayoutLemmas.{ascending_filter}
 use Rattle.sqlite_rules.specs.Calls.{ids_of}
 use Rattle.purge_tables.proofs.StatementLemmas.{went, same_value, cast_null, cast_int}
 use Rattle.purge_tables.proofs.QueryLemmas.{answered}
-use Rattle.purge_numbers.specs.Tables.{node_schema, floors_table, floors_in, IsFloorRow, IsFloorTable, url_index}
+use Rattle.purge_numbers.specs.Tables.{node_schema, floors_table, rows_of, floors_in, version_in, base_in, IsFloorRow, IsFloorTable, url_index}
+use Rattle.floor_rules.specs.Floors.{with_row}
 use Rattle.purge_numbers.proofs.Texts.{put_command, update_query}
 use Rattle.floor_rules.proofs.Urls.{same_url, equal_urls, own_url}
 use Rattle.purge_numbers.proofs.LookLemmas.{url_of, look, look_put, look_kept, one_put}
@@ -92,9 +94,16 @@ task limit keys u n = record { limit = limit; keys = keys; schema = node_schema;
 abbrev clause : Upsert
 clause = record { target = Some (1 ∷ []); update = Some (record { lets = []; body = update_query }) }
 
+-- the other tables stay
+abbrev Keeps : Trees → Trees → Type 0
+Keeps trees next = (next 0 ≡ trees 0) × (next 3 ≡ trees 3)
+
 -- the table has the new floor
 abbrev pub IsPut : Trees → List ℕ → ℕ → Trees → Type 0
-IsPut trees u n next = IsFloorTable (next 1) × (floors_in next ≡ insert (floors_in trees) u n)
+IsPut trees u n next = IsFloorTable (next 1) × (rows_of (next 1) ≡ insert (rows_of (trees 1)) u n) × Keeps trees next
+
+pub put_floors : (trees : Trees) (u : List ℕ) (n : ℕ) (next : Trees) → IsPut trees u n next → floors_in next ≡ with_row (floors_in trees) u n
+put_floors trees u n next put = λ i. record { rows = put.1 i; base = if version_in (put.2.0 i) == 2 then base_in (put.2.1 i) else 0 }
 
 -- the rows have different urls
 abbrev Apart : Row → Row → Type 0
@@ -123,12 +132,13 @@ merged false x y z h = h refl
 -- the row goes in beside rows of other urls
 beside : (trees : Trees) (u : List ℕ) (n : ℕ) (id : ℤ) (rows : List Row) (next : Trees) → AllByRecursion (λ r. same_url (url_of r) u ≡ false) rows
     → ((q : List ℕ) → same_url q u ≡ false → look rows q ≡ look (trees 1) q)
-    → IsFloorTable rows → is_taken rows (floor_row id u n) ≡ false → next 1 ≡ put_row (floor_row id u n) rows → IsPut trees u n next
-beside trees u n id rows next none others floors free is =
+    → IsFloorTable rows → is_taken rows (floor_row id u n) ≡ false → next 1 ≡ put_row (floor_row id u n) rows → Keeps trees next → IsPut trees u n next
+beside trees u n id rows next none others floors free is kept =
     let new = floor_row id u n in
     let table : IsFloorTable (put_row new rows) = (all-put_row IsFloorRow new rows ((id, refl), (u, refl)) floors.0, apart_put new rows none floors.1) in (
       subst IsFloorTable (sym is) table,
       one_put (trees 1) (next 1) u n (λ q. ap (λ rs. look rs q) is ∙ look_put new rows q free none ∙ merged (same_url q u) _ _ _ (others q)),
+      kept,
     )
 
 -- what the update shows of a row: its rowid, and the row with the new number
@@ -255,6 +265,7 @@ replaced keys trees u n at r xs next is_table has is_url hits is step0 =
     ) in
     let free : is_taken left (floor_row at u n) ≡ false = free_of _ (subst (λ row. (not (is_taken left row) && true) ≡ true) (cast_floor at u n) step.fresh) in
     beside trees u n at left next none others table free (step.rows ∙ ap (λ row. put_row row left) (cast_floor at u n))
+    (step.tables.0 (omega arith), step.tables.1.1.0 (omega arith))
 
 module _ (limit : Option ℕ) (keys : Keys) (trees : Trees) (u : List ℕ) (n : ℕ) (id : ℤ) (is_table : IsFloorTable (trees 1)) (w : Written) where
   puts : AllByRecursion (λ r. same_url (url_of r) u ≡ false) (trees 1) → Puts (task limit keys u n) (floor_row id u n) trees (Ok w) → IsPut trees u n w.trees
@@ -266,7 +277,7 @@ module _ (limit : Option ℕ) (keys : Keys) (trees : Trees) (u : List ℕ) (n : 
       let free : is_taken (trees 1) (floor_row id u n) ≡ false =
       free_of _ (subst (λ r. (not (is_taken (trees 1) r) && true) ≡ true) (cast_floor id u n) step.fresh) in
       let same : w.trees ≡ put.0 = ap (λ (it : Written). it.trees) (same_value put.2) in
-      rw same (beside trees u n id (trees 1) put.0 none (λ q other. refl) is_table free is)
+      rw same (beside trees u n id (trees 1) put.0 none (λ q other. refl) is_table free is (step.tables.0 (omega arith), step.tables.1.1.0 (omega arith)))
 
   clears : (found : List Row) → AllByRecursion (λ r. same_url (url_of r) u ≡ false) (trees 1) →
       Clears (task limit keys u n) Abort (floor_row id u n) trees found (Ok w) → IsPut trees u n w.trees

@@ -8,18 +8,21 @@ use Rattle.sqlite_schema.specs.declared.command.Command.{Command}
 use Rattle.sqlite_sql.specs.declared.ops.BinaryOp.TheVariants.{Compare}
 use Rattle.sqlite_sql.specs.declared.ops.CompareOp.TheVariants.{Eq}
 use Rattle.sqlite.specs.Collation.TheVariants.{Binary}
-use Rattle.sqlite.specs.Command.TheVariants.{Insert, InsertOr, Select, CreateTable}
+use Rattle.sqlite.specs.Command.TheVariants.{Insert, InsertOr, Update, Delete, Select, CreateTable}
 use Rattle.sqlite.specs.Source.TheVariants.{Values}
 use Rattle.sqlite_schema.specs.declared.command.Conflict.TheVariants.{Abort}
 use Rattle.sqlite.specs.Compile.{table_defined_by}
+use Rattle.sqlite.specs.Schema.{Schema}
 use Rattle.sqlite.specs.Change.{created}
 use Rattle.sqlite.specs.Listing.{understood, reads_listing}
 use Rattle.sqlite_tied.specs.Compute.{everything}
 use Rattle.sqlite.proofs.Callers.{IsPlain, command_of, statement_of}
 use Rattle.purge_tables.specs.Tables.{form_schema}
 use Rattle.purge_tables.proofs.Texts.{AsksVersion}
-use Rattle.purge_numbers.specs.Put.{put_text}
-use Rattle.purge_numbers.specs.Tables.{floors_table, node_schema}
+use Rattle.purge_numbers.specs.Put.{put_text, clear_text, base_text}
+use Rattle.purge_numbers.specs.Tables.{floors_table, base_table, first_schema, node_schema}
+
+-- ---- making
 
 abbrev pub create_floors : List ℕ
 create_floors = codes "CREATE TABLE floors (url TEXT PRIMARY KEY NOT NULL, number INTEGER NOT NULL CHECK (number >= 1 AND number <= 4294967295)) STRICT"
@@ -28,12 +31,99 @@ pub floors_defined : table_defined_by create_floors ≡ Ok (record floors_table 
 unfolding everything
 floors_defined = refl
 
-pub floors_created : created form_schema (record floors_table { tree = 0 }) ≡ node_schema
+pub floors_created : created form_schema (record floors_table { tree = 0 }) ≡ first_schema
 floors_created = refl
 
 pub create_floors_is : command_of (understood form_schema create_floors) ≡ CreateTable
 unfolding understood everything
 create_floors_is = refl
+
+pub create_floors_text : statement_of create_floors (understood form_schema create_floors) ≡ create_floors
+unfolding understood everything
+create_floors_text = refl
+
+pub create_floors_plain : IsPlain (understood form_schema create_floors)
+unfolding understood everything
+create_floors_plain = (refl, refl)
+
+abbrev pub create_base : List ℕ
+create_base = codes "CREATE TABLE base (id INTEGER PRIMARY KEY CHECK (id = 1), number INTEGER NOT NULL CHECK (number >= 0 AND number <= 4294967295)) STRICT"
+
+pub base_defined : table_defined_by create_base ≡ Ok (record base_table { tree = 0 })
+unfolding everything
+base_defined = refl
+
+pub base_created : created first_schema (record base_table { tree = 0 }) ≡ node_schema
+base_created = refl
+
+pub create_base_is : command_of (understood first_schema create_base) ≡ CreateTable
+unfolding understood everything
+create_base_is = refl
+
+pub create_base_text : statement_of create_base (understood first_schema create_base) ≡ create_base
+unfolding understood everything
+create_base_text = refl
+
+pub create_base_plain : IsPlain (understood first_schema create_base)
+unfolding understood everything
+create_base_plain = (refl, refl)
+
+abbrev pub name_text : List ℕ
+name_text = codes "INSERT INTO form (version) VALUES (?1)"
+
+abbrev pub name_command : Command
+name_command = Insert 0 (Values (col 0 0 ∷ lit Null ∷ []) 2)
+
+pub name_is : command_of (understood node_schema name_text) ≡ name_command
+unfolding understood everything
+name_is = refl
+
+pub name_plain : IsPlain (understood node_schema name_text)
+unfolding understood everything
+name_plain = (refl, refl)
+
+abbrev pub set_text : List ℕ
+set_text = codes "UPDATE form SET version = ?1"
+
+abbrev pub set_query : Query
+set_query = record {
+  from = inner 0 end;
+  filter = [];
+  group = None;
+  project = col 1 0 ∷ col 0 0 ∷ lit Null ∷ [];
+  distinct = false;
+  collations = [];
+  order = [];
+  limit = lit (Int (negsuc 0));
+  offset = lit (Int (pos 0));
+}
+
+abbrev pub set_command : Command
+set_command = Update 0 (record { lets = []; body = set_query })
+
+pub set_is : command_of (understood node_schema set_text) ≡ set_command
+unfolding understood everything
+set_is = refl
+
+pub set_plain : IsPlain (understood node_schema set_text)
+unfolding understood everything
+set_plain = (refl, refl)
+
+abbrev pub start_text : List ℕ
+start_text = codes "INSERT INTO base (id, number) VALUES (1, 0)"
+
+abbrev pub start_command : Command
+start_command = Insert 2 (Values (lit (Int (pos 1)) ∷ lit Null ∷ lit (Int (pos 0)) ∷ []) 3)
+
+pub start_is : command_of (understood node_schema start_text) ≡ start_command
+unfolding understood everything
+start_is = refl
+
+pub start_plain : IsPlain (understood node_schema start_text)
+unfolding understood everything
+start_plain = (refl, refl)
+
+-- ---- raising
 
 abbrev pub first_terms : List Term
 first_terms = lit Null ∷ col 0 0 ∷ col 0 1 ∷ []
@@ -62,6 +152,56 @@ pub put_plain : IsPlain (understood node_schema put_text)
 unfolding understood everything
 put_plain = (refl, refl)
 
+abbrev pub clear_query : Query
+clear_query = record {
+  from = inner 1 end;
+  filter = [];
+  group = None;
+  project = col 1 0 ∷ [];
+  distinct = false;
+  collations = [];
+  order = [];
+  limit = lit (Int (negsuc 0));
+  offset = lit (Int (pos 0));
+}
+
+abbrev pub clear_command : Command
+clear_command = Delete 1 (record { lets = []; body = clear_query })
+
+pub clear_is : command_of (understood node_schema clear_text) ≡ clear_command
+unfolding understood everything
+clear_is = refl
+
+pub clear_plain : IsPlain (understood node_schema clear_text)
+unfolding understood everything
+clear_plain = (refl, refl)
+
+abbrev pub base_query : Query
+base_query = record {
+  from = inner 3 end;
+  filter = [];
+  group = None;
+  project = col 1 0 ∷ col 1 0 ∷ lit Null ∷ col 0 0 ∷ [];
+  distinct = false;
+  collations = [];
+  order = [];
+  limit = lit (Int (negsuc 0));
+  offset = lit (Int (pos 0));
+}
+
+abbrev pub base_command : Command
+base_command = Update 2 (record { lets = []; body = base_query })
+
+pub base_is : command_of (understood node_schema base_text) ≡ base_command
+unfolding understood everything
+base_is = refl
+
+pub base_plain : IsPlain (understood node_schema base_text)
+unfolding understood everything
+base_plain = (refl, refl)
+
+-- ---- reading
+
 abbrev pub load_text : List ℕ
 load_text = codes "SELECT rowid, url, number FROM floors"
 
@@ -78,36 +218,48 @@ load_query = record {
   offset = lit (Int (pos 0));
 }
 
-pub load_is : (command_of (understood node_schema load_text) ≡ Select (record { lets = []; body = load_query }) (codes "rowid" ∷ codes "url" ∷ codes "number" ∷ [])) × (reads_listing node_schema load_text ≡ false)
-unfolding understood everything
-load_is = (refl, refl)
+-- in this schema the text asks for the rows of `floors`
+pub record AsksFloors (schema : Schema) : Type 0 where
+  pub command : command_of (understood schema load_text) ≡ Select (record { lets = []; body = load_query }) (codes "rowid" ∷ codes "url" ∷ codes "number" ∷ [])
+  pub listing : reads_listing schema load_text ≡ false
+  pub plain : IsPlain (understood schema load_text)
 
-pub load_plain : IsPlain (understood node_schema load_text)
+pub first_load_is : AsksFloors first_schema
 unfolding understood everything
-load_plain = (refl, refl)
+first_load_is = record { command = refl; listing = refl; plain = (refl, refl) }
+
+pub load_is : AsksFloors node_schema
+unfolding understood everything
+load_is = record { command = refl; listing = refl; plain = (refl, refl) }
+
+pub first_version_is : AsksVersion first_schema
+unfolding understood everything
+first_version_is = record { command = refl; listing = refl; plain = (refl, refl) }
 
 pub version_is : AsksVersion node_schema
 unfolding understood everything
 version_is = record { command = refl; listing = refl; plain = (refl, refl) }
 
-abbrev pub name_text : List ℕ
-name_text = codes "INSERT INTO form (version) VALUES (?1)"
+abbrev pub ask_text : List ℕ
+ask_text = codes "SELECT id, number FROM base"
 
-abbrev pub name_command : Command
-name_command = Insert 0 (Values (col 0 0 ∷ lit Null ∷ []) 2)
+abbrev pub ask_query : Query
+ask_query = record {
+  from = inner 3 end;
+  filter = [];
+  group = None;
+  project = col 1 0 ∷ col 1 2 ∷ [];
+  distinct = false;
+  collations = [];
+  order = [];
+  limit = lit (Int (negsuc 0));
+  offset = lit (Int (pos 0));
+}
 
-pub name_is : command_of (understood node_schema name_text) ≡ name_command
+pub ask_is : (command_of (understood node_schema ask_text) ≡ Select (record { lets = []; body = ask_query }) (codes "id" ∷ codes "number" ∷ [])) × (reads_listing node_schema ask_text ≡ false)
 unfolding understood everything
-name_is = refl
+ask_is = (refl, refl)
 
-pub name_plain : IsPlain (understood node_schema name_text)
+pub ask_plain : IsPlain (understood node_schema ask_text)
 unfolding understood everything
-name_plain = (refl, refl)
-
-pub create_floors_text : statement_of create_floors (understood form_schema create_floors) ≡ create_floors
-unfolding understood everything
-create_floors_text = refl
-
-pub create_floors_plain : IsPlain (understood form_schema create_floors)
-unfolding understood everything
-create_floors_plain = (refl, refl)
+ask_plain = (refl, refl)

@@ -1,53 +1,73 @@
--- How a blank file gets its tables, which files open, and what an open finds. `IsBlank`, `IsFormed`
--- and `Makes`, for the table `form`, are those of `purge_tables`.
-use Rattle.std.specs.Prelude.{◌≡◌, ◌≤◌, ◌⊎◌, ℕ, [], false, length}
-use Rattle.std.specs.FinMap.{empty}
-use Rattle.std.specs.List.{AllByRecursion}
+-- How a blank file gets its tables, how a file of form 1 is brought to form 2, which files open, and
+-- what an open finds. `IsBlank`, `IsFormed` and `Makes`, for the table `form`, are those of
+-- `purge_tables`.
+use Rattle.std.specs.Prelude.{◌≡◌, ◌⊎◌, ℕ, List, [], false, IsTrue}
+use Rattle.sqlite_value.specs.Order.{Row}
 use Rattle.sqlite.specs.Effect.{Database}
 use Rattle.sqlite.specs.State.{State, HasCleanDisk}
-use Rattle.floor_rules.specs.Floors.{FloorMap, most_rows}
+use Rattle.floor_rules.specs.Floors.{FloorTable, no_floors}
 use Rattle.purge_tables.specs.Making.{IsBlank}
-use Rattle.purge_tables.specs.Rows.{HasVersion, HasVersionOne}
-use Rattle.purge_numbers.specs.Rows.{IsFloor}
+use Rattle.purge_tables.specs.Rows.{HasVersion}
+use Rattle.purge_numbers.specs.Rows.{AreFloors}
 use Rattle.purge_numbers.specs.Store.{MayFind, committed_floors}
-use Rattle.purge_numbers.specs.Tables.{node_schema, IsFloorTable}
+use Rattle.purge_numbers.specs.Tables.{first_schema, node_schema, rows_of, IsBase, HasBase}
 
--- it has a node's tables, without a row
-abbrev pub IsUnversioned : Database → Type 0
-IsUnversioned db = (db.schema ≡ node_schema) × (db.trees 0 ≡ []) × (db.trees 1 ≡ [])
+-- ---- between the statements
 
--- it has a node's tables, one row with this version, and no floor
-abbrev pub IsVersioned : ℕ → Database → Type 0
-IsVersioned version db = (db.schema ≡ node_schema) × (db.trees 1 ≡ []) × HasVersion version (db.trees 0)
+-- it has the tables of form 1, with these rows in `form` and in `floors`
+abbrev pub HasFloors : List Row → List Row → Database → Type 0
+HasFloors versions floors db = (db.schema ≡ first_schema) × (db.trees 0 ≡ versions) × (db.trees 1 ≡ floors)
 
--- a new file: a node's tables, the version 1, and no floor
-abbrev pub IsUnused : Database → Type 0
-IsUnused db = IsVersioned 1 db
+-- it has the tables of form 2, with these rows in `form` and in `floors`, and none in `base`
+abbrev pub HasTables : List Row → List Row → Database → Type 0
+HasTables versions floors db = (db.schema ≡ node_schema) × (db.trees 0 ≡ versions) × (db.trees 1 ≡ floors) × (db.trees 3 ≡ [])
 
--- a new file, with all of it committed and no transaction open
-pub record IsMade (file : State) : Type 0 where
+-- it has the tables of form 2, with this version, these rows in `floors`, and none in `base`
+abbrev pub IsVersioned : ℕ → List Row → Database → Type 0
+IsVersioned version floors db = (db.schema ≡ node_schema) × HasVersion version (db.trees 0) × (db.trees 1 ≡ floors) × (db.trees 3 ≡ [])
+
+-- it has the tables of form 2, the version 2, these rows in `floors`, and the base 0
+abbrev pub IsBaseless : List Row → Database → Type 0
+IsBaseless floors db = (db.schema ≡ node_schema) × HasVersion 2 (db.trees 0) × (db.trees 1 ≡ floors) × IsBase 0 (db.trees 3)
+
+-- all of that is committed, and no transaction is open
+pub record IsMade (floors : List Row) (file : State) : Type 0 where
+  pub is_open : IsTrue file.is_open
   pub autocommit : file.in_transaction ≡ false
   pub committed : file.committed ≡ file.now
-  pub unused : IsUnused file.now
+  pub baseless : IsBaseless floors file.now
 
--- a node's file: exactly its tables, the version 1, and at most 65,536 rows that are floors of
--- different urls; no transaction is open
-pub record IsNodeFile (file : State) : Type 0 where
+-- ---- files
+
+-- it has exactly the tables of form 1, and the version 1
+abbrev pub IsFormOne : Database → Type 0
+IsFormOne db = (db.schema ≡ first_schema) × HasVersion 1 (db.trees 0)
+
+-- it has exactly the tables of form 2, the version 2, and a base
+abbrev pub IsFormTwo : Database → Type 0
+IsFormTwo db = (db.schema ≡ node_schema) × HasVersion 2 (db.trees 0) × HasBase (db.trees 3)
+
+-- a node's file of this form: its tables and its version, and rows that are floors; no transaction
+-- is open
+pub record IsFileOf (IsForm : Database → Type 0) (file : State) : Type 0 where
   pub autocommit : file.in_transaction ≡ false
-  pub schema : file.now.schema ≡ node_schema
-  pub version : HasVersionOne (file.now.trees 0)
-  pub floors : AllByRecursion IsFloor (file.now.trees 1)
-  pub once : IsFloorTable (file.now.trees 1)
-  pub few : length (file.now.trees 1) ≤ most_rows
+  pub form : IsForm file.now
+  pub floors : AreFloors (file.now.trees 1)
 
--- what an open finds: no floors in a blank file without an open transaction, and in a node's file
--- those that were committed
-abbrev pub OpensWith : State → FloorMap → Type 0
-OpensWith file floors = ((file.in_transaction ≡ false) × IsBlank file.now × (floors ≡ empty))
-    ⊎ (IsNodeFile file × (floors ≡ committed_floors file))
+-- a node's file of either form
+abbrev pub IsNodeFile : State → Type 0
+IsNodeFile file = IsFileOf IsFormOne file ⊎ IsFileOf IsFormTwo file
 
--- a crash leaves what it could leave before, or no floors if the file was blank and no transaction
--- was open
+-- what an open finds: no floors in a blank file without an open transaction; in a file of form 1 the
+-- rows that were committed, and the base 0; in a file of form 2 the floors that were committed
+abbrev pub OpensWith : State → FloorTable → Type 0
+OpensWith file floors = ((file.in_transaction ≡ false) × IsBlank file.now × (floors ≡ no_floors))
+    ⊎ ((IsFileOf IsFormOne file × (floors ≡ record { rows = rows_of (file.committed.trees 1); base = 0 }))
+    ⊎ (IsFileOf IsFormTwo file × (floors ≡ committed_floors file)))
+
+-- a crash leaves what it could leave before; or no floors if the file was blank and no transaction
+-- was open; or the same floors if the file was of form 1
 abbrev pub LeavesNoOther : State → State → Type 0
-LeavesNoOther old new = HasCleanDisk new → (left : FloorMap) → MayFind new left →
-    MayFind old left ⊎ ((old.in_transaction ≡ false) × IsBlank old.now × (left ≡ empty))
+LeavesNoOther old new = HasCleanDisk new → (left : FloorTable) → MayFind new left →
+    MayFind old left ⊎ (((old.in_transaction ≡ false) × IsBlank old.now × (left ≡ no_floors))
+    ⊎ (IsFileOf IsFormOne old × (left ≡ committed_floors old)))

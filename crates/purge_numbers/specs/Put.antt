@@ -1,11 +1,19 @@
--- The one statement of a raise (SQLite, "UPSERT").
-use Rattle.std.specs.Prelude.{◌≡◌, ℕ, pos, List, [], ◌∷◌, codes, Err}
+-- The statements of a raise: one for a row (SQLite, "UPSERT"), and a transaction of two for the base.
+use Rattle.std.specs.Prelude.{◌≡◌, ◌⊎◌, ℕ, pos, true, List, [], ◌∷◌, codes, Ok, Err}
 use Rattle.sqlite.specs.declared.types.Value.TheVariants.{Int, Text}
 use Rattle.sqlite_value.specs.Order.{Row}
+use Rattle.sqlite_trees.specs.declared.store.Store.{Ghosts}
 use Rattle.sqlite.specs.declared.error.Error.{Error}
-use Rattle.sqlite.specs.State.{State, Executes}
+use Rattle.sqlite.specs.State.{Executes, ExecutesInside}
+use Rattle.sqlite.specs.Steps.{FailsToCommit}
+use Rattle.sqlite.specs.Held.{Held, state}
 use Rattle.floor_rules.specs.declared.fault.FloorFault.TheVariants.{StoreFault}
+use Rattle.floor_rules.specs.declared.floors.Raising.{Raising}
+use Rattle.floor_rules.specs.declared.floors.Raising.TheVariants as raising
+use Rattle.floor_rules.specs.Floors.{raised}
+use Rattle.floor_rules.specs.Raising.{after}
 use Rattle.purge_numbers.specs.Faults.{told_as}
+use Rattle.purge_numbers.specs.Store.{committed_floors}
 
 -- sets the number of a url, in place of its own if it has one
 abbrev pub put_text : List ℕ
@@ -15,7 +23,52 @@ put_text = codes "INSERT INTO floors (url, number) VALUES (?1, ?2) ON CONFLICT (
 abbrev pub put_params : List ℕ → ℕ → Row
 put_params url number = Text url ∷ Int (pos number) ∷ []
 
--- the database ran the statement and returned an error other than `OutOfMemory`
-abbrev pub FailsToPut : State → State → List ℕ → ℕ → Type 0
-FailsToPut old new url number = (e : Error) × (told_as e ≡ StoreFault)
-    × Executes put_text (put_params url number) old new (Err e)
+-- drops all rows
+abbrev pub clear_text : List ℕ
+clear_text = codes "DELETE FROM floors"
+
+-- sets the base
+abbrev pub base_text : List ℕ
+base_text = codes "UPDATE base SET number = ?1"
+
+-- its parameter: the number
+abbrev pub base_params : ℕ → Row
+base_params number = Int (pos number) ∷ []
+
+-- the connection, with a transaction begun
+abbrev pub begun : {S : Type 0} → Held S → Held S
+begun conn = record conn { in_transaction = true }
+
+module _ {S : Type 0} (g : Ghosts S) (old new : Held S) where
+  -- inside a transaction both statements were run
+  abbrev pub Rebases : ℕ → Type 0
+  Rebases number =
+      (mid : Held S) × (cleared : ℕ) × (changed : ℕ) × ExecutesInside 0 clear_text [] (state g old) (state g mid) (Ok cleared)
+      × ExecutesInside 0 base_text (base_params number) (state g mid) (state g new) (Ok changed)
+
+  -- inside a transaction the first statement returned this error, or the second did
+  abbrev pub FailsInside : ℕ → Error → Type 0
+  FailsInside number e =
+      ExecutesInside 0 clear_text [] (state g old) (state g new) (Err e)
+      ⊎ ((mid : Held S) × (cleared : ℕ) × ExecutesInside 0 clear_text [] (state g old) (state g mid) (Ok cleared)
+      × ExecutesInside 0 base_text (base_params number) (state g mid) (state g new) (Err e))
+
+module _ {S : Type 0} (g : Ghosts S) (old new : Held S) where
+  -- the transaction that sets the base failed with this error, at a statement or at its commit
+  abbrev pub FailsToRebase : ℕ → Error → Type 0
+  FailsToRebase number e =
+      ((mid : Held S) × FailsInside g (begun old) mid number e)
+      ⊎ ((mid : Held S) × Rebases g (begun old) mid number × FailsToCommit (state g mid) (state g new) e)
+
+  -- what a raise writes failed with this error
+  abbrev pub FailsToWrite : List ℕ → Raising → Error → Type 0
+  FailsToWrite url raising.Nothing e = ⊥
+  FailsToWrite url (raising.Row number) e = Executes put_text (put_params url number) (state g old) (state g new) (Err e)
+  FailsToWrite url (raising.Base number) e = FailsToRebase number e
+
+  -- the database returned an error other than `OutOfMemory` for what the raise of a url to a number
+  -- writes
+  abbrev pub FailsToRaise : List ℕ → ℕ → Type 0
+  FailsToRaise url number =
+      (e : Error) × (told_as e ≡ StoreFault) × (raise : Raising)
+      × (raised (committed_floors (state g old)) url number ≡ after raise (committed_floors (state g old)) url) × FailsToWrite url raise e

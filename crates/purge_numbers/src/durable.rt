@@ -3,8 +3,9 @@ ghost use Rattle.std.specs.Prelude.{◌≡◌, ◌≢◌, false, None, IsTrue, I
 ghost use Rattle.sqlite.specs.State.{HasCleanDisk};
 ghost use Rattle.sqlite.specs.Held.{state};
 ghost use Rattle.purge_tables.specs.Making.{IsBlank};
-ghost use Rattle.purge_numbers.specs.Put.{FailsToPut};
-ghost use Rattle.purge_numbers.specs.Making.{IsNodeFile, LeavesNoOther, OpensWith};
+ghost use Rattle.purge_numbers.specs.Put.{FailsToRaise};
+ghost use Rattle.purge_numbers.specs.Making.{IsFileOf, IsFormTwo, IsNodeFile, LeavesNoOther};
+ghost use Rattle.purge_numbers.specs.Making.{OpensWith};
 ghost use Rattle.purge_numbers.specs.Store.{MayFind, committed_floors};
 
 use crate::opening::open_file;
@@ -44,21 +45,24 @@ impl<S: Alter> Model for SqliteFloors<S> {
 }
 
 impl<S: Alter> SqliteFloors<S> {
-    /// Opens a node's file: makes the tables if the file is blank, and reads the floors. A blank
-    /// file has no table, index or view. Lifts the connection's step limit, if it has one.
+    /// Opens a node's file: makes the tables if the file is blank, reads the floors, and brings a
+    /// file of form 1 to form 2. A blank file has no table, index or view. A file of form 1 has no
+    /// base: it gets the base 0 and the version 2, in one transaction, and keeps its rows. Lifts
+    /// the connection's step limit, if it has one.
     ///
     /// Errors, with the connection:
     ///
     /// - `BadTable` if one of these holds, but never for a blank file without an open transaction:
     ///   - the connection has an open transaction;
-    ///   - the tables are not exactly a node's, or the version is not 1;
+    ///   - tables and version are not exactly those of form 1 or those of form 2;
+    ///   - `base` has not exactly one row, of id 1 with a number of 0 to 4294967295;
     ///   - a row is no floor: a text that is its own key, and a number of 1 to 4294967295;
     ///   - a url stands twice, or there are more than 65,536 rows.
     /// - `StoreFault` if the database failed.
     /// - `NoMemory` if an allocation failed, here or in the database.
     ///
-    /// After either outcome a crash leaves what it could leave before, or no floors if the file was
-    /// blank.
+    /// After either outcome a crash leaves what it could leave before: no floors if the file was
+    /// blank, and the same floors if it was of form 1.
     pub fn open(
         alloc: Global,
         mut conn: Connection<S>,
@@ -66,7 +70,7 @@ impl<S: Alter> SqliteFloors<S> {
         ensures found { IfOk result (λ it. HasCleanDisk (state S.Store it.conn) →
             OpensWith (state S.Store conn) (committed_floors (state S.Store it.conn))) }
         ensures node { IfOk result (λ it. HasCleanDisk (state S.Store it.conn) →
-            IsNodeFile (state S.Store it.conn)) }
+            IsFileOf IsFormTwo (state S.Store it.conn)) }
         ensures usable { IfOk result (λ it. IsTrue it.is_usable × (it.failures ≡ 0)) }
         ensures unlimited { IfOk result (λ it. (state S.Store it.conn).step_limit ≡ None) }
         ensures crash { IfOk result (λ it.
@@ -76,7 +80,6 @@ impl<S: Alter> SqliteFloors<S> {
         ensures blank { IfErr result (λ e. IsBlank (state S.Store conn).now →
             (state S.Store conn).in_transaction ≡ false → HasCleanDisk (state S.Store e.0) →
             e.1 ≢ FloorFault.BadTable) }
-        ensures full { IfErr result (λ e. e.1 ≢ FloorFault.FloorsFull) }
         ensures fails { IfErr result (λ e. LeavesNoOther (state S.Store conn) (state S.Store e.0)) }
     {
         match open_file(&mut conn, alloc) {
@@ -115,7 +118,7 @@ impl<S: Alter> FloorStore for SqliteFloors<S> {
 
     ghost failed = { λ it. it.failures };
 
-    ghost has_cause = { λ old new key number. FailsToPut (state S.Store old.conn) (state S.Store new.conn) key number };
+    ghost has_cause = { λ old new key number. FailsToRaise S.Store old.conn new.conn key number };
 
     fn load(&mut self, _alloc: Global) -> Result<Floors, FloorFault> {
         if !self.is_usable {
@@ -132,7 +135,6 @@ impl<S: Alter> FloorStore for SqliteFloors<S> {
         }
         match raise(&mut self.conn, &mut self.floors, alloc, key, number) {
             Ok(()) => Ok(()),
-            Err(FloorFault::FloorsFull) => Err(FloorFault::FloorsFull),
             Err(FloorFault::StoreFault) => {
                 self.is_usable = false;
                 self.failures = self.failures.saturating_add(1);

@@ -1,19 +1,21 @@
-//! Whether the schema of a connection is that of a node's file (`node_schema` of `specs/Tables`).
+//! Whether the schema of a connection is that of a node's file of form 1 or of form 2
+//! (`first_schema` and `node_schema` of `specs/Tables`).
 //!
-//! `is_node_schema`, the last, is what `opening.rt` calls; the functions before it compare the
-//! parts, by the tests of `purge_tables`. In keys and tests place 0 of a row is its rowid, and its
-//! columns follow from place 1.
-ghost use Rattle.std.specs.Prelude.{◌≡◌, ◌≢◌, ℕ, suc, ◌∷◌, [], false, None, IsTrue};
+//! `is_first_schema` and `is_node_schema`, the last two, are what `opening.rt` calls; the functions
+//! before them compare the parts, by the tests of `purge_tables`. In keys and tests place 0 of a
+//! row is its rowid, and its columns follow from place 1.
+ghost use Rattle.std.specs.Prelude.{◌≡◌, ◌≢◌, ℕ, suc, pos, ◌∷◌, [], false, None, IsTrue};
 ghost use Rattle.sqlite.specs.declared.types.Value.TheVariants.{Int};
 ghost use Rattle.sqlite.specs.Collation.TheVariants.{Binary};
 ghost use Rattle.sqlite_sql.specs.Term.{col, lit, op2};
 ghost use Rattle.sqlite_sql.specs.declared.ops.BinaryOp.TheVariants.{Compare};
 ghost use Rattle.sqlite_schema.specs.Code.{term_in, term_to};
-ghost use Rattle.purge_numbers.specs.Tables.{floors_table, url_index, node_schema, number_check};
+ghost use Rattle.purge_numbers.specs.Tables.{base_table, floors_table, url_index, first_schema};
+ghost use Rattle.purge_numbers.specs.Tables.{node_schema, id_check, number_check};
 
 use purge_tables::{
-    is_column, is_form, is_literal_at, is_named, is_place, is_plain, is_plain_order, operands_at,
-    reads_column_at,
+    has_rowid_key, is_column, is_form, is_literal_at, is_named, is_place, is_plain, is_plain_order,
+    operands_at, reads_column_at,
 };
 use sqlite_items::Items;
 use sqlite_schema::code::{Op, Terms};
@@ -32,26 +34,37 @@ fn is_unique_place(uniques: &Items<Items<usize>>, wanted: usize) -> bool
     is_place(places, wanted)
 }
 
-/// Whether the node at this index compares `number` with this bound.
-fn is_bound_at(nodes: &[Op], at: usize, by: CompareOp, bound: i64) -> bool
+/// Whether the node at this index compares the column at this place with this bound.
+fn is_bound_at(nodes: &[Op], at: usize, place: usize, by: CompareOp, bound: i64) -> bool
     ensures yes { IsTrue result → (depth : ℕ) →
         term_to nodes.now (suc (suc depth)) at
-        ≡ op2 (Compare by Binary) (col 1 2) (lit (Int bound)) }
+        ≡ op2 (Compare by Binary) (col 1 place) (lit (Int bound)) }
     ensures no { result ≡ false → (depth : ℕ) →
         term_to nodes.now (suc (suc depth)) at
-        ≢ op2 (Compare by Binary) (col 1 2) (lit (Int bound)) }
+        ≢ op2 (Compare by Binary) (col 1 place) (lit (Int bound)) }
 {
     let Some((left, right)) = operands_at(nodes, at, BinaryOp::Compare(by, Collation::Binary))
     else {
         return false;
     };
-    reads_column_at(nodes, left, 2) && is_literal_at(nodes, right, bound)
+    reads_column_at(nodes, left, place) && is_literal_at(nodes, right, bound)
 }
 
-/// Whether the node at this index is the test that `number` is 1 to 4294967295.
-fn is_number_check_at(nodes: &[Op], at: usize) -> bool
-    ensures yes { IsTrue result → term_in nodes.now at ≡ number_check }
-    ensures no { result ≡ false → term_in nodes.now at ≢ number_check }
+/// Whether the node at this index is the test that the id is 1.
+fn is_id_check_at(nodes: &[Op], at: usize) -> bool
+    ensures yes { IsTrue result → term_in nodes.now at ≡ id_check }
+    ensures no { result ≡ false → term_in nodes.now at ≢ id_check }
+{
+    if nodes.len() < 2 {
+        return false;
+    }
+    is_bound_at(nodes, at, 0, CompareOp::Eq, 1)
+}
+
+/// Whether the node at this index is the test that `number` is from this one to 4294967295.
+fn is_number_check_at(nodes: &[Op], at: usize, least: i64) -> bool
+    ensures yes { IsTrue result → term_in nodes.now at ≡ number_check least }
+    ensures no { result ≡ false → term_in nodes.now at ≢ number_check least }
 {
     if nodes.len() < 3 {
         return false;
@@ -59,18 +72,31 @@ fn is_number_check_at(nodes: &[Op], at: usize) -> bool
     let Some((low, high)) = operands_at(nodes, at, BinaryOp::And) else {
         return false;
     };
-    is_bound_at(nodes, low, CompareOp::Ge, 1) && is_bound_at(nodes, high, CompareOp::Le, 4294967295)
+    is_bound_at(nodes, low, 2, CompareOp::Ge, least)
+        && is_bound_at(nodes, high, 2, CompareOp::Le, 4294967295)
 }
 
 /// Whether there is one CHECK, that `number` is 1 to 4294967295.
 fn is_number_check(terms: &Terms) -> bool
-    ensures yes { IsTrue result → terms.now ≡ number_check ∷ [] }
-    ensures no { result ≡ false → terms.now ≢ number_check ∷ [] }
+    ensures yes { IsTrue result → terms.now ≡ number_check (pos 1) ∷ [] }
+    ensures no { result ≡ false → terms.now ≢ number_check (pos 1) ∷ [] }
 {
     let [root] = terms.roots.as_slice() else {
         return false;
     };
-    is_number_check_at(terms.nodes.as_slice(), *root)
+    is_number_check_at(terms.nodes.as_slice(), *root, 1)
+}
+
+/// Whether there are two CHECKs: that the id is 1, and that `number` is 0 to 4294967295.
+fn has_base_checks(terms: &Terms) -> bool
+    ensures yes { IsTrue result → terms.now ≡ id_check ∷ number_check (pos 0) ∷ [] }
+    ensures no { result ≡ false → terms.now ≢ id_check ∷ number_check (pos 0) ∷ [] }
+{
+    let [id, number] = terms.roots.as_slice() else {
+        return false;
+    };
+    let nodes = terms.nodes.as_slice();
+    is_id_check_at(nodes, *id) && is_number_check_at(nodes, *number, 0)
 }
 
 /// Whether the columns are those of `floors`: `url` and `number`.
@@ -113,6 +139,32 @@ fn is_floors(table: &Table) -> bool
     is_number_check(&table.checks) && is_plain(table)
 }
 
+/// Whether the columns are those of `base`: `id` and `number`.
+fn has_base_columns(columns: &Items<Column>) -> bool
+    ensures yes { IsTrue result → columns.now ≡ base_table.columns }
+    ensures no { result ≡ false → ¬ (columns.now ≡ base_table.columns) }
+{
+    let [id, number] = columns.as_slice() else {
+        return false;
+    };
+    is_column(id, b"id".as_slice(), Kind::Integer, false)
+        && is_column(number, b"number".as_slice(), Kind::Integer, true)
+}
+
+/// Whether this is the table `base`.
+fn is_base(table: &Table) -> bool
+    ensures yes { IsTrue result → table.now ≡ base_table }
+    ensures no { result ≡ false → ¬ (table.now ≡ base_table) }
+{
+    if !is_named(&table.name, b"base".as_slice()) || table.tree != 3 {
+        return false;
+    }
+    if !has_base_columns(&table.columns) || !has_rowid_key(table) {
+        return false;
+    }
+    has_base_checks(&table.checks) && is_plain(table)
+}
+
 /// Whether this is the index that SQLite makes for the primary key of `floors` (SQLite, "Database
 /// File Format", on internal indexes).
 fn is_url_index(index: &Index) -> bool
@@ -131,10 +183,10 @@ fn is_url_index(index: &Index) -> bool
     index.is_unique
 }
 
-/// Whether the schema has the tables of a node's file and their index, and nothing else.
-pub(crate) fn is_node_schema(schema: &Schema) -> bool
-    ensures yes { IsTrue result → schema.now ≡ node_schema }
-    ensures no { result ≡ false → ¬ (schema.now ≡ node_schema) }
+/// Whether the schema has the tables of form 1 and their index, and nothing else.
+pub(crate) fn is_first_schema(schema: &Schema) -> bool
+    ensures yes { IsTrue result → schema.now ≡ first_schema }
+    ensures no { result ≡ false → ¬ (schema.now ≡ first_schema) }
 {
     let [form, floors] = schema.tables.as_slice() else {
         return false;
@@ -143,4 +195,21 @@ pub(crate) fn is_node_schema(schema: &Schema) -> bool
         return false;
     };
     schema.views.is_empty() && is_form(form) && is_floors(floors) && is_url_index(url)
+}
+
+/// Whether the schema has the tables of form 2 and their index, and nothing else.
+pub(crate) fn is_node_schema(schema: &Schema) -> bool
+    ensures yes { IsTrue result → schema.now ≡ node_schema }
+    ensures no { result ≡ false → ¬ (schema.now ≡ node_schema) }
+{
+    let [form, floors, base] = schema.tables.as_slice() else {
+        return false;
+    };
+    let [url] = schema.indexes.as_slice() else {
+        return false;
+    };
+    if !schema.views.is_empty() || !is_url_index(url) {
+        return false;
+    }
+    is_form(form) && is_floors(floors) && is_base(base)
 }

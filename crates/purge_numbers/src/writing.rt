@@ -1,17 +1,26 @@
-//! A raise: in the file by one statement, then in the copy in memory.
-ghost use Rattle.std.specs.Prelude.{◌≡◌, ◌≢◌, ◌⊎◌, ◌≤◌, None, IfErr, OnOk};
-ghost use Rattle.std.specs.FinMap.{get, insert, len};
-ghost use Rattle.sqlite.specs.State.{HasCleanDisk, Executes};
+//! A raise: first in the file, then in the copy in memory. A row takes one statement, the base a
+//! transaction of two.
+//!
+//! Functions that take a transaction state what each statement leads from and to, by
+//! `specs/Writing`.
+ghost use Rattle.std.specs.Prelude.{◌≡◌, ◌≢◌, ◌⊎◌, [], IsTrue, IfErr, OnOk, Ok, Err};
+ghost use Rattle.sqlite.specs.State.{HasCleanDisk, Survives, Executes, ExecutesInside};
 ghost use Rattle.sqlite.specs.Held.{state};
-ghost use Rattle.floor_rules.specs.Floors.{FloorMap, HasRoom, most_rows, raised};
-ghost use Rattle.purge_numbers.specs.Put.{FailsToPut, put_params, put_text};
+ghost use Rattle.floor_rules.specs.Floors.{FloorTable, raised, with_row, base_only};
+ghost use Rattle.floor_rules.specs.Raising.{after};
 ghost use Rattle.floor_rules.specs.Store.{IsBeforeOrAfter};
-ghost use Rattle.purge_numbers.specs.Store.{IsReady, AreIn, committed_floors, MayFind};
+ghost use Rattle.purge_tables.specs.Making.{Makes};
+ghost use Rattle.purge_numbers.specs.Put.{FailsInside, FailsToRebase, FailsToWrite, FailsToRaise};
+ghost use Rattle.purge_numbers.specs.Put.{Rebases, base_params, base_text, clear_text, put_params};
+ghost use Rattle.purge_numbers.specs.Put.{put_text};
+ghost use Rattle.purge_numbers.specs.Store.{IsReady, IsNode, AreIn, committed_floors, MayFind};
+ghost use Rattle.purge_numbers.specs.Tables.{floors_in};
+ghost use Rattle.purge_numbers.specs.Writing.{HasNoRows, Holds, Commits};
 
 use crate::fault::fault_of;
-use floor_rules::{FloorFault, Floors};
+use floor_rules::{FloorFault, Floors, Raising};
 use sqlite::types::ToSql;
-use sqlite::{Alter, Connection, Error};
+use sqlite::{Alter, Connection, Error, Transaction};
 use sqlite_value::value::ValueRef;
 use std::alloc::Global;
 use url_key::Key;
@@ -24,14 +33,14 @@ fn put<S: Alter>(conn: &mut Connection<S>, url: &[u8], number: u32) -> Result<us
         IsReady (state S.Store conn.new)) }
     ensures put { OnOk result (HasCleanDisk (state S.Store conn.new) →
         committed_floors (state S.Store conn.new)
-        ≡ insert (committed_floors (state S.Store conn.old)) url.now number) }
+        ≡ with_row (committed_floors (state S.Store conn.old)) url.now number) }
     ensures failed { IfErr result (λ e. HasCleanDisk (state S.Store conn.new) →
         Executes put_text (put_params url.now number) (state S.Store conn.old)
         (state S.Store conn.new) (Err e)) }
-    ensures crash { HasCleanDisk (state S.Store conn.new) → (floors : FloorMap) →
+    ensures crash { HasCleanDisk (state S.Store conn.new) → (floors : FloorTable) →
         MayFind (state S.Store conn.new) floors
         → (floors ≡ committed_floors (state S.Store conn.old))
-        ⊎ (floors ≡ insert (committed_floors (state S.Store conn.old)) url.now number) }
+        ⊎ (floors ≡ with_row (committed_floors (state S.Store conn.old)) url.now number) }
 {
     conn.execute(
         "INSERT INTO floors (url, number) VALUES (?1, ?2) ON CONFLICT (url) DO UPDATE SET number = excluded.number",
@@ -39,10 +48,107 @@ fn put<S: Alter>(conn: &mut Connection<S>, url: &[u8], number: u32) -> Result<us
     )
 }
 
+/// Drops all rows.
+fn clear<S: Alter>(tx: &mut Transaction<'_, S>) -> Result<usize, Error>
+    ensures same_reference { tx.new.conn.ghost_name ≡ tx.old.conn.ghost_name }
+    ensures made { OnOk result (HasCleanDisk (state S.Store tx.new.conn.now) →
+        Makes IsNode HasNoRows (state S.Store tx.old.conn.now)
+        (state S.Store tx.new.conn.now)) }
+    ensures runs { HasCleanDisk (state S.Store tx.new.conn.now) →
+        IsTrue (state S.Store tx.old.conn.now).in_transaction →
+        ExecutesInside 0 clear_text [] (state S.Store tx.old.conn.now)
+        (state S.Store tx.new.conn.now) result }
+    ensures survives { Survives (state S.Store tx.old.conn.now) (state S.Store tx.new.conn.now)
+        (λ _. ⊥) }
+{
+    tx.execute("DELETE FROM floors", &[])
+}
+
+/// Sets the base, where there are no rows.
+fn set_base<S: Alter>(tx: &mut Transaction<'_, S>, number: u32) -> Result<usize, Error>
+    ensures same_reference { tx.new.conn.ghost_name ≡ tx.old.conn.ghost_name }
+    ensures made { OnOk result (HasCleanDisk (state S.Store tx.new.conn.now) →
+        Makes HasNoRows (Holds (base_only number)) (state S.Store tx.old.conn.now)
+        (state S.Store tx.new.conn.now)) }
+    ensures runs { HasCleanDisk (state S.Store tx.new.conn.now) →
+        IsTrue (state S.Store tx.old.conn.now).in_transaction →
+        ExecutesInside 0 base_text (base_params number) (state S.Store tx.old.conn.now)
+        (state S.Store tx.new.conn.now) result }
+    ensures survives { Survives (state S.Store tx.old.conn.now) (state S.Store tx.new.conn.now)
+        (λ _. ⊥) }
+{
+    tx.execute("UPDATE base SET number = ?1", &[number.to_sql()])
+}
+
+/// Drops all rows and sets the base, in the open transaction.
+fn replace<S: Alter>(tx: &mut Transaction<'_, S>, number: u32) -> Result<(), Error>
+    ensures same_reference { tx.new.conn.ghost_name ≡ tx.old.conn.ghost_name }
+    ensures made { OnOk result (HasCleanDisk (state S.Store tx.new.conn.now) →
+        Makes IsNode (Holds (base_only number)) (state S.Store tx.old.conn.now)
+        (state S.Store tx.new.conn.now)) }
+    ensures ran { OnOk result (HasCleanDisk (state S.Store tx.new.conn.now) →
+        IsTrue (state S.Store tx.old.conn.now).in_transaction →
+        Rebases S.Store tx.old.conn.now tx.new.conn.now number) }
+    ensures failed { IfErr result (λ e. HasCleanDisk (state S.Store tx.new.conn.now) →
+        IsTrue (state S.Store tx.old.conn.now).in_transaction →
+        FailsInside S.Store tx.old.conn.now tx.new.conn.now number e) }
+    ensures survives { Survives (state S.Store tx.old.conn.now) (state S.Store tx.new.conn.now)
+        (λ _. ⊥) }
+{
+    clear(tx)?;
+    set_base(tx, number)?;
+    Ok(())
+}
+
+/// Drops all rows and sets the base, and commits that, in one transaction.
+fn rebase<S: Alter>(conn: &mut Connection<S>, number: u32) -> Result<(), Error>
+    ensures made { OnOk result (HasCleanDisk (state S.Store conn.new) →
+        IsNode (state S.Store conn.old).now →
+        Commits (base_only number) (state S.Store conn.new)) }
+    ensures failed { IfErr result (λ e. HasCleanDisk (state S.Store conn.new) →
+        IsReady (state S.Store conn.old) → FailsToRebase S.Store conn.old conn.new number e) }
+    ensures survives { Survives (state S.Store conn.old) (state S.Store conn.new) (λ trees.
+        IsNode (state S.Store conn.old).now → floors_in trees ≡ base_only number) }
+{
+    if !conn.is_autocommit() {
+        return Err(Error::InvalidQuery);
+    }
+    let mut tx = conn.transaction();
+    replace(&mut tx, number)?;
+    tx.commit()
+}
+
+/// Writes what a raise makes of the floors: nothing, a row by one statement, or the base by one
+/// transaction.
+fn write<S: Alter>(conn: &mut Connection<S>, url: &[u8], raising: Raising) -> Result<(), Error>
+    requires { HasCleanDisk (state S.Store conn.old) → IsReady (state S.Store conn.old) }
+    ensures honest { HasCleanDisk (state S.Store conn.new) → HasCleanDisk (state S.Store conn.old) }
+    ensures ready { OnOk result (HasCleanDisk (state S.Store conn.new) →
+        IsReady (state S.Store conn.new)) }
+    ensures written { OnOk result (HasCleanDisk (state S.Store conn.new) →
+        committed_floors (state S.Store conn.new)
+        ≡ after raising (committed_floors (state S.Store conn.old)) url.now) }
+    ensures failed { IfErr result (λ e. HasCleanDisk (state S.Store conn.new) →
+        FailsToWrite S.Store conn.old conn.new url.now raising e) }
+    ensures crash { HasCleanDisk (state S.Store conn.new) → (floors : FloorTable) →
+        MayFind (state S.Store conn.new) floors
+        → (floors ≡ committed_floors (state S.Store conn.old))
+        ⊎ (floors ≡ after raising (committed_floors (state S.Store conn.old)) url.now) }
+{
+    match raising {
+        Raising::Nothing => Ok(()),
+        Raising::Row(number) => {
+            put(conn, url, number)?;
+            Ok(())
+        }
+        Raising::Base(number) => rebase(conn, number),
+    }
+}
+
 /// Raises the key's floor to this number, first in the file and then in the copy in memory.
 ///
-/// Runs no statement if the number is no greater. `FloorsFull` without room, before anything has
-/// changed. `NoMemory` may come after the commit, if the copy cannot grow.
+/// Runs no statement if nothing changes. `NoMemory` may come after the commit, if the copy cannot
+/// grow.
 pub(crate) fn raise<S: Alter>(
     conn: &mut Connection<S>,
     floors: &mut Floors,
@@ -50,7 +156,6 @@ pub(crate) fn raise<S: Alter>(
     key: &Key,
     number: u32,
 ) -> Result<(), FloorFault>
-    requires number { 1 ≤ number }
     requires held { HasCleanDisk (state S.Store conn.old) →
         AreIn (state S.Store conn.old) floors.old }
     ensures honest { HasCleanDisk (state S.Store conn.new) → HasCleanDisk (state S.Store conn.old) }
@@ -59,27 +164,17 @@ pub(crate) fn raise<S: Alter>(
     ensures raised { OnOk result (HasCleanDisk (state S.Store conn.new) →
         committed_floors (state S.Store conn.new)
         ≡ raised (committed_floors (state S.Store conn.old)) key.now number) }
-    ensures crash { HasCleanDisk (state S.Store conn.new) → (left : FloorMap) →
+    ensures crash { HasCleanDisk (state S.Store conn.new) → (left : FloorTable) →
         MayFind (state S.Store conn.new) left
         → IsBeforeOrAfter (committed_floors (state S.Store conn.old)) key.now number left }
-    ensures full { result ≡ Err FloorFault.FloorsFull → (conn.new ≡ conn.old)
-        × (floors.new ≡ floors.old) × (most_rows ≤ len floors.old)
-        × (get floors.old key.now ≡ None) }
-    ensures room { OnOk result (HasCleanDisk (state S.Store conn.new) →
-        HasRoom (committed_floors (state S.Store conn.old)) key.now) }
     ensures cause { result ≡ Err FloorFault.StoreFault → HasCleanDisk (state S.Store conn.new) →
-        FailsToPut (state S.Store conn.old) (state S.Store conn.new) key.now number }
+        FailsToRaise S.Store conn.old conn.new key.now number }
     ensures named { result ≢ Err FloorFault.BadTable }
 {
-    if number <= floors.floor(key) {
-        return Ok(());
-    }
-    if !floors.has_room(key) {
-        return Err(FloorFault::FloorsFull);
-    }
-    if let Err(error) = put(conn, key.text(), number) {
+    let raising = floors.raising(key, number);
+    if let Err(error) = write(conn, key.text(), raising) {
         return Err(fault_of(error));
     }
-    floors.set(alloc, key, number)?;
+    floors.raise(alloc, key, number)?;
     Ok(())
 }

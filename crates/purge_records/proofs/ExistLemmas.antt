@@ -1,7 +1,8 @@
 -- The rows of a master's file can all be read, so a row that cannot be read shows another file.
 -- Rows come in the order of their rowids, and no two have the same; so each is above the one before
 -- it.
-use Rattle.std.proofs.Common.{◌≡◌, inl, inr, ℕ, ℤ, suc, pos, ◌+◌, ◌<◌, ◌≤◌, Bool, true, false, List, [], ◌∷◌, map, find, get_or, Option, Some, None, refl, sym, ap, subst, ◌∙◌, arith}
+use Rattle.std.proofs.Common.{◌≡◌, inl, inr, ℕ, ℤ, suc, pos, ◌+◌, ◌<◌, ◌≤◌, Bool, true, false, List, [], ◌∷◌, map, find, get_or, Option, Some, None, refl, sym}
+use Rattle.std.proofs.Common.{ap, subst, ◌∙◌, arith}
 use Rattle.std.specs.List.{AllByRecursion, list_any}
 use Rattle.std.specs.List.Sorted.{IsSorted}
 use Rattle.std.specs.Ordering.{is_eq, is_lt, int_cmp}
@@ -18,7 +19,8 @@ use Rattle.purge_rules.specs.declared.purges.Purge.{Purge}
 use Rattle.purge_rules.specs.Members.{is_among, possible_ids}
 use Rattle.purge_rules.specs.Purges.{PurgeList, no_purges, is_numbered, pending_at, with_purge}
 use Rattle.purge_rules.specs.Store.{Misses, IsUnmarkedBy}
-use Rattle.purge_records.specs.Tables.{number_of, url_of, ack_number, ack_member, is_ack, is_purge, marks_in, purge_in, by_number, last_in, purges_of, IsPending, IsAck, HasOwnIds, HasOwnAcks, AreRows}
+use Rattle.purge_records.specs.Tables.{number_of, url_of, ack_number, ack_member, is_ack, is_purge, marks_in, purge_in, by_number, last_in, purges_of}
+use Rattle.purge_records.specs.Tables.{IsPending, IsAck, HasOwnIds, HasOwnAcks, AreRows}
 use Rattle.purge_records.specs.Rows.{IsPurgeRow, IsAckRow, IsAbove, Adds, Marks, RisesFrom, shown_pending, shown_ack}
 use Rattle.purge_records.proofs.OrderLemmas.{by_number_has, has_by_number}
 use Rattle.purge_records.proofs.MarkLemmas.{none_among}

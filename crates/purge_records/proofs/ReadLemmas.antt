@@ -1,7 +1,8 @@
 -- Reading the rows in turn makes the purges that the tables mean. Numbers ascend, so two lists of
 -- the same purges are one list (`climbs_same`), in whatever order rows stand in the table. Each
 -- acknowledgement read marks its purge once, so at the end the marks are those of all rows.
-use Rattle.std.proofs.Common.{◌≡◌, ◌⊎◌, inl, inr, ℕ, ℤ, pos, ◌<◌, ◌≤◌, ◌==◌, nat_lt, Bool, true, false, ◌&&◌, ◌||◌, List, [], ◌∷◌, ◌++◌, map, Option, Some, None, refl, sym, ap, subst, ◌∙◌, append-nil, append_assoc, arith}
+use Rattle.std.proofs.Common.{◌≡◌, ◌⊎◌, inl, inr, ℕ, ℤ, pos, ◌<◌, ◌≤◌, ◌==◌, nat_lt, Bool, true, false, ◌&&◌, ◌||◌, List, [], ◌∷◌, ◌++◌, map, Option, Some}
+use Rattle.std.proofs.Common.{None, refl, sym, ap, subst, ◌∙◌, append-nil, append_assoc, arith}
 use Rattle.std.specs.List.{AllByRecursion, list_any, IsDistinct}
 use Rattle.std.specs.List.Sorted.{IsPermutation}
 use Rattle.std.specs.Ordering.{is_eq}
@@ -20,7 +21,8 @@ use Rattle.sqlite_rules.proofs.ListLemmas.{all_has, all_from, has_contained, con
 use Rattle.purge_rules.specs.declared.purges.Purge.{Purge}
 use Rattle.purge_rules.specs.Purges.{PurgeList, no_purges, unmarked, with_purge, with_mark}
 use Rattle.purge_rules.specs.Places.{given_to}
-use Rattle.purge_records.specs.Tables.{number_of, url_of, ack_number, ack_member, is_ack, is_purge, marks_in, purge_in, in_place, by_number, last_in, purges_of, IsLast, IsPending, IsAck, HasOwnIds, HasOwnAcks}
+use Rattle.purge_records.specs.Tables.{number_of, url_of, ack_number, ack_member, is_ack, is_purge, marks_in, purge_in, in_place, by_number, last_in, purges_of}
+use Rattle.purge_records.specs.Tables.{IsLast, IsPending, IsAck, HasOwnIds, HasOwnAcks}
 use Rattle.purge_records.specs.Rows.{IsPurgeRow, IsAckRow, Adds, Marks, HasAdded, HasUnmarked, HasMarked, IsRead, shown_pending, shown_ack}
 use Rattle.sqlite_trees.specs.Objects.{number_in}
 use Rattle.purge_records.proofs.RowLemmas.{all_map, marks_one, missed}

@@ -1,7 +1,8 @@
 -- What one row more or less makes of the purges: a new last number, a purge, an acknowledgement,
 -- and their removal. Each keeps the rows valid and is the change of `purge_rules` (`with_purge`,
 -- `with_mark`, `without_purge`).
-use Rattle.std.proofs.Common.{◌≡◌, inl, inr, ℕ, ℤ, pos, ◌<◌, ◌≤◌, ◌==◌, Bool, true, false, not, ◌&&◌, ◌||◌, cond, List, [], ◌∷◌, ◌++◌, map, filter, Option, Some, None, refl, sym, ap, subst, ◌∙◌, arith}
+use Rattle.std.proofs.Common.{◌≡◌, inl, inr, ℕ, ℤ, pos, ◌<◌, ◌≤◌, ◌==◌, Bool, true, false, not, ◌&&◌, ◌||◌, cond, List, [], ◌∷◌, ◌++◌, map, filter, Option}
+use Rattle.std.proofs.Common.{Some, None, refl, sym, ap, subst, ◌∙◌, arith}
 use Rattle.std.specs.List.{AllByRecursion, list_any}
 use Rattle.std.specs.Ordering.{is_eq, match_ordering, int_cmp}
 use Rattle.std.specs.FinMap.{int_cmp-IsAntisymmetric}
@@ -23,7 +24,8 @@ use Rattle.purge_rules.specs.declared.purges.Purge.{Purge}
 use Rattle.purge_rules.specs.Members.{is_among, with_id}
 use Rattle.purge_rules.specs.Purges.{is_numbered, pending_at, unmarked, marked_by, with_mark, without_purge}
 use Rattle.purge_rules.specs.Store.{Misses, IsUnmarkedBy}
-use Rattle.purge_records.specs.Tables.{number_of, url_of, ack_number, ack_member, is_ack, is_purge, marks_in, purge_in, by_number, last_in, purges_of, IsLast, IsPending, IsAck, AreRows}
+use Rattle.purge_records.specs.Tables.{number_of, url_of, ack_number, ack_member, is_ack, is_purge, marks_in, purge_in, by_number, last_in, purges_of, IsLast}
+use Rattle.purge_records.specs.Tables.{IsPending, IsAck, AreRows}
 use Rattle.purge_records.proofs.OrderLemmas.{by_number_push, by_number_map, by_number_kept, has_by_number}
 use Rattle.purge_records.proofs.MarkLemmas.{same_marks, no_marks, marks_more, unmarked_has_none}
 

@@ -1,6 +1,7 @@
 -- What the statements of `add`, `mark` and `finish` do to a master's file: each edits one table and
 -- leaves the others (`StepLemmas`), and the rows after it mean the changed purges (`RowLemmas`).
-use Rattle.std.proofs.Common.{◌≡◌, ℕ, ℤ, pos, ◌<◌, ◌≤◌, ◌==◌, ◌^◌, Bool, true, false, not, ◌&&◌, List, [], ◌∷◌, map, filter, length, Option, None, Ok, Err, Result, OnOk, IsTrue, refl, sym, ap, subst, ◌∙◌, arith}
+use Rattle.std.proofs.Common.{◌≡◌, ℕ, ℤ, pos, ◌<◌, ◌≤◌, ◌==◌, ◌^◌, Bool, true, false, not, ◌&&◌, List, [], ◌∷◌, map, filter, length, Option, None, Ok, Err}
+use Rattle.std.proofs.Common.{Result, OnOk, IsTrue, refl, sym, ap, subst, ◌∙◌, arith}
 use Rattle.std.specs.List.{AllByRecursion}
 use Rattle.std.specs.List.Sorted.{IsPermutation}
 use Rattle.sqlite.specs.declared.types.Value.TheVariants.{Null, Int, Text as Words}
@@ -29,11 +30,13 @@ use Rattle.purge_tables.proofs.StatementLemmas.{cast_null, cast_int, inside}
 use Rattle.purge_tables.proofs.QueryLemmas.{answered, all_matched}
 use Rattle.purge_rules.specs.Purges.{PurgeList, with_purge, with_mark, without_purge}
 use Rattle.purge_rules.specs.Store.{Misses}
-use Rattle.purge_records.specs.Tables.{last_table, pending_table, acks_table, master_schema, last_in, number_of, ack_number, purges_in, shown_last, IsLast, IsPending, IsAck, AreRows, AreTables}
+use Rattle.purge_records.specs.Tables.{last_table, pending_table, acks_table, master_schema, last_in, number_of, ack_number, purges_in, shown_last, IsLast}
+use Rattle.purge_records.specs.Tables.{IsPending, IsAck, AreRows, AreTables}
 use Rattle.purge_records.specs.Store.{IsMaster}
 use Rattle.purge_records.specs.Writing.{Holds, HasGiven, HasNoAcks}
 use Rattle.purge_records.proofs.StepLemmas.{base, task_on, concluded, inserted, deleted, updated}
-use Rattle.purge_records.proofs.RowLemmas.{given_rows, given_below, purge_row, added_rows, added_is, ack_row, marked_rows, marked_is, missed, other_acks, cleared_rows, cleared_none, cleared_is, other_rows, dropped_rows, dropped_is}
+use Rattle.purge_records.proofs.RowLemmas.{given_rows, given_below, purge_row, added_rows, added_is, ack_row, marked_rows, marked_is, missed, other_acks}
+use Rattle.purge_records.proofs.RowLemmas.{cleared_rows, cleared_none, cleared_is, other_rows, dropped_rows, dropped_is}
 use Rattle.purge_records.proofs.AnswerLemmas.{some_matched, filter_same, finds_number, own_rowid, only_id, deleted_is}
 use Rattle.purge_records.proofs.Texts as text
 

@@ -21,9 +21,9 @@
 //! `StoreFault` until the file is opened again.
 //!
 //! The file has four STRICT tables: `form` for the version, `last`, `pending` and `acks`;
-//! `docs/FORMATS.md` has their text. A purge that is done has no row. The table `form` and the tests
-//! of a table's parts are those of `purge_tables`: its definitions (`form_table`, `HasVersionOne`,
-//! `IsFormed`, `Makes`), the calls that make and compare it, and their proofs.
+//! `docs/FORMATS.md` has their text. A purge that is done has no row. The table `form` and the
+//! tests of a table's parts are those of `purge_tables`: its definitions (`form_table`,
+//! `HasVersionOne`, `IsFormed`, `Makes`), the calls that make and compare it, and their proofs.
 //!
 //! Read in this order:
 //!

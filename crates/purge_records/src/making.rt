@@ -7,7 +7,8 @@ ghost use Rattle.purge_tables.specs.Tables.{empty_schema};
 ghost use Rattle.purge_tables.specs.Making.{IsBlank, IsFormed, Makes};
 ghost use Rattle.purge_rules.specs.Purges.{no_purges};
 ghost use Rattle.purge_records.specs.Tables.{purges_in};
-ghost use Rattle.purge_records.specs.Making.{HasLast, HasPending, IsUnversioned, IsUnnumbered, IsUnused, IsMade, LeavesNoOther};
+ghost use Rattle.purge_records.specs.Making.{HasLast, HasPending, IsUnversioned, IsUnnumbered};
+ghost use Rattle.purge_records.specs.Making.{IsUnused, IsMade, LeavesNoOther};
 
 use crate::fault::fault_of;
 use purge_rules::PurgeFault;

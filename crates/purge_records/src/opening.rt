@@ -1,6 +1,7 @@
 //! Opens a master's file: has its tables made if it is blank, checks schema and version, reads the
 //! rows.
-ghost use Rattle.std.specs.Prelude.{◌≡◌, ◌≢◌, ◌≤◌, ◌∷◌, [], ℕ, false, pos, map, IsPermutation, IfOk, IfSome, OnOk, None, Err};
+ghost use Rattle.std.specs.Prelude.{◌≡◌, ◌≢◌, ◌≤◌, ◌∷◌, [], ℕ, false, pos, map, IsPermutation};
+ghost use Rattle.std.specs.Prelude.{IfOk, IfSome, OnOk, None, Err};
 ghost use Rattle.sqlite.specs.State.{HasCleanDisk, Survives, IsUnchanged};
 ghost use Rattle.sqlite.specs.Held.{state};
 ghost use Rattle.sqlite.specs.declared.types.Value.TheVariants.{Int};
@@ -8,9 +9,11 @@ ghost use Rattle.purge_tables.specs.Making.{IsBlank};
 ghost use Rattle.purge_tables.specs.Rows.{HasVersionOne, shown_version};
 ghost use Rattle.purge_rules.specs.Purges.{PurgeList};
 ghost use Rattle.purge_records.specs.Making.{IsMasterFile, LeavesNoOther, OpensWith};
-ghost use Rattle.purge_records.specs.Rows.{HasAdded, HasUnmarked, HasMarked, IsRead, RisesFrom, shown_pending, shown_ack};
+ghost use Rattle.purge_records.specs.Rows.{HasAdded, HasUnmarked, HasMarked, IsRead, RisesFrom};
+ghost use Rattle.purge_records.specs.Rows.{shown_pending, shown_ack};
 ghost use Rattle.purge_records.specs.Store.{AreIn, IsMaster, committed_purges};
-ghost use Rattle.purge_records.specs.Tables.{IsLast, master_schema, purges_of, purges_in, shown_last};
+ghost use Rattle.purge_records.specs.Tables.{IsLast, master_schema, purges_of, purges_in};
+ghost use Rattle.purge_records.specs.Tables.{shown_last};
 
 use crate::fault::fault_of;
 use crate::making::make_where_blank;

@@ -6,7 +6,8 @@
 //! columns follow from place 1.
 ghost use Rattle.std.specs.Prelude.{◌≡◌, ◌≢◌, ◌∷◌, [], false, None, IsTrue};
 ghost use Rattle.sqlite_schema.specs.Code.{term_in};
-ghost use Rattle.purge_records.specs.Tables.{last_table, pending_table, acks_table, ack_index, master_schema, id_check};
+ghost use Rattle.purge_records.specs.Tables.{last_table, pending_table, acks_table, ack_index};
+ghost use Rattle.purge_records.specs.Tables.{master_schema, id_check};
 
 use purge_tables::{
     has_no_terms, has_rowid_key, is_column, is_form, is_literal_at, is_named, is_plain,

@@ -1,6 +1,7 @@
 -- Marking or removing the purge at the index that the search found is what `with_mark` and
 -- `without_purge` do to all purges of its number, since no other purge has it.
-use Rattle.std.proofs.Common.{◌≡◌, ◌≢◌, ℕ, zero, suc, ◌<◌, ◌≤◌, Bool, true, false, cond, not, List, [], ◌∷◌, map, filter, All, length, get_or, set, refl, inl, inr, sym, ap, ◌∙◌, arith, length-set, get_or-set_other}
+use Rattle.std.proofs.Common.{◌≡◌, ◌≢◌, ℕ, zero, suc, ◌<◌, ◌≤◌, Bool, true, false, cond, not, List, [], ◌∷◌, map, filter, All, length, get_or, set, refl, inl}
+use Rattle.std.proofs.Common.{inr, sym, ap, ◌∙◌, arith, length-set, get_or-set_other}
 use Rattle.std.specs.List.{remove}
 use Rattle.std.proofs.lemmas.List.{same_lists, get_or-map, length-map}
 use Rattle.std.proofs.lemmas.Grind.{get_or-set_at}

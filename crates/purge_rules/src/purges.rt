@@ -1,6 +1,8 @@
 //! The pending purges, in memory, with the last number that was given.
-ghost use Rattle.std.specs.Prelude.{◌≡◌, ℕ, ◌<◌, ◌≤◌, ◌==◌, nat_le, false, List, length, option_map, MatchOption, IfOk, OnOk, OnErr};
-ghost use Rattle.purge_rules.specs.Purges.{PurgeList, AreNumbered, no_purges, pending_at, with_purge, with_mark, without_purge};
+ghost use Rattle.std.specs.Prelude.{◌≡◌, ℕ, ◌<◌, ◌≤◌, ◌==◌, nat_le, false, List, length};
+ghost use Rattle.std.specs.Prelude.{option_map, MatchOption, IfOk, OnOk, OnErr};
+ghost use Rattle.purge_rules.specs.Purges.{PurgeList, AreNumbered, no_purges, pending_at};
+ghost use Rattle.purge_rules.specs.Purges.{with_purge, with_mark, without_purge};
 ghost use Rattle.purge_rules.specs.Places.{IsPlaceOf, IsAbsent, CameBy, given_to};
 ghost use Rattle.purge_rules.specs.Calls.{due, status_of};
 

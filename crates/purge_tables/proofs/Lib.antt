@@ -1,9 +1,11 @@
 -- In this order. Schema: `TableLemmas` (an index field by field). Statements: `Texts` (what each
--- text means), `StatementLemmas` (what a statement leaves), `MakeLemmas` (the table `form`).
+-- text means), `StatementLemmas` (what a statement leaves), `StepLemmas` (what a write of rows
+-- leaves), `MakeLemmas` (the table `form`).
 -- Opening: `QueryLemmas` (what a query shows and keeps), `VersionLemmas` (the version).
 pub mod TableLemmas
 pub mod Texts
 pub mod StatementLemmas
+pub mod StepLemmas
 pub mod MakeLemmas
 pub mod QueryLemmas
 pub mod VersionLemmas

@@ -61,10 +61,10 @@ pub fn is_form(table: &Table) -> bool
     has_no_terms(&table.checks) && is_plain(table)
 }
 
-/// Whether these rows, as a query shows them, are one row with the version 1.
-pub fn is_version_one(rows: &[Row]) -> bool
-    ensures yes { IsTrue result → rows.now ≡ (Int (pos 1) ∷ []) ∷ [] }
-    ensures no { result ≡ false → rows.now ≢ (Int (pos 1) ∷ []) ∷ [] }
+/// Whether these rows, as a query shows them, are one row with this version.
+pub fn is_version(rows: &[Row], wanted: u32) -> bool
+    ensures yes { IsTrue result → rows.now ≡ (Int (pos wanted) ∷ []) ∷ [] }
+    ensures no { result ≡ false → rows.now ≢ (Int (pos wanted) ∷ []) ∷ [] }
 {
     let [row] = rows else {
         return false;
@@ -73,7 +73,15 @@ pub fn is_version_one(rows: &[Row]) -> bool
         return false;
     }
     match row.get_ref(0) {
-        Ok(ValueRef::Int(version)) => version == 1,
+        Ok(ValueRef::Int(version)) => version == i64::from(wanted),
         _ => false,
     }
+}
+
+/// Whether these rows, as a query shows them, are one row with the version 1.
+pub fn is_version_one(rows: &[Row]) -> bool
+    ensures yes { IsTrue result → rows.now ≡ (Int (pos 1) ∷ []) ∷ [] }
+    ensures no { result ≡ false → rows.now ≢ (Int (pos 1) ∷ []) ∷ [] }
+{
+    is_version(rows, 1)
 }

@@ -6,7 +6,8 @@
 //!
 //! - [`create_form`] makes the table `form`, in an open transaction.
 //! - [`is_blank`] tests whether a schema is empty, [`is_form`] whether a table is `form`, and
-//!   [`is_version_one`] whether the rows that were read from it are the version 1.
+//!   [`is_version`] whether the rows that were read from it are a version; [`is_version_one`] asks
+//!   for the version 1.
 //! - [`is_named`], [`is_column`], [`is_place`], [`has_rowid_key`], [`is_plain_order`],
 //!   [`has_no_terms`] and [`is_plain`] compare the parts of a table.
 //! - [`operands_at`], [`reads_column_at`] and [`is_literal_at`] compare the nodes of a CHECK.
@@ -16,8 +17,8 @@
 //! Read in this order:
 //!
 //! 1. `specs/Tables.antt`: the table `form`, and the schemas of a blank file and of a file with
-//!    `form` alone. `specs/Rows.antt`: which version its rows mean. `specs/Making.antt`: how a blank
-//!    file gets it.
+//!    `form` alone. `specs/Rows.antt`: which version its rows mean. `specs/Making.antt`: how a
+//!    blank file gets it.
 //! 2. `src/form.rt`: the table `form`. `src/parts.rt`: the parts of a table. `src/checks.rt`: the
 //!    nodes of a CHECK.
 //! 3. `proofs/Lib.antt`: the proofs, in order. The proofs of both files cite most of them.
@@ -37,7 +38,7 @@ mod form;
 mod parts;
 
 pub use checks::{is_literal_at, operands_at, reads_column_at};
-pub use form::{create_form, is_blank, is_form, is_version_one};
+pub use form::{create_form, is_blank, is_form, is_version, is_version_one};
 pub use parts::{
     has_no_terms, has_rowid_key, is_column, is_named, is_place, is_plain, is_plain_order,
 };

@@ -1,6 +1,7 @@
 //! The directives of a response's `cache-control` fields (RFC 9111, section 5.2).
 
-ghost use Rattle.std.specs.Prelude.{◌≡◌, [], position, bytes_eq, codes, Some, None, MatchOption, option_copied, if◌then◌else◌};
+ghost use Rattle.std.specs.Prelude.{◌≡◌, [], position, bytes_eq, codes, Some, None, MatchOption};
+ghost use Rattle.std.specs.Prelude.{option_copied, if◌then◌else◌};
 ghost use Rattle.reuse_rules.specs.Directives as spec;
 ghost use Rattle.reuse_rules.specs.Directives.{directive_text};
 ghost use Rattle.reuse_rules.specs.Left.{directives_left};

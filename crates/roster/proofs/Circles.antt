@@ -1,7 +1,8 @@
 -- Why `parent_loop` finds a cycle exactly if there is one. A member on a cycle is never removed.
 -- Once none can be removed, each member left has a parent left, so going up from one of them has to
 -- come round.
-use Rattle.std.proofs.Common.{◌≡◌, ℕ, suc, ◌≤◌, ◌<◌, ◌≢◌, Bool, true, false, ◌&&◌, ◌||◌, ◌==◌, ◌⊎◌, inl, inr, List, [], ◌∷◌, length, map, filter, find, Option, MatchOption, slice_get, refl, sym, ◌∙◌, subst, arith, eqb-true, eq-eqb}
+use Rattle.std.proofs.Common.{◌≡◌, ℕ, suc, ◌≤◌, ◌<◌, ◌≢◌, Bool, true, false, ◌&&◌, ◌||◌, ◌==◌, ◌⊎◌, inl, inr, List, [], ◌∷◌, length, map, filter, find, Option}
+use Rattle.std.proofs.Common.{MatchOption, slice_get, refl, sym, ◌∙◌, subst, arith, eqb-true, eq-eqb}
 use Rattle.std.proofs.lemmas.Bool.{cases_Bool, false≢true, and_parts}
 use Rattle.std.specs.List.{list_any}
 use Rattle.values_tables.specs.declared.plain.Peer.{Peer}

@@ -1,7 +1,11 @@
 //! Judges whether tables fit together.
-ghost use Rattle.std.specs.Prelude.{◌≡◌, ◌==◌, ◌∷◌, length, nat_lt, true, false, map, is_some, not, IfOk, IfErr, MatchResult, MatchOption};
+ghost use Rattle.std.specs.Prelude.{◌≡◌, ◌==◌, ◌∷◌, length, nat_lt, true, false, map, is_some, not};
+ghost use Rattle.std.specs.Prelude.{IfOk, IfErr, MatchResult, MatchOption};
 ghost use Rattle.std.specs.List.{list_any};
-ghost use Rattle.roster.specs.Judged.{caches_of, has_too_many, has_double_address, has_doubles, udp_of as udp_of_caches, udp_addresses, is_unknown as is_unknown_to, names_unknown, has_unknown_peer, HasParentLoop, FitTogether, clashes, same_origin, same_peer};
+ghost use Rattle.roster.specs.Judged.{caches_of, has_too_many, has_double_address, has_doubles};
+ghost use Rattle.roster.specs.Judged.{udp_of as udp_of_caches, udp_addresses};
+ghost use Rattle.roster.specs.Judged.{is_unknown as is_unknown_to, names_unknown, has_unknown_peer};
+ghost use Rattle.roster.specs.Judged.{HasParentLoop, FitTogether, clashes, same_origin, same_peer};
 ghost use Rattle.roster.specs.Faults.{IsFirst};
 ghost use Rattle.roster.specs.Lookups.{same_address};
 

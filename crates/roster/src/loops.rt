@@ -1,5 +1,6 @@
 //! Finds cycles of parents.
-ghost use Rattle.std.specs.Prelude.{◌≡◌, ◌==◌, ◌&&◌, map, filter, IfOk, MatchOption, slice_get, length};
+ghost use Rattle.std.specs.Prelude.{◌≡◌, ◌==◌, ◌&&◌, map, filter, IfOk, MatchOption, slice_get};
+ghost use Rattle.std.specs.Prelude.{length};
 ghost use Rattle.std.specs.List.{list_any};
 ghost use Rattle.roster.specs.Judged.{HasParentLoop};
 ghost use Rattle.roster.specs.Lookups.{peers_of};

@@ -1,7 +1,7 @@
 -- What a note makes of the state that is held: the node's standing is taken out and another put in,
 -- all else stays, so the invariant holds and the board is the one that run_rules has.
 use Rattle.std.proofs.Common.{◌≡◌, ℕ, Bool, List, Ok, Err, None, sym, ◌∙◌, ap, subst, inl, length}
-use Rattle.floor_rules.specs.Floors.{FloorMap}
+use Rattle.floor_rules.specs.Floors.{FloorTable}
 use Rattle.values_tables.specs.declared.plain.Tables.{Tables}
 use Rattle.node_rules.specs.declared.state.NodeState.{NodeState}
 use Rattle.node_book.specs.declared.book.NodeEntry.{NodeEntry}
@@ -48,7 +48,7 @@ module _ (roster : Tables) (old : Held) (taken : Posts) (id : ℕ) (before : Hel
         (subst (λ s. IsOpened roster id s state (standing_of after)) stood opened) in
         (n, is_board n holds, inl (tt, subst (λ b. JudgesOpening roster (board_of old sent) id state (Fine b)) (same_board n) judged))
 
-    pub has_stepped : (e : NodeEntry) (is_closed : Bool) (kept : FloorMap) → IsSent roster sent id e.event →
+    pub has_stepped : (e : NodeEntry) (is_closed : Bool) (kept : FloorTable) → IsSent roster sent id e.event →
         Holds roster now.network (network_after roster sent id e (standing_of after)) →
         StepsSo (setting roster id) (standing_of before) e is_closed kept (Ok (standing_of after)) →
         IsJudged roster (board_of old sent) (Steps id e is_closed kept) now None
@@ -58,7 +58,7 @@ module _ (roster : Tables) (old : Held) (taken : Posts) (id : ℕ) (before : Hel
         (subst (λ s. StepsSo (setting roster id) s e is_closed kept (Ok (standing_of after))) stood steps) in
         (n, is_board n holds, subst (λ b. JudgesFully roster (board_of old sent) (Steps id e is_closed kept) (Fine b)) (same_board n) judged)
 
-  pub may_not_step : (e : NodeEntry) (is_closed : Bool) (kept : FloorMap) (cause : Cause) → IsSent roster sent id e.event →
+  pub may_not_step : (e : NodeEntry) (is_closed : Bool) (kept : FloorTable) (cause : Cause) → IsSent roster sent id e.event →
       StepsSo (setting roster id) (standing_of before) e is_closed kept (Err cause) →
       JudgesFully roster (board_of old sent) (Steps id e is_closed kept) (Flawed cause)
   may_not_step e is_closed kept cause received steps =

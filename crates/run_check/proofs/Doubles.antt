@@ -1,20 +1,23 @@
 -- In the order of all notes no doubled place comes too late: behind a note without one, each is greater than the note's
 -- place; behind a note with one, none is lesser. A track that has gone on from a place has only greater ones, or ones
 -- that are not before the least fall; and a record closes at 0 or at a place that was taken.
-use Rattle.std.proofs.Common.{◌≡◌, ◌⊎◌, ℕ, zero, suc, ◌+◌, ◌≤◌, ◌<◌, Bool, true, false, cond, List, [], ◌∷◌, ◌++◌, map, filter, Option, Some, None, refl, sym, ◌∙◌, ap, inl, inr, nat_le, nat_lt, subst, arith}
+use Rattle.std.proofs.Common.{◌≡◌, ◌⊎◌, ℕ, zero, suc, ◌+◌, ◌≤◌, ◌<◌, Bool, true, false, cond, List, [], ◌∷◌, ◌++◌, map, filter, Option, Some, None, refl, sym}
+use Rattle.std.proofs.Common.{◌∙◌, ap, inl, inr, nat_le, nat_lt, subst, arith}
 use Rattle.std.specs.List.{flat_map, cons_option}
-use Rattle.floor_rules.specs.Floors.{FloorMap}
+use Rattle.floor_rules.specs.Floors.{FloorTable}
 use Rattle.node_rules.specs.declared.state.NodeState.{NodeState}
 use Rattle.node_rules.proofs.Cases.{branches, test_le}
 use Rattle.node_book.specs.declared.book.NodeEntry.{NodeEntry}
 use Rattle.node_book.specs.declared.record.Record.{Record}
 use Rattle.purge_master.specs.declared.book.MasterEntry.{MasterEntry}
-use Rattle.run_rules.specs.Notes.{Note, Opens, Steps, Closes, Calls, steps_of, last_place, kept_by, notes_of_all, calls_of, is_of, nodes_in, tracks_of, place_in, places_in, falls, falls_from, least, least_fall, rank_by, ranks_of, count_of, Taken, next_note}
+use Rattle.run_rules.specs.Notes.{Note, Opens, Steps, Closes, Calls, steps_of, last_place, kept_by, notes_of_all, calls_of, is_of, nodes_in, tracks_of}
+use Rattle.run_rules.specs.Notes.{place_in, places_in, falls, falls_from, least, least_fall, rank_by, ranks_of, count_of, Taken, next_note}
 use Rattle.run_rules.specs.Verdict.{OrderedNote, double_by, double_of, ordered, order_on, order_by, count_in, order_of, place_of}
 use Rattle.run_rules.specs.First.{Flaw, IsDouble}
 use Rattle.run_rules.proofs.Lists.{either, same_some}
 use Rattle.run_rules.proofs.Taking.{Took, taken_by}
-use Rattle.run_rules.proofs.Rising.{greater, less, IsLate, AllLate, Above, IsNext, GoOn, AreAtLeast, least_least, steps_up, steps_past, single_by, took_rank, all_late, begin_on}
+use Rattle.run_rules.proofs.Rising.{greater, less, IsLate, AllLate, Above, IsNext, GoOn, AreAtLeast, least_least, steps_up, steps_past, single_by, took_rank}
+use Rattle.run_rules.proofs.Rising.{all_late, begin_on}
 
 -- a note's place is lesser than this doubled one; a record that closes may be at 0
 abbrev pub Precedes : Note → ℕ → Type 0
@@ -235,7 +238,7 @@ calls_close : (last : Option ℕ) (es : List MasterEntry) → CloseUp last (call
 calls_close last [] = tt
 calls_close last (e ∷ es) = calls_close (Some e.place) es
 
-steps_close : (last : Option ℕ) (id place : ℕ) (is_closed : Bool) (kept : FloorMap) (state : NodeState (Unit {0})) (es : List NodeEntry) (later : List Note) →
+steps_close : (last : Option ℕ) (id place : ℕ) (is_closed : Bool) (kept : FloorTable) (state : NodeState (Unit {0})) (es : List NodeEntry) (later : List Note) →
     IsUpTo last place → ((o : Option ℕ) → CloseUp o later) →
     CloseUp last ((steps_of id is_closed kept es ++ Closes id (last_place place es) state ∷ []) ++ later)
 steps_close last id place is_closed kept state [] later up all = (up, all last)

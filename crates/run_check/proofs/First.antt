@@ -1,6 +1,7 @@
 -- Which flaws of the run are left, before the notes that are left: the loop's invariant (Going), and what a note without
 -- a flaw, a flaw, a doubled place and the end make of it.
-use Rattle.std.proofs.Common.{◌≡◌, ◌⊎◌, ◌↔◌, ℕ, zero, suc, ◌≤◌, ◌<◌, Bool, true, false, cond, List, [], ◌∷◌, Some, None, IsTrue, nat_eq, nat_lt, eqb-true, refl, sym, ◌∙◌, ap, subst, inl, inr, arith}
+use Rattle.std.proofs.Common.{◌≡◌, ◌⊎◌, ◌↔◌, ℕ, zero, suc, ◌≤◌, ◌<◌, Bool, true, false, cond, List, [], ◌∷◌, Some, None, IsTrue, nat_eq, nat_lt, eqb-true, refl}
+use Rattle.std.proofs.Common.{sym, ◌∙◌, ap, subst, inl, inr, arith}
 use Rattle.std.specs.List.{list_any}
 use Rattle.std.proofs.lemmas.Bool.Decides.{nat_tests}
 use Rattle.values_tables.specs.declared.plain.Tables.{Tables}

@@ -1,6 +1,6 @@
 -- The judgement on a note, by the definitions of run_rules, case by case.
 use Rattle.std.proofs.Common.{◌≡◌, ℕ, Bool, true, false, cond, not, ◌&&◌, Result, nat_eq, refl, ◌∙◌, ap, inl, inr, length}
-use Rattle.floor_rules.specs.Floors.{FloorMap}
+use Rattle.floor_rules.specs.Floors.{FloorTable}
 use Rattle.values_tables.specs.declared.plain.Tables.{Tables}
 use Rattle.node_rules.specs.declared.state.NodeState.{NodeState}
 use Rattle.node_book.specs.declared.book.NodeEntry.{NodeEntry}
@@ -59,7 +59,7 @@ opening_judged roster b id state after (inr (cannot, is)) =
 
 -- An entry of a node
 
-pub entry_judged : (roster : Tables) (b : Board) (id : ℕ) (e : NodeEntry) (is_closed : Bool) (kept : FloorMap) (r : Result Standing Cause) →
+pub entry_judged : (roster : Tables) (b : Board) (id : ℕ) (e : NodeEntry) (is_closed : Bool) (kept : FloorTable) (r : Result Standing Cause) →
     IsSent roster b.network id e.event → StepsSo (setting roster id) (standing_at b.posts id) e is_closed kept r →
     JudgesFully roster b (Steps id e is_closed kept) (judged roster b id e r)
 entry_judged roster b id e is_closed kept r sent steps = inl (sent, inl ((λ _. sent), r, steps, refl))

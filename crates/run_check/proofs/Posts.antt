@@ -1,6 +1,7 @@
 -- Looking up and changing a node's standing by its index is what run_rules does by its id: by
 -- induction over the nodes, whose first match both take.
-use Rattle.std.proofs.Common.{◌≡◌, ℕ, ◌<◌, suc, true, cond, List, [], ◌∷◌, ◌++◌, map, length, get_or, set, Option, Some, None, nat_eq, eqb-true, refl, sym, ◌∙◌, ap, subst, inl, inr, arith}
+use Rattle.std.proofs.Common.{◌≡◌, ℕ, ◌<◌, suc, true, cond, List, [], ◌∷◌, ◌++◌, map, length, get_or, set, Option, Some, None, nat_eq, eqb-true, refl, sym, ◌∙◌}
+use Rattle.std.proofs.Common.{ap, subst, inl, inr, arith}
 use Rattle.std.specs.Prelude.{All, slice_get, option_map}
 use Rattle.std.proofs.lemmas.List.{map-set, map-append}
 use Rattle.std.proofs.lemmas.List.Elements.{All-set, All-push}

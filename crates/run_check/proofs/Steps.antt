@@ -1,7 +1,7 @@
 -- A step of a node over floors in memory. Its store never fails, so without want of memory it is
 -- the function's step; a copy of an event is equal to it; and after it the store has the floors.
 use Rattle.std.proofs.Common.{◌≡◌, ◌≢◌, ℕ, List, Option, true, false, refl, sym, ◌∙◌, ap, Result, Ok, Err, inl, inr, arith}
-use Rattle.floor_rules.specs.Floors.{FloorMap}
+use Rattle.floor_rules.specs.Floors.{FloorTable}
 use Rattle.floor_rules.specs.Store.{HaveRisen}
 use Rattle.values_tables.specs.declared.plain.Tables.{Tables}
 use Rattle.values_keys.specs.KeyOf.{GivesKeys, key_of}
@@ -24,7 +24,7 @@ use Rattle.run_rules.specs.Judging.{StepsBy}
 use Rattle.run_check.specs.Held.{IsMemberNode}
 
 abbrev NodeHere : Type 0
-NodeHere = NodeText (Unit {0}) FloorMap
+NodeHere = NodeText (Unit {0}) FloorTable
 
 abbrev Outcome : Type 0
 Outcome = Result (Reply (Unit {0})) StepFault

@@ -1,6 +1,6 @@
 -- There is one judgement on a note: each way to it excludes the others, case by case.
 use Rattle.std.proofs.Common.{◌≡◌, ◌⊎◌, ℕ, Bool, List, Result, Ok, Err, sym, ◌∙◌, ap, inl, inr}
-use Rattle.floor_rules.specs.Floors.{FloorMap}
+use Rattle.floor_rules.specs.Floors.{FloorTable}
 use Rattle.values_tables.specs.declared.plain.Tables.{Tables}
 use Rattle.node_rules.specs.declared.state.NodeState.{NodeState}
 use Rattle.node_rules.specs.declared.reply.Reply.{Reply}
@@ -50,7 +50,7 @@ module _ (g : Setting) (s : NodeState (Unit {0})) (e : NodeEntry) where
   by_once q r (inr (differs, is)) (inl (next, steps, its)) = absurd (differs (ap (λ (t : Stepped (Unit {0})). t.outcome) steps))
   by_once q r (inr (differs, is)) (inr (also, its)) = is ∙ sym its
 
-  open_once : (is_closed : Bool) (kept : FloorMap) (o : Result (Reply (Unit {0})) StepFault) (q r : Result Standing Cause) →
+  open_once : (is_closed : Bool) (kept : FloorTable) (o : Result (Reply (Unit {0})) StepFault) (q r : Result Standing Cause) →
       OpenStepsBy g s e is_closed kept o q → OpenStepsBy g s e is_closed kept o r → q ≡ r
   open_once is_closed kept (Err fault.NoMemory) q r is its = is ∙ sym its
   open_once is_closed kept (Err fault.StoreFault) q r is its = is ∙ sym its
@@ -62,14 +62,14 @@ module _ (g : Setting) (s : NodeState (Unit {0})) (e : NodeEntry) where
   open_once is_closed kept (Ok reply) q r (inr (not, is)) (inl (reaches, its)) = absurd (not reaches)
   open_once is_closed kept (Ok reply) q r (inr (not, is)) (inr (still, its)) = is ∙ sym its
 
-steps_once : (g : Setting) (st : Standing) (e : NodeEntry) (is_closed : Bool) (kept : FloorMap) (q r : Result Standing Cause) →
+steps_once : (g : Setting) (st : Standing) (e : NodeEntry) (is_closed : Bool) (kept : FloorTable) (q r : Result Standing Cause) →
     StepsSo g st e is_closed kept q → StepsSo g st e is_closed kept r → q ≡ r
 steps_once g New e is_closed kept q r is its = is ∙ sym its
 steps_once g (Open s) e is_closed kept q r is its = open_once g s e is_closed kept e.outcome q r is its
 steps_once g (Shut left) e is_closed kept q r is its = is ∙ sym its
 steps_once g Astray e is_closed kept q r is its = is ∙ sym its
 
-entry_once : (roster : Tables) (b : Board) (id : ℕ) (e : NodeEntry) (is_closed : Bool) (kept : FloorMap) (j k : Judgement) →
+entry_once : (roster : Tables) (b : Board) (id : ℕ) (e : NodeEntry) (is_closed : Bool) (kept : FloorTable) (j k : Judgement) →
     JudgesEntry roster b id e is_closed kept j → JudgesEntry roster b id e is_closed kept k → j ≡ k
 entry_once roster b id e is_closed kept j k (inl (heard, q, steps, is)) (inl (still, r, also, its)) =
     is ∙ ap (judged roster b id e) (steps_once (setting roster id) (standing_at b.posts id) e is_closed kept q r steps also) ∙ sym its

@@ -1,6 +1,6 @@
 -- How the checker holds nodes and the master, and what its calls make of them.
 use Rattle.std.specs.Prelude.{◌≡◌, ◌⊎◌, ℕ, Bool, true, false, ◌||◌, List, [], Result, Ok, Err}
-use Rattle.floor_rules.specs.Floors.{FloorMap}
+use Rattle.floor_rules.specs.Floors.{FloorTable}
 use Rattle.values_tables.specs.declared.plain.Tables.{Tables}
 use Rattle.roster.specs.Lookups.{is_member}
 use Rattle.node_rules.specs.declared.state.NodeState.{NodeState}
@@ -33,7 +33,7 @@ standing_of (held.Shut node) = Shut (closed_state node)
 standing_of held.Astray = Astray
 
 -- the node is this member's, is open, and its store has its floors
-pub record IsMemberNode (tables : Tables) (member : ℕ) (n : NodeText (Unit {0}) FloorMap) : Type 0 where
+pub record IsMemberNode (tables : Tables) (member : ℕ) (n : NodeText (Unit {0}) FloorTable) : Type 0 where
   pub roster : n.roster ≡ tables
   pub id : n.id ≡ member
   pub is_open : n.state.closed ≡ false
@@ -55,7 +55,7 @@ stepped_of (Ok standing) = Ok (standing_of standing)
 stepped_of (Err cause) = Err cause
 
 -- the node restarts with these floors, if the state is that of a restart; else it is astray
-abbrev pub IsRestart : FloorMap → NodeState (Unit {0}) → Standing → Type 0
+abbrev pub IsRestart : FloorTable → NodeState (Unit {0}) → Standing → Type 0
 IsRestart floors state after = ((state ≡ opened floors) × (after ≡ Open state))
     ⊎ ((state ≡ opened floors → ⊥) × (after ≡ Astray))
 

@@ -1,6 +1,7 @@
 //! Records without entries, judged by what is recorded alone.
 ghost use Rattle.std.specs.Prelude.{◌≡◌, ◌↔◌, [], option_map, IsTrue};
-ghost use Rattle.run_rules.specs.First.{last_of as last_record_of, left_by, GoesThrough, IsFlawedAlone, HasFlawedAlone};
+ghost use Rattle.run_rules.specs.First.{last_of as last_record_of, left_by, GoesThrough};
+ghost use Rattle.run_rules.specs.First.{IsFlawedAlone, HasFlawedAlone};
 
 use crate::states::{is_opened, same_state};
 use floor_rules::Floors;

@@ -1,17 +1,20 @@
 //! The state of a run after some of its notes, and the judgement on the next one.
-ghost use Rattle.std.specs.Prelude.{◌≡◌, ◌↔◌, ◌<◌, ℕ, [], None, map, length, IsTrue, IfSome, IfOk, OnOk};
+ghost use Rattle.std.specs.Prelude.{◌≡◌, ◌↔◌, ◌<◌, ℕ, [], None, map, length, IsTrue, IfSome, IfOk};
+ghost use Rattle.std.specs.Prelude.{OnOk};
 ghost use Rattle.std.specs.List.{list_any};
 ghost use Rattle.values_tables.specs.declared.plain.Tables.{Tables};
 ghost use Rattle.run_rules.specs.Sent.{Network as ANetwork, silence};
 ghost use Rattle.run_rules.specs.Notes as notes;
-ghost use Rattle.run_rules.specs.Board.{Standing as AStanding, standing_at, with_standing, new_board};
+ghost use Rattle.run_rules.specs.Board.{Standing as AStanding, standing_at, with_standing};
+ghost use Rattle.run_rules.specs.Board.{new_board};
 ghost use Rattle.run_rules.specs.Judging as judging;
 ghost use Rattle.run_rules.specs.Judging.{ClosesAs, IsOfKey, network_after};
 ghost use Rattle.run_rules.specs.Verdict.{is_astray as is_astray_post, ending as ending_of};
 ghost use Rattle.run_network.specs.Held.{Holds};
 ghost use Rattle.run_notes.specs.Held.{note_of};
 ghost use Rattle.run_check.specs.Held.{standing_of, IsSound};
-ghost use Rattle.run_check.specs.Boards.{post_of, posts_of, place_of as place_in_posts, board_of, AreMemberNodes, IsBoard, IsJudged, opened_network};
+ghost use Rattle.run_check.specs.Boards.{post_of, posts_of, place_of as place_in_posts, board_of};
+ghost use Rattle.run_check.specs.Boards.{AreMemberNodes, IsBoard, IsJudged, opened_network};
 
 use crate::ledger::Ledger;
 use crate::opening::{may_close, opens};
@@ -215,8 +218,8 @@ impl<'a> Board<'a> {
         Ok(())
     }
 
-    /// A node has an entry. Returns its flaw, if it has one. What it received must have been sent to
-    /// it before, even if nothing is known of the node.
+    /// A node has an entry. Returns its flaw, if it has one. What it received must have been sent
+    /// to it before, even if nothing is known of the node.
     fn steps(
         &mut self,
         alloc: Global,
@@ -282,8 +285,8 @@ impl<'a> Board<'a> {
         Ok(None)
     }
 
-    /// Takes the next note. Returns its flaw, if it has one. Then the state is as it was if a record
-    /// closes, and else nothing is promised of it.
+    /// Takes the next note. Returns its flaw, if it has one. Then the state is as it was if a
+    /// record closes, and else nothing is promised of it.
     pub(crate) fn judge(
         &mut self,
         alloc: Global,

@@ -3,7 +3,9 @@ ghost use Rattle.std.specs.Prelude.{◌≡◌, ◌↔◌, ◌≤◌, true, false
 ghost use Rattle.purge_rules.specs.declared.calls.MasterCall.TheVariants as calls;
 ghost use Rattle.purge_rules.specs.Members.{members_of};
 ghost use Rattle.purge_rules.specs.Purges.{no_purges, pending_at};
-ghost use Rattle.purge_rules.specs.Calls.{called, opened, is_written as is_written_by, is_news as is_news_of, is_due as is_due_call, issue_fault as issue_fault_of, counted};
+ghost use Rattle.purge_rules.specs.Calls.{called, opened, is_written as is_written_by};
+ghost use Rattle.purge_rules.specs.Calls.{is_news as is_news_of, is_due as is_due_call};
+ghost use Rattle.purge_rules.specs.Calls.{issue_fault as issue_fault_of, counted};
 ghost use Rattle.run_check.specs.Held.{master_of, IsAnswered, IsWanting, IsFailing, IsTaken};
 
 use purge_master::MasterEntry;

@@ -1,8 +1,8 @@
 //! The checker of recorded runs. `check_run` decides whether the records of members and the entries
 //! of the master are a run of the model, in which purges are safe; if not, it names the least place
-//! of all flaws and the first cause there. `run_rules` defines this verdict (`IsFirstOn`) and proves
-//! what `Yes` means; the contract of `check_run` says that it returns exactly that verdict. `cache
-//! cluster` calls it for its line `check`.
+//! of all flaws and the first cause there. `run_rules` defines this verdict (`IsFirstOn`) and
+//! proves what `Yes` means; the contract of `check_run` says that it returns exactly that verdict.
+//! `cache cluster` calls it for its line `check`.
 //!
 //! The checker takes the notes of the run one after another (`run_notes`). It replays each on a
 //! node of its own (`Node` of `node_core`) or on the master's purges, and compares outcomes and

@@ -1,12 +1,13 @@
 //! The purge that an event brings, and the floors that are stored if it fails.
 ghost use Rattle.std.specs.Prelude.{◌≡◌, ◌≤◌, ℕ, IfOk, IfSome};
-ghost use Rattle.node_rules.specs.Relation.{purge_in as purge_of_event, purge_in_message, purge_meant};
+ghost use Rattle.node_rules.specs.Relation.{purge_in as purge_of_event, purge_in_message};
+ghost use Rattle.node_rules.specs.Relation.{purge_meant};
 ghost use Rattle.node_core.specs.View.{HasKeyOf};
 ghost use Rattle.node_rules.specs.State.{setting};
 ghost use Rattle.values_keys.specs.KeyOf.{key_of as key_of_octets};
-ghost use Rattle.run_rules.specs.Judging.{stored_by};
+ghost use Rattle.run_rules.specs.Stored.{stored_by};
 
-use floor_rules::{FloorFault, FloorStore, Floors, MemoryFloors};
+use floor_rules::{FloorStore, Floors, MemoryFloors};
 use htcp_wire::{Content, HeaderKind, Specifier, number_in};
 use node_rules::{Event, Message};
 use roster::{Address, Roster};
@@ -97,7 +98,9 @@ pub(crate) fn purge_in(
 }
 
 /// The floors that are stored after a purge of this key and number has failed. `kept` are the
-/// floors with which the node opens next; they tell whether the purge is in them.
+/// floors with which the node opens next, rows and base: where they are those after the purge, it
+/// is stored.
+#[tactic(auto, using(run_rules::proofs::Stored::stored_after, run_rules::proofs::Stored::stored_before))]
 pub(crate) fn stored(
     alloc: Global,
     mut floors: MemoryFloors,
@@ -108,11 +111,15 @@ pub(crate) fn stored(
     requires { 1 ≤ number }
     ensures { IfOk result (λ after. after ≡ stored_by floors key.now number kept.now) }
 {
-    if number > kept.floor(key) {
+    let Ok(mut after) = floors.load(alloc) else {
+        return Err(AllocError);
+    };
+    after.raise(alloc, key, number)?;
+    if !kept.same(&after) {
         return Ok(floors);
     }
     match floors.raise(alloc, key, number) {
-        Ok(()) | Err(FloorFault::FloorsFull) => Ok(floors),
+        Ok(()) => Ok(floors),
         Err(_) => Err(AllocError),
     }
 }

@@ -1,6 +1,7 @@
 //! Whether a response of an origin or of a foreign cache reaches a read or a fetch that is pending.
 ghost use Rattle.std.specs.Prelude.{◌≡◌, ◌↔◌, IsTrue};
-ghost use Rattle.run_rules.specs.Judging.{Reaches, IsPending, is_read as is_origin_fetch, is_foreign_fetch as is_fetch_from};
+ghost use Rattle.run_rules.specs.Judging.{Reaches, IsPending, is_read as is_origin_fetch};
+ghost use Rattle.run_rules.specs.Judging.{is_foreign_fetch as is_fetch_from};
 
 use floor_rules::MemoryFloors;
 use node_copies::same_key;

@@ -17,7 +17,7 @@ use std::hash::RandomState;
 pub(crate) struct ClosedNode {
     /// The floors that are stored, which may not be those in its memory.
     pub(crate) floors: MemoryFloors,
-    /// The copies that it held as it closed, the most recent first.
+    /// The copies that it held once it had closed, the most recent first.
     pub(crate) copies: Listed<WebCopy<()>>,
     /// The next block, as it closed.
     pub(crate) next: u32,

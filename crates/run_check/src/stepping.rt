@@ -55,12 +55,13 @@ fn play(
     }
 }
 
-/// A node closes at a purge of this key and number. `kept` are the floors with which it next opens.
+/// A node closes at a purge of this key and number: where the base was to rise, it has dropped the
+/// copies below the new base. `kept` are the floors with which it next opens.
 fn closed_by(
     alloc: Global,
     roster: &Roster,
     id: u8,
-    node: Node<(), MemoryFloors>,
+    mut node: Node<(), MemoryFloors>,
     purge: &(Key, u32),
     kept: &Floors,
 ) -> Result<Standing, AllocError>
@@ -69,6 +70,8 @@ fn closed_by(
         IfOk result (λ standing. standing_of standing
         ≡ Shut (left_by node.state purge.now kept.now)) }
 {
+    let base = node.new_base(&purge.0, purge.1);
+    node.drop_below(base)?;
     let state = node.state()?;
     Ok(Standing::Shut(ClosedNode {
         floors: stored(alloc, node.into_floors(), &purge.0, purge.1, kept)?,

@@ -1,7 +1,9 @@
 -- Each step with other tags comes of a step with the node's own. The function gives the same with
--- other tags; and a step that closes the node keeps its copies.
+-- other tags; and a step that closes the node drops the copies below a new base, whatever their tags.
 use Rattle.std.proofs.Common.{◌≡◌, ℕ, Bool, true, List, [], Option, Some, None, Result, Ok, Err, refl, sym, ◌∙◌, ap, subst, inl, inr}
+use Rattle.floor_rules.specs.Floors.{new_base}
 use Rattle.object_store.specs.declared.copy.WebCopy.{WebCopy}
+use Rattle.object_store.specs.Listed.{without_all_below}
 use Rattle.node_rules.specs.declared.state.Pending.{Pending}
 use Rattle.node_rules.specs.declared.state.NodeState.{NodeState}
 use Rattle.node_rules.specs.declared.event.Event.{Event}
@@ -14,6 +16,7 @@ use Rattle.node_rules.specs.Step.{step}
 use Rattle.node_rules.specs.Relation.{Steps, Closes, ClosesOn, purge_in}
 use Rattle.node_rules.specs.Tags.{retag_state, retag_event}
 use Rattle.node_rules.proofs.Lawful.{step_steps}
+use Rattle.node_rules.proofs.TagLists.{without_all_below-retag}
 use Rattle.node_rules.proofs.TagSteps.{step-retag}
 use Rattle.run_laws.specs.Tagged.{ComesOfStep}
 
@@ -29,16 +32,25 @@ module _ {X Y : Type 0} (f : X → Y) (g : Setting) (s : NodeState X) (e : Event
   purge_in-retag (event.Datagram from message now) = refl
   purge_in-retag _ = refl
 
-  -- the closed state with the node's own tags that a closed state with other tags comes of
-  abbrev shut : NodeState Y → NodeState X
-  shut next = record { floors = next.floors; copies = s.copies; pending = []; next = s.next; closed = true }
+  -- the copies that a node keeps which closes at this purge
+  abbrev left : Option (List ℕ × ℕ) → List (WebCopy X)
+  left None = s.copies
+  left (Some x) = without_all_below (new_base s.floors x.0 x.1) s.copies
 
-  shut_on : (o : Option (List ℕ × ℕ)) (next : NodeState Y) → ClosesOn (retag_state f s) o next → ClosesOn s o (shut next)
-      × (retag_state f (shut next) ≡ next)
+  -- the closed state with the node's own tags that a closed state with other tags comes of
+  abbrev shut_by : Option (List ℕ × ℕ) → NodeState Y → NodeState X
+  shut_by o next = record { floors = next.floors; copies = left o; pending = []; next = s.next; closed = true }
+
+  abbrev shut : NodeState Y → NodeState X
+  shut next = shut_by (purge_in g e) next
+
+  shut_on : (o : Option (List ℕ × ℕ)) (next : NodeState Y) → ClosesOn (retag_state f s) o next → ClosesOn s o (shut_by o next)
+      × (retag_state f (shut_by o next) ≡ next)
   shut_on None next h = absurd h
   shut_on (Some x) next h = (
     record { closed = refl; pending = refl; copies = refl; block = refl; floors = h.floors },
-    has_parts next _ _ _ _ h.copies h.pending h.block h.closed,
+    has_parts next _ _ _ _ (h.copies ∙ without_all_below-retag f (new_base s.floors x.0 x.1) s.copies) h.pending h.block
+        h.closed,
   )
 
   closes : (next : NodeState Y) → Closes g (retag_state f s) (retag_event f e) next → Closes g s e (shut next) × (retag_state f (shut next) ≡ next)

@@ -1,6 +1,7 @@
 -- Where the events of a note stand in a run: after those of all notes before it. So of two notes
 -- the events of the first stand before those of the second.
-use Rattle.std.proofs.Common.{◌≡◌, ℕ, zero, suc, ◌+◌, ◌-◌, ◌≤◌, ◌<◌, List, [], ◌∷◌, ◌++◌, length, Some, refl, sym, ◌∙◌, ap, subst, inl, inr, arith, length-append}
+use Rattle.std.proofs.Common.{◌≡◌, ℕ, zero, suc, ◌+◌, ◌-◌, ◌≤◌, ◌<◌, List, [], ◌∷◌, ◌++◌, length, Some, refl, sym, ◌∙◌, ap, subst, inl, inr, arith}
+use Rattle.std.proofs.Common.{length-append}
 use Rattle.std.specs.Prelude.{slice_get}
 use Rattle.std.proofs.lemmas.Option.{same_Some}
 use Rattle.values_tables.specs.declared.plain.Tables.{Tables}
@@ -29,9 +30,7 @@ purges_kept : (t : Tables) (p q : Progress) (note : Note) (steps : List Step) �
 purges_kept t p q (Opens id state) steps (member, inl (none, same, kept)) is = kept_where t p q same is
 purges_kept t p q (Opens id state) steps (member, inr (these, goes, again)) is = goes.purges
 purges_kept t p q (Steps id e is_closed kept) steps (inl (outcome, taken, same)) is = taken.goes.purges
-purges_kept t p q (Steps id e is_closed kept) steps (inr (inl (fault, refused, none, same, stays))) is = kept_where t p q same is
-purges_kept t p q (Steps id e is_closed kept) steps (inr (inr (closed, shut, refused, inl (these, goes)))) is = goes.purges
-purges_kept t p q (Steps id e is_closed kept) steps (inr (inr (closed, shut, refused, inr (taken, middle, reply, takes, these, goes)))) is = goes.purges
+purges_kept t p q (Steps id e is_closed kept) steps (inr (fault, refused, none, same, stays)) is = kept_where t p q same is
 purges_kept t p q (Closes id place state) steps (none, same, kept) is = kept_where t p q same is
 purges_kept t p q (Calls e is_closed) steps (next, calls, these, goes) is = goes.purges
 

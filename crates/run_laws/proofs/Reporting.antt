@@ -1,7 +1,8 @@
 -- A report of the master's book is a report in the world. The entry of a last acknowledgement
 -- stands for a datagram that makes the master report, and the purge is pending no more, so it is
 -- done; the entry of a status stands for the same status.
-use Rattle.std.proofs.Common.{◌≡◌, ℕ, ◌+◌, ◌-◌, ◌≤◌, ◌<◌, Bool, true, false, cond, not, ◌||◌, ◌&&◌, List, [], ◌∷◌, filter, length, Option, Some, None, Result, Ok, refl, sym, ◌∙◌, ap, subst, nat_eq, nat_lt, inl, inr, arith}
+use Rattle.std.proofs.Common.{◌≡◌, ℕ, ◌+◌, ◌-◌, ◌≤◌, ◌<◌, Bool, true, false, cond, not, ◌||◌, ◌&&◌, List, [], ◌∷◌, filter, length, Option, Some, None, Result}
+use Rattle.std.proofs.Common.{Ok, refl, sym, ◌∙◌, ap, subst, nat_eq, nat_lt, inl, inr, arith}
 use Rattle.std.specs.Prelude.{find}
 use Rattle.std.proofs.lemmas.Option.{none-some, same_Some, slice_get_within}
 use Rattle.htcp_wire.specs.declared.message.Content.{Content}
@@ -32,7 +33,8 @@ use Rattle.world_rules.specs.declared.event.WorldEvent.{WorldEvent}
 use Rattle.world_rules.specs.declared.event.WorldEvent.TheVariants as world
 use Rattle.node_rules.specs.Messages.{protocol_of as udp_of}
 use Rattle.world_rules.specs.World.{World, Datagram, item}
-use Rattle.world_rules.specs.Consequence.{Seen, Reported, Nothing, Consequence, Ends, with_master, reports, acknowledged_by, master_hears_htcp, master_hears, delivered_to, delivered}
+use Rattle.world_rules.specs.Consequence.{Seen, Reported, Nothing, Consequence, Ends, with_master, reports, acknowledged_by, master_hears_htcp, master_hears}
+use Rattle.world_rules.specs.Consequence.{delivered_to, delivered}
 use Rattle.world_rules.specs.Run.{Step, Run, Takes, Happens, IsItem, purges, IsIssuedAt, IsReportedAt}
 use Rattle.world_rules.specs.Lineage.{PurgeHasLineage, HasLineage}
 use Rattle.world_rules.proofs.Runs.{run_lineage}

@@ -15,14 +15,14 @@ use Rattle.purge_rules.specs.declared.calls.MasterAnswer.{MasterAnswer}
 use Rattle.purge_rules.specs.declared.calls.MasterAnswer.TheVariants as answer
 use Rattle.purge_rules.specs.declared.fault.MasterFault.{MasterFault}
 use Rattle.purge_rules.specs.declared.fault.MasterFault.TheVariants as master_fault
-use Rattle.floor_rules.specs.Floors.{FloorMap}
+use Rattle.floor_rules.specs.Floors.{FloorTable}
 use Rattle.run_rules.specs.Notes.{Note, Steps, Calls}
 use Rattle.run_laws.specs.Entries.{Issues, Reports, Serves, begun_by, IsSentBack}
 
 called : MasterCall → Result MasterAnswer MasterFault → Note
 called c a = Calls record { place = 7; call = c; answer = a } false
 
-served_by : FloorMap → Result (Reply (Unit {0})) StepFault → Note
+served_by : FloorTable → Result (Reply (Unit {0})) StepFault → Note
 served_by kept outcome = Steps 2 record { seat = 1; place = 9; event = event.FetchFailed 34 0; outcome = outcome } false kept
 
 gives : Served (Unit {0}) → Reply (Unit {0})
@@ -64,24 +64,24 @@ another_is_none (inl is) = cc
 another_is_none (inr (asks, is)) = cc
 
 -- a copy is served if the reply has it, and none with a bare status or a fault
-copy_is_served : (kept : FloorMap) (c : WebCopy (Unit {0})) → Serves (served_by kept (Ok (gives (Copy c 5)))) c
+copy_is_served : (kept : FloorTable) (c : WebCopy (Unit {0})) → Serves (served_by kept (Ok (gives (Copy c 5)))) c
 unfolding served_by gives
 copy_is_served kept c = refl
 
-status_serves_none : (kept : FloorMap) (c : WebCopy (Unit {0})) → Serves (served_by kept (Ok (gives (Status 504)))) c → ⊥
+status_serves_none : (kept : FloorTable) (c : WebCopy (Unit {0})) → Serves (served_by kept (Ok (gives (Status 504)))) c → ⊥
 unfolding served_by gives
 status_serves_none kept c is = cc
 
-fault_serves_none : (kept : FloorMap) (c : WebCopy (Unit {0})) → Serves (served_by kept (Err fault.Closed)) c → ⊥
+fault_serves_none : (kept : FloorTable) (c : WebCopy (Unit {0})) → Serves (served_by kept (Err fault.Closed)) c → ⊥
 unfolding served_by
 fault_serves_none kept c is = cc
 
 -- an entry that serves a bare status begins nothing
-nothing_begins : (kept : FloorMap) → begun_by (served_by kept (Ok (gives (Status 504)))) ≡ None
+nothing_begins : (kept : FloorTable) → begun_by (served_by kept (Ok (gives (Status 504)))) ≡ None
 unfolding served_by gives
 nothing_begins kept = refl
 
 -- and sends nothing
-nothing_is_sent : (kept : FloorMap) → IsSentBack (served_by kept (Ok (gives (Status 504))))
+nothing_is_sent : (kept : FloorTable) → IsSentBack (served_by kept (Ok (gives (Status 504))))
 unfolding served_by gives
 nothing_is_sent kept = refl

@@ -1,31 +1,24 @@
 -- What an entry of a member serves is served in the world, with its mark: the entry stands for the
--- clock and then a step with the same outcome. A refused entry serves nothing, and neither does one
--- that closes the node.
-use Rattle.std.proofs.Common.{◌≡◌, ℕ, ◌+◌, false, List, [], ◌∷◌, Option, Some, None, Result, Ok, Err, refl, sym, ◌∙◌, ap, subst, inl, inr, arith}
+-- clock and then a step with the same outcome. A refused entry serves nothing.
+use Rattle.std.proofs.Common.{◌≡◌, ℕ, ◌+◌, List, [], ◌∷◌, Option, Some, None, Result, Ok, Err, refl, sym, ◌∙◌, ap, subst, inl, inr, arith}
 use Rattle.std.specs.Prelude.{option_map}
 use Rattle.std.proofs.lemmas.Option.{none-some, same_Some}
 use Rattle.object_store.specs.declared.copy.WebCopy.{WebCopy}
 use Rattle.values_tables.specs.declared.plain.Tables.{Tables}
-use Rattle.node_rules.specs.declared.state.NodeState.{NodeState}
 use Rattle.node_rules.specs.declared.event.Event.{Event}
 use Rattle.node_rules.specs.declared.reply.Served.{Served}
 use Rattle.node_rules.specs.declared.reply.Served.TheVariants.{Copy, Status}
 use Rattle.node_rules.specs.declared.reply.Serve.{Serve}
 use Rattle.node_rules.specs.declared.reply.Reply.{Reply}
 use Rattle.node_rules.specs.declared.reply.StepFault.{StepFault}
-use Rattle.node_rules.specs.State.{Setting, Stepped, setting}
-use Rattle.node_rules.specs.Relation.{Steps as NodeSteps}
 use Rattle.node_rules.specs.Effect.{copy_in, copy_in_serve, copy_served}
 use Rattle.node_rules.specs.Tags.{retag_copy, retag_served, retag_serve}
-use Rattle.node_rules.proofs.Cases.{true_not_false}
-use Rattle.node_rules.proofs.Stepping.{the_function_closes_no_node}
-use Rattle.node_rules.proofs.Lawful.{steps_are_lawful}
 use Rattle.world_rules.specs.declared.event.WorldEvent.TheVariants as world
 use Rattle.world_rules.specs.Consequence.{Replied, Nothing}
 use Rattle.world_rules.specs.Run.{Step, IsItem, IsServedAt}
 use Rattle.world_rules.specs.Asked.{moment}
 use Rattle.run_rules.specs.Notes.{Note, Opens, Steps, Closes, Calls}
-use Rattle.run_rules.specs.Recorded.{IsTaken, event_step, node_in, unmarked, unmarked_outcome}
+use Rattle.run_rules.specs.Recorded.{IsTaken, event_step, unmarked_outcome}
 use Rattle.run_laws.specs.Entries.{Serves as ServesBy}
 use Rattle.run_laws.proofs.Placing.{Placed}
 
@@ -48,15 +41,6 @@ marked_served : (outcome : Result (Reply ℕ) StepFault) (c : WebCopy (Unit {0})
     Marked (copy_served outcome) c
 marked_served (Ok reply) c is = marked_in_serve reply.serve c is
 marked_served (Err f) c is = absurd (none-some c is)
-
--- a node that serves a copy stays open
-module _ {X : Type 0} (g : Setting) (s : NodeState X) (e : Event X) (mark : X) where
-  serving_open : (outcome : Result (Reply X) StepFault) (next : NodeState X) → NodeSteps g s e mark outcome next → (c : WebCopy X) →
-      copy_served outcome ≡ Some c → next.closed ≡ false
-  serving_open (Ok reply) next steps c is =
-      sym (ap (λ (r : Stepped X). r.state.closed) steps) ∙ the_function_closes_no_node g s e mark
-      ∙ ((steps_are_lawful g s e mark (Ok reply) next steps).serves c is).0
-  serving_open (Err f) next steps c is = absurd (none-some c is)
 
 second_is : (here : List Step) (one other : Step) → here ≡ one ∷ other ∷ [] → IsItem here 2 other
 second_is here one other is = subst (λ (s : List Step). IsItem s 2 other) (sym is) (omega arith, refl)
@@ -85,10 +69,8 @@ pub serves_in_world : (t : Tables) (steps : List Step) (note : Note) (it : Place
 serves_in_world t steps (Steps id e is_closed kept) it c serves = elim it.stands [
   | inl (outcome, taken, same) ↦ taken_serves t steps id (Steps id e is_closed kept) it e.event outcome c taken
       (ap (λ (o : Result (Reply (Unit {0})) StepFault). copy_served o) same ∙ serves)
-  | inr (inl (fault, refused, none, same, stays)) ↦ absurd
+  | inr (fault, refused, none, same, stays) ↦ absurd
       (none-some c (sym (ap (λ (o : Result (Reply (Unit {0})) StepFault). copy_served o) refused) ∙ serves))
-  | inr (inr (closed, shut, ends, goes)) ↦
-      absurd (true_not_false (sym shut ∙ serving_open (setting t id) (unmarked (node_in it.from id)) e.event tt e.outcome closed ends c serves))
 ]
 serves_in_world t steps (Opens id state) it c serves = absurd serves
 serves_in_world t steps (Closes id place state) it c serves = absurd serves

@@ -22,7 +22,7 @@ use Rattle.world_rules.specs.Safety.{SendsBack}
 use Rattle.world_rules.proofs.Safe.{seen_outcome}
 use Rattle.world_rules.proofs.Back.{nothing_back, sibling_sends_back}
 use Rattle.run_rules.specs.Notes.{Note, Opens, Steps, Closes, Calls}
-use Rattle.run_rules.specs.Recorded.{Progress, IsTaken, IsRecordedRun, event_step, node_in, unmarked, unmarked_event, unmarked_outcome}
+use Rattle.run_rules.specs.Recorded.{Progress, IsTaken, IsRecordedRun, event_step, unmarked_event, unmarked_outcome}
 use Rattle.run_laws.specs.Entries.{IsOfSibling, begun_by, IsSentBack, SiblingsBeginNothing}
 use Rattle.run_laws.proofs.Placing.{Placed, placed}
 
@@ -97,14 +97,10 @@ note_begins_nothing t steps (Steps id e is_closed kept) it asks = elim it.stands
         subst (λ (messages : List Outgoing). SendsBack e.event messages)
             (sym (sent_same outcome) ∙ ap (λ (o : Result (Reply (Unit {0})) StepFault). sent o) same) quiet.1,
       ))
-  | inr (inl (fault, refused, none, same, stays)) ↦ (
+  | inr (fault, refused, none, same, stays) ↦ (
     ap (λ (o : Result (Reply (Unit {0})) StepFault). begun o) refused,
     subst (λ (o : Result (Reply (Unit {0})) StepFault). SendsBack e.event (sent o))
         (sym refused) (nothing_back e.event),
-  )
-  | inr (inr (closed, shut, ends, goes)) ↦ (
-    ((steps_are_lawful (setting t id) (unmarked (node_in it.from id)) e.event tt e.outcome closed ends).siblings asks).begun_none,
-    sibling_sends_back (setting t id) (unmarked (node_in it.from id)) e.event tt e.outcome closed asks ends,
   )
 ]
 note_begins_nothing t steps (Opens id state) it asks = absurd asks

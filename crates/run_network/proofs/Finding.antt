@@ -1,6 +1,7 @@
 -- Looking an item up. A loop over a bag finds it exactly if it is there; and since equal items have
 -- equal prints, it is in no other bag.
-use Rattle.std.proofs.Common.{◌≡◌, ◌⊎◌, ◌↔◌, ℕ, ◌+◌, ◌<◌, true, false, cond, List, [], ◌∷◌, ◌++◌, length, take, drop, take-append-drop, get_or, nat_eq, eqb-true, sym, ◌∙◌, ap, subst, inl, inr, arith}
+use Rattle.std.proofs.Common.{◌≡◌, ◌⊎◌, ◌↔◌, ℕ, ◌+◌, ◌<◌, true, false, cond, List, [], ◌∷◌, ◌++◌, length, take, drop, take-append-drop, get_or, nat_eq}
+use Rattle.std.proofs.Common.{eqb-true, sym, ◌∙◌, ap, subst, inl, inr, arith}
 use Rattle.std.specs.Prelude.{OnOk, Result, Ok, Err}
 use Rattle.std.proofs.lemmas.List.{take_more, take_all, get_or_default}
 use Rattle.run_rules.proofs.Lists.{either}

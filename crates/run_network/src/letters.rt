@@ -1,5 +1,6 @@
 //! Datagrams that members and the master sent.
-ghost use Rattle.std.specs.Prelude.{◌≡◌, ◌⊎◌, ◌↔◌, ℕ, [], ◌∷◌, ◌++◌, List, map, Some, true, IsTrue, OnOk};
+ghost use Rattle.std.specs.Prelude.{◌≡◌, ◌⊎◌, ◌↔◌, ℕ, [], ◌∷◌, ◌++◌, List, map, Some, true, IsTrue};
+ghost use Rattle.std.specs.Prelude.{OnOk};
 ghost use Rattle.roster.specs.Lookups.{member_of as member_by_id, is_master as is_master_at};
 ghost use Rattle.world_rules.specs.Consequence.{clear_to, clears_of};
 ghost use Rattle.purge_rules.specs.Clear.{clear as clear_of};

@@ -2,7 +2,9 @@
 ghost use Rattle.std.specs.Prelude.{◌↔◌, ◌≡◌, List, option_map, IsTrue, OnOk};
 ghost use Rattle.values_tables.specs.declared.plain.Tables.{Tables};
 ghost use Rattle.node_rules.specs.State.{serial_of as serial_of_begin};
-ghost use Rattle.run_rules.specs.Sent.{Network as ANetwork, Waits as AWait, IsSent, IsCallSent, answers_by, key_by, waits_by, with_reply, with_clears, without_waiting, silence};
+ghost use Rattle.run_rules.specs.Sent.{Network as ANetwork, Waits as AWait, IsSent, IsCallSent};
+ghost use Rattle.run_rules.specs.Sent.{answers_by, key_by, waits_by, with_reply, with_clears};
+ghost use Rattle.run_rules.specs.Sent.{without_waiting, silence};
 ghost use Rattle.run_network.specs.Held.{Holds, HoldsWaits, with_answers, with_waits};
 
 use crate::answers::Answers;

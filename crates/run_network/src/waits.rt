@@ -1,5 +1,6 @@
 //! Requests of members that wait at other members' nodes.
-ghost use Rattle.std.specs.Prelude.{◌≡◌, ℕ, [], ◌∷◌, List, ◌==◌, nat_eq, not, false, Some, None, filter, option_map, OnOk, if◌then◌else◌};
+ghost use Rattle.std.specs.Prelude.{◌≡◌, ℕ, [], ◌∷◌, List, ◌==◌, nat_eq, not, false, Some, None};
+ghost use Rattle.std.specs.Prelude.{filter, option_map, OnOk, if◌then◌else◌};
 ghost use Rattle.std.specs.HashMap.{get};
 ghost use Rattle.run_rules.specs.Sent.{Waits as AWait};
 ghost use Rattle.run_network.specs.Held.{key_at, HoldsWaits};

@@ -1,7 +1,8 @@
 //! Falls: places that are not greater than the one before them in their track.
 ghost use Rattle.std.specs.Prelude.{◌≡◌, Some};
 ghost use Rattle.std.specs.List.{flat_map};
-ghost use Rattle.run_rules.specs.Notes.{lesser as lesser_of, least, falls, places_in, least_fall as least_fall_of};
+ghost use Rattle.run_rules.specs.Notes.{lesser as lesser_of, least, falls, places_in};
+ghost use Rattle.run_rules.specs.Notes.{least_fall as least_fall_of};
 ghost use Rattle.run_notes.specs.Held.{track_of, tracks_in, fall_with as fall_by, lesser_fall};
 
 use crate::Note;

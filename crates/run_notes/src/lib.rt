@@ -3,8 +3,8 @@
 //! there); this crate computes them, without copying a record or an entry.
 //!
 //! `Notes::new` makes the tracks from the records of the members and the entries of the master.
-//! `Notes::take` returns the next note as an `OrderedNote`: the `Note`, and the doubled place that is
-//! found there, if any. A take looks only at the first note of each track, so its time does not
+//! `Notes::take` returns the next note as an `OrderedNote`: the `Note`, and the doubled place that
+//! is found there, if any. A take looks only at the first note of each track, so its time does not
 //! grow with the number of notes. The crate touches no file, socket, clock or thread.
 //!
 //! A contract sees `Notes` as the list of notes that are left (`order_in` of `specs/Held`).

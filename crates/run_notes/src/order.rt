@@ -1,9 +1,12 @@
 //! Which note comes next: an opening or a closing at once, else the entry with the least place. If
 //! several tracks have it, the one of the first track.
-ghost use Rattle.std.specs.Prelude.{◌≡◌, ◌≤◌, ◌<◌, ◌∷◌, [], length, nat_le, Some, None, MatchOption, IfSome, IfOk, if◌then◌else◌};
-ghost use Rattle.run_rules.specs.Notes.{rank_of as rank_of_track, ranks_of, least, count_of, tracks_of};
+ghost use Rattle.std.specs.Prelude.{◌≡◌, ◌≤◌, ◌<◌, ◌∷◌, [], length, nat_le, Some, None};
+ghost use Rattle.std.specs.Prelude.{MatchOption, IfSome, IfOk, if◌then◌else◌};
+ghost use Rattle.run_rules.specs.Notes.{rank_of as rank_of_track, ranks_of, least, count_of};
+ghost use Rattle.run_rules.specs.Notes.{tracks_of};
 ghost use Rattle.run_rules.specs.Verdict.{double_by, order_of};
-ghost use Rattle.run_notes.specs.Held.{track_of, tracks_in, place_at as place_of_rank, order_in, ordered_of};
+ghost use Rattle.run_notes.specs.Held.{track_of, tracks_in, place_at as place_of_rank, order_in};
+ghost use Rattle.run_notes.specs.Held.{ordered_of};
 
 use crate::Note;
 use crate::falls::least_fall;

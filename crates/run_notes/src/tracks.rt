@@ -1,6 +1,10 @@
 //! The tracks of a run, from its records and entries. Each is built from its end.
 ghost use Rattle.std.specs.Prelude.{◌≡◌, ◌∷◌, ◌++◌, ◌==◌, [], not, filter, OnOk, IfOk};
-ghost use Rattle.run_rules.specs.Notes.{is_closed_answer as is_answer_of_closed, steps_of, last_place as last_place_of, record_notes, notes_of_all, is_of, is_status as is_status_of, is_shut_answer as is_answer_of_shut, is_shut_by, calls_of, nodes_in as nodes_of, tracks_of};
+ghost use Rattle.run_rules.specs.Notes.{is_closed_answer as is_answer_of_closed, steps_of};
+ghost use Rattle.run_rules.specs.Notes.{last_place as last_place_of, record_notes, notes_of_all};
+ghost use Rattle.run_rules.specs.Notes.{is_of, is_status as is_status_of};
+ghost use Rattle.run_rules.specs.Notes.{is_shut_answer as is_answer_of_shut, is_shut_by, calls_of};
+ghost use Rattle.run_rules.specs.Notes.{nodes_in as nodes_of, tracks_of};
 ghost use Rattle.run_notes.specs.Held.{track_of, tracks_in};
 
 use crate::Note;

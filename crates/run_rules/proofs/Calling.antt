@@ -1,7 +1,8 @@
 -- An entry of the master that may follow stands for events of the world. The master's definition is
 -- the one that the world uses; an acknowledgement was sent, so its datagram is in the world; a
 -- refused call stands for no event and leaves the purges.
-use Rattle.std.proofs.Common.{◌≡◌, ℕ, ◌+◌, Bool, true, false, cond, ◌||◌, List, [], ◌∷◌, ◌++◌, Option, Some, None, Result, Ok, Err, refl, sym, ◌∙◌, ap, inl, inr, subst, arith}
+use Rattle.std.proofs.Common.{◌≡◌, ℕ, ◌+◌, Bool, true, false, cond, ◌||◌, List, [], ◌∷◌, ◌++◌, Option, Some, None, Result, Ok, Err, refl, sym, ◌∙◌, ap, inl}
+use Rattle.std.proofs.Common.{inr, subst, arith}
 use Rattle.std.proofs.lemmas.List.Elements.{Contains-append_left}
 use Rattle.htcp_wire.specs.declared.message.Content.{Content}
 use Rattle.htcp_wire.specs.declared.message.Content.TheVariants as content
@@ -30,7 +31,8 @@ use Rattle.std.specs.Prelude.{Contains}
 use Rattle.world_rules.specs.World.{World, Datagram, MemberState, node_at}
 use Rattle.world_rules.proofs.Items.{append_nil}
 use Rattle.node_rules.specs.Messages.{protocol_of as udp_of, clear_answer, clear_answer_in}
-use Rattle.world_rules.specs.Consequence.{Seen, Issued, Reported, Nothing, Consequence, Ends, consequence, with_master, with_sent, clears_of, clears_due, issue_by, master_hears, master_hears_htcp, acknowledged_by, delivered, delivered_to}
+use Rattle.world_rules.specs.Consequence.{Seen, Issued, Reported, Nothing, Consequence, Ends, consequence, with_master, with_sent, clears_of, clears_due}
+use Rattle.world_rules.specs.Consequence.{issue_by, master_hears, master_hears_htcp, acknowledged_by, delivered, delivered_to}
 use Rattle.world_rules.specs.Run.{Step, Takes}
 use Rattle.world_rules.specs.Run.{IsOfKey as IsEventOfKey}
 use Rattle.run_rules.specs.Notes.{Calls}
@@ -39,8 +41,7 @@ use Rattle.run_rules.specs.Board.{Board, standing_at}
 use Rattle.run_rules.specs.declared.verdict.Cause.TheVariants.{NotSent, OtherReply}
 use Rattle.run_rules.specs.Judging.{Fine, IsOfKey, CallsBy, left_wanting, after_call, JudgesCall}
 use Rattle.run_rules.specs.Recorded.{Progress, Goes, event_step, CallsIn}
-use Rattle.run_rules.proofs.Lists.{contained_item}
-use Rattle.run_rules.proofs.Purging.{same_pair}
+use Rattle.run_rules.proofs.Lists.{contained_item, same_some}
 use Rattle.run_rules.proofs.Matching.{NetworkMatches, datagrams_grow}
 use Rattle.run_rules.proofs.Following.{StandsIn, Matches, after_goes, place_goes}
 use Rattle.run_rules.proofs.Entries.{Follows, same_board, not_flawed}
@@ -151,7 +152,7 @@ module _ (members : List ℕ) (purges : PurgeList) where
 hears_content : (t : Tables) (w : World) (sender : Address) (at trans code : ℕ) (c : Content) → clear_answer_in at c ≡ Some (trans, code) →
     master_hears_htcp t w sender at c ≡ acknowledged_by t w trans code (member_at t sender udp.Htcp)
 hears_content t w sender at trans code (content.ClrAnswer said) is =
-    ap (λ (x : ℕ × ℕ). acknowledged_by t w x.0 x.1 (member_at t sender udp.Htcp)) (same_pair (at, said) (trans, code) is)
+    ap (λ (x : ℕ × ℕ). acknowledged_by t w x.0 x.1 (member_at t sender udp.Htcp)) (same_some (at, said) (trans, code) is)
 hears_content t w sender at trans code (content.NopAsk desired) is = cc
 hears_content t w sender at trans code content.NopAnswer is = cc
 hears_content t w sender at trans code (content.TstAsk desired spec) is = cc

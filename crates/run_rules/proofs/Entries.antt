@@ -1,10 +1,13 @@
 -- An entry of a node that may follow stands for events of the world: the clock is set, and some
--- event brings the node what it received (Meeting). An entry that was refused stands for no event.
--- One that closed the node stands for a fault, after the step or without it.
-use Rattle.std.proofs.Common.{◌≡◌, ℕ, ◌+◌, ◌≤◌, Bool, true, false, cond, not, ◌&&◌, List, [], ◌∷◌, ◌++◌, map, Option, Some, None, Result, Ok, Err, find, refl, sym, ◌∙◌, ap, inl, inr, nat_le, subst, arith}
+-- event brings the node what it received (Meeting). An entry that was refused and left the node open stands for no
+-- event. One that closed it leaves the floors that are stored, from before the raise or after it.
+use Rattle.std.proofs.Common.{◌≡◌, ℕ, ◌+◌, Bool, true, false, cond, List, [], ◌∷◌, ◌++◌, Option, Some, None, Result, Ok, Err, find, refl, sym, ◌∙◌, ap, inl}
+use Rattle.std.proofs.Common.{inr, subst}
 use Rattle.std.proofs.lemmas.List.Elements.{Contains-append_left}
-use Rattle.floor_rules.specs.Floors.{FloorMap, HasRoom, floor, raised}
+use Rattle.floor_rules.specs.Floors.{FloorTable, new_base, raised}
 use Rattle.floor_rules.specs.Store.{IsBeforeOrAfter}
+use Rattle.object_store.specs.declared.copy.WebCopy.{WebCopy}
+use Rattle.object_store.specs.Listed.{without_all_below}
 use Rattle.values_tables.specs.declared.plain.Tables.{Tables}
 use Rattle.roster.specs.Lookups.{is_member}
 use Rattle.roster.specs.Judged.{IsRoster}
@@ -16,18 +19,14 @@ use Rattle.node_rules.specs.declared.reply.Reply.{Reply}
 use Rattle.node_rules.specs.declared.reply.StepFault.{StepFault}
 use Rattle.node_rules.specs.declared.reply.StepFault.TheVariants as fault
 use Rattle.node_rules.specs.State.{Setting, Stepped, setting, closed_node}
-use Rattle.node_rules.specs.Datagrams.{is_full}
 use Rattle.node_rules.specs.Step.{step}
 use Rattle.node_rules.specs.Relation.{ClosesOn, Closes, purge_in}
 use Rattle.node_rules.specs.Relation.{Steps as NodeStepsBy}
-use Rattle.node_rules.specs.Tags.{retag_copy, retag_reply, retag_stepped}
-use Rattle.node_rules.proofs.TagLists.{without_below-retag}
+use Rattle.node_rules.specs.Tags.{retag_reply, retag_stepped}
+use Rattle.node_rules.proofs.TagLists.{without_all_below-retag}
 use Rattle.node_rules.proofs.TagSteps.{step-retag}
 use Rattle.node_rules.proofs.Lawful.{step_steps}
 use Rattle.node_rules.proofs.Stepping.{the_function_closes_no_node}
-use Rattle.node_rules.proofs.Effects.{raised_to}
-use Rattle.node_rules.proofs.FloorLaws.{room_for}
-use Rattle.node_rules.proofs.Cases.{true_not_false}
 use Rattle.node_book.specs.declared.book.NodeEntry.{NodeEntry}
 use Rattle.world_rules.specs.declared.event.WorldEvent.TheVariants as world
 use Rattle.world_rules.specs.World.{World, Waiting, reply_in, after_node, is_waiting_as, waits_now}
@@ -39,15 +38,15 @@ use Rattle.run_rules.specs.Sent.{Network, with_reply, without_waiting, IsSent}
 use Rattle.run_rules.specs.Board.{Standing, New, Open, Shut, Astray, Board, standing_at, with_node, with_network}
 use Rattle.run_rules.specs.declared.verdict.Cause.{Cause}
 use Rattle.run_rules.specs.declared.verdict.Cause.TheVariants.{NotSent, OtherReply}
-use Rattle.run_rules.specs.Judging.{Fine, Flawed, Reaches, IsStep, StepsBy, OpenStepsBy, StepsSo, after_entry, wanting, failing, left_by, shut_by, is_astray, judged, JudgesEntry}
-use Rattle.run_rules.specs.Recorded.{Progress, Goes, IsTaken, ChangesNothing, event_step, unmarked, unmarked_event, unmarked_outcome, node_in, IsShut}
+use Rattle.run_rules.specs.Stored.{are_same, stored_by}
+use Rattle.run_rules.specs.Judging.{Fine, Flawed, Reaches, IsStep, StepsBy, OpenStepsBy, StepsSo, after_entry, wanting, failing, left_by, shut_by, is_astray}
+use Rattle.run_rules.specs.Judging.{judged, JudgesEntry}
+use Rattle.run_rules.specs.Recorded.{Progress, Goes, IsTaken, ChangesNothing, event_step, unmarked, unmarked_event, unmarked_outcome, node_in}
 use Rattle.run_rules.specs.Recorded.{Stands}
 use Rattle.run_rules.specs.Notes.{Note, Steps}
 use Rattle.world_rules.proofs.MemberStates.{node_at-same, node_at-other}
-use Rattle.run_rules.proofs.Running.{runs_join}
-use Rattle.run_rules.proofs.Lists.{either, ok_same}
+use Rattle.run_rules.proofs.Lists.{ok_same}
 use Rattle.run_rules.proofs.Refusals.{no_fault, refusal_same, closed_refuses}
-use Rattle.run_rules.proofs.Purging.{HasPurged, step_purges}
 use Rattle.run_rules.proofs.Matching.{NetworkMatches, waits_dropped, waits_dropped_here}
 use Rattle.run_rules.proofs.Meeting.{Meets, meets}
 use Rattle.run_rules.proofs.Following.{StandsIn, Matches, each_place, each_post, after_goes, place_goes, network_replied, quiet_network}
@@ -97,6 +96,16 @@ pub network_closed : (n : Network) (w : World) (id : ℕ) (next : NodeState ℕ)
     NetworkMatches (without_waiting n id) (with_member_state w id next)
 network_closed n w id next h = record { datagrams = h.datagrams; asks = h.asks; answers = h.answers; waiting = waits_dropped n.waiting w.waiting id h.waiting }
 
+-- what waits at a closed node is forgotten
+network_dropped : (n : Network) (w : World) (id : ℕ) → NetworkMatches n w → NetworkMatches (without_waiting n id) w
+network_dropped n w id h = record {
+  datagrams = h.datagrams;
+  asks = h.asks;
+  answers = h.answers;
+  waiting =
+      waits_dropped_here n.waiting w.waiting id h.waiting;
+}
+
 purge_unmarked : (g : Setting) (e : Event ℕ) → purge_in g (unmarked_event e) ≡ purge_in g e
 purge_unmarked g (event.Client ask now) = refl
 purge_unmarked g (event.Datagram from m now) = refl
@@ -137,24 +146,18 @@ IsClosing fault.NoMemory = Unit {0}
 IsClosing fault.StoreFault = Unit {0}
 IsClosing _ = ⊥
 
-closing_steps : (g : Setting) (s : NodeState (Unit {0})) (e : Event (Unit {0})) (f : StepFault) (next : NodeState (Unit {0})) → IsClosing f →
-    Closes g s e next → NodeStepsBy g s e tt (Err f) next
-closing_steps g s e fault.Closed next closing closes = absurd closing
-closing_steps g s e fault.UnknownSerial next closing closes = absurd closing
-closing_steps g s e fault.Busy next closing closes = absurd closing
-closing_steps g s e fault.StoreFault next closing closes = closes
-closing_steps g s e fault.NoMemory next closing closes = inr closes
+closing_steps : {X : Type 0} (g : Setting) (s : NodeState X) (e : Event X) (mark : X) (f : StepFault) (next : NodeState X) → IsClosing f → Closes g s e next →
+    NodeStepsBy g s e mark (Err f) next
+closing_steps g s e mark fault.Closed next closing closes = absurd closing
+closing_steps g s e mark fault.UnknownSerial next closing closes = absurd closing
+closing_steps g s e mark fault.Busy next closing closes = absurd closing
+closing_steps g s e mark fault.StoreFault next closing closes = closes
+closing_steps g s e mark fault.NoMemory next closing closes = inr closes
 
--- the floors with the purge, if there was room for it, or without
-kept_or_raised : (flag : Bool) (floors : FloorMap) (key : List ℕ) (n : ℕ) → (flag ≡ true → HasRoom floors key) →
-    IsBeforeOrAfter floors key n (cond flag (raised floors key n) floors)
-kept_or_raised true floors key n room = inr (room refl, refl)
-kept_or_raised false floors key n room = inl refl
-
-not_both_true : (a c : Bool) → (a && not c) ≡ true → c ≡ false
-not_both_true true false h = refl
-not_both_true true true h = absurd (true_not_false (sym h))
-not_both_true false c h = absurd (true_not_false (sym h))
+-- the floors from before the raise or after it
+before_or_after : (is_after : Bool) (floors : FloorTable) (key : List ℕ) (n : ℕ) → IsBeforeOrAfter floors key n (cond is_after (raised floors key n) floors)
+before_or_after true floors key n = inr refl
+before_or_after false floors key n = inl refl
 
 -- the note stands for events, after which the world matches the state of the run
 pub record Follows (t : Tables) (p : Progress) (note : Note) (next : Board) : Type 0 where
@@ -170,6 +173,38 @@ module _ (t : Tables) (b : Board) (p : Progress) (m : Matches t b p) (id : ℕ) 
   abbrev node : NodeState ℕ
   node = node_in p id
 
+  -- the node takes a step with this outcome
+  module _ (e : Event (Unit {0})) (how : Meets t p.world id e) (outcome : Result (Reply ℕ) StepFault) (left : NodeState ℕ)
+      (steps : NodeStepsBy g node how.met (p.place + 1) outcome left) where
+    abbrev reached : Progress
+    reached = record {
+      world = after_node t (with_clock p.world (moment e)) id how.met how.serial outcome left;
+      place = p.place + 2;
+      master = p.master;
+    }
+
+    abbrev taken : List Step
+    taken = event_step (world.Clock (moment e)) Nothing ∷ event_step how.happens (Replied id outcome) ∷ []
+
+    consequences_so : Takes t (p.place + 1) (with_clock p.world (moment e)) (consequence t (with_clock p.world (moment e)) how.happens) (Replied id outcome)
+        reached.world
+    consequences_so = subst (λ x. Takes t (p.place + 1) (with_clock p.world (moment e)) x (Replied id outcome) reached.world) (sym how.consequences)
+        (outcome, left, steps, refl, refl)
+
+    runs_so : Run t p.place p.world taken reached.world
+    runs_so = (with_clock p.world (moment e), (tt, (refl, refl)), (reached.world, (how.keyed, consequences_so), refl))
+
+    is_taken_so : IsTaken t p id e outcome taken reached
+    is_taken_so = record {
+      happens = how.happens;
+      met = how.met;
+      serial = how.serial;
+      consequences = how.consequences;
+      event = how.event;
+      steps = refl;
+      goes = record { run = runs_so; place = refl; master = refl; purges = m.purges ∙ sym (ap (λ x. x.purges) m.master) };
+    }
+
   -- an open node takes the step that is defined
   module _ (is_open : node.closed ≡ false) (e : Event (Unit {0})) (how : Meets t p.world id e) where
     abbrev now : World
@@ -178,33 +213,24 @@ module _ (t : Tables) (b : Board) (p : Progress) (m : Matches t b p) (id : ℕ) 
     abbrev r : Stepped ℕ
     r = step g node how.met (p.place + 1)
 
+    r_steps : NodeStepsBy g node how.met (p.place + 1) r.outcome r.state
+    r_steps = step_steps g node how.met (p.place + 1)
+
     abbrev q : Progress
-    q = record { world = after_node t now id how.met how.serial r.outcome r.state; place = p.place + 2; master = p.master }
+    q = reached e how r.outcome r.state r_steps
 
     abbrev these : List Step
-    these = event_step (world.Clock (moment e)) Nothing ∷ event_step how.happens (Replied id r.outcome) ∷ []
+    these = taken e how r.outcome r.state r_steps
 
     -- without marks it is the recorded step
     unmarked_step : step g (unmarked node) e tt ≡ retag_stepped (λ _. tt) r
     unmarked_step = subst (λ x. step g (unmarked node) x tt ≡ retag_stepped (λ _. tt) r) how.event (step-retag (λ _. tt) g node how.met (p.place + 1))
 
-    consequences_so : Takes t (p.place + 1) now (consequence t now how.happens) (Replied id r.outcome) q.world
-    consequences_so = subst (λ x. Takes t (p.place + 1) now x (Replied id r.outcome) q.world) (sym how.consequences)
-        (r.outcome, r.state, step_steps g node how.met (p.place + 1), refl, refl)
-
     runs : Run t p.place p.world these q.world
-    runs = (now, (tt, (refl, refl)), (q.world, (how.keyed, consequences_so), refl))
+    runs = runs_so e how r.outcome r.state r_steps
 
     is_taken : IsTaken t p id e r.outcome these q
-    is_taken = record {
-      happens = how.happens;
-      met = how.met;
-      serial = how.serial;
-      consequences = how.consequences;
-      event = how.event;
-      steps = refl;
-      goes = record { run = runs; place = refl; master = refl; purges = m.purges ∙ sym (ap (λ x. x.purges) m.master) };
-    }
+    is_taken = is_taken_so e how r.outcome r.state r_steps
 
     -- what it sends is sent in the world
     sends : (reply : Reply ℕ) → r.outcome ≡ Ok reply → NetworkMatches (with_reply t b.network id e (retag_reply (λ _. tt) reply)) q.world
@@ -229,7 +255,7 @@ module _ (t : Tables) (b : Board) (p : Progress) (m : Matches t b p) (id : ℕ) 
     network = network;
   }
 
-  module _ (entry : NodeEntry) (is_closed : Bool) (kept : FloorMap) where
+  module _ (entry : NodeEntry) (is_closed : Bool) (kept : FloorTable) where
     abbrev note : Note
     note = Steps id entry is_closed kept
 
@@ -292,7 +318,7 @@ module _ (t : Tables) (b : Board) (p : Progress) (m : Matches t b p) (id : ℕ) 
         record {
           steps = [];
           to = p;
-          stands = inr (inl (unchanged f is_err (own_steps g (unmarked node) entry.event f own is)));
+          stands = inr (unchanged f is_err (own_steps g (unmarked node) entry.event f own is));
           matches = still (Open next) _ (member, is_open, state) (quiet_after f is_err);
         }
 
@@ -301,153 +327,79 @@ module _ (t : Tables) (b : Board) (p : Progress) (m : Matches t b p) (id : ℕ) 
     wants is_open is_err = record {
       steps = [];
       to = p;
-      stands = inr (inl (unchanged fault.NoMemory is_err (inl (is_open, refl))));
+      stands = inr (unchanged fault.NoMemory is_err (inl (is_open, refl)));
       matches = still (Open (unmarked node)) _ (member, is_open, refl) (quiet_after fault.NoMemory is_err);
     }
 
     -- a closed node refuses so
-    shut : (s : NodeState (Unit {0})) → node.floors ≡ s.floors → IsShut (unmarked node) s → entry.outcome ≡ Err fault.Closed →
+    shut : (s : NodeState (Unit {0})) → node.closed ≡ true → unmarked node ≡ s → entry.outcome ≡ Err fault.Closed →
         Follows t p note (after_entry t b id entry (Shut s))
-    shut s has is_shut is_err = record {
+    shut s is_shut same is_err = record {
       steps = [];
       to = p;
-      stands = inr (inl (unchanged fault.Closed is_err (closed_refuses g (unmarked node) tt entry.event is_shut.shut)));
-      matches = still (Shut s) _ (member, has, is_shut)
-          (record {
-            datagrams = m.network.datagrams;
-            asks = m.network.asks;
-            answers = m.network.answers;
-            waiting =
-                waits_dropped_here b.network.waiting p.world.waiting id m.network.waiting;
-          });
+      stands = inr (unchanged fault.Closed is_err (closed_refuses g (unmarked node) tt entry.event is_shut));
+      matches = still (Shut s) _ (member, is_shut, same) (network_dropped b.network p.world id m.network);
     }
 
-    -- The node closes at a purge: it did not make the purge, or it made it and its response is
-    -- never delivered.
+    -- The node closes at a purge. It has dropped the copies below a new base, and has the floors that are stored.
     module _ (is_open : node.closed ≡ false) (f : StepFault) (closing : IsClosing f) (is_err : entry.outcome ≡ Err f) (key : List ℕ) (n : ℕ)
         (purges : purge_in g entry.event ≡ Some (key, n)) (heard : IsSent t b.network id entry.event) (proper : IsRoster t) where
-      abbrev flag : Bool
-      flag = nat_le n (floor kept key) && not (is_full node.floors key)
-
       abbrev left : NodeState (Unit {0})
       left = left_by (unmarked node) (key, n) kept
 
-      made_with_room : flag ≡ true → HasRoom node.floors key
-      made_with_room made = room_for node.floors key (not_both_true (nat_le n (floor kept key)) (is_full node.floors key) made)
-
-      closes : NodeStepsBy g (unmarked node) entry.event tt entry.outcome left
-      closes =
-          subst (λ (o : Result (Reply (Unit {0})) StepFault). NodeStepsBy g (unmarked node) entry.event tt o left) (sym is_err)
-          (closing_steps g (unmarked node) entry.event f left closing (
-            is_open,
-            subst (λ (o : Option (List ℕ × ℕ)). ClosesOn (unmarked node) o left) (sym purges) record
-                { closed = refl; pending = refl; copies = refl; block = refl; floors = kept_or_raised flag node.floors key n made_with_room },
-          ))
-
-      abbrev fault_step : Step
-      fault_step = event_step (world.Fault id) Nothing
-
-      abbrev faulted : Progress → Progress
-      faulted x = record { world = with_member_state x.world id (closed_node (node_in x id)); place = x.place + 1; master = x.master }
-
-      fault_goes : (x : Progress) → x.world.master ≡ x.master.purges → Goes t x (fault_step ∷ []) x.master (faulted x)
-      fault_goes x purges_same = record {
-        run = (
-          (faulted x).world,
-          (
-            tt,
-            subst (λ (consequences : Consequence). Takes t x.place x.world consequences Nothing (faulted x).world)
-                (sym (ap (λ c. cond c (Ends Nothing (faulted x).world) (WorldRefused NoSuchPacket)) member)) (refl, refl),
-          ),
-          refl,
-        );
-        place = refl;
-        master = refl;
-        purges = purges_same;
-      }
-
-      -- it keeps its copies
-      keeps_all : IsShut (unmarked (closed_node node)) left
-      keeps_all = record { shut = refl; closed = refl; pending = refl; block = refl; copies = inl refl }
-
-      -- it did not make the purge
-      without : flag ≡ false → Follows t p note (after_entry t b id entry (Shut left))
-      without not_made =
-          let goes = fault_goes p (m.purges ∙ sym (ap (λ x. x.purges) m.master)) in
-          record {
-            steps = fault_step ∷ [];
-            to = faulted p;
-            stands = inr (inr (left, refl, closes, inl (refl, goes)));
-            matches = record {
-              past = m.past ++ fault_step ∷ [];
-              at = place_goes t b p (fault_step ∷ []) (p.place + 1) m refl;
-              after = after_goes t b p (faulted p) (fault_step ∷ []) m goes.run;
-              nodes = each_place t b.posts p.world.states id (Shut left) (closed_node node)
-                  (member, sym (ap (λ c. cond c (raised node.floors key n) node.floors) not_made), keeps_all) (λ i _. m.nodes i);
-              master = m.master;
-              purges = m.purges;
-              network = network_closed b.network p.world id (closed_node node) m.network;
-            };
-          }
-
-      -- it keeps a copy that the purge drops
-      keeps_but_one : (made : Stepped ℕ) → HasPurged node key n made → IsShut (unmarked (closed_node made.state)) left
-      keeps_but_one made purged = record {
-        shut = refl;
-        closed = refl;
-        pending = refl;
-        block = sym purged.block;
+      -- the same with marks
+      abbrev closed : NodeState ℕ
+      closed = record (closed_node node) {
+        floors = stored_by node.floors key n kept;
         copies =
-            inr (
-              key,
-              n,
-              subst (λ (floors : FloorMap). n ≤ floor floors key) (sym purged.floors) (raised_to node.floors key n n refl),
-              ap (map (retag_copy (λ _. tt))) purged.copies ∙ sym (without_below-retag (λ _. tt) key n node.copies),
-            );
+            without_all_below (new_base node.floors key n) node.copies;
       }
 
-      -- it made the purge
-      with_purge : flag ≡ true → Follows t p note (after_entry t b id entry (Shut left))
-      with_purge made =
-          let room : is_full node.floors key ≡ false = not_both_true (nat_le n (floor kept key)) (is_full node.floors key) made in
-          let how : Meets t p.world id entry.event = meets t proper p.world id member b.network m.network (unmarked node) refl entry.event heard
-          (purge_reaches g (unmarked node) entry.event (key, n) purges) in
-          let meets_purge : purge_in g how.met ≡ Some (key, n) = sym (purge_unmarked g how.met) ∙ ap (purge_in g) how.event ∙ purges in
-          let purged : HasPurged node key n (r is_open entry.event how) = step_purges g node (p.place + 1) how.met key n is_open meets_purge room in
-          let taken : IsTaken t p id entry.event (Ok purged.reply) (these is_open entry.event how) (q is_open entry.event how) =
-          subst (λ (o : Result (Reply ℕ) StepFault). IsTaken t p id entry.event o (these is_open entry.event how) (q is_open entry.event how)) purged.outcome
-          (is_taken is_open entry.event how) in
-          let goes = fault_goes (q is_open entry.event how) (m.purges ∙ sym (ap (λ x. x.purges) m.master)) in
-          let all : Run t p.place p.world (these is_open entry.event how ++ fault_step ∷ []) (faulted (q is_open entry.event how)).world =
-          runs_join t p.place (p.place + 2) p.world (q is_open entry.event how).world (faulted (q is_open entry.event how)).world
-          (these is_open entry.event how) (fault_step ∷ []) refl (runs is_open entry.event how) goes.run in
-          let same : node_in (q is_open entry.event how) id ≡ (r is_open entry.event how).state = node_at-same p.world.states id _ in
-          let floors : (node_in (q is_open entry.event how) id).floors ≡ left.floors = ap (λ (x : NodeState ℕ). x.floors) same ∙ purged.floors
-          ∙ sym (ap (λ c. cond c (raised node.floors key n) node.floors) made) in
-          let shut : IsShut (unmarked (closed_node (node_in (q is_open entry.event how) id))) left =
-          subst (λ (x : NodeState ℕ). IsShut (unmarked (closed_node x)) left) (sym same) (keeps_but_one (r is_open entry.event how) purged) in
-          record {
-            steps = these is_open entry.event how ++ fault_step ∷ [];
-            to = faulted (q is_open entry.event how);
-            stands = inr (inr (left, refl, closes, inr (these is_open entry.event how, q is_open entry.event how, purged.reply, taken, refl, goes)));
-            matches = record {
-              past = m.past ++ (these is_open entry.event how ++ fault_step ∷ []);
-              at = place_goes t b p (these is_open entry.event how ++ fault_step ∷ []) (p.place + 2 + 1) m (omega arith);
-              after = after_goes t b p (faulted (q is_open entry.event how)) (these is_open entry.event how ++ fault_step ∷ []) m all;
-              nodes = each_place t b.posts (q is_open entry.event how).world.states id (Shut left) (closed_node (node_in (q is_open entry.event how) id))
-                  (member, floors, shut) (λ i ne. subst (StandsIn t i (standing_at b.posts i))
-                  (sym (node_at-other p.world.states id i (r is_open entry.event how).state ne)) (m.nodes i));
-              master = m.master;
-              purges = m.purges;
-              network = network_closed b.network (q is_open entry.event how).world id _
-                  (network_kept t b.network (now is_open entry.event how) id how.met how.serial (r is_open entry.event how).outcome
-                  (r is_open entry.event how).state
-                  (purge_waits g id how.met how.serial (reply_in (r is_open entry.event how).outcome).begin (key, n) meets_purge) (network_now m.network));
-            };
-          }
+      same_left : unmarked closed ≡ left
+      same_left = ap (λ (copies : List (WebCopy (Unit {0}))). record left { copies = copies })
+          (sym (without_all_below-retag (λ _. tt) (new_base node.floors key n) node.copies))
+
+      how : Meets t p.world id entry.event
+      how = meets t proper p.world id member b.network m.network (unmarked node) refl entry.event heard
+          (purge_reaches g (unmarked node) entry.event (key, n) purges)
+
+      meets_purge : purge_in g how.met ≡ Some (key, n)
+      meets_purge = sym (purge_unmarked g how.met) ∙ ap (purge_in g) how.event ∙ purges
+
+      closes : NodeStepsBy g node how.met (p.place + 1) (Err f) closed
+      closes =
+          closing_steps g node how.met (p.place + 1) f closed closing (
+            is_open,
+            subst (λ (o : Option (List ℕ × ℕ)). ClosesOn node o closed) (sym meets_purge) record {
+              closed = refl;
+              pending = refl;
+              copies = refl;
+              block = refl;
+              floors =
+                  before_or_after (are_same kept (raised node.floors key n)) node.floors key n;
+            },
+          )
 
       ends : Follows t p note (after_entry t b id entry (Shut left))
-      ends = elim (either flag) [ inl made ↦ with_purge made | inr not_made ↦ without not_made ]
+      ends =
+          let these = taken entry.event how (Err f) closed closes in
+          let to = reached entry.event how (Err f) closed closes in
+          record {
+            steps = these;
+            to = to;
+            stands = inl (Err f, is_taken_so entry.event how (Err f) closed closes, sym is_err);
+            matches = record {
+              past = m.past ++ these;
+              at = place_goes t b p these (p.place + 2) m refl;
+              after = after_goes t b p to these m (runs_so entry.event how (Err f) closed closes);
+              nodes = each_place t b.posts p.world.states id (Shut left) closed (member, refl, same_left) (λ i _. m.nodes i);
+              master = m.master;
+              purges = m.purges;
+              network = network_dropped b.network to.world id
+                  (network_kept t b.network (with_clock p.world (moment entry.event)) id how.met how.serial (Err f) closed
+                  (purge_waits g id how.met how.serial None (key, n) meets_purge) (network_now m.network));
+            };
+          }
 
     -- what an entry of an open node stands for
     module _ (proper : IsRoster t) (heard : IsSent t b.network id entry.event) (is_open : node.closed ≡ false) where
@@ -492,17 +444,17 @@ module _ (t : Tables) (b : Board) (p : Progress) (m : Matches t b p) (id : ℕ) 
       open_by (Err fault.Busy) is_err st result fine steps = refused_by fault.Busy is_err tt st result fine steps
 
     -- what an entry of a closed node stands for
-    shut_by_outcome : (s : NodeState (Unit {0})) → node.floors ≡ s.floors → IsShut (unmarked node) s → (o : Result (Reply (Unit {0})) StepFault) →
-        entry.outcome ≡ o → (st : Standing) → Ok st ≡ shut_by s o → Follows t p note (after_entry t b id entry st)
-    shut_by_outcome s has is_shut (Err fault.Closed) is_err st is =
-        subst (λ (s : Standing). Follows t p note (after_entry t b id entry s)) (ok_same (Shut s) st _ refl (sym is)) (shut s has is_shut is_err)
-    shut_by_outcome s has is_shut (Ok reply) is_ok st is = absurd (no_fault st OtherReply is)
-    shut_by_outcome s has is_shut (Err fault.NoMemory) is_err st is = absurd (no_fault st OtherReply is)
-    shut_by_outcome s has is_shut (Err fault.StoreFault) is_err st is = absurd (no_fault st OtherReply is)
-    shut_by_outcome s has is_shut (Err fault.UnknownSerial) is_err st is = absurd (no_fault st OtherReply is)
-    shut_by_outcome s has is_shut (Err fault.Busy) is_err st is = absurd (no_fault st OtherReply is)
+    shut_by_outcome : (s : NodeState (Unit {0})) → node.closed ≡ true → unmarked node ≡ s → (o : Result (Reply (Unit {0})) StepFault) → entry.outcome ≡ o →
+        (st : Standing) → Ok st ≡ shut_by s o → Follows t p note (after_entry t b id entry st)
+    shut_by_outcome s is_shut same (Err fault.Closed) is_err st is =
+        subst (λ (x : Standing). Follows t p note (after_entry t b id entry x)) (ok_same (Shut s) st _ refl (sym is)) (shut s is_shut same is_err)
+    shut_by_outcome s is_shut same (Ok reply) is_ok st is = absurd (no_fault st OtherReply is)
+    shut_by_outcome s is_shut same (Err fault.NoMemory) is_err st is = absurd (no_fault st OtherReply is)
+    shut_by_outcome s is_shut same (Err fault.StoreFault) is_err st is = absurd (no_fault st OtherReply is)
+    shut_by_outcome s is_shut same (Err fault.UnknownSerial) is_err st is = absurd (no_fault st OtherReply is)
+    shut_by_outcome s is_shut same (Err fault.Busy) is_err st is = absurd (no_fault st OtherReply is)
 
-module _ (t : Tables) (proper : IsRoster t) (b : Board) (p : Progress) (m : Matches t b p) (id : ℕ) (entry : NodeEntry) (is_closed : Bool) (kept : FloorMap)
+module _ (t : Tables) (proper : IsRoster t) (b : Board) (p : Progress) (m : Matches t b p) (id : ℕ) (entry : NodeEntry) (is_closed : Bool) (kept : FloorTable)
   where
     stands_by : (now_so : Standing) → standing_at b.posts id ≡ now_so → StandsIn t id now_so (node_in p id) →
         (is_astray now_so ≡ false → IsSent t b.network id entry.event) →
@@ -513,7 +465,7 @@ module _ (t : Tables) (proper : IsRoster t) (b : Board) (p : Progress) (m : Matc
     stands_by (Open s) so (member, is_open, same) heard st result fine steps =
         open_by t b p m id member entry is_closed kept proper (heard refl) is_open entry.outcome refl st result fine
         (subst (λ (x : NodeState (Unit {0})). OpenStepsBy (setting t id) x entry is_closed kept entry.outcome result) (sym same) steps)
-    stands_by (Shut s) so (member, has, is_shut) heard st result fine is = shut_by_outcome t b p m id member entry is_closed kept s has is_shut
+    stands_by (Shut s) so (member, is_shut, same) heard st result fine is = shut_by_outcome t b p m id member entry is_closed kept s is_shut same
         entry.outcome refl st (sym fine ∙ is)
 
     fine_by : (r : Result Standing Cause) (next : Board) → Fine next ≡ judged t b id entry r → (st : Standing) × (r ≡ Ok st)

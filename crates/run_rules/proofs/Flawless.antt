@@ -1,7 +1,8 @@
 -- The notes of a run without a flaw stand for events of the world: by induction over the notes,
 -- each leads from a world that matches the state of the run to another. A node that goes astray
 -- leads to a flaw, so none does.
-use Rattle.std.proofs.Common.{◌≡◌, ℕ, Bool, true, false, cond, ◌||◌, List, [], ◌∷◌, ◌++◌, map, Option, Some, None, Result, Ok, Err, refl, sym, ◌∙◌, ap, inl, inr, nat_eq, subst}
+use Rattle.std.proofs.Common.{◌≡◌, ℕ, Bool, true, false, cond, ◌||◌, List, [], ◌∷◌, ◌++◌, map, Option, Some, None, Result, Ok, Err, refl, sym, ◌∙◌, ap, inl}
+use Rattle.std.proofs.Common.{inr, nat_eq, subst}
 use Rattle.std.specs.List.{AllByRecursion, list_any}
 use Rattle.std.proofs.Math.Decide.{ℕ_discrete}
 use Rattle.values_tables.specs.declared.plain.Member.{Member}
@@ -21,7 +22,7 @@ use Rattle.run_rules.specs.Verdict.{OrderedNote, HasVerdict, HasVerdictBy, is_as
 use Rattle.run_rules.specs.Recorded.{Progress, beginning, AllStand}
 use Rattle.node_rules.specs.declared.state.NodeState.{NodeState}
 use Rattle.node_book.specs.declared.book.NodeEntry.{NodeEntry}
-use Rattle.floor_rules.specs.Floors.{FloorMap}
+use Rattle.floor_rules.specs.Floors.{FloorTable}
 use Rattle.node_rules.specs.State.{setting}
 use Rattle.world_rules.proofs.SourceRuns.{run_after}
 use Rattle.run_rules.proofs.Lists.{ok_same}
@@ -49,7 +50,7 @@ not_open : (st : Standing) (state : NodeState (Unit {0})) → st ≡ Astray → 
 not_open st state astray opens = subst (λ (s : Standing). OpensAs s state) astray opens
 
 module _ (t : Tables) (b : Board) (who : ℕ) (astray : standing_at b.posts who ≡ Astray) where
-  steps_astray : (id : ℕ) (entry : NodeEntry) (is_closed : Bool) (kept : FloorMap) (r : Result Standing Cause) (next : Board) →
+  steps_astray : (id : ℕ) (entry : NodeEntry) (is_closed : Bool) (kept : FloorTable) (r : Result Standing Cause) (next : Board) →
       StepsSo (setting t id) (standing_at b.posts id) entry is_closed kept r → Fine next ≡ judged t b id entry r → standing_at next.posts who ≡ Astray
   steps_astray id entry is_closed kept (Err cause) next steps is = absurd (not_flawed next cause is)
   steps_astray id entry is_closed kept (Ok st) next steps is =

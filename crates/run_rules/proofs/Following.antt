@@ -1,6 +1,7 @@
 -- How the state of a run (a board) and the world match: each node's state is the recorded one
 -- without marks, the master's is the same, and what the run knows as sent is sent in the world.
-use Rattle.std.proofs.Common.{◌≡◌, ℕ, ◌+◌, true, false, cond, List, [], ◌∷◌, ◌++◌, length, Option, Some, None, Ok, refl, sym, ◌∙◌, ap, nat_eq, subst, arith, length-append}
+use Rattle.std.proofs.Common.{◌≡◌, ℕ, ◌+◌, true, false, cond, List, [], ◌∷◌, ◌++◌, length, Option, Some, None, Ok, refl, sym, ◌∙◌, ap, nat_eq, subst, arith}
+use Rattle.std.proofs.Common.{length-append}
 use Rattle.std.specs.Prelude.{◌≢◌}
 use Rattle.std.proofs.Math.Decide.{ℕ_discrete}
 use Rattle.values_tables.specs.declared.plain.Member.{Member}
@@ -22,7 +23,7 @@ use Rattle.world_rules.proofs.Runs.{next_place}
 use Rattle.world_rules.proofs.SourceRuns.{IsAfter, after_one}
 use Rattle.run_rules.specs.Sent.{SentAsk, SentAnswer, Waits, Network, waits_by, with_reply}
 use Rattle.run_rules.specs.Board.{Post, Standing, New, Open, Shut, Astray, Board, standing_at, with_standing}
-use Rattle.run_rules.specs.Recorded.{Progress, unmarked, unmarked_event, node_in, IsShut}
+use Rattle.run_rules.specs.Recorded.{Progress, unmarked, unmarked_event, node_in}
 use Rattle.run_rules.proofs.Matching.{NetworkMatches, datagrams_grow, asks_grow, answers_grow, asks_same, answers_same, waits_by_event}
 
 -- Standings of nodes
@@ -31,7 +32,7 @@ use Rattle.run_rules.proofs.Matching.{NetworkMatches, datagrams_grow, asks_grow,
 abbrev pub StandsIn : Tables → ℕ → Standing → NodeState ℕ → Type 0
 StandsIn t id New node = node ≡ new_node
 StandsIn t id (Open s) node = (is_member t id ≡ true) × (node.closed ≡ false) × (unmarked node ≡ s)
-StandsIn t id (Shut s) node = (is_member t id ≡ true) × (node.floors ≡ s.floors) × IsShut (unmarked node) s
+StandsIn t id (Shut s) node = (is_member t id ≡ true) × (node.closed ≡ true) × (unmarked node ≡ s)
 StandsIn t id Astray node = ⊥
 
 pub standing_at-same : (ps : List Post) (id : ℕ) (st : Standing) → standing_at (with_standing ps id st) id ≡ st

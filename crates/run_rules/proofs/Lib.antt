@@ -1,6 +1,6 @@
 -- To read: Flawless first (the notes of a run without a flaw stand for events of the world), then
 -- Following (how the checker's state and the world match) and the notes by kind: Entries (with
--- Refusals, Meeting, Purging, Addresses), Openings and Calling; Matching and Lists are
+-- Refusals, Meeting, Addresses), Openings and Calling; Stored (which floors are stored); Matching and Lists are
 -- about the network. Then the order of notes: Taking, Tracks and Rising. Running says that what the
 -- notes stand for is a run.
 pub mod Running
@@ -9,7 +9,7 @@ pub mod Lists
 pub mod Matching
 pub mod Addresses
 pub mod Meeting
-pub mod Purging
+pub mod Stored
 pub mod Following
 pub mod Entries
 pub mod Openings

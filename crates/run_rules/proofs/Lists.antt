@@ -1,5 +1,6 @@
 -- Finding in lists that grow at the end or lose items, by induction over the list.
-use Rattle.std.proofs.Common.{◌≡◌, ◌⊎◌, ℕ, zero, suc, ◌-◌, ◌<◌, Bool, true, false, cond, List, [], ◌∷◌, ◌++◌, length, filter, Option, Some, None, refl, sym, ◌∙◌, ap, inl, inr, nat_eq, subst, arith, Result, Ok}
+use Rattle.std.proofs.Common.{◌≡◌, ◌⊎◌, ℕ, zero, suc, ◌-◌, ◌<◌, Bool, true, false, cond, List, [], ◌∷◌, ◌++◌, length, filter, Option, Some, None, refl, sym}
+use Rattle.std.proofs.Common.{◌∙◌, ap, inl, inr, nat_eq, subst, arith, Result, Ok}
 use Rattle.std.specs.Prelude.{find, slice_get, Contains}
 use Rattle.std.specs.List.{slice_index_or}
 use Rattle.node_rules.proofs.Cases.{branches, true_not_false}

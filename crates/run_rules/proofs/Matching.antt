@@ -1,6 +1,7 @@
 -- The network of a run and that of the world: what the run has as sent or waiting, the world has
 -- too, with serials and marks. This stays so, since both grow by the same reply.
-use Rattle.std.proofs.Common.{◌≡◌, ℕ, ◌/◌, Bool, true, false, cond, not, ◌&&◌, List, [], ◌∷◌, ◌++◌, filter, Option, Some, None, refl, sym, ◌∙◌, ap, inl, inr, nat_eq, subst}
+use Rattle.std.proofs.Common.{◌≡◌, ℕ, ◌/◌, Bool, true, false, cond, not, ◌&&◌, List, [], ◌∷◌, ◌++◌, filter, Option, Some, None, refl, sym, ◌∙◌, ap, inl, inr}
+use Rattle.std.proofs.Common.{nat_eq, subst}
 use Rattle.std.specs.Prelude.{find, Contains, option_map, ◌≢◌}
 use Rattle.std.proofs.lemmas.List.Elements.{Contains-append_left, Contains-append_right, Contains-append_cases}
 use Rattle.http_messages.specs.declared.ask.Ask.{Ask}
@@ -15,7 +16,8 @@ use Rattle.node_rules.specs.declared.reply.Begin.TheVariants as begin
 use Rattle.node_rules.specs.State.{serial_of}
 use Rattle.node_rules.specs.Tags.{retag_served, retag_serve}
 use Rattle.node_rules.proofs.Cases.{true_not_false}
-use Rattle.world_rules.specs.World.{World, Datagram, PeerAsk, PeerAnswer, Waiting, Answered, asks_in, answer_of, answers_in, answer_to, asked_now, asked_by, is_waiting_as, waits_now}
+use Rattle.world_rules.specs.World.{World, Datagram, PeerAsk, PeerAnswer, Waiting, Answered, asks_in, answer_of, answers_in, answer_to, asked_now, asked_by}
+use Rattle.world_rules.specs.World.{is_waiting_as, waits_now}
 use Rattle.world_rules.proofs.MemberStates.{same_id, ids_same, other_id, and_parts}
 use Rattle.run_rules.specs.Sent.{SentAsk, SentAnswer, Waits, Network, asks_by, answers_by, answer_for, key_by, key_now, text_of, is_waiting, waits_by}
 use Rattle.run_rules.specs.Recorded.{unmarked_event}

@@ -28,7 +28,8 @@ use Rattle.world_rules.specs.declared.outcome.WorldFault.TheVariants.{NoSuchPack
 use Rattle.node_rules.specs.Messages.{protocol_of as udp_of}
 use Rattle.node_rules.specs.Spelled.{decoded_by, IsSpelled}
 use Rattle.world_rules.specs.World.{World, Datagram, item, node_at}
-use Rattle.world_rules.specs.Consequence.{Consequence, NodeSteps, Refused, consequence, at_member, with_clock, delivered, delivered_to, octets_reach, octets_come, master_hears, ask_delivered, answer_delivered, origin_to, origin_by, foreign_to, foreign_by, fetching_at}
+use Rattle.world_rules.specs.Consequence.{Consequence, NodeSteps, Refused, consequence, at_member, with_clock, delivered, delivered_to, octets_reach}
+use Rattle.world_rules.specs.Consequence.{octets_come, master_hears, ask_delivered, answer_delivered, origin_to, origin_by, foreign_to, foreign_by, fetching_at}
 use Rattle.world_rules.specs.Run.{IsOfKey}
 use Rattle.world_rules.specs.Asked.{moment}
 use Rattle.world_rules.proofs.MemberStates.{ids_same, and_parts}

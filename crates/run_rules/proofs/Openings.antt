@@ -1,7 +1,7 @@
 -- A record that may open or close so stands for events of the world: for none if it goes on from
 -- the node's state, else for a restart.
 use Rattle.std.proofs.Common.{◌≡◌, ℕ, ◌+◌, Bool, true, false, cond, [], ◌∷◌, ◌++◌, refl, sym, ◌∙◌, ap, inl, inr, nat_eq, subst, length}
-use Rattle.floor_rules.specs.Floors.{FloorMap}
+use Rattle.floor_rules.specs.Floors.{FloorTable}
 use Rattle.values_tables.specs.declared.plain.Tables.{Tables}
 use Rattle.roster.specs.Lookups.{is_member}
 use Rattle.node_rules.specs.declared.state.NodeState.{NodeState}
@@ -16,16 +16,14 @@ use Rattle.run_rules.specs.Notes.{Opens, Closes}
 use Rattle.run_rules.specs.Sent.{Network, without_waiting}
 use Rattle.run_rules.specs.Board.{Standing, New, Open, Shut, Astray, Board, standing_at, with_node, with_network}
 use Rattle.run_rules.specs.Judging.{Fine, IsShutAs, OpensAs, CanOpen, standing_in, opened_board, ClosesAs, JudgesClosing}
-use Rattle.run_rules.specs.Recorded.{Progress, Goes, event_step, unmarked, node_in, IsKept, IsShut}
+use Rattle.run_rules.specs.Recorded.{Progress, Goes, event_step, unmarked, node_in, IsKept}
 use Rattle.run_rules.proofs.Matching.{NetworkMatches, waits_dropped_here}
 use Rattle.run_rules.proofs.Following.{StandsIn, Matches, each_place, each_post, after_goes, place_goes}
 use Rattle.run_rules.proofs.Entries.{Follows, network_closed, same_board, not_flawed}
 
 -- a state in which a closed node may be recorded is recorded so
-shut_as : (node s state : NodeState (Unit {0})) → IsShut node s → IsShutAs s state → IsShut node state
-shut_as node s state shut is =
-    let found : IsShut node (record state { floors = s.floors }) = subst (IsShut node) (sym is) shut in
-    record { shut = found.shut; closed = found.closed; pending = found.pending; block = found.block; copies = found.copies }
+shut_as : (node s state : NodeState (Unit {0})) → node.closed ≡ true → node ≡ s → IsShutAs s state → IsKept node state
+shut_as node s state shut same is = inr (shut, subst (λ (x : NodeState (Unit {0})). IsShutAs x state) (sym same) is)
 
 -- what waits at a node is dropped, or not
 opened_network : (n : Network) (w : World) (id : ℕ) (c : Bool) → NetworkMatches n w → NetworkMatches (cond c (without_waiting n id) n) w
@@ -85,9 +83,9 @@ module _ (t : Tables) (b : Board) (p : Progress) (m : Matches t b p) (id : ℕ) 
   }
 
   -- the node restarts with its floors
-  starts_again : (floors : FloorMap) → node.floors ≡ floors → state ≡ opened floors → Follows t p (Opens id state) (after (Open state))
+  starts_again : (floors : FloorTable) → node.floors ≡ floors → state ≡ opened floors → Follows t p (Opens id state) (after (Open state))
   starts_again floors has is =
-      let fresh : state ≡ opened node.floors = is ∙ ap (λ (f : FloorMap). opened f) (sym has) in
+      let fresh : state ≡ opened node.floors = is ∙ ap (λ (f : FloorTable). opened f) (sym has) in
       let first : nat_eq (length state.pending) 0 ≡ true = ap (λ (s : NodeState (Unit {0})). nat_eq (length s.pending) 0) is in
       record {
         steps = restart ∷ [];
@@ -112,13 +110,13 @@ module _ (t : Tables) (b : Board) (p : Progress) (m : Matches t b p) (id : ℕ) 
       goes_on (Open state) (member, ap (λ (x : NodeState ℕ). x.closed) stands, kept) (inl (sym kept))
   opens_by (Open s) (mine, is_open, same) (inl is) = goes_on (Open state) (member, is_open, same ∙ sym is) (inl (is ∙ sym same))
   opens_by (Open s) (mine, is_open, same) (inr is) = starts_again s.floors (ap (λ (x : NodeState (Unit {0})). x.floors) same) is
-  opens_by (Shut s) (mine, has, shut) (inl is) =
-      let recorded : IsShut (unmarked node) state = shut_as (unmarked node) s state shut is in
-      subst (λ (c : Bool). Follows t p (Opens id state) (after (cond c (Shut s) (Open state)))) (sym recorded.closed)
-      (goes_on (Shut s) (member, has, shut) (inr recorded))
-  opens_by (Shut s) (mine, has, shut) (inr is) =
+  opens_by (Shut s) (mine, shut, same) (inl is) =
+      let closed : state.closed ≡ true = ap (λ (x : NodeState (Unit {0})). x.closed) (is ∙ sym same) ∙ shut in
+      subst (λ (c : Bool). Follows t p (Opens id state) (after (cond c (Shut s) (Open state)))) (sym closed)
+      (goes_on (Shut s) (member, shut, same) (shut_as (unmarked node) s state shut same is))
+  opens_by (Shut s) (mine, shut, same) (inr is) =
       subst (λ (c : Bool). Follows t p (Opens id state) (after (cond c (Shut s) (Open state)))) (sym (ap (λ (x : NodeState (Unit {0})). x.closed) is))
-      (starts_again s.floors has is)
+      (starts_again s.floors (ap (λ (x : NodeState (Unit {0})). x.floors) same) is)
   opens_by Astray stands is = absurd stands
 
 -- a record of a member that may open so
@@ -131,7 +129,7 @@ closes_by : (t : Tables) (id : ℕ) (its : NodeState ℕ) (state : NodeState (Un
     IsKept (unmarked its) state
 closes_by t id its state New stands closes = absurd closes
 closes_by t id its state (Open s) (mine, is_open, same) is = inl (is ∙ sym same)
-closes_by t id its state (Shut s) (mine, has, shut) is = inr (shut_as (unmarked its) s state shut is)
+closes_by t id its state (Shut s) (mine, shut, same) is = shut_as (unmarked its) s state shut same is
 closes_by t id its state Astray stands closes = absurd closes
 
 pub closing_follows : (t : Tables) (b : Board) (p : Progress) → Matches t b p → (id place : ℕ) (state : NodeState (Unit {0})) (next : Board) →

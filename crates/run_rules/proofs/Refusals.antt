@@ -36,8 +36,11 @@ use Rattle.node_rules.specs.State.{Setting, Stepped, replies, refuses, is_idle}
 use Rattle.node_rules.specs.Known.{has_origin, is_known}
 use Rattle.node_rules.specs.Fetching.{ask_peer, begin_read, read_origin, go_to, go_on}
 use Rattle.node_rules.specs.Asks.{is_cached_only, begin_round, begin_with_read, ask_around, begin_ask, begin_if_free, not_held, by_copy, ask_comes}
-use Rattle.node_rules.specs.Arrivals.{is_gateway_fault, use_answer, try_on, peer_gave, origin_gave, from_peer, peer_answer_to, peer_answer, foreign_answer, from_origin, origin_answer_to, origin_answer, fails, failure_of, fetch_failed, round_moves, expires, expiry_of, round_expired}
-use Rattle.node_rules.specs.Datagrams.{is_full, if_desired, icp_query, htcp_tst, hears, told_by, told_to, icp_told, htcp_told, purge, numbered_clr, plain_clr, clr_by_line, htcp_clr, icp_comes, tst_refused, htcp_comes, datagram}
+use Rattle.node_rules.specs.Arrivals.{is_gateway_fault, use_answer, try_on, peer_gave, origin_gave, from_peer, peer_answer_to, peer_answer, foreign_answer}
+use Rattle.node_rules.specs.Arrivals.{from_origin, origin_answer_to, origin_answer, fails, failure_of, fetch_failed, round_moves, expires, expiry_of}
+use Rattle.node_rules.specs.Arrivals.{round_expired}
+use Rattle.node_rules.specs.Datagrams.{if_desired, icp_query, htcp_tst, hears, told_by, told_to, icp_told, htcp_told, purge, numbered_clr, plain_clr}
+use Rattle.node_rules.specs.Datagrams.{clr_by_line, htcp_clr, icp_comes, tst_refused, htcp_comes, datagram}
 use Rattle.node_rules.specs.Step.{open_step, step_if, step}
 use Rattle.node_rules.proofs.Cases.{branches}
 
@@ -189,7 +192,7 @@ module _ {X : Type 0} (g : Setting) (s : NodeState X) (mark : X) where
 
   purge_fair : (from : Address) (trans : ℕ) (desired : Bool) (key : List ℕ) (n : ℕ) → Fair (purge s from trans desired key n)
   unfolding purge
-  purge_fair from trans desired key n = branches Fair (is_full s.floors key) _ _ (λ _. if_desired_fair _ desired from _) (λ _. if_desired_fair _ desired from _)
+  purge_fair from trans desired key n = if_desired_fair _ desired from _
 
   numbered_clr_fair : (from : Address) (trans : ℕ) (desired : Bool) (o : Option (List ℕ × ℕ)) → Fair (numbered_clr s from trans desired o)
   unfolding numbered_clr

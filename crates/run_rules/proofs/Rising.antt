@@ -1,12 +1,14 @@
 -- If no place is doubled, the places of all notes in their order rise: the least rank is always
 -- taken, so a place that does not rise is shared by two tracks or does not rise in its own, and
 -- both are found as doubled.
-use Rattle.std.proofs.Common.{◌≡◌, ◌⊎◌, ℕ, zero, suc, ◌+◌, ◌≤◌, ◌<◌, true, false, cond, List, [], ◌∷◌, ◌++◌, length, map, filter, Option, Some, None, refl, sym, ◌∙◌, ap, inl, inr, nat_eq, nat_le, nat_lt, subst, arith}
+use Rattle.std.proofs.Common.{◌≡◌, ◌⊎◌, ℕ, zero, suc, ◌+◌, ◌≤◌, ◌<◌, true, false, cond, List, [], ◌∷◌, ◌++◌, length, map, filter, Option, Some, None, refl, sym}
+use Rattle.std.proofs.Common.{◌∙◌, ap, inl, inr, nat_eq, nat_le, nat_lt, subst, arith}
 use Rattle.std.specs.List.{AllByRecursion, flat_map, filter_map, cons_option}
 use Rattle.std.proofs.lemmas.Bool.Decides.{nat_tests}
 use Rattle.node_rules.proofs.Cases.{branches, test_le, test_lt}
 use Rattle.world_rules.proofs.MemberStates.{same_id}
-use Rattle.run_rules.specs.Notes.{Note, place_in, rank_by, rank_of, ranks_of, places_in, falls, falls_from, lesser, least, least_fall, Taken, next_note, count_of}
+use Rattle.run_rules.specs.Notes.{Note, place_in, rank_by, rank_of, ranks_of, places_in, falls, falls_from, lesser, least, least_fall, Taken, next_note}
+use Rattle.run_rules.specs.Notes.{count_of}
 use Rattle.run_rules.specs.Verdict.{OrderedNote, double_of, order_on, order_by, count_in, order_of}
 use Rattle.run_rules.specs.Recorded.{Rise, AllRise}
 use Rattle.run_rules.proofs.Lists.{either, same_some}

@@ -36,11 +36,7 @@ pub note_leads : (t : Tables) (p q : Progress) (note : Note) (steps : List Step)
 note_leads t p q (Opens id state) steps (member, inl (none, same, kept)) = leads_nowhere t p q steps none same
 note_leads t p q (Opens id state) steps (member, inr (these, goes, again)) = goes_leads t p q steps p.master goes
 note_leads t p q (Steps id e is_closed kept) steps (inl (outcome, taken, same)) = goes_leads t p q steps p.master taken.goes
-note_leads t p q (Steps id e is_closed kept) steps (inr (inl (fault, is, none, same, refused))) = leads_nowhere t p q steps none same
-note_leads t p q (Steps id e is_closed kept) steps (inr (inr (closed, is, refused, inl (these, goes)))) = goes_leads t p q steps p.master goes
-note_leads t p q (Steps id e is_closed kept) steps (inr (inr (closed, is, refused, inr (taken, middle, reply, takes, these, goes)))) =
-    subst (λ (s : List Step). Leads t p s q) (sym these)
-    (leads_join t p middle q taken _ (goes_leads t p middle taken p.master takes.goes) (goes_leads t middle q _ p.master goes))
+note_leads t p q (Steps id e is_closed kept) steps (inr (fault, is, none, same, refused)) = leads_nowhere t p q steps none same
 note_leads t p q (Closes id place state) steps (none, same, kept) = leads_nowhere t p q steps none same
 note_leads t p q (Calls e is_closed) steps (next, calls, these, goes) = goes_leads t p q steps next goes
 

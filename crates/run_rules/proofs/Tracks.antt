@@ -2,7 +2,7 @@
 -- are listed once each, and a track's records are those of its node.
 use Rattle.std.proofs.Common.{◌≡◌, ℕ, Bool, true, false, cond, not, ◌||◌, List, [], ◌∷◌, ◌++◌, map, filter, refl, sym, ◌∙◌, ap, inl, inr, nat_eq, subst}
 use Rattle.std.specs.List.{list_any}
-use Rattle.floor_rules.specs.Floors.{FloorMap}
+use Rattle.floor_rules.specs.Floors.{FloorTable}
 use Rattle.node_rules.specs.declared.state.NodeState.{NodeState}
 use Rattle.node_rules.proofs.Cases.{branches, true_not_false}
 use Rattle.node_book.specs.declared.book.NodeEntry.{NodeEntry}
@@ -10,7 +10,8 @@ use Rattle.node_book.specs.declared.record.Record.{Record}
 use Rattle.purge_master.specs.declared.book.MasterEntry.{MasterEntry}
 use Rattle.world_rules.proofs.MemberStates.{ids_same}
 use Rattle.world_rules.proofs.Items.{append_nil}
-use Rattle.run_rules.specs.Notes.{Note, Opens, Steps, Closes, Calls, steps_of, last_place, kept_by, notes_of, notes_of_all, is_shut_before, is_closed_before, calls_of, is_of, nodes_in, tracks_of}
+use Rattle.run_rules.specs.Notes.{Note, Opens, Steps, Closes, Calls, steps_of, last_place, kept_by, notes_of, notes_of_all, is_shut_before, is_closed_before}
+use Rattle.run_rules.specs.Notes.{calls_of, is_of, nodes_in, tracks_of}
 use Rattle.run_rules.specs.Recorded.{is_of_node, is_of_master}
 use Rattle.run_rules.proofs.Lists.{either}
 use Rattle.run_rules.proofs.Taking.{parts, Sole}
@@ -26,7 +27,7 @@ filter_append test (x ∷ xs) ys =
 -- a test that a note of a node passes by its id alone, and no other note
 pub record TellsNodes (test : Note → Bool) (b : ℕ → Bool) : Type 0 where
   pub opens : (id : ℕ) (state : NodeState (Unit {0})) → test (Opens id state) ≡ b id
-  pub steps : (id : ℕ) (entry : NodeEntry) (is_closed : Bool) (kept : FloorMap) → test (Steps id entry is_closed kept) ≡ b id
+  pub steps : (id : ℕ) (entry : NodeEntry) (is_closed : Bool) (kept : FloorTable) → test (Steps id entry is_closed kept) ≡ b id
   pub closes : (id place : ℕ) (state : NodeState (Unit {0})) → test (Closes id place state) ≡ b id
 
 abbrev when : Bool → List Note → List Note
@@ -45,7 +46,7 @@ when_joined true xs ys = refl
 when_joined false xs ys = refl
 
 module _ (test : Note → Bool) (b : ℕ → Bool) (tells : TellsNodes test b) where
-  steps_told : (id : ℕ) (closing : Bool) (kept : FloorMap) (es : List NodeEntry) → filter test (steps_of id closing kept es) ≡ when (b id)
+  steps_told : (id : ℕ) (closing : Bool) (kept : FloorTable) (es : List NodeEntry) → filter test (steps_of id closing kept es) ≡ when (b id)
       (steps_of id closing kept es)
   steps_told id closing kept [] = none_when (b id)
   steps_told id closing kept (e ∷ es) =

@@ -1,9 +1,10 @@
 -- The judgement on one note in a state of the run: it may follow, or it has a flaw. Judges, the
 -- last definition, covers all notes.
-use Rattle.std.specs.Prelude.{◌≡◌, ◌≢◌, ◌⊎◌, ℕ, Bool, true, false, nat_le, ◌==◌, not, ◌&&◌, ◌||◌, List, length, find, Option, Some, None, MatchOption, Result, Ok, Err, if◌then◌else◌}
-use Rattle.std.specs.FinMap.{empty}
+use Rattle.std.specs.Prelude.{◌≡◌, ◌≢◌, ◌⊎◌, ℕ, Bool, true, false, ◌==◌, ◌&&◌, ◌||◌, List, length, find, Option, Some, None, MatchOption, Result, Ok, Err}
+use Rattle.std.specs.Prelude.{if◌then◌else◌}
 use Rattle.url_key.specs.Key.{IsKey}
-use Rattle.floor_rules.specs.Floors.{FloorMap, floor, raised}
+use Rattle.object_store.specs.Listed.{without_all_below}
+use Rattle.floor_rules.specs.Floors.{FloorTable, no_floors, new_base}
 use Rattle.values_tables.specs.Ranges.{is_foreign_id}
 use Rattle.values_tables.specs.declared.plain.Tables.{Tables}
 use Rattle.roster.specs.Lookups.{is_member}
@@ -17,7 +18,6 @@ use Rattle.node_rules.specs.declared.reply.StepFault.{StepFault}
 use Rattle.node_rules.specs.declared.reply.StepFault.TheVariants as fault
 use Rattle.node_rules.specs.State.{Setting, opened, closed_node, fetch_serial, setting}
 use Rattle.node_rules.specs.Relation.{purge_in}
-use Rattle.node_rules.specs.Datagrams.{is_full}
 use Rattle.node_rules.specs.Step.{step}
 use Rattle.node_book.specs.declared.book.NodeEntry.{NodeEntry}
 use Rattle.purge_rules.specs.declared.calls.MasterCall.{MasterCall}
@@ -32,6 +32,7 @@ use Rattle.world_rules.specs.World.{reply_in}
 use Rattle.run_rules.specs.declared.verdict.Cause.{Cause}
 use Rattle.run_rules.specs.declared.verdict.Cause.TheVariants.{NotSent, OtherReply, OtherState}
 use Rattle.run_rules.specs.Notes.{Note, Opens, Steps, Closes, Calls}
+use Rattle.run_rules.specs.Stored.{stored_by}
 use Rattle.run_rules.specs.Sent.{Network, with_reply, without_waiting, with_clears, IsSent, IsCallSent}
 use Rattle.run_rules.specs.Board.{Standing, New, Open, Shut, Astray, Board, standing_at, with_node, with_network, with_master}
 
@@ -50,7 +51,7 @@ IsShutAs s state = record state { floors = s.floors } ≡ s
 
 -- A record may open in the node's present state, or in that of a restart with its floors. [Record 11]
 abbrev pub OpensAs : Standing → NodeState (Unit {0}) → Type 0
-OpensAs New state = state ≡ opened empty
+OpensAs New state = state ≡ opened no_floors
 OpensAs (Open s) state = (state ≡ s) ⊎ (state ≡ opened s.floors)
 OpensAs (Shut s) state = IsShutAs s state ⊎ (state ≡ opened s.floors)
 OpensAs Astray state = ⊥
@@ -94,26 +95,24 @@ JudgesClosing b id state j =
 
 -- An entry of a node
 
--- The floors that are stored after a purge of this key and number has failed. The floors with which
--- the node next opens tell whether the purge is in them. If no more keys may have floors, it is
--- not.
-abbrev pub stored_by : FloorMap → List ℕ → ℕ → FloorMap → FloorMap
-stored_by floors key number kept = if nat_le number (floor kept key) && not (is_full floors key)
-    then raised floors key number else floors
-
--- The state of a node that closed at this purge, with the floors that are stored.
-abbrev pub left_by : NodeState (Unit {0}) → List ℕ × ℕ → FloorMap → NodeState (Unit {0})
-left_by s x kept = record (closed_node s) { floors = stored_by s.floors x.0 x.1 kept }
+-- The state of a node that closed at this purge, with the floors that are stored. Where the base was to rise, it has
+-- dropped the copies below the new base. [Refusal 4]
+abbrev pub left_by : NodeState (Unit {0}) → List ℕ × ℕ → FloorTable → NodeState (Unit {0})
+left_by s x kept = record (closed_node s) {
+  floors = stored_by s.floors x.0 x.1 kept;
+  copies =
+      without_all_below (new_base s.floors x.0 x.1) s.copies;
+}
 
 -- The standing after a step that lacked memory: it changes nothing, but at a purge it may have
 -- closed the node. [Record 7]
-abbrev pub wanting : NodeState (Unit {0}) → Option (List ℕ × ℕ) → Bool → FloorMap → Standing
+abbrev pub wanting : NodeState (Unit {0}) → Option (List ℕ × ℕ) → Bool → FloorTable → Standing
 wanting s (Some x) true kept = Shut (left_by s x kept)
 wanting s _ _ kept = Open s
 
 -- The standing after a step whose floor store failed: that comes only at a purge, and closes the
 -- node.
-abbrev pub failing : NodeState (Unit {0}) → Option (List ℕ × ℕ) → FloorMap → Result Standing Cause
+abbrev pub failing : NodeState (Unit {0}) → Option (List ℕ × ℕ) → FloorTable → Result Standing Cause
 failing s (Some x) kept = Ok (Shut (left_by s x kept))
 failing s None kept = Err OtherReply
 
@@ -149,7 +148,7 @@ StepsBy g s e r =
     ⊎ (((step g s e.event tt).outcome ≢ e.outcome) × (r ≡ Err OtherReply))
 
 -- an open node's entry with this outcome, and the node's standing after it or the flaw [Record 7]
-abbrev pub OpenStepsBy : Setting → NodeState (Unit {0}) → NodeEntry → Bool → FloorMap →
+abbrev pub OpenStepsBy : Setting → NodeState (Unit {0}) → NodeEntry → Bool → FloorTable →
     Result (Reply (Unit {0})) StepFault → Result Standing Cause → Type 0
 OpenStepsBy g s e is_closed kept (Err fault.NoMemory) r = r ≡ Ok (wanting s (purge_in g e.event) is_closed kept)
 OpenStepsBy g s e is_closed kept (Err fault.StoreFault) r = r ≡ failing s (purge_in g e.event) kept
@@ -163,7 +162,7 @@ shut_by s (Err fault.Closed) = Ok (Shut s)
 shut_by s _ = Err OtherReply
 
 -- a node's entry, by its standing; of a node astray each entry passes
-abbrev pub StepsSo : Setting → Standing → NodeEntry → Bool → FloorMap → Result Standing Cause → Type 0
+abbrev pub StepsSo : Setting → Standing → NodeEntry → Bool → FloorTable → Result Standing Cause → Type 0
 StepsSo g New e is_closed kept r = r ≡ Err OtherReply
 StepsSo g (Open s) e is_closed kept r = OpenStepsBy g s e is_closed kept e.outcome r
 StepsSo g (Shut s) e is_closed kept r = r ≡ shut_by s e.outcome
@@ -194,7 +193,7 @@ abbrev pub IsHeard : Tables → Board → ℕ → Event (Unit {0}) → Type 0
 IsHeard roster b id e = is_astray (standing_at b.posts id) ≡ false → IsSent roster b.network id e
 
 -- an entry of a node: whether what it received was sent, then whether its step is right
-abbrev pub JudgesEntry : Tables → Board → ℕ → NodeEntry → Bool → FloorMap → Judgement → Type 0
+abbrev pub JudgesEntry : Tables → Board → ℕ → NodeEntry → Bool → FloorTable → Judgement → Type 0
 JudgesEntry roster b id e is_closed kept j =
     (IsHeard roster b id e.event × (r : Result Standing Cause) × StepsSo (setting roster id) (standing_at b.posts id) e
     is_closed kept r × (j ≡ judged roster b id e r))

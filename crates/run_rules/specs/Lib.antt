@@ -2,6 +2,7 @@
 pub mod Notes
 pub mod Sent
 pub mod Board
+pub mod Stored
 pub mod Judging
 pub mod Verdict
 pub mod First

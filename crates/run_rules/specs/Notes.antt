@@ -1,8 +1,9 @@
 -- Notes: the members' records and the master's entries, cut into single items, and the one order of
 -- all of them.
-use Rattle.std.specs.Prelude.{ℕ, ◌+◌, Bool, true, false, not, ◌==◌, nat_le, nat_lt, List, [], ◌∷◌, ◌++◌, map, filter, length, option_map, Option, Some, None, Result, Err, if◌then◌else◌}
+use Rattle.std.specs.Prelude.{ℕ, ◌+◌, Bool, true, false, not, ◌==◌, nat_le, nat_lt, List, [], ◌∷◌, ◌++◌, map, filter, length, option_map, Option, Some, None}
+use Rattle.std.specs.Prelude.{Result, Err, if◌then◌else◌}
 use Rattle.std.specs.List.{flat_map, filter_map}
-use Rattle.floor_rules.specs.Floors.{FloorMap}
+use Rattle.floor_rules.specs.Floors.{FloorTable}
 use Rattle.node_rules.specs.declared.state.NodeState.{NodeState}
 use Rattle.node_rules.specs.declared.reply.Reply.{Reply}
 use Rattle.node_rules.specs.declared.reply.StepFault.{StepFault}
@@ -22,7 +23,7 @@ pub data Note : Type 0 where
   Opens : (node : ℕ) (state : NodeState (Unit {0})) → Note
   -- A record has this entry. Its next items tell whether the node is closed after it, and with
   -- which floors it then opens again.
-  Steps : (node : ℕ) (entry : NodeEntry) (is_closed : Bool) (kept : FloorMap) → Note
+  Steps : (node : ℕ) (entry : NodeEntry) (is_closed : Bool) (kept : FloorTable) → Note
   -- a record closes in this state; the place is that of its last entry, 0 if it has none
   Closes : (node : ℕ) (place : ℕ) (state : NodeState (Unit {0})) → Note
   -- The master's list has this entry. Its next items tell whether the master is closed after it.
@@ -41,7 +42,7 @@ is_closed_before [] closing = closing
 is_closed_before (e ∷ es) closing = is_closed_answer e.outcome
 
 -- the notes of a record's entries
-abbrev pub steps_of : ℕ → Bool → FloorMap → List NodeEntry → List Note
+abbrev pub steps_of : ℕ → Bool → FloorTable → List NodeEntry → List Note
 steps_of id closing kept [] = []
 steps_of id closing kept (e ∷ es) = Steps id e (is_closed_before es closing) kept ∷ steps_of id closing kept es
 
@@ -51,12 +52,12 @@ last_place place [] = place
 last_place place (e ∷ es) = last_place e.place es
 
 -- the floors of the next record that opens with an open node, else these
-abbrev pub kept_by : FloorMap → List Record → FloorMap
+abbrev pub kept_by : FloorTable → List Record → FloorTable
 kept_by floors [] = floors
 kept_by floors (r ∷ rs) = if r.opening.closed then kept_by floors rs else r.opening.floors
 
 -- the notes of a record after which the node next opens with these floors
-abbrev pub record_notes : Record → FloorMap → List Note
+abbrev pub record_notes : Record → FloorTable → List Note
 record_notes r kept = Opens r.node r.opening ∷ steps_of r.node r.closing.closed kept r.entries
     ++ Closes r.node (last_place 0 r.entries) r.closing ∷ []
 

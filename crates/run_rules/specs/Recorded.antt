@@ -1,10 +1,7 @@
 -- What it means that records and entries are a run of the model: all notes, in one order of rising
 -- places, stand for events of the world. IsRecordedRun is the last definition.
-use Rattle.std.specs.Prelude.{◌≡◌, ◌⊎◌, ℕ, ◌+◌, ◌<◌, ◌≤◌, Bool, true, false, ◌==◌, List, [], ◌∷◌, ◌++◌, filter, length, Some, Result, Ok, Err}
+use Rattle.std.specs.Prelude.{◌≡◌, ◌⊎◌, ℕ, ◌+◌, ◌<◌, Bool, true, false, ◌==◌, List, [], ◌∷◌, ◌++◌, filter, length, Some, Result, Ok, Err}
 use Rattle.std.specs.List.{filter_map}
-use Rattle.object_store.specs.declared.copy.WebCopy.{WebCopy}
-use Rattle.object_store.specs.Listed.{without_below}
-use Rattle.floor_rules.specs.Floors.{FloorMap, floor}
 use Rattle.values_tables.specs.declared.plain.Tables.{Tables}
 use Rattle.roster.specs.Lookups.{is_member}
 use Rattle.node_rules.specs.declared.state.NodeState.{NodeState}
@@ -71,24 +68,10 @@ pub record Goes (roster : Tables) (p : Progress) (steps : List Step) (m : Master
 abbrev pub node_in : Progress → ℕ → NodeState ℕ
 node_in p id = node_at p.world.states id
 
--- The first list is the second, or lacks a copy that is below its key's floor: a node that closed
--- at a purge kept it, and the purge is stored.
-abbrev pub AreKept : FloorMap → List (WebCopy (Unit {0})) → List (WebCopy (Unit {0})) → Type 0
-AreKept floors copies recorded = (copies ≡ recorded)
-    ⊎ ((key : List ℕ) × (number : ℕ) × (number ≤ floor floors key) × (copies ≡ without_below key number recorded))
-
--- The recorded state is that of a closed node: nothing is pending, and it has the node's next block
--- and copies. Its floors are those in memory, and the node has the stored ones.
-pub record IsShut (s state : NodeState (Unit {0})) : Type 0 where
-  pub shut : s.closed ≡ true
-  pub closed : state.closed ≡ true
-  pub pending : state.pending ≡ []
-  pub block : state.next ≡ s.next
-  pub copies : AreKept s.floors s.copies state.copies
-
--- the recorded state is the node's, but for what a closed one may keep in memory
+-- The recorded state is the node's. That of a closed node may have other floors: those in memory, where the node has
+-- the stored ones.
 abbrev pub IsKept : NodeState (Unit {0}) → NodeState (Unit {0}) → Type 0
-IsKept s state = (state ≡ s) ⊎ IsShut s state
+IsKept s state = (state ≡ s) ⊎ ((s.closed ≡ true) × (record state { floors = s.floors } ≡ s))
 
 -- an event with what it visibly did
 abbrev pub event_step : WorldEvent → Seen → Step
@@ -119,25 +102,14 @@ ChangesNothing roster p id e steps q =
     (fault : StepFault) × (e.outcome ≡ Err fault) × (steps ≡ []) × (q ≡ p)
     × NodeSteps (setting roster id) (unmarked (node_in p id)) e.event tt e.outcome (unmarked (node_in p id))
 
--- The entry's step lacks memory or its store fails, and the node closes: with the purge that it met
--- in its floors, or without.
-abbrev pub ClosesNode : Tables → Progress → ℕ → NodeEntry → List Step → Progress → Type 0
-ClosesNode roster p id e steps q =
-    (closed : NodeState (Unit {0})) × (closed.closed ≡ true)
-    × NodeSteps (setting roster id) (unmarked (node_in p id)) e.event tt e.outcome closed
-    × (((steps ≡ event_step (world.Fault id) Nothing ∷ []) × Goes roster p steps p.master q)
-    ⊎ ((taken : List Step) × (middle : Progress) × (reply : Reply ℕ)
-    × IsTaken roster p id e.event (Ok reply) taken middle
-    × (steps ≡ taken ++ event_step (world.Fault id) Nothing ∷ [])
-    × Goes roster middle (event_step (world.Fault id) Nothing ∷ []) p.master q))
-
--- an entry of a node: a step with its outcome, or no change, or the node closes
+-- An entry of a node: a step with its outcome, or a refusal that changes nothing. A step that lacks memory or meets a
+-- failing store may close the node; its floors are then those from before the raise or after it (IsClosed of
+-- node_rules), whichever are stored: a restart opens with them.
 abbrev pub StepsSo : Tables → Progress → ℕ → NodeEntry → List Step → Progress → Type 0
 StepsSo roster p id e steps q =
     ((outcome : Result (Reply ℕ) StepFault) × IsTaken roster p id e.event outcome steps q
     × (unmarked_outcome outcome ≡ e.outcome))
     ⊎ ChangesNothing roster p id e steps q
-    ⊎ ClosesNode roster p id e steps q
 
 -- a record closes in the node's state
 abbrev pub ClosesSo : Progress → ℕ → NodeState (Unit {0}) → List Step → Progress → Type 0

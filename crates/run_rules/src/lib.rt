@@ -11,10 +11,11 @@
 //! - `specs/Notes`: cuts records and entries into notes (a record opens, a step, a record closes, a
 //!   master's call), and puts all notes into the one order of their places.
 //! - `specs/Sent`: what was sent so far. `specs/Board`: the state of the run after some notes.
+//!   `specs/Stored`: which floors are stored after a purge has failed.
 //! - `specs/Judging`: whether a note may follow in that state, or which flaw it has.
 //! - `specs/Verdict`: judged in this order, the verdict is `Yes`, or the first flaw that is met
-//!   (`IsVerdictOn`). `specs/First`: the verdict names the first of all flaws, by the least place and
-//!   then by the cause (`IsFirstOn`).
+//!   (`IsVerdictOn`). `specs/First`: the verdict names the first of all flaws, by the least place
+//!   and then by the cause (`IsFirstOn`).
 //! - `specs/Recorded`: what it means that records and entries are a run of the model
 //!   (`IsRecordedRun`).
 //! - `src/laws.rt` joins the two: a run with the verdict `Yes` is a run of the model

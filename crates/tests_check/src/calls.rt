@@ -26,7 +26,8 @@ fn is_acknowledged(entries: &[MasterEntry], of: u8, number: u32) -> bool {
     false
 }
 
-/// Whether an entry acknowledges once more what its member has acknowledged in one of those before it.
+/// Whether an entry acknowledges once more what its member has acknowledged in one of those before
+/// it.
 fn repeats(before: &[MasterEntry], entry: &MasterEntry) -> bool {
     match (&entry.call, &entry.answer) {
         (MasterCall::Acknowledge { member, trans, .. }, Ok(MasterAnswer::Acknowledge(None))) => {
@@ -62,7 +63,8 @@ fn is_done_from(entries: &[MasterEntry], at: usize) -> bool {
     }
 }
 
-/// What is wanted where an entry and the next one change all but their places: it is a run where both only read, and may be one where an acknowledgement is repeated. Else the one changes what
+/// What is wanted where an entry and the next one change all but their places: it is a run where
+/// both only read, and may be one where an acknowledgement is repeated. Else the one changes what
 /// the other reads or counts.
 fn wanted_exchanged(entries: &[MasterEntry], at: usize, next: usize) -> Option<Wanted> {
     let (one, other) = (entries.get(at)?, entries.get(next)?);
@@ -73,7 +75,8 @@ fn wanted_exchanged(entries: &[MasterEntry], at: usize, next: usize) -> Option<W
     Some(Wanted::where_it_may_be(may_be))
 }
 
-/// What is wanted where an entry has another number: nobody sent such an acknowledgement, and no purge has it.
+/// What is wanted where an entry has another number: nobody sent such an acknowledgement, and no
+/// purge has it.
 fn wanted_of_number(entry: &MasterEntry) -> Wanted {
     match (&entry.call, &entry.answer) {
         (MasterCall::Acknowledge { .. }, _) => Wanted::Flaw(entry.place, Cause::NotSent),
@@ -82,8 +85,9 @@ fn wanted_of_number(entry: &MasterEntry) -> Wanted {
     }
 }
 
-/// What is wanted where another URL is purged, whose CLR nobody takes, or the other member acknowledges: it may have done so too, but where this is the first acknowledgement of a purge that gets
-/// done, the member that it was of is missing then.
+/// What is wanted where another URL is purged, whose CLR nobody takes, or the other member
+/// acknowledges: it may have done so too, but where this is the first acknowledgement of a purge
+/// that gets done, the member that it was of is missing then.
 fn wanted_of_subject(entries: &[MasterEntry], at: usize, call: &MasterCall) -> Option<Wanted> {
     match call {
         MasterCall::Issue(_) => Some(Wanted::AFlaw),
@@ -108,7 +112,8 @@ fn member_place_below(records: &[Record], place: u64) -> u64 {
     found
 }
 
-/// The place that a change gives the entry at a place, that of an entry before it; 0 where it gives it none.
+/// The place that a change gives the entry at a place, that of an entry before it; 0 where it gives
+/// it none.
 fn other_place(kept: &Kept, at: usize, change: Change) -> u64 {
     let entries = kept.entries.as_slice();
     match (change, entries.get(at), entries.get(at.wrapping_sub(1))) {
@@ -120,13 +125,15 @@ fn other_place(kept: &Kept, at: usize, change: Change) -> u64 {
     }
 }
 
-/// What is wanted of the verdict where the master's entry at a place is changed, and none where that changes nothing.
+/// What is wanted of the verdict where the master's entry at a place is changed, and none where
+/// that changes nothing.
 pub(crate) fn call_verdict_wanted(kept: &Kept, at: usize, change: Change) -> Option<Wanted> {
     let entries = kept.entries.as_slice();
     let entry = entries.get(at)?;
     let next = at.wrapping_add(1);
     match change {
-        // It may be missing where it is no issue, and no acknowledgement that is the first of its member for its purge.
+        // It may be missing where it is no issue, and no acknowledgement that is the first of its
+        // member for its purge.
         Change::Dropped => Some(Wanted::where_it_may_be(
             is_reading(&entry.call) || is_repeated(entries, at),
         )),
@@ -233,7 +240,8 @@ fn change_both(entry: &mut MasterEntry, next: &mut MasterEntry, change: Change) 
     }
 }
 
-/// Changes the first of these entries, which gets this place unless it is 0, and its next one, if there is one.
+/// Changes the first of these entries, which gets this place unless it is 0, and its next one, if
+/// there is one.
 fn change_first(
     alloc: Global,
     entries: &mut [MasterEntry],
@@ -253,7 +261,8 @@ fn change_first(
     Ok(())
 }
 
-/// The master's entries after a change of the one at a place; a URL that is purged becomes this other one.
+/// The master's entries after a change of the one at a place; a URL that is purged becomes this
+/// other one.
 pub(crate) fn changed_calls(
     alloc: Global,
     kept: &Kept,

@@ -1,4 +1,5 @@
-//! Runs with several flaws at one place, of which the first cause is named: `DoublePlace`, `NotSent`, `OtherReply`, `OtherState`.
+//! Runs with several flaws at one place, of which the first cause is named: `DoublePlace`,
+//! `NotSent`, `OtherReply`, `OtherState`.
 use crate::events::{A, Called};
 use crate::judged::{ASK, NO_COPY, Run, WRONG};
 use crate::made::{Said, Shift, Told};

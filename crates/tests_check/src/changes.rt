@@ -6,7 +6,8 @@ use roster::Listed;
 use std::alloc::{AllocError, Global};
 use std::mem::swap;
 
-/// What is changed at one entry of a member's record, or of the master, or at the state in which a record opens or closes.
+/// What is changed at one entry of a member's record, or of the master, or at the state in which a
+/// record opens or closes.
 #[derive(Clone, Copy, Debug, PartialEq, Eq)]
 pub(crate) enum Change {
     /// The entry is left out.
@@ -29,7 +30,8 @@ pub(crate) enum Change {
     OtherSeat,
     /// Its answer is a fault that the master does not have.
     OtherAnswer,
-    /// Another TRANS-ID is acknowledged, or the status of another purge is asked; in place of another call a status is.
+    /// Another TRANS-ID is acknowledged, or the status of another purge is asked; in place of
+    /// another call a status is.
     OtherNumber,
     /// The other member acknowledges, or another URL is purged.
     OtherSubject,
@@ -95,7 +97,7 @@ fn copy_of_outcome(alloc: Global, outcome: &Outcome) -> Result<Outcome, AllocErr
     }
 }
 
-fn copy_of_entry(alloc: Global, entry: &NodeEntry) -> Result<NodeEntry, AllocError> {
+pub(crate) fn copy_of_entry(alloc: Global, entry: &NodeEntry) -> Result<NodeEntry, AllocError> {
     let event = copy_of_event(alloc, &entry.event)?;
     Ok(NodeEntry {
         seat: entry.seat,

@@ -16,7 +16,8 @@ use std::test::Fail;
 use tests_kit::{TWO, key_of, roster_of};
 use url_key::Key;
 
-/// How many changes were tried, how many of them leave a run, and the first whose verdict was not what was wanted.
+/// How many changes were tried, how many of them leave a run, and the first whose verdict was not
+/// what was wanted.
 #[derive(Clone, Copy, Debug)]
 struct Tally {
     tried: u32,
@@ -66,7 +67,8 @@ fn exchange(state: &mut NodeState<()>, other: &mut NodeState<()>, change: Change
     }
 }
 
-/// Exchanges what is changed of the state in which a record opens or closes with that of another one.
+/// Exchanges what is changed of the state in which a record opens or closes with that of another
+/// one.
 fn exchange_states(
     kept: &mut Kept,
     record: usize,
@@ -83,7 +85,8 @@ fn exchange_states(
     }
 }
 
-/// What is wanted where a record opens or closes in another state: that is found at its last entry. None where it has no copies to lose.
+/// What is wanted where a record opens or closes in another state: that is found at its last entry.
+/// None where it has no copies to lose.
 fn state_wanted(record: &Record, is_closing: bool, change: Change) -> Option<Wanted> {
     let state = if is_closing {
         &record.closing

@@ -8,6 +8,7 @@ use roster::Address;
 use std::alloc::Global;
 use std::test::Fail;
 use tests_kit::{ask_of, icp_of, key_of};
+use url_key::Key;
 
 /// 127.0.0.1.
 const HOST: u32 = 2130706433;
@@ -33,7 +34,8 @@ pub(crate) enum Met {
     Cached(Url),
     /// This member asks for a copy that the node has.
     PeerAsk(u8, Url),
-    /// This member answers the fetch of this serial, with an age of 0 and this purge number, or without both.
+    /// This member answers the fetch of this serial, with an age of 0 and this purge number, or
+    /// without both.
     PeerAnswer(u8, u32, Option<u32>, Url),
     /// The origin answers the read of this serial.
     Origin(u32, Url),
@@ -92,6 +94,15 @@ fn datagram(alloc: Global, port: u16, message: Message) -> Result<Event<()>, Fai
 fn clear_of(alloc: Global, number: u32, url: Url) -> Result<Message, Fail> {
     let key = key_of(alloc, url)?;
     Ok(Message::Htcp(clear(alloc, number, &key)?))
+}
+
+/// The CLR of this purge, of a key, comes from the master.
+pub(crate) fn clear_comes(alloc: Global, number: u32, key: &Key) -> Result<Event<()>, Fail> {
+    datagram(
+        alloc,
+        MASTER.port,
+        Message::Htcp(clear(alloc, number, key)?),
+    )
 }
 
 fn peer_answer(

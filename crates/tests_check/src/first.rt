@@ -1,4 +1,5 @@
-//! Runs with flaws in several records, whose places interleave: the least place is named, and the first cause there.
+//! Runs with flaws in several records, whose places interleave: the least place is named, and the
+//! first cause there.
 use crate::events::{A, Called};
 use crate::judged::{ASK, NO_COPY, Run, WRONG};
 use crate::made::{Said, Shift, Step, Told};

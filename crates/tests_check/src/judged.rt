@@ -23,7 +23,8 @@ pub(crate) const NO_COPY: Said = Said::Status(504);
 /// What it never serves then.
 pub(crate) const WRONG: Said = Said::Status(502);
 
-/// A run: its name, its roster, its records, the calls of its master, and its first flaw, if it is none of the world.
+/// A run: its name, its roster, its records, the calls of its master, and its first flaw, if it is
+/// none of the world.
 pub(crate) type Run = (
     &'static str,
     &'static str,

@@ -4,6 +4,8 @@
 #![tactic(auto)]
 
 #[cfg(test)]
+mod bases;
+#[cfg(test)]
 mod calls;
 #[cfg(test)]
 mod causes;
@@ -15,6 +17,8 @@ mod court;
 mod events;
 #[cfg(test)]
 mod first;
+#[cfg(test)]
+mod full;
 #[cfg(test)]
 mod judged;
 #[cfg(test)]

@@ -45,7 +45,8 @@ pub(crate) type Step = (u64, Met, Said);
 /// A call of the master: its place, the call, and its answer.
 pub(crate) type Call = (u64, Called, Told);
 
-/// A record: of this node, which opens with this floor, has these steps, and closes with this floor, or shuts.
+/// A record: of this node, which opens with this floor, has these steps, and closes with this
+/// floor, or shuts.
 #[derive(Clone, Copy)]
 pub(crate) struct Shift(pub u8, pub u32, pub &'static [Step], pub Option<u32>);
 

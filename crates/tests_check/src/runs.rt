@@ -59,8 +59,9 @@ fn meet(alloc: Global, book: &mut Book, place: u64, met: Met) -> Result<(), Fail
     }
 }
 
-/// What the first member meets of a page, with the round of both, and how many places after the page's first: a client asks for it, the sibling has no copy, the origin gives it; then the sibling
-/// asks for it.
+/// What the first member meets of a page, with the round of both, and how many places after the
+/// page's first: a client asks for it, the sibling has no copy, the origin gives it; then the
+/// sibling asks for it.
 fn first_meets(round: u32, page: Url) -> [(u64, Met); 5] {
     [
         (1, Met::Client(page)),
@@ -71,7 +72,8 @@ fn first_meets(round: u32, page: Url) -> [(u64, Met); 5] {
     ]
 }
 
-/// What the second member meets of it: the first asks whether it has a copy; then a client asks for it, the first has one, and gives it.
+/// What the second member meets of it: the first asks whether it has a copy; then a client asks for
+/// it, the first has one, and gives it.
 fn second_meets(round: u32, page: Url) -> [(u64, Met); 4] {
     [
         (2, Met::Icp(FIRST, IcpOp::Query, round, page)),
@@ -110,7 +112,8 @@ fn meet_pages(
     Ok(())
 }
 
-/// What the first member meets behind the pages, and what the second does: both are purged, and asked for the purged page again.
+/// What the first member meets behind the pages, and what the second does: both are purged, and
+/// asked for the purged page again.
 const FIRST_AFTER: &[(u64, Met)] = &[
     (205, Met::Clear(1, PURGED)),
     (209, Met::Client(PURGED)),
@@ -229,7 +232,8 @@ fn entries(alloc: Global) -> Result<Vec<MasterEntry>, Fail> {
     Ok(book.take_entries())
 }
 
-/// What is kept of the run: both members miss and fetch each page, the first from the origin and the second from the first; then one page is purged, and they are asked for it again.
+/// What is kept of the run: both members miss and fetch each page, the first from the origin and
+/// the second from the first; then one page is purged, and they are asked for it again.
 pub(crate) fn kept_run(alloc: Global) -> Result<Kept, Fail> {
     let mut records = Vec::new(alloc);
     keep(alloc, &mut records, 1, FIRST_AFTER)?;

@@ -41,7 +41,8 @@ impl Wanted {
     }
 }
 
-/// Whether a step leaves nothing behind that others may meet: it sends nothing, begins nothing and serves no member.
+/// Whether a step leaves nothing behind that others may meet: it sends nothing, begins nothing and
+/// serves no member.
 fn is_quiet(outcome: &Outcome) -> bool {
     match outcome {
         Ok(reply) => {
@@ -55,7 +56,8 @@ fn is_quiet(outcome: &Outcome) -> bool {
     }
 }
 
-/// Whether an entry may be missing: its step leaves nothing behind, and it is no answer of which a copy is kept.
+/// Whether an entry may be missing: its step leaves nothing behind, and it is no answer of which a
+/// copy is kept.
 fn may_be_missing(entry: &NodeEntry) -> bool {
     match &entry.event {
         Event::PeerAnswer { .. } | Event::OriginAnswer { .. } | Event::ForeignAnswer { .. } => {
@@ -113,7 +115,8 @@ fn is_same_url(one: &Event<()>, other: &Event<()>) -> bool {
     }
 }
 
-/// Whether two steps may have been made the other way round: they speak of different URLs, one of them changes nothing or leaves nothing behind, or both led to the same.
+/// Whether two steps may have been made the other way round: they speak of different URLs, one of
+/// them changes nothing or leaves nothing behind, or both led to the same.
 fn may_change_turns(one: &NodeEntry, other: &NodeEntry) -> bool {
     is_free(one)
         || is_free(other)
@@ -159,7 +162,8 @@ fn wanted_of_one(entry: &NodeEntry, before: u64, change: Change) -> Option<Wante
     }
 }
 
-/// What is wanted of the verdict where the entry at a place is changed, and none where that changes nothing: the last entry has no next one, and the first none before it.
+/// What is wanted of the verdict where the entry at a place is changed, and none where that changes
+/// nothing: the last entry has no next one, and the first none before it.
 pub(crate) fn verdict_wanted(entries: &[NodeEntry], at: usize, change: Change) -> Option<Wanted> {
     let entry = entries.get(at)?;
     match change {

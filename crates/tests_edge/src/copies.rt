@@ -142,7 +142,8 @@ fn begin(alloc: Global) -> Option<Begin> {
     })
 }
 
-/// A copy that is served, a QUERY that is sent, and a fetch that is begun. What there is no memory for is missing, which a comparison finds.
+/// A copy that is served, a QUERY that is sent, and a fetch that is begun. What there is no memory
+/// for is missing, which a comparison finds.
 fn reply_of(alloc: Global) -> Option<Reply<u64>> {
     let send = all_sent(alloc)?;
     Some(Reply {

@@ -1,4 +1,5 @@
-//! What one who asks over HTTP is told where the step is refused, and what is left of a served copy where the writer fails.
+//! What one who asks over HTTP is told where the step is refused, and what is left of a served copy
+//! where the writer fails.
 use crate::held::node_of;
 use crate::http::{
     ANY, End, HELD, HELD_FOR_A_MEMBER, OF_MEMBER_2, UNAVAILABLE, ends_so, fetches, is_answered,
@@ -25,7 +26,8 @@ impl Stepper for Refusing {
     }
 }
 
-/// An ask whose step is refused takes that step alone, is told this name of its fault, and the 503 is all that is written.
+/// An ask whose step is refused takes that step alone, is told this name of its fault, and the 503
+/// is all that is written.
 fn is_told(alloc: Global, ask: &[u8], fault: StepFault, name: &'static str) -> bool {
     let mut node = Refusing { fault, steps: 0 };
     let is_told = is_answered(alloc, &mut node, ask, 9, End::Step(name), UNAVAILABLE);
@@ -55,7 +57,8 @@ fn refused_steps_are_told(rt: HostRuntime) {
     assert_eq!(rt; told_otherwise(rt.alloc()), None);
 }
 
-/// A writer that takes one octet a call, fails once when its room is used up, and takes any octet afterwards.
+/// A writer that takes one octet a call, fails once when its room is used up, and takes any octet
+/// afterwards.
 #[derive(Drop)]
 struct Failing {
     taken: Vec<u8>,
@@ -82,7 +85,8 @@ impl Write for Failing {
     }
 }
 
-/// A writer that fails after so many octets of a served text holds those and nothing else, and its failure is told.
+/// A writer that fails after so many octets of a served text holds those and nothing else, and its
+/// failure is told.
 fn is_cut<N: Stepper>(alloc: Global, node: &mut N, ask: &[u8], text: &[u8], room: usize) -> bool {
     let mut reader = ask;
     let mut writer = Failing {

@@ -1,4 +1,5 @@
-//! Asks at node 1 of a roster of two siblings: what its caller is told, and what a reader, a writer or a node that fails leaves.
+//! Asks at node 1 of a roster of two siblings: what its caller is told, and what a reader, a writer
+//! or a node that fails leaves.
 use crate::held::{node_of, roster_of};
 use crate::made::{URL, answer_of, fields_of, key_of};
 use crate::octets::refuses;
@@ -202,7 +203,8 @@ fn a_closed_node_is_told(rt: HostRuntime) {
     assert!(rt; tells_that_it_is_closed(rt.alloc()) == Some(true));
 }
 
-/// A writer with room for nine octets holds those of a text; and the ask ends by the fault of this name.
+/// A writer with room for nine octets holds those of a text; and the ask ends by the fault of this
+/// name.
 fn fills_a_writer<N: Stepper>(alloc: Global, node: &mut N, ask: &[u8], name: &'static str) -> bool {
     let mut room = [0; 9];
     let mut reader = ask;
@@ -211,7 +213,8 @@ fn fills_a_writer<N: Stepper>(alloc: Global, node: &mut N, ask: &[u8], name: &'s
     ends && room.as_slice() == b"HTTP/1.1 ".as_slice()
 }
 
-/// Asks that fill such a writer, and the fault that a call with them tells: that of the writer, unless the ask is bad, which is told first.
+/// Asks that fill such a writer, and the fault that a call with them tells: that of the writer,
+/// unless the ask is bad, which is told first.
 const FILLING: [(&[u8], &str); 6] = [
     (CACHED, "Io"),
     (NO_HOST, "BadHead"),

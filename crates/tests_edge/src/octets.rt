@@ -29,7 +29,8 @@ pub(crate) fn refuses<N: Stepper>(alloc: Global, node: &mut N) -> bool {
     matches!(refused, Err(StepFault::Closed))
 }
 
-/// The port that octets come from, and the member that acknowledges transaction 7 with code 2 by them.
+/// The port that octets come from, and the member that acknowledges transaction 7 with code 2 by
+/// them.
 const CALLS: [(u16, &[u8], Option<u8>); 9] = [
     (4102, CLEARED, Some(2)),
     (4101, CLEARED, Some(1)),

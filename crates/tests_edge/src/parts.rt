@@ -1,4 +1,5 @@
-//! What a node takes and gives, compared part by part: each part is the same as a second one made alike, and another where one thing differs.
+//! What a node takes and gives, compared part by part: each part is the same as a second one made
+//! alike, and another where one thing differs.
 use crate::made::{URL, answer_of, ask_of, fields_of, key_of, query};
 use http_messages::Answer;
 use node_copies::{
@@ -46,7 +47,8 @@ fn answer_with(alloc: Global, value: &str, body: &str) -> Option<Answer> {
     answer_of(alloc, fields, Some(3), body)
 }
 
-/// Whether such an answer is the same as that of the value `1` and the body `one`, and whether its fields are.
+/// Whether such an answer is the same as that of the value `1` and the body `one`, and whether its
+/// fields are.
 fn answers_are_same(alloc: Global, value: &str, body: &str) -> Option<(bool, bool)> {
     let one = answer_with(alloc, "1", "one")?;
     let other = answer_with(alloc, value, body)?;

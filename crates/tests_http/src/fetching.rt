@@ -1,4 +1,5 @@
-//! Asks and answers, written and read back in pieces of several lengths, with other octets behind them.
+//! Asks and answers, written and read back in pieces of several lengths, with other octets behind
+//! them.
 use crate::made::{Flags, LENGTHS, Parts, Pieces, answer_of, ask_of, is_answer, is_ask};
 use peer_fetch::{AskForm, FetchFault, is_name, read_answer, read_ask, write_answer, write_ask};
 use std::alloc::Global;
@@ -129,7 +130,8 @@ fn cut_texts_are_refused(rt: HostRuntime) {
     }
 }
 
-/// The text of an answer with a field of so many octets and a body of 65,536: it has 65,581 octets and those of the field's value.
+/// The text of an answer with a field of so many octets and a body of 65,536: it has 65,581 octets
+/// and those of the field's value.
 fn long_answer(rt: &(impl Abort + AllocGlobal), octets: usize) -> Vec<u8> {
     let mut text = b"HTTP/1.1 200 \r\na: "
         .to_vec(rt.alloc())

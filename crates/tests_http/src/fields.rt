@@ -576,7 +576,8 @@ fn no_fields_have_no_host(rt: HostRuntime) {
     assert!(rt; host_of(b"", &[]) == Host::Absent);
 }
 
-/// A section of so many fields of six octets each with the 4 of their lines, and one whose value has so many octets.
+/// A section of so many fields of six octets each with the 4 of their lines, and one whose value
+/// has so many octets.
 fn section_of(rt: &(impl Abort + AllocGlobal), count: usize, length: usize) -> Vec<u8> {
     let mut section = Vec::new(rt.alloc());
     for _ in 0..count {
@@ -592,7 +593,8 @@ fn section_of(rt: &(impl Abort + AllocGlobal), count: usize, length: usize) -> V
     section
 }
 
-/// How many fields there are beside the last, how long its value is, and how many are kept, if they are.
+/// How many fields there are beside the last, how long its value is, and how many are kept, if they
+/// are.
 const MOST: [(usize, usize, Option<usize>); 6] = [
     (0, 15_995, Some(1)),
     (0, 15_996, None),

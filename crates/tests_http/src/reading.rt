@@ -1,4 +1,5 @@
-//! Rows that no clause says: worked asks and answers, in pieces of several lengths, and readers that fail.
+//! Rows that no clause says: worked asks and answers, in pieces of several lengths, and readers
+//! that fail.
 use crate::made::{Flags, LENGTHS, Parts, Pieces, is_answer, is_ask};
 use http_messages::{Answer, Ask, FetchFault};
 use http_reading::{read_answer, read_ask};

@@ -132,7 +132,8 @@ fn messages(rt: HostRuntime) {
 const ONE: &[u8] =
     b"HTTP/1.1 200 \r\nage: 1\r\ncontent-length: 3\r\nconnection: close\r\nvia: 1.1 n1\r\n\r\none";
 
-/// Whether a writer with room for so many octets holds the front of an answer, and all of it is written only where there is room.
+/// Whether a writer with room for so many octets holds the front of an answer, and all of it is
+/// written only where there is room.
 fn holds_front(rt: &(impl Abort + AllocGlobal), room: usize) -> bool {
     let mut writer = Narrow::new(rt.alloc(), room);
     let answer = answer_of(rt, &(200, &[], Some(1), None, b"one"));

@@ -107,7 +107,8 @@ fn round_of_one(roster: &Roster) -> Option<Round> {
     }
 }
 
-/// Ports of members at which no peer of member 1 is asked: member 2 is asked by ICP, and member 3 by HTCP.
+/// Ports of members at which no peer of member 1 is asked: member 2 is asked by ICP, and member 3
+/// by HTCP.
 const PEERS: [(u16, Udp, Option<u8>); 2] = [(4002, Udp::Htcp, None), (3003, Udp::Icp, None)];
 
 /// The first port at which another peer is found.

@@ -4,7 +4,7 @@ use htcp_wire::Content;
 use icp_wire::IcpOp;
 use node_bytes::encode;
 use node_core::{Node, OpenFault};
-use node_rules::{Begin, Event, Message, Reply, Sent, Serve, Served, StepFault, fits};
+use node_rules::{Begin, Event, Message, NodeState, Reply, Sent, Serve, Served, StepFault, fits};
 use roster::Roster;
 use std::alloc::Global;
 use std::fmt::Write;
@@ -26,6 +26,14 @@ fn opened(rt: &HostRuntime, roster: Roster, id: u8) -> Result<Held, OpenFault> {
     match Node::open(rt.alloc(), roster, id, MemoryFloors::new(rt.alloc())) {
         Ok(node) => Ok(Held { node }),
         Err(fault) => Err(fault),
+    }
+}
+
+/// Node 1 of this roster, over these floors.
+fn over(rt: &HostRuntime, roster: Roster, floors: MemoryFloors) -> Result<Held, Fail> {
+    match Node::open(rt.alloc(), roster, 1, floors) {
+        Ok(node) => Ok(Held { node }),
+        Err(fault) => Err(fault.name().into()),
     }
 }
 
@@ -247,7 +255,8 @@ fn check(rt: &HostRuntime, node: &mut Tested, table: &[(Happens, &str)]) -> Resu
     Ok(())
 }
 
-/// A read that a purge overtakes begins anew, and a copy bears the stamp and the mark of its own read.
+/// A read that a purge overtakes begins anew, and a copy bears the stamp and the mark of its own
+/// read.
 const OVERTAKEN: [(Happens, &str); 6] = [
     (Happens::Ask("http://o/a", 100), " read 33"),
     (Happens::Purge("http://o/a", 1), " clr 2"),
@@ -263,7 +272,8 @@ const OVERTAKEN: [(Happens, &str); 6] = [
     ),
 ];
 
-/// What a foreign sibling gives bears the tag of its answer, and no stamp: the one that it tells is not trusted.
+/// What a foreign sibling gives bears the tag of its answer, and no stamp: the one that it tells is
+/// not trusted.
 const WITH_A_FOREIGN_SIBLING: [(Happens, &str); 3] = [
     (Happens::Ask("http://o/a", 0), " Query round 32"),
     (
@@ -318,4 +328,153 @@ fn tell(rt: &HostRuntime, node: &mut Tested) -> Result<(), Fail> {
 fn a_node_tells_of_itself(rt: HostRuntime) -> Result<(), Fail> {
     let mut held = node_with_keys(&rt, ONE)?;
     tell(&rt, &mut held.node)
+}
+
+/// Raises a key's number in a store, which is at least 1.
+fn raise(alloc: Global, floors: &mut MemoryFloors, url: &str, number: u32) -> Result<(), Fail> {
+    if number == 0 {
+        return Err("a number of at least 1".into());
+    }
+    match floors.raise(alloc, &key_of(alloc, url.as_bytes())?, number) {
+        Ok(()) => Ok(()),
+        Err(fault) => Err(fault.name().into()),
+    }
+}
+
+/// Adds floors of 65,536 keys: `http://o/1` has the number behind this one, `http://o/2` the next,
+/// and so on.
+fn fill(alloc: Global, floors: &mut MemoryFloors, before: u32) -> Result<(), Fail> {
+    for key in 1..=65_536u32 {
+        let url = format!(in alloc; "http://o/{key}")?;
+        raise(alloc, floors, url.as_str(), before.saturating_add(key))?;
+    }
+    Ok(())
+}
+
+/// Floors with the numbers 1 to 65,536, and the base 0.
+fn full(alloc: Global) -> Result<MemoryFloors, Fail> {
+    let mut floors = MemoryFloors::new(alloc);
+    fill(alloc, &mut floors, 0)?;
+    Ok(floors)
+}
+
+/// Floors with the numbers 74,465 to 140,000, and the base 70,000.
+fn full_again(alloc: Global) -> Result<MemoryFloors, Fail> {
+    let mut floors = full(alloc)?;
+    raise(alloc, &mut floors, "http://o/x", 70_000)?;
+    fill(alloc, &mut floors, 74_464)?;
+    Ok(floors)
+}
+
+/// How many rows a node's floors have, the base, the floors of `http://o/a`, `http://o/b` and
+/// `http://o/9`, the greatest floor, and how many copies it has.
+type Seen = (usize, u32, [u32; 3], u32, usize);
+
+fn seen_in(alloc: Global, state: &NodeState<u64>) -> Result<Seen, Fail> {
+    let floors = &state.floors;
+    let a = floors.floor(&key_of(alloc, b"http://o/a")?);
+    let b = floors.floor(&key_of(alloc, b"http://o/b")?);
+    let o = floors.floor(&key_of(alloc, b"http://o/9")?);
+    let copies = state.copies.as_slice().len();
+    Ok((
+        floors.rows(),
+        floors.base(),
+        [a, b, o],
+        floors.seen(),
+        copies,
+    ))
+}
+
+/// A node tells this of its floors and copies.
+fn check_seen(rt: &HostRuntime, node: &Tested, wanted: Seen) -> Result<(), Fail> {
+    let found = seen_in(rt.alloc(), &node.state()?)?;
+    if found == wanted {
+        Ok(())
+    } else {
+        Err(Fail::new(format_args!("{found:?}")))
+    }
+}
+
+/// Steps of a node, and what is seen of it then.
+type Part = (&'static [(Happens, &'static str)], Seen);
+
+/// These floors, and after each part this is seen.
+fn check_parts(rt: &HostRuntime, floors: MemoryFloors, parts: &[Part]) -> Result<(), Fail> {
+    let mut held = over(rt, roster_of(rt.alloc(), ONE)?, floors)?;
+    for (steps, seen) in parts {
+        check_open(rt, &mut held.node, steps)?;
+        check_seen(rt, &held.node, *seen)?;
+    }
+    Ok(())
+}
+
+/// A purge of a new key makes the base, and a copy of another key goes with it: no copy of this key
+/// was held. Then rows are for what is above the base.
+const NEW_KEY: &[Part] = &[
+    (
+        &[
+            (Happens::Ask("http://o/b", 0), " read 33"),
+            (
+                Happens::Origin(33, "http://o/b", 1),
+                " serve stamp 65536 tag 1 age 1",
+            ),
+        ],
+        (65_536, 0, [0, 0, 9], 65_536, 1),
+    ),
+    (
+        &[(Happens::Purge("http://o/x", 70_000), " clr 2")],
+        (0, 70_000, [70_000; 3], 70_000, 0),
+    ),
+    (
+        &[(Happens::Purge("http://o/a", 70_001), " clr 2")],
+        (1, 70_000, [70_001, 70_000, 70_000], 70_001, 0),
+    ),
+    (
+        &[(Happens::Purge("http://o/b", 60_000), " clr 2")],
+        (1, 70_000, [70_001, 70_000, 70_000], 70_001, 0),
+    ),
+];
+
+/// The same where the key's own copy goes.
+const HELD_KEY: &[Part] = &[
+    (
+        &[
+            (Happens::Ask("http://o/a", 0), " read 33"),
+            (
+                Happens::Origin(33, "http://o/a", 1),
+                " serve stamp 65536 tag 1 age 1",
+            ),
+        ],
+        (65_536, 0, [0, 0, 9], 65_536, 1),
+    ),
+    (
+        &[(Happens::Purge("http://o/a", 70_000), " clr 0")],
+        (0, 70_000, [70_000; 3], 70_000, 0),
+    ),
+];
+
+/// The new base is the greatest floor, not the number of the purge. A copy that is no older than
+/// that stays.
+const GREATEST: &[Part] = &[
+    (
+        &[
+            (Happens::Ask("http://o/a", 0), " read 33"),
+            (
+                Happens::Origin(33, "http://o/a", 1),
+                " serve stamp 140000 tag 1 age 1",
+            ),
+        ],
+        (65_536, 70_000, [70_000, 70_000, 74_473], 140_000, 1),
+    ),
+    (
+        &[(Happens::Purge("http://o/x", 75_000), " clr 2")],
+        (0, 140_000, [140_000; 3], 140_000, 1),
+    ),
+];
+
+#[test]
+fn a_full_table_of_floors_makes_the_base(rt: HostRuntime) -> Result<(), Fail> {
+    check_parts(&rt, full(rt.alloc())?, NEW_KEY)?;
+    check_parts(&rt, full(rt.alloc())?, HELD_KEY)?;
+    check_parts(&rt, full_again(rt.alloc())?, GREATEST)
 }

@@ -1,4 +1,5 @@
-//! What no clause says: that each call can be made with ample memory, and what it gives at numbers that are written here.
+//! What no clause says: that each call can be made with ample memory, and what it gives at numbers
+//! that are written here.
 ghost use Rattle.std.specs.Prelude.{◌≡◌, ◌≤◌, IfOk};
 ghost use Rattle.node_waiting.specs.CanGoOn.{CanGoOn};
 ghost use Rattle.node_rules.specs.Asks.{IsBlock};

@@ -17,7 +17,8 @@ fn is_missed(purges: &Purges, number: u32, member: u8) -> bool
     }
 }
 
-/// Whether a purge may be added under this number: it is above the last one, and fewer than 1,024 purges are pending.
+/// Whether a purge may be added under this number: it is above the last one, and fewer than 1,024
+/// purges are pending.
 fn may_add(purges: &Purges, number: u32) -> bool
     ensures above { IsTrue result → purges.now.last < number }
     ensures room { IsTrue result → length purges.now.pending < 1024 }

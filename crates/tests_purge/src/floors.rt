@@ -1,4 +1,5 @@
 //! Floors by themselves, in a file with an open transaction, and in files that stop.
+mod full;
 mod stops;
 
 use crate::disks::{FORM, VERSION, made_by};
@@ -42,7 +43,8 @@ fn floor(floors: &Floors, alloc: Global, url: &str) -> Result<u32, Fail> {
     Ok(floors.floor(&Key::read(alloc, url.as_bytes())?))
 }
 
-/// The numbers of `http://a/`, `http://b/` and `http://c/`, the greatest of all, and how many there are.
+/// The numbers of `http://a/`, `http://b/` and `http://c/`, the greatest of all, and how many there
+/// are.
 type Told = ([u32; 3], u32, usize);
 
 fn told(floors: &Floors, alloc: Global) -> Result<Told, Fail> {
@@ -74,9 +76,6 @@ fn flaw(floors: &Floors, copy: &Floors, alloc: Global) -> Result<Option<&'static
     if !floors.same(&floors.copy()?) {
         return Ok(Some("another than a new copy"));
     }
-    if !floors.has_room(&Key::read(alloc, b"http://a/")?) {
-        return Ok(Some("no room"));
-    }
     Ok(None)
 }
 
@@ -92,8 +91,7 @@ fn floors_by_themselves(rt: HostRuntime) -> Result<(), Fail> {
     Ok(())
 }
 
-const FAULTS: [(FloorFault, &str); 4] = [
-    (FloorFault::FloorsFull, "FloorsFull"),
+const FAULTS: [(FloorFault, &str); 3] = [
     (FloorFault::StoreFault, "StoreFault"),
     (FloorFault::BadTable, "BadTable"),
     (FloorFault::NoMemory, "NoMemory"),

@@ -1,4 +1,5 @@
-//! A master's purges in files: purges beside one another, a file with an open transaction, and files that stop.
+//! A master's purges in files: purges beside one another, a file with an open transaction, and
+//! files that stop.
 mod stops;
 
 use crate::calls::{add, counts, is_marked, mark};

@@ -1,11 +1,14 @@
-//! Rounds of questions among the peers of a roster, and where an ask goes then (RFC 2187, section 5).
+//! Rounds of questions among the peers of a roster, and where an ask goes then (RFC 2187, section
+//! 5).
 use crate::rosters::{largest, read};
 use peer_chooser::{Round, Said, Source};
 use roster::Roster;
 use tests_kit::first_wrong;
 
-/// The member 1 has the sibling 2, the parent 3, the foreign sibling 101 and the parent 4; the member 2 has no other peers than foreign caches: the parents 101 and 105 and the sibling 108; the member 3 has
-/// no peers; the member 4 has the sibling 2, the foreign sibling 101 and the parent 3; the member 5 has the sibling 2 and the parent 3.
+/// The member 1 has the sibling 2, the parent 3, the foreign sibling 101 and the parent 4; the
+/// member 2 has no other peers than foreign caches: the parents 101 and 105 and the sibling 108;
+/// the member 3 has no peers; the member 4 has the sibling 2, the foreign sibling 101 and the
+/// parent 3; the member 5 has the sibling 2 and the parent 3.
 const MEMBERS: &str = concat!(
     "default_lifetime = 60\ncopies = 1000\nbytes = 1048576\nquery_wait = 2000\n",
     "[master]\naddress = \"127.0.0.1\"\nhtcp = 4800\n",
@@ -47,7 +50,8 @@ macro_rules! peer {
     };
 }
 
-/// What peers say: one that has a copy, one that has none, one that may not be fetched from, and one whose copy has the stamp 4.
+/// What peers say: one that has a copy, one that has none, one that may not be fetched from, and
+/// one whose copy has the stamp 4.
 const HIT: Said = Said::Hit(None);
 
 const MISS: Said = Said::Miss;
@@ -359,7 +363,8 @@ fn a_copy_goes_on_by_itself(rt: HostRuntime) {
     assert_eq!(rt; flaw_of_copy(&roster), None);
 }
 
-/// What is wrong with a round of the most peers, each of which is the first to say that it has no copy.
+/// What is wrong with a round of the most peers, each of which is the first to say that it has no
+/// copy.
 fn flaw_of_largest(roster: &Roster) -> Option<&'static str> {
     if !roster.is_member(1) {
         return Some("the member");

@@ -8,7 +8,8 @@ use std::alloc::Global;
 use std::test::Fail;
 use tests_kit::roster_of;
 
-/// The text of a roster of member 1 and of another one, at 127.0.0.N: the master is at this port, and the members are told at the two after it.
+/// The text of a roster of member 1 and of another one, at 127.0.0.N: the master is at this port,
+/// and the members are told at the two after it.
 fn text_at(alloc: Global, port: u16, id: u16, host: u16) -> Result<String, Fail> {
     let first = u16::saturating_add(port, 1);
     let second = u16::saturating_add(port, 2);

@@ -27,7 +27,8 @@ fn issued<R: Wait>(
     master.call(rt, MasterCall::Issue(key))
 }
 
-/// Whether the entries are those of so many asks and of an issue after them, at the places from 1 on.
+/// Whether the entries are those of so many asks and of an issue after them, at the places from 1
+/// on.
 fn are_all(entries: &[MasterEntry], asks: usize) -> bool {
     entries.len() == asks.saturating_add(1)
         && entries
@@ -82,7 +83,8 @@ fn a_page_is_dropped_where_none_is_kept(rt: HostRuntime) -> Result<(), Fail> {
     Ok(())
 }
 
-/// After 4,097 calls: how many entries the book has that is given back, and how many stand before them.
+/// After 4,097 calls: how many entries the book has that is given back, and how many stand before
+/// them.
 fn closed<R: Wait>(rt: &R, alloc: Global) -> Result<(usize, usize), Fail> {
     let master = shared(alloc, &roster_at(alloc, 21400)?, KeptEntries::UpTo(8192))?;
     filled(rt, alloc, &master, 4096)?;

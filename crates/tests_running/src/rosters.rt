@@ -1,7 +1,9 @@
 //! Rosters of these tests, each at ports of its own.
 
-/// The text of a roster: for how many milliseconds a round of queries waits, and then its caches, each with those whom it asks. Ports are given without their last digit. The master is at 0 and the
-/// origin of `http://o/` at 5 behind the first of them, and each cache at 0 by HTTP, at 1 by ICP and at 2 by HTCP behind its own.
+/// The text of a roster: for how many milliseconds a round of queries waits, and then its caches,
+/// each with those whom it asks. Ports are given without their last digit. The master is at 0 and
+/// the origin of `http://o/` at 5 behind the first of them, and each cache at 0 by HTTP, at 1 by
+/// ICP and at 2 by HTCP behind its own.
 macro_rules! roster_text {
     (wait $wait:literal, at $edge:literal: $( $table:literal $id:literal at $ports:literal $( asks $peer:literal as $role:literal by $by:literal )* ),*) => {
         concat!(

@@ -15,9 +15,9 @@ const ENTRY: NodeEntry = NodeEntry {
     outcome: Err(StepFault::UnknownSerial),
 };
 
-/// What is seen of two fronts: whether an entry is added at the whole history; whether one is at the
-/// other front then, which is behind; whether that one begins the whole, and the whole that one; and
-/// how many entries each has.
+/// What is seen of two fronts: whether an entry is added at the whole history; whether one is at
+/// the other front then, which is behind; whether that one begins the whole, and the whole that
+/// one; and how many entries each has.
 type Seen = ([bool; 4], [u64; 2]);
 
 /// What is seen of two fronts of a history.

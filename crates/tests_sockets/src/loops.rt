@@ -21,7 +21,8 @@ use values_tables::{Cache, Limits};
 enum Act {
     /// A datagram of these octets comes by this protocol.
     Datagram(Udp, &'static [u8]),
-    /// So many datagrams come by ICP, each an octet longer than the one before it; the first of all has one.
+    /// So many datagrams come by ICP, each an octet longer than the one before it; the first of all
+    /// has one.
     Flood(usize),
     /// So many clients connect.
     Connect(u32),
@@ -314,7 +315,8 @@ const COME: [Act; 13] = [
     Act::Polls(3),
 ];
 
-/// Of one client the last octet of a head comes alone, by CRLF, and of another one by LF; of a third all of a head by LF.
+/// Of one client the last octet of a head comes alone, by CRLF, and of another one by LF; of a
+/// third all of a head by LF.
 const CUT: [Act; 10] = [
     Act::Connect(3),
     Act::Polls(2),
@@ -343,7 +345,8 @@ const SLOW: [Act; 11] = [
     Act::Polls(2),
 ];
 
-/// One client ends in the midst of a head; one before it, who asks nothing; a third sends more than a head has.
+/// One client ends in the midst of a head; one before it, who asks nothing; a third sends more than
+/// a head has.
 const ENDS: [Act; 9] = [
     Act::Connect(3),
     Act::Polls(2),
@@ -453,7 +456,8 @@ fn a_head_has_five_seconds(rt: HostRuntime) -> Result<(), Fail> {
     Ok(())
 }
 
-/// A client sends an octet of its head now and then: it gains no time by that, so its stream is a job once five seconds are over in all.
+/// A client sends an octet of its head now and then: it gains no time by that, so its stream is a
+/// job once five seconds are over in all.
 const DRIP: [Act; 10] = [
     Act::Connect(1),
     Act::Polls(2),
@@ -532,7 +536,8 @@ fn a_client_without_a_place_is_told_so(rt: HostRuntime) -> Result<(), Fail> {
     Ok(())
 }
 
-/// How long the datagram is that the clients' socket gets when the node sends to it, and from which port it comes.
+/// How long the datagram is that the clients' socket gets when the node sends to it, and from which
+/// port it comes.
 fn sent(held: &Held) -> Result<(usize, u16), Fail> {
     let to = address_at(FIRST, held.clients.udp.local_addr()?.port(), 0);
     held.senders.try_clone()?.send(Udp::Htcp, to, b"xyz")?;
@@ -669,7 +674,8 @@ const fn after(finished: u32) -> Counting {
     }
 }
 
-/// A poll deals with all that is ready of both protocols before it says so, and says so once, also where nothing was ready.
+/// A poll deals with all that is ready of both protocols before it says so, and says so once, also
+/// where nothing was ready.
 #[test]
 fn a_poll_is_finished_once(rt: HostRuntime) -> Result<(), Fail> {
     let mut held = held_at(&rt, FIRST, 21240)?;

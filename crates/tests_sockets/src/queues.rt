@@ -33,7 +33,8 @@ fn put_all<Q: Run, R: Wait>(rt: &R, jobs: &Jobs<Q>, mut pass: Pass<Q>, count: u3
     pass
 }
 
-/// Takes timers until there is none, and says how many there were and what their serials are in all.
+/// Takes timers until there is none, and says how many there were and what their serials are in
+/// all.
 fn take_all<Q: Run, R: Wait>(rt: &R, jobs: &Jobs<Q>, mut pass: Pass<Q>) -> (Pass<Q>, u64, u64) {
     let mut count = 0u64;
     let mut sum = 0u64;

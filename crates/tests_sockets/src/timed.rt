@@ -91,7 +91,8 @@ fn are_read(
     Ok(octets.as_slice() == wanted)
 }
 
-/// Writes octets at one end, as a head of such a length and a body: whether they come at the other end.
+/// Writes octets at one end, as a head of such a length and a body: whether they come at the other
+/// end.
 fn are_carried(rt: &HostRuntime, pair: &mut Pair, octets: &[u8], head: usize) -> io::Result<bool> {
     let (head, body) = octets.split_at(head.min(octets.len()));
     write_both(rt, &mut pair.poll, &mut pair.near, head, body)?;
@@ -178,7 +179,8 @@ fn a_stream_ends_with_its_peer(rt: HostRuntime) -> Result<(), Fail> {
     Ok(())
 }
 
-/// A port that nobody listens at refuses, as the first octets are sent at the latest, and long before the time is over.
+/// A port that nobody listens at refuses, as the first octets are sent at the latest, and long
+/// before the time is over.
 fn unheard(rt: &HostRuntime, port: u16) -> io::Result<ErrorKind> {
     let at = socket_at(port);
     let mut stream = TcpStream::connect(rt, at)?;

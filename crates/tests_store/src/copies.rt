@@ -88,7 +88,8 @@ fn are_named(copies: &[WebCopy<u32>], letters: &[u8]) -> bool {
     same
 }
 
-/// Whether a store holds copies of the keys with these letters, the most recent first, and so many octets.
+/// Whether a store holds copies of the keys with these letters, the most recent first, and so many
+/// octets.
 fn holds(rt: &(impl Abort + AllocGlobal), store: &Store<u32>, letters: &[u8], bytes: u64) -> bool {
     let named = are_named(&store.copies(rt.alloc()).expect(rt, "memory"), letters);
     named
@@ -100,7 +101,8 @@ fn holds(rt: &(impl Abort + AllocGlobal), store: &Store<u32>, letters: &[u8], by
 /// A call, and the letters and the octets that are held after it.
 type Step = (Call, &'static [u8], u64);
 
-/// Makes calls in turn, and gives the number of the first that is not answered as it has to be, or leaves other copies.
+/// Makes calls in turn, and gives the number of the first that is not answered as it has to be, or
+/// leaves other copies.
 fn wrong_step(
     rt: &(impl Abort + AllocGlobal),
     store: &mut Store<u32>,
@@ -164,7 +166,8 @@ const SCRIPTS: [Script; 5] = [
             (Call::Puts(b'c', 5, 3, Put::Stored), b"cba", 39),
             (Call::Puts(b'd', 5, 3, Put::Stored), b"dcb", 39),
             (Call::Looks(b'b', true), b"bdc", 39),
-            // One of 26, and the same key once more: its old copy goes, also where the new one is smaller.
+            // One of 26, and the same key once more: its old copy goes, also where the new one is
+            // smaller.
             (Call::Puts(b'e', 5, 16, Put::Stored), b"eb", 39),
             (Call::Puts(b'e', 4, 3, Put::Kept), b"eb", 39),
             (Call::Puts(b'e', 5, 3, Put::Stored), b"eb", 26),

@@ -61,7 +61,8 @@ fn texts_and_their_keys(rt: HostRuntime) {
     }
 }
 
-/// How a text begins, the letters that make it so long, and whether it is its own key or too long for one.
+/// How a text begins, the letters that make it so long, and whether it is its own key or too long
+/// for one.
 const LENGTHS: [(&[u8], u8, usize, bool); 3] = [
     (b"http://o/", b'x', 1024, true),
     (b"http://o/", b'x', 1025, false),

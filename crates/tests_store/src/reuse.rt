@@ -24,7 +24,8 @@ fn lifetime_of(rt: &(impl Abort + AllocGlobal), lines: &[(&str, &str)]) -> Optio
     lifetime(&answer_of(rt, 200, lines), 30)
 }
 
-/// A `cache-control` field, and the lifetime of an answer of status 200 that has no other, where the default is 30.
+/// A `cache-control` field, and the lifetime of an answer of status 200 that has no other, where
+/// the default is 30.
 const CONTROLS: [(&str, Option<u64>); 64] = [
     // Which directives count.
     ("max-age=60, s-maxage=5", Some(5)),

@@ -172,7 +172,8 @@ const MESSAGES: [Row; 12] = [
     ),
 ];
 
-/// Whether a message is read from the octets and copied. One without an object fits, and is written as them.
+/// Whether a message is read from the octets and copied. One without an object fits, and is written
+/// as them.
 fn is_said_by(alloc: Global, message: &Icp, octets: &[u8]) -> bool {
     let fit = message.op != IcpOp::HitObj;
     let is_written = matches!(&written(alloc, message), Some(found) if found.as_slice() == octets);
@@ -392,7 +393,8 @@ fn fault_at(place: usize, octet: u8) -> Option<IcpFault> {
     }
 }
 
-/// What the query means with this octet at a place: places 4 to 7 are its number, and 24 to 33 its URL.
+/// What the query means with this octet at a place: places 4 to 7 are its number, and 24 to 33 its
+/// URL.
 fn meaning(rt: &(impl Abort + AllocGlobal), place: usize, octet: u8) -> Icp {
     let mut number = [0, 0, 0, 7];
     let mut url = *b"http://o/a";

@@ -49,9 +49,6 @@ impl FloorStore for FailingFloors {
             self.failures = self.failures.saturating_add(1);
             return Err(FloorFault::StoreFault);
         }
-        if !self.floors.has_room(key) {
-            return Err(FloorFault::FloorsFull);
-        }
         self.floors.raise(alloc, key, number)?;
         self.raises_left -= 1;
         Ok(())

@@ -72,7 +72,8 @@ impl Write for Narrow {
     }
 }
 
-/// Whether the pieces of an input are answered so, by a script that ends before its last line, where one is named, into a writer with so much room.
+/// Whether the pieces of an input are answered so, by a script that ends before its last line,
+/// where one is named, into a writer with so much room.
 fn is_played(
     alloc: Global,
     pieces: &[&[u8]],
@@ -96,7 +97,8 @@ fn is_played(
 /// More room than any answer takes.
 const ROOM: usize = 1_000_000;
 
-/// What is answered to the pieces of an input, up to its last line, where one is named; behind its last piece its reader fails. An empty piece is the input's end, which is asked for once more
+/// What is answered to the pieces of an input, up to its last line, where one is named; behind its
+/// last piece its reader fails. An empty piece is the input's end, which is asked for once more
 /// behind a last line without its end.
 const INPUTS: &[(
     &str,

@@ -205,7 +205,8 @@ fn check_entry<S: PurgeStore>(
     want_at(entered.as_str() == expected, place, entered.as_str())
 }
 
-/// Each call of a table, from place 1 on, is answered and entered in the book as expected, and nothing else is entered.
+/// Each call of a table, from place 1 on, is answered and entered in the book as expected, and
+/// nothing else is entered.
 fn check<S: PurgeStore>(
     rt: &HostRuntime,
     book: &mut MasterBook<S>,
@@ -292,7 +293,8 @@ const AFTER_RESTART: [(Call, &str); 5] = [
     (Call::Due, "due 3:1 3:2"),
 ];
 
-/// Whether a master is closed, how far its second purge is, and the master that is opened over its store again.
+/// Whether a master is closed, how far its second purge is, and the master that is opened over its
+/// store again.
 fn opened_again(
     rt: &HostRuntime,
     held: Held<MemoryPurges>,

@@ -42,7 +42,8 @@ enum Happens {
     Datagram(u64),
 }
 
-/// What is served: its status, its purge number, whether its body is `one`, and its mark, which is the place of the event that began its read.
+/// What is served: its status, its purge number, whether its body is `one`, and its mark, which is
+/// the place of the event that began its read.
 #[derive(Clone, Copy, Debug, PartialEq, Eq)]
 struct Page {
     status: u16,
@@ -85,7 +86,8 @@ const THE_PAGE: Page = Page {
     mark: 0,
 };
 
-/// A CLR of a stranger is answered; one that bears the master's or a member's address is no event. Then a foreign cache answers only a fetch from it, and the origin only a read.
+/// A CLR of a stranger is answered; one that bears the master's or a member's address is no event.
+/// Then a foreign cache answers only a fetch from it, and the origin only a read.
 const STRANGERS: &[Step] = &[
     (
         Happens::Clear(STRANGER, 9),
@@ -119,7 +121,8 @@ const STRANGERS: &[Step] = &[
     ),
 ];
 
-/// A QUERY (RFC 2186, "ICP_OP_QUERY"): opcode 1, version 2, 35 octets, number 7, and the URL behind five unused fields.
+/// A QUERY (RFC 2186, "ICP_OP_QUERY"): opcode 1, version 2, 35 octets, number 7, and the URL behind
+/// five unused fields.
 const QUERY: &[u8] =
     b"\x01\x02\x00\x23\x00\x00\x00\x07\0\0\0\0\0\0\0\0\0\0\0\0\0\0\0\0http://o/a\0";
 
@@ -127,8 +130,8 @@ const QUERY: &[u8] =
 const QUERY_3: &[u8] =
     b"\x01\x03\x00\x23\x00\x00\x00\x07\0\0\0\0\0\0\0\0\0\0\0\0\0\0\0\0http://o/a\0";
 
-/// Octets that are no message by the protocol of their port change nothing, and have a place; a QUERY is answered. None comes to the master, or to a port of
-/// nobody.
+/// Octets that are no message by the protocol of their port change nothing, and have a place; a
+/// QUERY is answered. None comes to the master, or to a port of nobody.
 const NOISE: &[Step] = &[
     (Happens::Octets(3101, b""), Ok(NOTHING)),
     (Happens::Octets(4101, b"\0\x0d"), Ok(NOTHING)),
@@ -338,7 +341,8 @@ fn told_by(world: &mut World, event: WorldEvent) -> Result<Told, WorldFault> {
 /// What is told of a step in place of what is wanted.
 type Other = Option<(Happens, Result<Told, WorldFault>)>;
 
-/// The first of these steps of which something else is told than is wanted, as they happen in a world.
+/// The first of these steps of which something else is told than is wanted, as they happen in a
+/// world.
 fn first_other(alloc: Global, world: &mut World, steps: &[Step]) -> Result<Other, Fail> {
     for (happens, wanted) in steps {
         let told = told_by(world, event_of(alloc, *happens)?);
@@ -370,7 +374,8 @@ fn has_refused(world: &World) -> bool {
     }
 }
 
-/// The first of these steps that goes otherwise in a new world of this roster, where a stranger is refused or not.
+/// The first of these steps that goes otherwise in a new world of this roster, where a stranger is
+/// refused or not.
 fn other_in(alloc: Global, roster: &str, steps: &[Step], is_refusing: bool) -> Result<Other, Fail> {
     let roster = roster_of(alloc, roster)?;
     let mut world = World::new(alloc, &roster)?;
@@ -402,7 +407,8 @@ fn first_untold(outcomes: &[Outcome], steps: &[Step]) -> Other {
     None
 }
 
-/// The first step that goes otherwise as a list is played whose purge comes to the one member, and its acknowledgement comes to the master.
+/// The first step that goes otherwise as a list is played whose purge comes to the one member, and
+/// its acknowledgement comes to the master.
 fn other_in_list(alloc: Global) -> Result<Other, Fail> {
     let roster = roster_of(alloc, ONE)?;
     let (mut world, outcomes) = World::run(alloc, &roster, events_of(alloc, PURGED)?)?;

@@ -1,6 +1,8 @@
 -- What is read is a key, and a key reads as itself: its text spells a URI with the same host in
 -- lower case, the same port, path and query, so its canonical text is the same again.
-use Rattle.std.proofs.Common.{◌≡◌, ◌≢◌, ℕ, ◌<◌, ◌≤◌, ◌==◌, true, false, not, ◌||◌, cond, take, drop, is_some, Option, Some, None, List, [], ◌∷◌, ◌++◌, length, get_or, Result, Ok, Err, MatchResult, refl, sym, ap, ap₂, ◌∙◌, subst, inl, inr, arith, append-nil, append_assoc, length-append, nat_lt, unwrap_or, codes}
+use Rattle.std.proofs.Common.{◌≡◌, ◌≢◌, ℕ, ◌<◌, ◌≤◌, ◌==◌, true, false, not, ◌||◌, cond, take, drop, is_some, Option, Some, None, List, [], ◌∷◌, ◌++◌, length}
+use Rattle.std.proofs.Common.{get_or, Result, Ok, Err, MatchResult, refl, sym, ap, ap₂, ◌∙◌, subst, inl, inr, arith, append-nil, append_assoc, length-append}
+use Rattle.std.proofs.Common.{nat_lt, unwrap_or, codes}
 use Rattle.std.specs.List.{list_all, list_any}
 use Rattle.std.proofs.lemmas.Bool.{and_parts, cases_Bool, ltb-false, le-ltb}
 use Rattle.std.proofs.lemmas.Slice.Eq.{bytes_eq-Decides}
@@ -18,9 +20,11 @@ use Rattle.url_key.specs.declared.fault.KeyFault.{KeyFault}
 use Rattle.url_key.specs.declared.fault.KeyFault.TheVariants.{TooLong, NotVisibleAscii, Fragment, UserInfo, NotHttp, NoMemory}
 use Rattle.url_key.specs.Fault.{UnlessNoMemory}
 use Rattle.url_key.specs.Text.{http_prefix, is_visible, host_of, after_host, port_of, port_text, canonical_text, key_authority}
-use Rattle.url_key.specs.Key.{HasKey, HasKeyBy, HasUriKey, IsKey, KeepsParts, KeepsPartsOf, early_fault, key_of_uri, key_of_authority, key_of_host, key_within, is_http}
+use Rattle.url_key.specs.Key.{HasKey, HasKeyBy, HasUriKey, IsKey, KeepsParts, KeepsPartsOf, early_fault, key_of_uri, key_of_authority, key_of_host, key_within}
+use Rattle.url_key.specs.Key.{is_http}
 use Rattle.url_key.proofs.HostLemmas.{written_host, written_port, written_valid, written_no_at, lowercase-lowercase}
-use Rattle.url_key.proofs.PlainLemmas.{is_plain, none_at, list_any-none, list_any-from_reads, list_all-weaker, plain_from_parts, plain_authority, plain_shown, plain_tail, all_right, all_both}
+use Rattle.url_key.proofs.PlainLemmas.{is_plain, none_at, list_any-none, list_any-from_reads, list_all-weaker, plain_from_parts, plain_authority, plain_shown}
+use Rattle.url_key.proofs.PlainLemmas.{plain_tail, all_right, all_both}
 
 -- the outcome of a URI is that of the text that spells it
 pub spelled_outcome : {V : Type 0} (items : V → List ℕ) (text : List ℕ) (u : Uri) (r : Result V KeyFault) → Spells text u →

@@ -1,6 +1,8 @@
 -- A plain key is a key: cut behind `http://` and behind its host it spells a URI, and the canonical
 -- text of that URI is the text itself.
-use Rattle.std.proofs.Common.{◌≡◌, ◌≢◌, ℕ, ◌+◌, ◌-◌, ◌<◌, ◌≤◌, ◌==◌, true, false, cond, Some, None, List, [], ◌∷◌, ◌++◌, fold, length, take, drop, get_or, Ok, codes, refl, sym, ap, ap₂, ◌∙◌, subst, inl, inr, arith, append-nil, append_assoc, length-append, take-append-drop, take_all, lt-ltb, ne_eqb, IfSome, length-take-le}
+use Rattle.std.proofs.Common.{◌≡◌, ◌≢◌, ℕ, ◌+◌, ◌-◌, ◌<◌, ◌≤◌, ◌==◌, true, false, cond, Some, None, List, [], ◌∷◌, ◌++◌, fold, length, take, drop, get_or, Ok}
+use Rattle.std.proofs.Common.{codes, refl, sym, ap, ap₂, ◌∙◌, subst, inl, inr, arith, append-nil, append_assoc, length-append, take-append-drop, take_all}
+use Rattle.std.proofs.Common.{lt-ltb, ne_eqb, IfSome, length-take-le}
 use Rattle.std.specs.List.{list_all, list_any, prefix_len}
 use Rattle.std.specs.Char.{to_ascii_lowercase}
 use Rattle.std.proofs.lemmas.Bool.{cases_lt, and_parts, eqb-true, ltb-true, le-ltb, leb-true}

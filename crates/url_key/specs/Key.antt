@@ -1,7 +1,8 @@
 -- Which key a text has, or which first fault. Equivalent http URIs have one key (RFC 9110, section
 -- 4.2.3), but percent-encoded octets and dot segments stay as they came. `HasKey` is the
 -- definition; `IsKey` is the invariant of `Key`.
-use Rattle.std.specs.Prelude.{◌≡◌, ℕ, ◌≤◌, ◌⊎◌, Bool, not, ◌==◌, nat_lt, bytes_eq, List, [], ◌++◌, length, Option, Some, None, unwrap_or, Result, Ok, Err, codes, if◌then◌else◌}
+use Rattle.std.specs.Prelude.{◌≡◌, ℕ, ◌≤◌, ◌⊎◌, Bool, not, ◌==◌, nat_lt, bytes_eq, List, [], ◌++◌, length, Option, Some, None, unwrap_or, Result, Ok, Err}
+use Rattle.std.specs.Prelude.{codes, if◌then◌else◌}
 use Rattle.std.specs.List.{list_all, list_any}
 use Rattle.http_uri.specs.ByteClasses.{at_sign, hash_sign, lowercase, framed_text}
 use Rattle.http_uri.specs.Uri.{Spells, SpellsNone, uri_scheme, uri_authority, uri_path, uri_query}

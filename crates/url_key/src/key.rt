@@ -1,4 +1,5 @@
-ghost use Rattle.std.specs.Prelude.{◌≡◌, ◌≤◌, ◌==◌, ◌∷◌, Ok, Err, None, IfOk, IfErr, MatchResult, [], nat_eq, unwrap_or, option_copied};
+ghost use Rattle.std.specs.Prelude.{◌≡◌, ◌≤◌, ◌==◌, ◌∷◌, Ok, Err, None, IfOk, IfErr, MatchResult};
+ghost use Rattle.std.specs.Prelude.{[], nat_eq, unwrap_or, option_copied};
 ghost use Rattle.std.specs.Cmp.{partial_equiv_from_equiv, partial_order_from_own_ties};
 ghost use Rattle.std.specs.Cmp.Lexicographic.{pointwise, nat_list_eq_equiv, slice_cmp};
 ghost use Rattle.std.specs.Cmp.Rules.{comparing, hashing};
@@ -6,7 +7,9 @@ ghost use Rattle.std.specs.Ordering.{nat_cmp, as_partial_cmp};
 ghost use Rattle.std.proofs.Common.{rules};
 ghost use Rattle.http_uri.specs.Uri.{uri_scheme, uri_authority};
 ghost use Rattle.url_key.specs.Fault.{UnlessNoMemory};
-ghost use Rattle.url_key.specs.Key.{HasKey, HasUriKey, IsKey, KeepsParts, is_http as has_http, early_fault as first_fault, key_of_uri as uri_outcome, key_of_authority as authority_outcome};
+ghost use Rattle.url_key.specs.Key.{HasKey, HasUriKey, IsKey, KeepsParts, is_http as has_http};
+ghost use Rattle.url_key.specs.Key.{early_fault as first_fault, key_of_uri as uri_outcome};
+ghost use Rattle.url_key.specs.Key.{key_of_authority as authority_outcome};
 ghost use Rattle.url_key.specs.Text.{key_authority, key_host, key_path, key_port};
 
 use crate::KeyFault;

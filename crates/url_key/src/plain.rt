@@ -2,7 +2,9 @@
 ghost use Rattle.std.specs.Prelude.{◌≡◌, ◌≤◌, ◌==◌, ◌&&◌, length, slice_index};
 ghost use Rattle.std.specs.List.{list_all, prefix_len};
 ghost use Rattle.http_uri.specs.ByteClasses.{slash};
-ghost use Rattle.url_key.specs.Plain.{plain_key, is_host_and_path as has_host_and_path, is_host_byte as in_host, is_path_byte as in_path, is_path as has_path};
+ghost use Rattle.url_key.specs.Plain.{plain_key, is_host_and_path as has_host_and_path};
+ghost use Rattle.url_key.specs.Plain.{is_host_byte as in_host, is_path_byte as in_path};
+ghost use Rattle.url_key.specs.Plain.{is_path as has_path};
 
 use crate::key::LONGEST_KEY;
 

@@ -1,12 +1,15 @@
 //! Cuts an authority and a key's text into their parts, and writes a key's text.
-ghost use Rattle.std.specs.Prelude.{◌≡◌, ◌==◌, ◌<◌, ◌≤◌, ◌++◌, length, codes, [], IfOk, OnOk, IsTrue, Some, None, option_copied, if◌then◌else◌};
+ghost use Rattle.std.specs.Prelude.{◌≡◌, ◌==◌, ◌<◌, ◌≤◌, ◌++◌, length, codes, [], IfOk, OnOk};
+ghost use Rattle.std.specs.Prelude.{IsTrue, Some, None, option_copied, if◌then◌else◌};
 ghost use Rattle.std.specs.List.{list_all, list_any};
 ghost use Rattle.std.specs.Char.{is_ascii_digit};
 ghost use Rattle.std.specs.Str.Parse.{digits_value};
 ghost use Rattle.http_uri.specs.ByteClasses as bytes;
 ghost use Rattle.http_uri.specs.ByteClasses.{framed_text};
 ghost use Rattle.http_uri.specs.Grammar.{authority_len};
-ghost use Rattle.url_key.specs.Text.{is_visible, is_port, port_of as port_named, host_of as host_named, after_host as behind_host, key_authority, key_path};
+ghost use Rattle.url_key.specs.Text.{is_visible, is_port, port_of as port_named};
+ghost use Rattle.url_key.specs.Text.{host_of as host_named, after_host as behind_host};
+ghost use Rattle.url_key.specs.Text.{key_authority, key_path};
 ghost use Rattle.url_key.specs.Text.{canonical_text as text_of_key, http_prefix, port_text};
 
 use itoa::Buffer;

@@ -1,6 +1,7 @@
 -- Each text has the outcome that the function gives, and no other: a text spells one URI at most,
 -- and the function finds it.
-use Rattle.std.proofs.Common.{◌≡◌, ℕ, cond, Option, Some, None, unwrap_or, is_some, not, ◌||◌, ◌==◌, List, [], length, Result, Err, refl, sym, ap, ◌∙◌, inl, inr}
+use Rattle.std.proofs.Common.{◌≡◌, ℕ, cond, Option, Some, None, unwrap_or, is_some, not, ◌||◌, ◌==◌, List, [], length, Result, Err, refl, sym, ap, ◌∙◌, inl}
+use Rattle.std.proofs.Common.{inr}
 use Rattle.http_uri.specs.declared.uri.Uri.{Uri}
 use Rattle.http_uri.specs.Grammar.{path_of, query_of}
 use Rattle.http_uri.specs.Uri.{Spells, uri_scheme, uri_authority, uri_data}

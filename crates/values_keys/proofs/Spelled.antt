@@ -1,17 +1,20 @@
 -- The function gives the URI that a text spells, or none if it spells none: the forms exclude each
 -- other, and the absolute form can be cut in one way only.
-use Rattle.std.proofs.Common.{◌≡◌, ℕ, ◌+◌, ◌&&◌, ◌⊎◌, IsTrue, Decides, Option, MatchOption, List, [], ◌∷◌, length, take, drop, get_or, refl, sym, ap, ◌∙◌, subst, inl, inr, arith, ne_eqb}
+use Rattle.std.proofs.Common.{◌≡◌, ℕ, ◌+◌, ◌&&◌, ◌⊎◌, IsTrue, Decides, Option, MatchOption, List, [], ◌∷◌, length, take, drop, get_or, refl, sym, ap, ◌∙◌}
+use Rattle.std.proofs.Common.{subst, inl, inr, arith, ne_eqb}
 use Rattle.std.proofs.lemmas.Bool.{cond_both, both_ways}
 use Rattle.std.proofs.lemmas.Bool.Decides.{Decides-and, Decides-or}
 use Rattle.std.proofs.lemmas.Slice.Eq.{bytes_eq-Decides}
 use Rattle.http_uri.specs.ByteClasses.{is_delimiter}
 use Rattle.http_uri.specs.declared.uri.Uri.{Uri}
-use Rattle.http_uri.specs.Grammar.{IsScheme, IsAuthority, IsPathAndQuery, StartsPath, StartsOrigin, IsTail, IsAbsoluteForm, HasScheme, normal_scheme, or_slash, scheme_len, authority_len}
+use Rattle.http_uri.specs.Grammar.{IsScheme, IsAuthority, IsPathAndQuery, StartsPath, StartsOrigin, IsTail, IsAbsoluteForm, HasScheme, normal_scheme, or_slash}
+use Rattle.http_uri.specs.Grammar.{scheme_len, authority_len}
 use Rattle.http_uri.specs.Uri.{Spells, SpellsNone}
 use Rattle.http_uri.proofs.UriLemmas.{cut_name, cut_rest, cut_authority, cut_tail, cut_scheme, none_of, only_origin, absolute_from_cuts}
 use Rattle.values_keys.specs.Tests.{is_scheme, is_authority, is_path_and_query, starts_origin, has_scheme, is_tail}
 use Rattle.values_keys.specs.UriIn.{uri_in, absolute_in, uri_of_parts}
-use Rattle.values_keys.proofs.Tested.{IsPlain, IsPlain-drop, Decides-is_scheme, Decides-is_authority, Decides-is_path_and_query, Decides-starts_origin, Decides-has_scheme, path_input, path_kept, plain_whole}
+use Rattle.values_keys.proofs.Tested.{IsPlain, IsPlain-drop, Decides-is_scheme, Decides-is_authority, Decides-is_path_and_query, Decides-starts_origin}
+use Rattle.values_keys.proofs.Tested.{Decides-has_scheme, path_input, path_kept, plain_whole}
 
 -- what it is right to find in a text
 abbrev pub Reads : List ℕ → Option Uri → Type 0

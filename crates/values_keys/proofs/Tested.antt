@@ -1,5 +1,7 @@
 -- Each test says what the grammar says: it is built of the same parts, and each part is decided.
-use Rattle.std.proofs.Common.{◌≡◌, ◌≢◌, ℕ, ◌-◌, ◌<◌, ◌≤◌, ◌==◌, ◌||◌, Bool, true, false, not, nat_lt, nat_le, IsTrue, IfSome, IsUtf8, Decides, Option, Some, None, unwrap_or, List, [], length, take, drop, get_or, codes, refl, sym, ap, ◌∙◌, subst, inl, inr, arith, take_all, take-append-drop, length-drop}
+use Rattle.std.proofs.Common.{◌≡◌, ◌≢◌, ℕ, ◌-◌, ◌<◌, ◌≤◌, ◌==◌, ◌||◌, Bool, true, false, not, nat_lt, nat_le, IsTrue, IfSome, IsUtf8, Decides, Option, Some}
+use Rattle.std.proofs.Common.{None, unwrap_or, List, [], length, take, drop, get_or, codes, refl, sym, ap, ◌∙◌, subst, inl, inr, arith, take_all}
+use Rattle.std.proofs.Common.{take-append-drop, length-drop}
 use Rattle.std.specs.List.{list_all, list_any}
 use Rattle.std.proofs.lemmas.Bool.{cases_Bool, ltb-false}
 use Rattle.std.proofs.lemmas.Bool.Decides.{nat_tests, Decides-eqb, Decides-ltb, Decides-not, Decides-and, Decides-or, Decides-like, Decides-below_and}
@@ -8,7 +10,8 @@ use Rattle.std.proofs.lemmas.Slice.Eq.{bytes_eq-Decides}
 use Rattle.std.proofs.lemmas.Str.{IsUtf8-from_ascii}
 use Rattle.std.proofs.lemmas.Str.Ascii.{IsAscii-from_reads}
 use Rattle.http_uri.specs.ByteClasses.{is_scheme_byte, is_authority_byte, is_query_byte, is_path_byte, split_once_front, split_once_back, count_of}
-use Rattle.http_uri.specs.Grammar.{AllPass, IsScheme, MayFollow, IsAuthority, IsPathAndQuery, IsPathInput, StartsPath, StartsOrigin, HasScheme, last_piece, scheme_len, without_fragment}
+use Rattle.http_uri.specs.Grammar.{AllPass, IsScheme, MayFollow, IsAuthority, IsPathAndQuery, IsPathInput, StartsPath, StartsOrigin, HasScheme, last_piece}
+use Rattle.http_uri.specs.Grammar.{scheme_len, without_fragment}
 use Rattle.http_uri.proofs.RunLemmas.{AllPass-at, index_of_is}
 use Rattle.url_key.specs.declared.fault.KeyFault.TheVariants.{TooLong, NotVisibleAscii, Fragment}
 use Rattle.url_key.specs.Text.{is_visible}

@@ -1,9 +1,11 @@
 -- The grammar of http_uri as tests: it is near that of RFC 3986, section 3, and not the same. Each
 -- test says what the definition of http_uri in brackets says. All are for texts without an early
 -- fault: visible ASCII, no `#`, at most 1,024 octets.
-use Rattle.std.specs.Prelude.{ℕ, zero, suc, ◌-◌, Bool, true, not, ◌&&◌, ◌||◌, ◌==◌, nat_lt, nat_le, bytes_eq, List, [], length, take, drop, slice_index, unwrap_or, codes}
+use Rattle.std.specs.Prelude.{ℕ, zero, suc, ◌-◌, Bool, true, not, ◌&&◌, ◌||◌, ◌==◌, nat_lt, nat_le, bytes_eq, List, [], length, take, drop, slice_index}
+use Rattle.std.specs.Prelude.{unwrap_or, codes}
 use Rattle.std.specs.List.{list_all}
-use Rattle.http_uri.specs.ByteClasses.{is_scheme_byte, is_authority_byte, is_path_byte, is_query_byte, is_delimiter, count_of, split_once_front, split_once_back, at_sign, colon, left_bracket, percent_sign, question_mark, right_bracket, slash}
+use Rattle.http_uri.specs.ByteClasses.{is_scheme_byte, is_authority_byte, is_path_byte, is_query_byte, is_delimiter, count_of, split_once_front}
+use Rattle.http_uri.specs.ByteClasses.{split_once_back, at_sign, colon, left_bracket, percent_sign, question_mark, right_bracket, slash}
 use Rattle.http_uri.specs.Grammar.{last_piece, scheme_len}
 
 -- each number below this one passes the test

@@ -2,7 +2,9 @@
 ghost use Rattle.std.specs.Prelude.{◌≡◌, ℕ, List, Result, Ok, Err, Some, None, MatchOption, codes};
 ghost use Rattle.http_uri.specs.Uri.{Spells, SpellsNone};
 ghost use Rattle.url_key.specs.declared.fault.KeyFault.{KeyFault};
-ghost use Rattle.url_key.specs.declared.fault.KeyFault.TheVariants.{NotVisibleAscii, Fragment, NotUri, NotHttp, UserInfo, NoHost, BadPort};
+ghost use Rattle.url_key.specs.declared.fault.KeyFault.TheVariants.{NotVisibleAscii, Fragment};
+ghost use Rattle.url_key.specs.declared.fault.KeyFault.TheVariants.{NotUri, NotHttp, UserInfo};
+ghost use Rattle.url_key.specs.declared.fault.KeyFault.TheVariants.{NoHost, BadPort};
 ghost use Rattle.url_key.specs.Key.{HasKey, early_fault};
 ghost use Rattle.values_keys.specs.UriIn.{uri_in};
 ghost use Rattle.values_keys.specs.KeyOf.{outcome_of, key_of, GivesKeys};

@@ -1,7 +1,10 @@
 //! Takes the lines of an input from any reader, one after another.
-ghost use Rattle.std.specs.Prelude.{◌≡◌, ◌+◌, ◌<◌, ◌≤◌, ◌≢◌, ℕ, vec_len, vec_capacity, [], drop, take, length, OnOk, IfOk, IfErr, IsTrue, MatchOption, MatchBool, Some, None, Err, true, false};
+ghost use Rattle.std.specs.Prelude.{◌≡◌, ◌+◌, ◌<◌, ◌≤◌, ◌≢◌, ℕ, vec_len, vec_capacity, [], drop};
+ghost use Rattle.std.specs.Prelude.{take, length, OnOk, IfOk, IfErr, IsTrue, MatchOption};
+ghost use Rattle.std.specs.Prelude.{MatchBool, Some, None, Err, true, false};
 ghost use Rattle.std.specs.Io.KnownBytes.{IsAtEnd};
-ghost use Rattle.values_lines.specs.Reading.{Takes, HasNoEnd, EndsAt, TakesLine, TakesNone, FailsToTake, IsCounted, most_left};
+ghost use Rattle.values_lines.specs.Reading.{Takes, HasNoEnd, EndsAt, TakesLine, TakesNone};
+ghost use Rattle.values_lines.specs.Reading.{FailsToTake, IsCounted, most_left};
 
 use crate::fault::RunFault;
 use memchr::memchr;

@@ -1,6 +1,7 @@
 //! The words of a line. One space parts two words.
 ghost use Rattle.std.specs.Prelude.{◌≡◌, option_map, map, position, IfOk};
-ghost use Rattle.values_lines.specs.Words.{is_space, split_word as first_word_of, words_of as all_words_of, is_word as may_be_word};
+ghost use Rattle.values_lines.specs.Words.{is_space, split_word as first_word_of};
+ghost use Rattle.values_lines.specs.Words.{words_of as all_words_of, is_word as may_be_word};
 
 use std::alloc::{AllocError, Global};
 

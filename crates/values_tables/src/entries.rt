@@ -1,15 +1,19 @@
 //! Reads the tables of each kind.
-ghost use Rattle.std.specs.Prelude.{◌≡◌, ◌<◌, true, MatchResult, Some, None, option_map, option_and_then, string_bytes, codes};
+ghost use Rattle.std.specs.Prelude.{◌≡◌, ◌<◌, true, MatchResult, Some, None, option_map};
+ghost use Rattle.std.specs.Prelude.{option_and_then, string_bytes, codes};
 ghost use Rattle.std.specs.List.{list_all};
 ghost use Rattle.std.specs.BTreeMap.{keys};
 ghost use Rattle.toml.specs.Data.{Data, get_member};
 ghost use Rattle.toml.specs.View.{view, table_view, items_view};
 ghost use Rattle.values_tables.specs.Fault.{IsFieldFault};
 ghost use Rattle.values_tables.specs.Keys.{keys_of, is_among, has_only as has_only_keys};
-ghost use Rattle.values_tables.specs.Ranges.{is_peer, is_peer_id as may_be_peer, is_foreign, is_member, is_origin, is_cache, is_between};
-ghost use Rattle.values_tables.specs.Reading.{table_in, peer_of, cache_of, foreign_of, member_of, origin_of, list_in, all_of, number as number_within, checked};
+ghost use Rattle.values_tables.specs.Ranges.{is_peer, is_peer_id as may_be_peer, is_foreign};
+ghost use Rattle.values_tables.specs.Ranges.{is_member, is_origin, is_cache, is_between};
+ghost use Rattle.values_tables.specs.Reading.{table_in, peer_of, cache_of, foreign_of, member_of};
+ghost use Rattle.values_tables.specs.Reading.{origin_of, list_in, all_of, number as number_within};
+ghost use Rattle.values_tables.specs.Reading.{checked};
 
-use crate::fields::{host, ip, name, number, port, role, udp, value_at};
+use crate::fields::{flag, host, ip, name, number, port, role, udp, value_at};
 use crate::{Cache, Member, Origin, Peer, TableKind, TablesFault, TextPlace};
 use std::alloc::Global;
 use toml::{Table, Value};
@@ -54,7 +58,7 @@ fn is_key(kind: TableKind, key: &str) -> bool
                 || key == "origin"
         }
         TableKind::Master => key == "address" || key == "htcp",
-        TableKind::Node => key == "peer" || is_cache_key(key),
+        TableKind::Node => key == "joins" || key == "peer" || is_cache_key(key),
         TableKind::Peer => key == "id" || key == "role" || key == "by",
         TableKind::Foreign => is_cache_key(key),
         TableKind::Origin => {
@@ -224,8 +228,13 @@ impl Entry for Member {
     fn read(alloc: Global, value: &Value, place: TextPlace) -> Result<Member, TablesFault> {
         let table = table_of(TableKind::Node, Some(value), place)?;
         let cache = read_cache(alloc, table, 1, 16, place)?;
+        let joins = flag(table, "joins", place)?;
         let peers = read_list(alloc, table, "peer", place.peers())?;
-        Ok(Member { cache, peers })
+        Ok(Member {
+            cache,
+            joins,
+            peers,
+        })
     }
 }
 

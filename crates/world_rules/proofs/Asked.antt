@@ -1,7 +1,8 @@
 -- Each step of a node answers what was requested, with its age, and a new request gets a block that
 -- is free. The proof goes over the rules of a node, in the order of node_rules: each serves the
 -- request that it was given, and keeps those that wait.
-use Rattle.std.proofs.Common.{◌≡◌, ◌≢◌, ℕ, ◌+◌, ◌*◌, ◌/◌, Bool, true, false, not, ◌&&◌, ◌||◌, List, [], ◌∷◌, ◌++◌, find, Option, Some, None, Result, Ok, Err, refl, sym, ◌∙◌, ap, subst, nat_le, nat_eq, inl, inr, arith}
+use Rattle.std.proofs.Common.{◌≡◌, ◌≢◌, ℕ, ◌+◌, ◌*◌, ◌/◌, Bool, true, false, not, ◌&&◌, ◌||◌, List, [], ◌∷◌, ◌++◌, find, Option, Some, None, Result, Ok, Err}
+use Rattle.std.proofs.Common.{refl, sym, ◌∙◌, ap, subst, nat_le, nat_eq, inl, inr, arith}
 use Rattle.std.specs.List.{AllByRecursion, Contains}
 use Rattle.std.proofs.lemmas.Option.{cond_some, none-some}
 use Rattle.icp_wire.specs.declared.message.IcpOp.{IcpOp}
@@ -40,9 +41,13 @@ use Rattle.node_rules.specs.declared.reply.StepFault.{StepFault}
 use Rattle.node_rules.specs.Known.{has_origin, is_known}
 use Rattle.node_rules.specs.State.{Setting, Stepped, replies, refuses, quiet, ending, changing, is_idle, is_of_block, is_good, if_good, good_copy, served_age}
 use Rattle.node_rules.specs.Fetching.{fetching, ask_peer, begin_read, read_origin, go_to, go_on}
-use Rattle.node_rules.specs.Asks.{free_block, taking, new_ask, is_cached_only, begin_round, begin_with_read, ask_around, begin_ask, begin_if_free, not_held, by_copy, copy_for, ask_comes}
-use Rattle.node_rules.specs.Arrivals.{new_copy, not_fetching, with_round, use_answer, try_on, is_gateway_fault, peer_gave, origin_gave, from_peer, peer_answer_to, peer_answer, foreign_answer, from_origin, origin_answer_to, origin_answer, fails, failure_of, fetch_failed, round_moves, expires, expiry_of, round_expired}
-use Rattle.node_rules.specs.Datagrams.{is_full, purged, if_desired, icp_query, htcp_tst, hears, told_by, told_to, icp_told, htcp_told, purge, numbered_clr, dropped, plain_clr, clr_by_line, htcp_clr, icp_comes, tst_refused, htcp_comes, datagram}
+use Rattle.node_rules.specs.Asks.{free_block, taking, new_ask, is_cached_only, begin_round, begin_with_read, ask_around, begin_ask, begin_if_free, not_held}
+use Rattle.node_rules.specs.Asks.{by_copy, copy_for, ask_comes}
+use Rattle.node_rules.specs.Arrivals.{new_copy, not_fetching, with_round, use_answer, try_on, is_gateway_fault, peer_gave, origin_gave, from_peer}
+use Rattle.node_rules.specs.Arrivals.{peer_answer_to, peer_answer, foreign_answer, from_origin, origin_answer_to, origin_answer, fails, failure_of}
+use Rattle.node_rules.specs.Arrivals.{fetch_failed, round_moves, expires, expiry_of, round_expired}
+use Rattle.node_rules.specs.Datagrams.{purged, if_desired, icp_query, htcp_tst, hears, told_by, told_to, icp_told, htcp_told, purge, numbered_clr, dropped}
+use Rattle.node_rules.specs.Datagrams.{plain_clr, clr_by_line, htcp_clr, icp_comes, tst_refused, htcp_comes, datagram}
 use Rattle.node_rules.specs.Step.{open_step, step_if, step}
 use Rattle.node_rules.specs.Relation.{Steps, Closes, ClosesOn, purge_in}
 use Rattle.node_rules.proofs.Cases.{branches, unless_refused, same_Some}
@@ -279,9 +284,7 @@ module _ {X : Type 0} (g : Setting) (s : NodeState X) (e : Event X) (mark : X) (
 
     purge_answers : (from : Address) (trans : ℕ) (desired : Bool) (key : List ℕ) (n : ℕ) → Answers (purge s from trans desired key n)
     unfolding purge
-    purge_answers from trans desired key n =
-        branches Answers (is_full s.floors key) _ _ (λ _. if_desired_answers s here desired from _)
-        (λ _. if_desired_answers (purged s key n) here desired from _)
+    purge_answers from trans desired key n = if_desired_answers (purged s key n) here desired from _
 
     numbered_answers : (from : Address) (trans : ℕ) (desired : Bool) (o : Option (List ℕ × ℕ)) → Answers (numbered_clr s from trans desired o)
     unfolding numbered_clr

@@ -1,7 +1,8 @@
 -- Each event keeps the invariant. What reaches a node or the master was sent rightly, by the
 -- invariant; then NodeTurns or MasterTurns applies. The clock changes nothing that it speaks of,
 -- and a fault or a restart only loses things.
-use Rattle.std.proofs.Common.{◌≡◌, ℕ, ◌+◌, Bool, true, false, cond, ◌||◌, List, [], ◌∷◌, ◌++◌, length, Option, Some, None, Result, refl, sym, ◌∙◌, ap, subst, nat_eq, unwrap_or, arith}
+use Rattle.std.proofs.Common.{◌≡◌, ℕ, ◌+◌, Bool, true, false, cond, ◌||◌, List, [], ◌∷◌, ◌++◌, length, Option, Some, None, Result, refl, sym, ◌∙◌, ap, subst}
+use Rattle.std.proofs.Common.{nat_eq, unwrap_or, arith}
 use Rattle.std.specs.Prelude.{find, is_some, option_map}
 use Rattle.url_key.specs.Key.{IsKey}
 use Rattle.std.proofs.lemmas.Option.{none-some}
@@ -40,7 +41,10 @@ use Rattle.world_rules.specs.World.{Datagram, PeerAsk, PeerAnswer, World, item, 
 use Rattle.world_rules.specs.declared.event.WorldEvent.{WorldEvent}
 use Rattle.world_rules.specs.declared.event.WorldEvent.TheVariants as world
 use Rattle.world_rules.specs.declared.outcome.WorldFault.TheVariants.{NoSuchPacket}
-use Rattle.world_rules.specs.Consequence.{Seen, Replied, NotIssued, Reported, Nothing, Consequence, NodeSteps, Ends, Refused, at_member, with_clock, with_master, with_member_state, issue_by, reports, acknowledged_by, master_hears_htcp, master_hears, delivered_to, delivered, octets_reach, octets_come, ask_delivered, answer_delivered, origin_by, origin_to, foreign_by, foreign_to, fetching_at, consequence}
+use Rattle.world_rules.specs.Consequence.{Seen, Replied, NotIssued, Reported, Nothing, Consequence, NodeSteps, Ends, Refused, at_member, with_clock}
+use Rattle.world_rules.specs.Consequence.{with_master, with_member_state, issue_by, reports, acknowledged_by, master_hears_htcp, master_hears, delivered_to}
+use Rattle.world_rules.specs.Consequence.{delivered, octets_reach, octets_come, ask_delivered, answer_delivered, origin_by, origin_to, foreign_by, foreign_to}
+use Rattle.world_rules.specs.Consequence.{fetching_at, consequence}
 use Rattle.world_rules.specs.Run.{Step, Takes, IsOfKey, Happens, purged_by, TellsDone, ServesCopy}
 use Rattle.world_rules.specs.Lineage.{HasRaised, IsClear, IsMastersRightly, IsObeyed, IsSentAnswer, NodeHasLineage, AllHaveRaised, HasLineage}
 use Rattle.world_rules.proofs.MemberStates.{same_id, all_item}

@@ -12,7 +12,8 @@ use Rattle.purge_rules.specs.declared.purges.Purge.{Purge}
 use Rattle.values_tables.specs.declared.plain.Tables.{Tables}
 use Rattle.world_rules.specs.World.{MemberState, Datagram, PeerAnswer, node_at, with_node}
 use Rattle.world_rules.specs.Run.{Step, IsItem, purges, issued}
-use Rattle.world_rules.specs.Lineage.{IsStamped, IsStampedCopy, IsStampedFetch, IsStampedRead, IsSentAnswer, HasRaised, IsClear, IsMastersRightly, IsObeyed, NodeHasLineage, PurgeHasLineage, AllHaveRaised}
+use Rattle.world_rules.specs.Lineage.{IsStamped, IsStampedCopy, IsStampedFetch, IsStampedRead, IsSentAnswer, HasRaised, IsClear, IsMastersRightly, IsObeyed}
+use Rattle.world_rules.specs.Lineage.{NodeHasLineage, PurgeHasLineage, AllHaveRaised}
 use Rattle.world_rules.proofs.Issues.{count_later, issued_later, key_later}
 use Rattle.world_rules.proofs.MemberStates.{each_node}
 

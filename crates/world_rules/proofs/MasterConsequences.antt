@@ -1,7 +1,8 @@
 -- What the master does keeps the invariant. The CLRs that it sends are of issued purges. A mark is
 -- set only at a member's acknowledgement, and that member has raised its floor. A purge ends only
 -- when all members are marked.
-use Rattle.std.proofs.Common.{◌≡◌, ℕ, ◌-◌, ◌≤◌, ◌<◌, true, not, ◌||◌, ◌&&◌, List, [], ◌∷◌, map, filter, length, Option, Some, None, refl, sym, ◌∙◌, subst, nat_eq, nat_lt, cond, inl, inr, arith}
+use Rattle.std.proofs.Common.{◌≡◌, ℕ, ◌-◌, ◌≤◌, ◌<◌, true, not, ◌||◌, ◌&&◌, List, [], ◌∷◌, map, filter, length, Option, Some, None, refl, sym, ◌∙◌, subst}
+use Rattle.std.proofs.Common.{nat_eq, nat_lt, cond, inl, inr, arith}
 use Rattle.std.specs.Prelude.{option_map}
 use Rattle.std.specs.List.{AllByRecursion, flat_map}
 use Rattle.std.proofs.Math.Decide.{ℕ_discrete}

@@ -1,7 +1,8 @@
 -- A node's step keeps the invariant. It uses only the law steps_are_lawful of node_rules: copies
 -- and reads come from what the node had or got, floors never fall, and an acknowledgement is sent
 -- only with the floor raised.
-use Rattle.std.proofs.Common.{◌≡◌, ℕ, ◌+◌, ◌-◌, ◌≤◌, ◌<◌, Bool, true, false, cond, ◌&&◌, nat_eq, nat_le, List, [], ◌∷◌, ◌++◌, map, length, Option, Some, None, Result, Ok, Err, refl, sym, ◌∙◌, ap, subst, unwrap_or, inl, inr, arith}
+use Rattle.std.proofs.Common.{◌≡◌, ℕ, ◌+◌, ◌-◌, ◌≤◌, ◌<◌, Bool, true, false, cond, ◌&&◌, nat_eq, nat_le, List, [], ◌∷◌, ◌++◌, map, length, Option, Some, None}
+use Rattle.std.proofs.Common.{Result, Ok, Err, refl, sym, ◌∙◌, ap, subst, unwrap_or, inl, inr, arith}
 use Rattle.std.specs.Prelude.{◌⊎◌}
 use Rattle.std.specs.List.{AllByRecursion}
 use Rattle.std.proofs.lemmas.Option.{none-some, slice_get_within}
@@ -33,7 +34,8 @@ use Rattle.htcp_wire.specs.declared.fault.HtcpFault.{HtcpFault}
 use Rattle.node_rules.specs.Datagrams.{purge_of}
 use Rattle.node_rules.specs.Relation.{purge_in, purge_by_line, purge_in_content, purge_in_message}
 use Rattle.node_rules.specs.Effect as effect
-use Rattle.node_rules.specs.Effect.{copy_in, copy_in_serve, IsBareStatus, IsBareInServe, sent, acknowledged, ComesFrom, Acknowledges, IsObedient, IsReadFrom, IsReadOf, IsFromPeer, IsAnswerOf}
+use Rattle.node_rules.specs.Effect.{copy_in, copy_in_serve, IsBareStatus, IsBareInServe, sent, acknowledged, ComesFrom, Acknowledges, IsObedient, IsReadFrom}
+use Rattle.node_rules.specs.Effect.{IsReadOf, IsFromPeer, IsAnswerOf}
 use Rattle.node_rules.specs.Lawful.{number_of_purge, HasOrGets, Lawful}
 use Rattle.node_rules.proofs.Cases.{same_Some, true_not_false}
 use Rattle.node_rules.proofs.Pendings.{all_mapped, all_joined, contained}
@@ -41,10 +43,12 @@ use Rattle.values_tables.specs.declared.plain.Tables.{Tables}
 use Rattle.roster.specs.Judged.{IsRoster}
 use Rattle.node_rules.specs.Messages.{protocol_of as udp_of}
 use Rattle.node_rules.specs.State.{setting}
-use Rattle.world_rules.specs.World.{MemberState, Datagram, PeerAsk, PeerAnswer, Waiting, World, node_at, with_node, datagrams_from, Answered, answer_of, mark_of, answer_to, asked_by, answers_in, reply_in, after_node}
+use Rattle.world_rules.specs.World.{MemberState, Datagram, PeerAsk, PeerAnswer, Waiting, World, node_at, with_node, datagrams_from, Answered, answer_of}
+use Rattle.world_rules.specs.World.{mark_of, answer_to, asked_by, answers_in, reply_in, after_node}
 use Rattle.world_rules.specs.Consequence.{with_member_state}
 use Rattle.world_rules.specs.Run.{Step, IsItem, purges, issued}
-use Rattle.world_rules.specs.Lineage.{IsStamped, IsStampedCopy, IsStampedFetch, IsStampedRead, IsStampedAnswer, IsSentAnswer, HasRaised, IsClear, IsMastersRightly, IsObeyed, NodeHasLineage, HasLineage}
+use Rattle.world_rules.specs.Lineage.{IsStamped, IsStampedCopy, IsStampedFetch, IsStampedRead, IsStampedAnswer, IsSentAnswer, HasRaised, IsClear}
+use Rattle.world_rules.specs.Lineage.{IsMastersRightly, IsObeyed, NodeHasLineage, HasLineage}
 use Rattle.world_rules.proofs.Issues.{issued_here}
 use Rattle.world_rules.proofs.MemberStates.{node_at-same, each_node}
 use Rattle.world_rules.proofs.Later.{extends_itself, Grows, grows_by, obeyed_later, purges_later, all_later}

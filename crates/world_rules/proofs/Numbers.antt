@@ -1,6 +1,7 @@
 -- A node reads the number of a CLR as the master wrote it: the digits spell the number and have no
 -- leading zero and no blank, and the header has one line, the purge number's.
-use Rattle.std.proofs.Common.{◌≡◌, ℕ, ◌+◌, ◌-◌, ◌/◌, ◌%◌, ◌^◌, ◌≤◌, ◌<◌, Bool, true, false, cond, not, ◌&&◌, ◌||◌, List, [], ◌∷◌, ◌++◌, length, take, drop, reverse, Some, None, Ok, refl, sym, ◌∙◌, ap, subst, nat_eq, nat_le, nat_lt, arith}
+use Rattle.std.proofs.Common.{◌≡◌, ℕ, ◌+◌, ◌-◌, ◌/◌, ◌%◌, ◌^◌, ◌≤◌, ◌<◌, Bool, true, false, cond, not, ◌&&◌, ◌||◌, List, [], ◌∷◌, ◌++◌, length, take, drop}
+use Rattle.std.proofs.Common.{reverse, Some, None, Ok, refl, sym, ◌∙◌, ap, subst, nat_eq, nat_le, nat_lt, arith}
 use Rattle.std.specs.Prelude.{codes, decimal, slice_index, is_none}
 use Rattle.std.specs.List.{AllByRecursion, list_all, prefix_len, suffix_len, filter_map, cons_option}
 use native.Mathlib.Decide.{dec_lt}

@@ -1,10 +1,11 @@
 -- The invariant holds at every place of a run from a new world: it holds at the start, and
 -- Consequences has that each event keeps it.
-use Rattle.std.proofs.Common.{◌≡◌, ℕ, zero, suc, ◌+◌, ◌-◌, List, [], ◌∷◌, ◌++◌, length, take, map, Some, refl, sym, subst, nat_eq, inl, inr, arith, length-append, append_assoc}
+use Rattle.std.proofs.Common.{◌≡◌, ℕ, zero, suc, ◌+◌, ◌-◌, List, [], ◌∷◌, ◌++◌, length, take, map, Some, refl, sym, subst, nat_eq, inl, inr, arith}
+use Rattle.std.proofs.Common.{length-append, append_assoc}
 use Rattle.std.specs.Prelude.{slice_get}
 use Rattle.std.proofs.lemmas.Option.{same_Some}
 use Rattle.values_tables.specs.declared.plain.Member.{Member}
-use Rattle.floor_rules.proofs.MapLemmas.{seen_empty}
+use Rattle.floor_rules.proofs.MapLemmas.{greatest_empty}
 use Rattle.node_rules.proofs.Cases.{branches}
 use Rattle.values_tables.specs.declared.plain.Tables.{Tables}
 use Rattle.roster.specs.Judged.{IsRoster}
@@ -17,7 +18,7 @@ use Rattle.world_rules.proofs.Consequences.{happens_keeps}
 
 -- the nodes of a new world are new
 node_is_new : NodeHasLineage [] new_node
-node_is_new = record { seen_issued = omega (arith, seen_empty); copies = λ is_open. tt; reads = tt }
+node_is_new = record { seen_issued = omega (arith, greatest_empty); copies = λ is_open. tt; reads = tt }
 
 nodes_are_new : (members : List Member) (id : ℕ) → NodeHasLineage [] (node_at (map (λ (m : Member). record { id = m.cache.id; node = new_node }) members) id)
 nodes_are_new [] id = node_is_new

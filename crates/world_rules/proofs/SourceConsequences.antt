@@ -30,7 +30,9 @@ use Rattle.world_rules.specs.declared.outcome.WorldFault.TheVariants.{NoSuchPack
 use Rattle.node_rules.specs.Messages.{protocol_of as udp_of}
 use Rattle.node_rules.specs.Spelled.{decoded_by}
 use Rattle.world_rules.specs.World.{Datagram, PeerAsk, PeerAnswer, Waiting, World, item, node_at}
-use Rattle.world_rules.specs.Consequence.{Seen, Nothing, Consequence, NodeSteps, Ends, Refused, at_member, with_clock, with_master, with_sent, with_member_state, issue_by, acknowledged_by, master_hears_htcp, master_hears, delivered_to, delivered, octets_reach, octets_come, ask_delivered, answer_delivered, origin_by, origin_to, foreign_by, foreign_to, fetching_at, consequence}
+use Rattle.world_rules.specs.Consequence.{Seen, Nothing, Consequence, NodeSteps, Ends, Refused, at_member, with_clock, with_master, with_sent}
+use Rattle.world_rules.specs.Consequence.{with_member_state, issue_by, acknowledged_by, master_hears_htcp, master_hears, delivered_to, delivered, octets_reach}
+use Rattle.world_rules.specs.Consequence.{octets_come, ask_delivered, answer_delivered, origin_by, origin_to, foreign_by, foreign_to, fetching_at, consequence}
 use Rattle.world_rules.specs.Run.{Step, ServesCopy}
 use Rattle.world_rules.specs.Asked.{moment}
 use Rattle.world_rules.specs.Sources.{AnswerHasSource, NodeHasSources, NodeHasAsks, HasSources}

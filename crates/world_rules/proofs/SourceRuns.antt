@@ -1,6 +1,7 @@
 -- The invariant of sources holds at every place of a run from a new world, and what is served has
 -- its age. It holds at the start, SourceTurns has that each event keeps it, and the age is Asked's.
-use Rattle.std.proofs.Common.{◌≡◌, ℕ, zero, suc, ◌+◌, ◌-◌, List, [], ◌∷◌, ◌++◌, length, take, map, Some, Ok, refl, sym, ◌∙◌, ap, subst, nat_eq, arith, append_assoc}
+use Rattle.std.proofs.Common.{◌≡◌, ℕ, zero, suc, ◌+◌, ◌-◌, List, [], ◌∷◌, ◌++◌, length, take, map, Some, Ok, refl, sym, ◌∙◌, ap, subst, nat_eq, arith}
+use Rattle.std.proofs.Common.{append_assoc}
 use Rattle.std.specs.Prelude.{slice_get}
 use Rattle.std.proofs.lemmas.Option.{same_Some}
 use Rattle.object_store.specs.declared.copy.WebCopy.{WebCopy}

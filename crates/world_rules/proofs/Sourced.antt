@@ -1,7 +1,8 @@
 -- A step of a member's node keeps the invariant of sources. By steps_are_lawful a copy was there or
 -- is the event's response; by Asked it is served to the request that it is for; a read that begins
 -- takes this step's place as its mark.
-use Rattle.std.proofs.Common.{◌≡◌, ◌≢◌, ℕ, ◌+◌, true, false, List, [], ◌∷◌, ◌++◌, length, Option, Some, None, Result, Ok, Err, refl, sym, ◌∙◌, ap, subst, inl, inr, append_assoc}
+use Rattle.std.proofs.Common.{◌≡◌, ◌≢◌, ℕ, ◌+◌, true, false, List, [], ◌∷◌, ◌++◌, length, Option, Some, None, Result, Ok, Err, refl, sym, ◌∙◌, ap, subst, inl}
+use Rattle.std.proofs.Common.{inr, append_assoc}
 use Rattle.std.specs.Prelude.{◌⊎◌}
 use Rattle.std.specs.List.{AllByRecursion, Contains}
 use Rattle.std.proofs.Math.Decide.{ℕ_discrete}
@@ -31,7 +32,8 @@ use Rattle.node_rules.proofs.Pendings.{all_mapped, all_joined, contained}
 use Rattle.node_rules.proofs.Lawful.{steps_are_lawful}
 use Rattle.values_tables.specs.declared.plain.Tables.{Tables}
 use Rattle.world_rules.specs.declared.event.WorldEvent.{WorldEvent}
-use Rattle.world_rules.specs.World.{MemberState, PeerAnswer, World, new_world, node_at, with_node, Answered, answer_of, mark_of, answer_to, asked_before, asked_by, answers_in, reply_in, after_node}
+use Rattle.world_rules.specs.World.{MemberState, PeerAnswer, World, new_world, node_at, with_node, Answered, answer_of, mark_of, answer_to, asked_before}
+use Rattle.world_rules.specs.World.{asked_by, answers_in, reply_in, after_node}
 use Rattle.world_rules.specs.Consequence.{Replied, NodeSteps, consequence}
 use Rattle.world_rules.specs.Run.{Step, Run}
 use Rattle.world_rules.specs.Asked.{IsFor, IsServedRightly, IsRightlyIn, AnswersAsks}

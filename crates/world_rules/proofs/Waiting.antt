@@ -1,7 +1,8 @@
 -- Which members' requests wait, as nodes step and restart: a new request gets a block that no other
 -- has which waits at its node, and the latest of a block is found first; a restart removes all of its
 -- own and no other.
-use Rattle.std.proofs.Common.{◌≡◌, ◌≢◌, ℕ, ◌/◌, Bool, true, false, cond, not, ◌&&◌, List, [], ◌∷◌, ◌++◌, filter, find, option_map, Option, Some, None, Result, refl, sym, ◌∙◌, ap, subst, nat_eq, inl, inr}
+use Rattle.std.proofs.Common.{◌≡◌, ◌≢◌, ℕ, ◌/◌, Bool, true, false, cond, not, ◌&&◌, List, [], ◌∷◌, ◌++◌, filter, find, option_map, Option, Some, None, Result}
+use Rattle.std.proofs.Common.{refl, sym, ◌∙◌, ap, subst, nat_eq, inl, inr}
 use Rattle.std.specs.List.{AllByRecursion}
 use Rattle.std.proofs.lemmas.Option.{none-some}
 use Rattle.http_messages.specs.declared.ask.Ask.{Ask}

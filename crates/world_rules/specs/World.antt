@@ -1,7 +1,8 @@
 -- The state of the world: the nodes, the master, the clock and all that was ever sent; and what one
 -- step of a node adds to it.
-use Rattle.std.specs.Prelude.{ℕ, ◌-◌, ◌/◌, Bool, ◌==◌, ◌&&◌, List, [], ◌∷◌, ◌++◌, map, find, slice_get, Option, Some, None, Result, Ok, Err, option_map, if◌then◌else◌}
-use Rattle.std.specs.FinMap.{empty}
+use Rattle.std.specs.Prelude.{ℕ, ◌-◌, ◌/◌, Bool, ◌==◌, ◌&&◌, List, [], ◌∷◌, ◌++◌, map, find, slice_get, Option, Some, None, Result, Ok, Err, option_map}
+use Rattle.std.specs.Prelude.{if◌then◌else◌}
+use Rattle.floor_rules.specs.Floors.{no_floors}
 use Rattle.http_messages.specs.declared.ask.Ask.{Ask}
 use Rattle.http_messages.specs.Answer.{AnswerText}
 use Rattle.object_store.specs.declared.copy.WebCopy.{WebCopy}
@@ -75,7 +76,7 @@ pub record World : Type 0 where
 
 -- a node that holds nothing, not even a floor
 abbrev pub new_node : NodeState ℕ
-new_node = opened empty
+new_node = opened no_floors
 
 -- the world at the start: nothing is stored and nothing was sent
 abbrev pub new_world : Tables → World

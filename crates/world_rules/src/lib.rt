@@ -22,7 +22,8 @@
 //! Four premises are built into the definitions. Nothing else is assumed of the network:
 //!
 //! - What is stored outlives a restart. `Restart` opens a node with the floors that it had
-//!   (`specs/Consequence`) and nothing else. The master's purges are the same after `RestartMaster`.
+//!   (`specs/Consequence`) and nothing else. The master's purges are the same after
+//!   `RestartMaster`.
 //! - What comes from the address of a member or of the master was sent by it. `Datagram`, `Ask` and
 //!   `Answer` deliver only items of the lists. `Strange` delivers any octets, and is refused if its
 //!   sender has such an address.
@@ -46,12 +47,13 @@
 //! definition.
 //!
 //! Read first `specs/Safety` (the promise), then `specs/Run` (what a run is, and when a purge is
-//! issued, reported done, or a copy served), `specs/World` (the state) and `specs/Consequence` (what
-//! each event does). Then `specs/Lineage` (the invariant for stamps and floors), `specs/Asked`,
-//! `specs/Provenance` (sources and ages), `specs/Sources` (the invariant for them), `specs/Noise`
-//! (octets that say nothing), `specs/Apply` (one event as a function, and its outcome) and
-//! `specs/Names` (the names of faults). The proof of safety ends in `proofs/Safe`; `proofs/Lib`
-//! gives the order of reading. `docs/SAFETY.md` explains all this without the definitions.
+//! issued, reported done, or a copy served), `specs/World` (the state) and `specs/Consequence`
+//! (what each event does). Then `specs/Lineage` (the invariant for stamps and floors),
+//! `specs/Asked`, `specs/Provenance` (sources and ages), `specs/Sources` (the invariant for them),
+//! `specs/Noise` (octets that say nothing), `specs/Apply` (one event as a function, and its
+//! outcome) and `specs/Names` (the names of faults). The proof of safety ends in `proofs/Safe`;
+//! `proofs/Lib` gives the order of reading. `docs/SAFETY.md` explains all this without the
+//! definitions.
 //!
 //! Not promised: that a purge is ever done, that anything arrives, or that nothing old is served
 //! before the report. A wrong body cannot test the laws, since laws have no bodies; nor can it test

@@ -1,7 +1,8 @@
 //! How HTCP datagrams are shown.
 ghost use Rattle.std.specs.Prelude.{◌≡◌, ℕ, List, ◌++◌, OnOk, Ok};
 ghost use Rattle.hex.specs.Hex.{decode_of};
-ghost use Rattle.cli_answer.specs.Wire.{number_shown, flag_shown, text_shown, specifier_shown, detail_shown, content_shown, htcp_shown, HtcpShows};
+ghost use Rattle.cli_answer.specs.Wire.{number_shown, flag_shown, text_shown, specifier_shown};
+ghost use Rattle.cli_answer.specs.Wire.{detail_shown, content_shown, htcp_shown, HtcpShows};
 
 use crate::wire::show_octets;
 use hex::FromHexError;

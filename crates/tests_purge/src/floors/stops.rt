@@ -1,8 +1,10 @@
-//! Raises over files that stop after so many calls.
+//! Raises over files that stop after so many calls, and files of form 1 that stop as they are
+//! brought to form 2.
 //!
-//! What is done with a store is written for any store below it: a proof then speaks of none in particular.
-use super::{floor, loaded, raise};
-use crate::disks::{Disks, closed, connected, crashed, files, stopping};
+//! What is done with a store is written for any store below it: a proof then speaks of none in
+//! particular.
+use super::{FLOORS, floor, loaded, raise};
+use crate::disks::{Disks, FORM, VERSION, closed, connected, crashed, files, stopping};
 use floor_rules::{FloorFault, FloorStore};
 use purge_numbers::SqliteFloors;
 use sqlite::{Alter, Connection, Files};
@@ -41,93 +43,209 @@ fn first_files(alloc: Global) -> Result<Files<Disks>, Fail> {
     made(alloc, new)
 }
 
-/// Raises `http://a/` to 3, and answers whether that was answered Ok. A store that failed fails from then on.
-fn raised<F: FloorStore>(store: &mut F, alloc: Global) -> Result<bool, Fail> {
-    let done = raise(store, alloc, "http://a/", 3)?;
+/// Files whose tables these statements make.
+fn made_by<D: Disk + Drop>(
+    alloc: Global,
+    files: Files<D>,
+    statements: &[&str],
+) -> Result<Files<D>, Fail> {
+    match connected(alloc, files) {
+        Ok(conn) => closed(run(conn, statements)?),
+        Err(_) => Err("first files".into()),
+    }
+}
+
+/// The connection after these statements.
+fn run<S: Alter + Drop>(
+    mut conn: Connection<S>,
+    statements: &[&str],
+) -> Result<Connection<S>, Fail> {
+    for statement in statements {
+        conn.execute_batch(statement)?;
+    }
+    Ok(conn)
+}
+
+/// A file of form 1 with two floors.
+fn older_files(alloc: Global) -> Result<Files<Disks>, Fail> {
+    let new = files(Memory::new(alloc), Memory::new(alloc), u64::MAX, u64::MAX);
+    made_by(alloc, new, &[FORM, FLOORS, VERSION, TWO_ROWS])
+}
+
+const TWO_ROWS: &str = "INSERT INTO floors VALUES ('http://a/', 3), ('http://b/', 5)";
+
+/// The connection after all rows of a full table were added, in one transaction.
+fn filled<S: Alter + Drop>(alloc: Global, mut conn: Connection<S>) -> Result<Connection<S>, Fail> {
+    conn.execute_batch("BEGIN")?;
+    for key in 1..=65_536u32 {
+        let row = format!(in alloc; "INSERT INTO floors VALUES ('http://o/{key}', {key})")?;
+        conn.execute_batch(row.as_str())?;
+    }
+    conn.execute_batch("COMMIT")?;
+    Ok(conn)
+}
+
+/// A file with 65,536 floors, of the numbers 1 to 65,536.
+fn full_files(alloc: Global) -> Result<Files<Disks>, Fail> {
+    match connected(alloc, first_files(alloc)?) {
+        Ok(conn) => closed(filled(alloc, conn)?),
+        Err(_) => Err("full files".into()),
+    }
+}
+
+/// Raises `http://a/` to this number, and answers whether that was answered Ok. A store that failed
+/// fails from then on.
+fn raised<F: FloorStore>(store: &mut F, alloc: Global, number: u32) -> Result<bool, Fail> {
+    let done = raise(store, alloc, "http://a/", number)?;
     if done == Ok(()) {
         return Ok(true);
     }
     want(done == Err(FloorFault::StoreFault), "a store fault")?;
     want(store.failures() == 1, "one failure")?;
-    let later = raise(store, alloc, "http://a/", 3)?;
+    let later = raise(store, alloc, "http://a/", number)?;
     want(later == Err(FloorFault::StoreFault), "a store fault again")?;
     want(store.failures() == 2, "two failures")?;
     Ok(false)
 }
 
-/// Raises, and answers whether that was answered Ok and what is left below the store.
-fn raised_once<S: Alter + Drop>(
+/// What is done with a store that opens.
+#[derive(Clone, Copy)]
+enum Doing {
+    /// It is opened, and no more.
+    Open,
+    /// `http://a/` is raised to this number.
+    Raise(u32),
+}
+
+/// Does that with a store that has opened, and answers whether it went and what is left below the
+/// store.
+fn done<S: Alter + Drop>(
     alloc: Global,
     mut store: SqliteFloors<S>,
+    doing: Doing,
 ) -> Result<(bool, S), Fail> {
-    let went = raised(&mut store, alloc)?;
+    let went = match doing {
+        Doing::Open => true,
+        Doing::Raise(number) => raised(&mut store, alloc, number)?,
+    };
     Ok((went, store.into_connection().into_store()))
 }
 
 /// The same over a connection whose store may not open.
-fn raised_over<S: Alter + Drop>(alloc: Global, conn: Connection<S>) -> Result<(bool, S), Fail> {
+fn done_over<S: Alter + Drop>(
+    alloc: Global,
+    conn: Connection<S>,
+    doing: Doing,
+) -> Result<(bool, S), Fail> {
     match stored(alloc, conn) {
-        Ok(store) => raised_once(alloc, store),
+        Ok(store) => done(alloc, store, doing),
         Err(left) => Ok((false, left)),
     }
 }
 
 /// The same over files that may not open: what is left of them, whatever they answer.
-fn tried<D: Disk + Drop>(alloc: Global, files: Files<D>) -> Result<(bool, Files<D>), Fail> {
+fn tried<D: Disk + Drop>(
+    alloc: Global,
+    files: Files<D>,
+    doing: Doing,
+) -> Result<(bool, Files<D>), Fail> {
     match connected(alloc, files) {
         Ok(conn) => {
-            let (went, left) = raised_over(alloc, conn)?;
+            let (went, left) = done_over(alloc, conn, doing)?;
             Ok((went, left.close()))
         }
         Err(left) => Ok((false, left)),
     }
 }
 
-/// The floor that a store holds.
-fn floor_of<S: Alter + Drop>(alloc: Global, mut store: SqliteFloors<S>) -> Result<u32, Fail> {
-    floor(&loaded(&mut store, alloc)?, alloc, "http://a/")
+/// How many rows are found, the base, the floor of `http://a/`, and the greatest floor.
+type Found = (usize, u32, u32, u32);
+
+/// What a store holds.
+fn found_by<S: Alter + Drop>(alloc: Global, mut store: SqliteFloors<S>) -> Result<Found, Fail> {
+    let floors = loaded(&mut store, alloc)?;
+    let a = floor(&floors, alloc, "http://a/")?;
+    Ok((floors.rows(), floors.base(), a, floors.seen()))
 }
 
 /// The same over a connection.
-fn floor_over<S: Alter + Drop>(alloc: Global, conn: Connection<S>) -> Result<u32, Fail> {
+fn found_over<S: Alter + Drop>(alloc: Global, conn: Connection<S>) -> Result<Found, Fail> {
     match stored(alloc, conn) {
-        Ok(store) => floor_of(alloc, store),
+        Ok(store) => found_by(alloc, store),
         Err(_) => Err("the store after the crash".into()),
     }
 }
 
-/// The floor that the files hold which a crash leaves.
-fn floor_in<D: Disk + Drop>(alloc: Global, files: Files<D>) -> Result<u32, Fail> {
+/// What the files hold which a crash leaves.
+fn found_in<D: Disk + Drop>(alloc: Global, files: Files<D>) -> Result<Found, Fail> {
     match connected(alloc, files) {
-        Ok(conn) => floor_over(alloc, conn),
+        Ok(conn) => found_over(alloc, conn),
         Err(_) => Err("the files after the crash".into()),
     }
 }
 
-/// Raises over a copy of the files that stops, and answers whether that was answered Ok and the floor after a crash.
+/// What is done, and what is found where it was not done and where it was.
+#[derive(Clone, Copy)]
+struct Stops {
+    doing: Doing,
+    before: Found,
+    after: Found,
+}
+
+/// A raise that adds a row.
+const ROW: Stops = Stops {
+    doing: Doing::Raise(3),
+    before: (0, 0, 0, 0),
+    after: (1, 0, 3, 3),
+};
+
+/// A raise that makes the base.
+const BASE: Stops = Stops {
+    doing: Doing::Raise(70_000),
+    before: (65_536, 0, 0, 65_536),
+    after: (0, 70_000, 70_000, 70_000),
+};
+
+/// A file of form 1 is brought to form 2.
+const OLDER: Stops = Stops {
+    doing: Doing::Open,
+    before: (2, 0, 3, 5),
+    after: (2, 0, 3, 5),
+};
+
+/// Does that over a copy of the files that stops, and answers whether it went and what is found
+/// after a crash.
 fn stopped(
     alloc: Global,
     first: &Files<Disks>,
+    doing: Doing,
     log_calls: u64,
     db_calls: u64,
-) -> Result<(bool, u32), Fail> {
-    let (went, left) = tried(alloc, stopping(alloc, first, log_calls, db_calls)?)?;
-    Ok((went, floor_in(alloc, crashed(alloc, left)?)?))
+) -> Result<(bool, Found), Fail> {
+    let (went, left) = tried(alloc, stopping(alloc, first, log_calls, db_calls)?, doing)?;
+    Ok((went, found_in(alloc, crashed(alloc, left)?)?))
 }
 
-/// At each stop the floor is 0 or 3, and 3 where the raise was answered Ok. Answers whether one was, which ends the run.
-fn stops_of(alloc: Global, main_file: bool, from: u64, to: u64) -> Result<bool, Fail> {
-    let first = first_files(alloc)?;
+/// At each stop the floors are those from before or after, and those from after where it went.
+/// Answers whether it did, which ends the run.
+fn stops_of(
+    alloc: Global,
+    first: &Files<Disks>,
+    stops: Stops,
+    main_file: bool,
+    from: u64,
+    to: u64,
+) -> Result<bool, Fail> {
     for calls in from..to {
         let (log_calls, db_calls) = if main_file {
             (u64::MAX, calls)
         } else {
             (calls, u64::MAX)
         };
-        let (went, floor) = stopped(alloc, &first, log_calls, db_calls)?;
+        let (went, found) = stopped(alloc, first, stops.doing, log_calls, db_calls)?;
         want(
-            floor == 3 || (floor == 0 && !went),
-            "a floor from before or after",
+            found == stops.after || (found == stops.before && !went),
+            "floors from before or after",
         )?;
         if went {
             return Ok(true);
@@ -136,32 +254,55 @@ fn stops_of(alloc: Global, main_file: bool, from: u64, to: u64) -> Result<bool, 
     Ok(false)
 }
 
+fn row_stops(alloc: Global, main_file: bool, from: u64, to: u64) -> Result<bool, Fail> {
+    stops_of(alloc, &first_files(alloc)?, ROW, main_file, from, to)
+}
+
 #[test]
 fn a_log_that_stops_at_once(rt: HostRuntime) -> Result<(), Fail> {
-    let _went = stops_of(rt.alloc(), false, 0, 8)?;
+    let _went = row_stops(rt.alloc(), false, 0, 8)?;
     Ok(())
 }
 
 #[test]
 fn a_log_that_stops_later(rt: HostRuntime) -> Result<(), Fail> {
-    let _went = stops_of(rt.alloc(), false, 8, 16)?;
+    let _went = row_stops(rt.alloc(), false, 8, 16)?;
     Ok(())
 }
 
 #[test]
 fn a_log_that_stops_late_or_never(rt: HostRuntime) -> Result<(), Fail> {
-    assert!(rt; stops_of(rt.alloc(), false, 16, 100)?);
+    assert!(rt; row_stops(rt.alloc(), false, 16, 100)?);
     Ok(())
 }
 
 #[test]
 fn a_main_file_that_stops_at_once(rt: HostRuntime) -> Result<(), Fail> {
-    let _went = stops_of(rt.alloc(), true, 0, 8)?;
+    let _went = row_stops(rt.alloc(), true, 0, 8)?;
     Ok(())
 }
 
 #[test]
 fn a_main_file_that_stops_late_or_never(rt: HostRuntime) -> Result<(), Fail> {
-    assert!(rt; stops_of(rt.alloc(), true, 8, 100)?);
+    assert!(rt; row_stops(rt.alloc(), true, 8, 100)?);
     Ok(())
+}
+
+/// The stops of the log, and then those of the main file.
+fn all_stops(alloc: Global, first: &Files<Disks>, stops: Stops) -> Result<(), Fail> {
+    for main_file in [false, true] {
+        let went = stops_of(alloc, first, stops, main_file, 0, 1000)?;
+        want(went, "an end of the stops")?;
+    }
+    Ok(())
+}
+
+#[test]
+fn files_that_stop_as_the_base_is_made(rt: HostRuntime) -> Result<(), Fail> {
+    all_stops(rt.alloc(), &full_files(rt.alloc())?, BASE)
+}
+
+#[test]
+fn files_of_form_1_that_stop_as_they_are_brought_over(rt: HostRuntime) -> Result<(), Fail> {
+    all_stops(rt.alloc(), &older_files(rt.alloc())?, OLDER)
 }

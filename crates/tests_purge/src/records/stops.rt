@@ -1,6 +1,7 @@
 //! Calls over files that stop after so many calls of the disk.
 //!
-//! What is done with a store is written for any store below it: a proof then speaks of none in particular.
+//! What is done with a store is written for any store below it: a proof then speaks of none in
+//! particular.
 use crate::calls::{add, loaded, mark};
 use crate::disks::{Disks, closed, connected, crashed, files, stopping};
 use purge_records::SqlitePurges;
@@ -102,8 +103,8 @@ fn called<P: PurgeStore>(store: &mut P, alloc: Global, step: Step) -> Result<End
     Ok(End::Stopped)
 }
 
-/// What tells the purges from before the call and after it: the last number, how many are pending, how many members have acknowledged
-/// the first, and whether member 5 has.
+/// What tells the purges from before the call and after it: the last number, how many are pending,
+/// how many members have acknowledged the first, and whether member 5 has.
 type Seen = (u32, usize, u8, bool);
 
 fn seen<P: PurgeStore>(store: &mut P, alloc: Global) -> Result<Seen, Fail> {
@@ -183,7 +184,8 @@ fn seen_in<D: Disk + Drop>(alloc: Global, files: Files<D>) -> Result<Seen, Fail>
     }
 }
 
-/// Makes the call over a copy of the files that stops, and answers how it ended and what a crash leaves.
+/// Makes the call over a copy of the files that stops, and answers how it ended and what a crash
+/// leaves.
 fn stopped(
     alloc: Global,
     first: &Files<Disks>,
@@ -195,8 +197,9 @@ fn stopped(
     Ok((end, seen_in(alloc, crashed(alloc, left)?)?))
 }
 
-/// Stops the log, or the main file, after so many calls. What a crash leaves are the purges from before or after the call, and those after
-/// it where it was answered Ok: so the last number is then no less than the one that was given.
+/// Stops the log, or the main file, after so many calls. What a crash leaves are the purges from
+/// before or after the call, and those after it where it was answered Ok: so the last number is
+/// then no less than the one that was given.
 fn stop_at(
     alloc: Global,
     first: &Files<Disks>,
@@ -221,8 +224,8 @@ fn stop_at(
 /// With so many calls of either file it does not open yet, and with one more it does.
 const OPENING: u64 = 27;
 
-/// Stops the call at each of its calls of the disk: from one at which the file does not open, to one at which the call has gone and its close
-/// is stopped.
+/// Stops the call at each of its calls of the disk: from one at which the file does not open, to
+/// one at which the call has gone and its close is stopped.
 fn stops_of(alloc: Global, step: Step, main_file: bool, stops: u64) -> Result<(), Fail> {
     let first = first_files(alloc)?;
     let begun = stop_at(alloc, &first, step, main_file, OPENING)?;

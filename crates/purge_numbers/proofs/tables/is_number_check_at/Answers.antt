@@ -1,4 +1,7 @@
-use Rattle.std.proofs.Common.{arith}
+use Rattle.std.proofs.Common.{arith, ap, sym, ◌∙◌}
+use Rattle.std.proofs.lemmas.Int.{to_z-of_z}
+use mir.Syntax.{w64}
+use Rattle.purge_numbers.specs.Tables.{number_check}
 use Rattle.purge_numbers.proofs.CheckLemmas.{check_holds, left_differs, right_differs, shallow}
 use Rattle.purge_numbers.proofs.tables.is_number_check_at.Goals as goal
 
@@ -9,6 +12,7 @@ pub returns-then-is_bound_at-clause-yes : goal.returns-then-is_bound_at-clause-y
 returns-then-is_bound_at-clause-yes c held =
     check_holds c.args.nodes.now c.args.at c.in-Some.low c.in-Some.high _ _ c.in-Some.ensures.some (omega (arith, c.if-nodes-lt3.false))
     (c.is_bound_at.ensures.yes c.if-is_bound_at.true) (c.is_bound_at-then-is_bound_at.ensures.yes held)
+    ∙ ap number_check (to_z-of_z w64 c.args.least c.ranges.least)
 
 pub returns-then-is_bound_at-clause-no : goal.returns-then-is_bound_at-clause-no
 returns-then-is_bound_at-clause-no c refused =
@@ -16,6 +20,6 @@ returns-then-is_bound_at-clause-no c refused =
     (c.is_bound_at-then-is_bound_at.ensures.no refused)
 
 pub returns-else-is_bound_at-clause-no : goal.returns-else-is_bound_at-clause-no
-returns-else-is_bound_at-clause-no c refused =
+returns-else-is_bound_at-clause-no c refused is =
     left_differs c.args.nodes.now c.args.at c.in-Some.low c.in-Some.high _ _ c.in-Some.ensures.some (omega (arith, c.if-nodes-lt3.false))
-    (c.is_bound_at.ensures.no c.if-is_bound_at.false)
+    (c.is_bound_at.ensures.no c.if-is_bound_at.false) (is ∙ ap number_check (sym (to_z-of_z w64 c.args.least c.ranges.least)))

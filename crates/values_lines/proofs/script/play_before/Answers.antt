@@ -6,7 +6,8 @@ use Rattle.values_plain.proofs.Laws.{proper_front}
 use Rattle.values_lines.specs.Lines.{is_last}
 use Rattle.values_lines.specs.Reading.{IsCounted}
 use Rattle.values_lines.proofs.Counting.{counted_same, counted_then}
-use Rattle.values_lines.proofs.PlayLemmas.{none_left, none_before_last, spent_all, not_spent, playing_start, playing_line, playing_written, playing_stops, nothing_written, other_fault, playing_ends}
+use Rattle.values_lines.proofs.PlayLemmas.{none_left, none_before_last, spent_all, not_spent, playing_start, playing_line, playing_written, playing_stops}
+use Rattle.values_lines.proofs.PlayLemmas.{nothing_written, other_fault, playing_ends}
 use Rattle.values_lines.proofs.script.play_before.Goals as goal
 
 pub returns-in-Err : goal.returns-in-Err

@@ -2,7 +2,7 @@
 -- back at the index, and what waited there is dropped.
 use Rattle.std.proofs.Common.{◌≡◌, Bool, true, cond, List, not, is_ok, nat_eq, filter, set, insert, slice_get, Some, refl, sym, ◌∙◌, ap}
 use Rattle.std.proofs.lemmas.Option.{slice_get_read}
-use Rattle.floor_rules.specs.Floors.{FloorMap}
+use Rattle.floor_rules.specs.Floors.{FloorTable}
 use Rattle.node_rules.specs.State.{opened}
 use Rattle.hierarchy_world.specs.declared.parts.Parts.{Parts}
 use Rattle.hierarchy_world.specs.Parts.{MemberNode, IsStored, IsMemberNode, IsMemberChanged}
@@ -31,7 +31,7 @@ returns c =
     let same_id = c.in-Ok.ensures.member.1 ∙ sym (was_id old before c.args.id c.args.place c.requires.sound c.requires.place at) in
     let same_roster = c.in-Ok.ensures.member.0 ∙ c.in_ok-roster.ensures.value ∙ sym of_member.roster in
     let store : n.store ≡ before.store = c.in-Ok.ensures.store ∙ c.into_floors-store.ensures in
-    let state : n.state ≡ opened before.state.floors = c.in-Ok.ensures.state tt ∙ ap (λ (f : FloorMap). opened f)
+    let state : n.state ≡ opened before.state.floors = c.in-Ok.ensures.state tt ∙ ap (λ (f : FloorTable). opened f)
     (c.into_floors-store.ensures ∙ of_member.stored) in
     let stored : IsStored n = store ∙ of_member.stored ∙ ap (λ s. s.floors) (sym state) in
     record {
