@@ -20,8 +20,6 @@ pub enum HeaderKind {
     PurgeNumber,
     /// `X-Purge-Stamp: n` in CACHE-HDRS of a response to TST: the stamp of a copy.
     PurgeStamp,
-    /// `X-Purge-Base: n` in REQ-HDRS of a CLR: the number under which a node is admitted.
-    PurgeBase,
 }
 
 impl HeaderKind {
@@ -32,7 +30,6 @@ impl HeaderKind {
         match self {
             HeaderKind::PurgeNumber => b"X-Purge-Number",
             HeaderKind::PurgeStamp => b"X-Purge-Stamp",
-            HeaderKind::PurgeBase => b"X-Purge-Base",
         }
     }
 }

@@ -1,6 +1,5 @@
 pub mod Members
 pub mod MemberPlaces
-pub mod Needed
 pub mod Purges
 pub mod Places
 pub mod Calls
