@@ -126,6 +126,8 @@ class Running:
                 stream.settimeout(HANG * self.trial.waits)
                 with contextlib.suppress(ConnectionError):
                     stream.sendall(octets)
+                # (fails where the other side has reset the connection)
+                with contextlib.suppress(OSError):
                     stream.shutdown(socket.SHUT_WR)
                 while piece := stream.recv(65536):
                     answer += piece

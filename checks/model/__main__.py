@@ -12,7 +12,7 @@ from typing import NoReturn
 
 from model.answer import play_lines
 from model.fault import Fault
-from model.lines import split_lines
+from model.lines import MOST_LINE_OCTETS, split_lines
 from model.make_lines import answer_script, full_table_script, wire_script
 from model.make_rosters import any_roster
 from model.make_worlds import world_script
@@ -64,7 +64,12 @@ def model_of_world(roster: bytes, lines: list[bytes]) -> Told:
         world = World(read_roster(roster))
     except Fault as fault:
         return Told([], fault.name)
-    return Told([world.play(line) for line in lines], None)
+    answers: list[bytes] = []
+    for line in split_lines(text_of(lines)):
+        if len(line) > MOST_LINE_OCTETS:
+            return Told(answers, "LineTooLong")
+        answers.append(world.play(line))
+    return Told(answers, None)
 
 
 def text_of(lines: list[bytes]) -> bytes:
