@@ -1,5 +1,5 @@
--- What the transaction that sets the base does to a node's file. A DELETE without a test takes all
--- rows, since the query shows the rowid of each. The UPDATE replaces the one row of `base`.
+-- What the last statement of the transaction that sets the base does to a node's file: the UPDATE
+-- replaces the one row of `base`.
 use Rattle.std.proofs.Common.{◌≡◌, ℕ, ℤ, pos, Bool, true, not, ◌||◌, cond, List, [], ◌∷◌, map, filter, length, None, Ok, Err, Result, OnOk, refl, sym, ap}
 use Rattle.std.proofs.Common.{subst, ◌∙◌, inl, inr, arith}
 use Rattle.std.specs.List.{AllByRecursion, list_any}
@@ -32,73 +32,12 @@ use Rattle.purge_tables.proofs.StatementLemmas.{cast_int, Ran, inside}
 use Rattle.purge_tables.proofs.StepLemmas.{base, task_on, concluded, deleted, updated}
 use Rattle.purge_tables.proofs.QueryLemmas.{answered, all_matched}
 use Rattle.purge_numbers.specs.Tables.{floors_table, base_table, node_schema, base_in, shown_base, IsBase, IsFloorRow}
-use Rattle.purge_numbers.specs.Put.{clear_text, base_text, base_params}
+use Rattle.purge_numbers.specs.Put.{base_text, base_params}
 use Rattle.purge_numbers.specs.Store.{IsNode}
 use Rattle.purge_numbers.specs.Writing.{HasNoRows, Holds}
 use Rattle.purge_numbers.proofs.CommitLemmas.{floors_with, own_base}
 use Rattle.purge_numbers.proofs.LookLemmas.{own_value}
 use Rattle.purge_numbers.proofs.Texts as text
-
--- ---- all rows go
-
-filter_twice : (p q : Row → Bool) (rows : List Row) → filter (λ r. not (q r)) (filter (λ r. not (p r)) rows) ≡ filter (λ r. not (p r || q r)) rows
-filter_twice p q [] = refl
-filter_twice p q (r ∷ rows) = elim (cases_Bool (p r)) [
-  | inl on ↦ rw on (filter_twice p q rows)
-  | inr off ↦ rw off (ap (λ rs. cond (not (q r)) (r ∷ rs) rs) (filter_twice p q rows))
-]
-
-keep_all : (rows : List Row) → filter (λ r. true) rows ≡ rows
-keep_all [] = refl
-keep_all (r ∷ rows) = ap (λ rs. r ∷ rs) (keep_all rows)
-
--- the rows that have none of the rowids
-without_is : (ids : List ℤ) (rows : List Row) → without_all rows ids ≡ filter (λ r. not (list_any (λ id. has_rowid id r) ids)) rows
-without_is [] rows = sym (keep_all rows)
-without_is (id ∷ ids) rows = without_is ids (without_rowid id rows) ∙ filter_twice (has_rowid id) (λ r. list_any (λ i. has_rowid i r) ids) rows
-
-abbrev only_id : Row → Row
-only_id r = rowid r ∷ []
-
-drop_each : (p : Row → Bool) (rows : List Row) → ((r : Row) → Has rows r → p r ≡ true) → filter (λ r. not (p r)) rows ≡ []
-drop_each p [] all = refl
-drop_each p (r ∷ rows) all = rw (all r (inl refl)) (drop_each p rows (λ x has. all x (inr has)))
-
-none_left : (rows found : List Row) → AllByRecursion IsFloorRow rows → IsPermutation (map only_id rows) found → without_all rows (ids_of found) ≡ []
-none_left rows found are same = without_is (ids_of found) rows ∙ drop_each (λ r. list_any (λ id. has_rowid id r) (ids_of found)) rows (λ r has.
-    let int = (all_has IsFloorRow rows r are has).0 in
-    let listed = mapped_has only_id rows r has in
-    let there = has_contained found (only_id r) (Contains-permutation (map only_id rows) found (only_id r) same
-    (contains_had (map only_id rows) (only_id r) listed)) in
-    let tied : has_rowid (id_in (rowid r)) r ≡ true = rw int.1 (own_value (Int int.0)) in
-    some_from (λ id. has_rowid id r) (ids_of found) (id_in (rowid r)) (mapped_has (λ (x : Row). id_in (rowid x)) found (only_id r) there) tied)
-
-clear_answer : (trees : Trees) (xs : List Row) → IsAnswer text.clear_query (overlay trees []) [] xs → IsPermutation (map only_id (trees 1)) xs
-clear_answer trees xs a = answered (λ r. []) only_id (trees 1) xs a.kept a.ordered
-    (a.distinct ∙ ap (map (output text.clear_query)) a.grouped ∙ all_matched (output text.clear_query) [] (trees 1)) a.same a.shown
-
-clear_step : (old new : State) (count : ℕ) → IsNode old.now → Executes clear_text [] old new (Ok count) → HasNoRows new.now
-clear_step old new count from h =
-    let db = old.now.trees in
-    let w = runs_as clear_text [] old new node_schema from.schema text.clear_command text.clear_is text.clear_plain count h in
-    let sql = statement_of clear_text (understood node_schema clear_text) in
-    let does = subst (λ s. Does old.step_limit (mode_of old) [] (base s db) sql None text.clear_command (Ok (w.tally, new.now))) from.schema w.changed in
-    let task = task_on old.step_limit (mode_of old).keys node_schema floors_table [] in
-    let done = concluded task (mode_of old) text.clear_command db w.tally new.now does in
-    let step = deleted task (record { lets = []; body = text.clear_query }) db done.0 (λ olds news. refl) done.1 in
-    let trees : new.now.trees ≡ done.0.trees = ap (λ (d : Database). d.trees) done.2 in
-    let form : new.now.trees 0 ≡ db 0 = ap (λ (t : Trees). t 0) trees ∙ step.2.tables.0 (omega arith) in
-    let rows : new.now.trees 1 ≡ [] = ap (λ (t : Trees). t 1) trees ∙ step.2.rows
-    ∙ none_left (db 1) step.0 from.table.0 (clear_answer db step.0 (step.1.answer Null)) in
-    let based : new.now.trees 3 ≡ db 3 = ap (λ (t : Trees). t 3) trees ∙ step.2.tables.1.1.0 (omega arith) in (
-      record {
-        schema = ap (λ (d : Database). d.schema) done.2;
-        version = subst (HasVersion 2) (sym form) from.version;
-        table = rw rows (tt, tt);
-        base = subst (λ rs. IsBase (base_in rs) rs) (sym based) from.base;
-      },
-      rows,
-    )
 
 -- ---- the base is set
 
@@ -163,10 +102,6 @@ base_step old new n count from h =
     )
 
 -- ---- in a transaction
-
-pub makes_clear : (old new : State) (r : Result ℕ Error) → Ran clear_text [] old new r → OnOk r (HasCleanDisk new → Makes IsNode HasNoRows old new)
-makes_clear old new (Err e) h = tt
-makes_clear old new (Ok count) h = λ clean on from. let it = inside old new clear_text [] count (h clean on) in (it.1, clear_step old new count from it.0)
 
 pub makes_rebased : (old new : State) (n : ℕ) (r : Result ℕ Error) → Ran base_text (base_params n) old new r →
     OnOk r (HasCleanDisk new → Makes HasNoRows (Holds (base_only n)) old new)
