@@ -1,5 +1,6 @@
 pub mod Members
 pub mod MemberPlaces
+pub mod Needed
 pub mod Purges
 pub mod Places
 pub mod Calls

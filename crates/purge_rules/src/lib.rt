@@ -19,7 +19,7 @@
 //! Read in this order:
 //!
 //! 1. `specs/Purges.antt`: what is stored, and how a purge is added, marked and ended.
-//!    `specs/Members.antt`: sets of members.
+//!    `specs/Members.antt`: sets of members. `specs/Needed.antt`: which members a number needs.
 //! 2. `specs/Calls.antt`: what each call returns and leaves, as a function (`called`); then the
 //!    relation `Calls`, in which allocations and the store may also fail.
 //! 3. `specs/Clear.antt`: the CLR. `specs/Names.antt`: the names of the faults.
