@@ -1,5 +1,11 @@
+<<<<<<< ours
 -- The statements of a raise: one for a row (SQLite, "UPSERT"), and one transaction for the base.
 use Rattle.std.specs.Prelude.{◌≡◌, ◌⊎◌, ℕ, pos, true, List, [], ◌∷◌, codes, Ok, Err}
+=======
+-- The statements of a raise: one for a row (SQLite, "UPSERT"), and a transaction of two where all rows go. The
+-- statement of a raise of the base, where rows stay.
+use Rattle.std.specs.Prelude.{◌≡◌, ◌⊎◌, ℕ, ◌<◌, pos, true, List, [], ◌∷◌, codes, Ok, Err}
+>>>>>>> theirs
 use Rattle.sqlite.specs.declared.types.Value.TheVariants.{Int, Text}
 use Rattle.sqlite_value.specs.Order.{Row}
 use Rattle.sqlite_trees.specs.declared.store.Store.{Ghosts}
@@ -108,3 +114,10 @@ module _ {S : Type 0} (g : Ghosts S) (old new : Held S) where
   FailsToRaise url number =
       (e : Error) × (told_as e ≡ StoreFault) × (raise : Raising)
       × (raised (committed_floors (state g old)) url number ≡ after raise (committed_floors (state g old)) url) × FailsToWrite url raise e
+
+  -- the database returned an error other than `OutOfMemory` for the statement that sets the base, which
+  -- was less than this number
+  abbrev pub FailsToRaiseBase : ℕ → Type 0
+  FailsToRaiseBase number =
+      (e : Error) × (told_as e ≡ StoreFault) × ((committed_floors (state g old)).base < number)
+      × Executes base_text (base_params number) (state g old) (state g new) (Err e)

@@ -1,3 +1,4 @@
+<<<<<<< ours
 //! A raise: first in the file, then in the copy in memory. A row takes one statement, the base one
 //! transaction.
 //!
@@ -8,13 +9,30 @@ ghost use Rattle.sqlite.specs.State.{HasCleanDisk, Survives, Executes, ExecutesI
 ghost use Rattle.sqlite.specs.Held.{state};
 ghost use Rattle.sqlite_value.specs.Order.{Row as Values};
 ghost use Rattle.floor_rules.specs.Floors.{FloorTable, raised, with_row, base_only};
+=======
+//! A raise of a key or of the base: first in the file, then in the copy in memory. A row takes one
+//! statement, a full table a transaction of two, and a raise of the base one statement.
+//!
+//! Functions that take a transaction state what each statement leads from and to, by
+//! `specs/Writing`.
+ghost use Rattle.std.specs.Prelude.{◌≡◌, ◌≢◌, ◌⊎◌, ◌≤◌, [], IsTrue, IfErr, OnOk, Ok, Err};
+ghost use Rattle.sqlite.specs.State.{HasCleanDisk, Survives, Executes, ExecutesInside};
+ghost use Rattle.sqlite.specs.Held.{state};
+ghost use Rattle.floor_rules.specs.Floors.{FloorTable, raised, with_base, with_row, base_only};
+>>>>>>> theirs
 ghost use Rattle.floor_rules.specs.Raising.{after};
-ghost use Rattle.floor_rules.specs.Store.{IsBeforeOrAfter};
+ghost use Rattle.floor_rules.specs.Store.{IsBeforeOrAfter, IsBeforeOrAfterBase};
 ghost use Rattle.purge_tables.specs.Making.{Makes};
+<<<<<<< ours
 ghost use Rattle.purge_numbers.specs.Making.{HasForm, HasNoFloors, HasNode};
 ghost use Rattle.purge_numbers.specs.Put.{FailsAmong, FailsInside, FailsToRebase, FailsToWrite};
 ghost use Rattle.purge_numbers.specs.Put.{FailsToRaise, Rebases, RunsAll, base_params, base_text};
 ghost use Rattle.purge_numbers.specs.Put.{clear_texts, drop_base_text, drop_floors_text, put_params};
+=======
+ghost use Rattle.purge_numbers.specs.Put.{FailsInside, FailsToRebase, FailsToWrite, FailsToRaise};
+ghost use Rattle.purge_numbers.specs.Put.{FailsToRaiseBase};
+ghost use Rattle.purge_numbers.specs.Put.{Rebases, base_params, base_text, clear_text, put_params};
+>>>>>>> theirs
 ghost use Rattle.purge_numbers.specs.Put.{put_text};
 ghost use Rattle.purge_numbers.specs.Store.{IsReady, IsNode, AreIn, committed_floors, MayFind};
 ghost use Rattle.purge_numbers.specs.Tables.{floors_in};
@@ -221,5 +239,60 @@ pub(crate) fn raise<S: Alter>(
         return Err(fault_of(error));
     }
     floors.raise(alloc, key, number)?;
+    Ok(())
+}
+
+/// Sets the base in the file, where it does not fall, in one statement that commits by itself. The
+/// rows stay.
+fn put_base<S: Alter>(conn: &mut Connection<S>, number: u32) -> Result<usize, Error>
+    requires ready { HasCleanDisk (state S.Store conn.old) → IsReady (state S.Store conn.old) }
+    requires above { HasCleanDisk (state S.Store conn.old) →
+        (committed_floors (state S.Store conn.old)).base ≤ number }
+    ensures honest { HasCleanDisk (state S.Store conn.new) → HasCleanDisk (state S.Store conn.old) }
+    ensures ready { OnOk result (HasCleanDisk (state S.Store conn.new) →
+        IsReady (state S.Store conn.new)) }
+    ensures put { OnOk result (HasCleanDisk (state S.Store conn.new) →
+        committed_floors (state S.Store conn.new)
+        ≡ with_base (committed_floors (state S.Store conn.old)) number) }
+    ensures failed { IfErr result (λ e. HasCleanDisk (state S.Store conn.new) →
+        Executes base_text (base_params number) (state S.Store conn.old)
+        (state S.Store conn.new) (Err e)) }
+    ensures crash { HasCleanDisk (state S.Store conn.new) → (floors : FloorTable) →
+        MayFind (state S.Store conn.new) floors
+        → IsBeforeOrAfterBase (committed_floors (state S.Store conn.old)) number floors }
+{
+    conn.execute("UPDATE base SET number = ?1", &[number.to_sql()])
+}
+
+/// Raises the base to this number, first in the file and then in the copy in memory. The rows stay.
+///
+/// Runs no statement if the base is no less.
+pub(crate) fn raise_base<S: Alter>(
+    conn: &mut Connection<S>,
+    floors: &mut Floors,
+    number: u32,
+) -> Result<(), FloorFault>
+    requires held { HasCleanDisk (state S.Store conn.old) →
+        AreIn (state S.Store conn.old) floors.old }
+    ensures honest { HasCleanDisk (state S.Store conn.new) → HasCleanDisk (state S.Store conn.old) }
+    ensures kept { OnOk result (HasCleanDisk (state S.Store conn.new) →
+        AreIn (state S.Store conn.new) floors.new) }
+    ensures raised { OnOk result (HasCleanDisk (state S.Store conn.new) →
+        committed_floors (state S.Store conn.new)
+        ≡ with_base (committed_floors (state S.Store conn.old)) number) }
+    ensures crash { HasCleanDisk (state S.Store conn.new) → (left : FloorTable) →
+        MayFind (state S.Store conn.new) left
+        → IsBeforeOrAfterBase (committed_floors (state S.Store conn.old)) number left }
+    ensures cause { result ≡ Err FloorFault.StoreFault → HasCleanDisk (state S.Store conn.new) →
+        FailsToRaiseBase S.Store conn.old conn.new number }
+    ensures named { result ≢ Err FloorFault.BadTable }
+{
+    if number <= floors.base() {
+        return Ok(());
+    }
+    if let Err(error) = put_base(conn, number) {
+        return Err(fault_of(error));
+    }
+    floors.raise_base(number);
     Ok(())
 }

@@ -1,9 +1,9 @@
-//! Raises over files that stop after so many calls, and files of form 1 that stop as they are
-//! brought to form 2.
+//! Raises of keys and of the base over files that stop after so many calls, and files of form 1 that
+//! stop as they are brought to form 2.
 //!
 //! What is done with a store is written for any store below it: a proof then speaks of none in
 //! particular.
-use super::{FLOORS, floor, loaded, raise};
+use super::{FLOORS, floor, loaded, raise, raise_base};
 use crate::disks::{Disks, FORM, VERSION, closed, connected, crashed, files, stopping};
 use floor_rules::{FloorFault, FloorStore};
 use purge_numbers::SqliteFloors;
@@ -108,6 +108,23 @@ fn raised<F: FloorStore>(store: &mut F, alloc: Global, number: u32) -> Result<bo
     Ok(false)
 }
 
+/// A file of form 2 with two floors.
+fn two_files(alloc: Global) -> Result<Files<Disks>, Fail> {
+    made_by(alloc, first_files(alloc)?, &[TWO_ROWS])
+}
+
+/// The same of the base.
+fn rebased<F: FloorStore>(store: &mut F, number: u32) -> Result<bool, Fail> {
+    if raise_base(store, number)? == Ok(()) {
+        return Ok(true);
+    }
+    want(store.failures() == 1, "one failure")?;
+    let later = raise_base(store, number)?;
+    want(later == Err(FloorFault::StoreFault), "a store fault again")?;
+    want(store.failures() == 2, "two failures")?;
+    Ok(false)
+}
+
 /// What is done with a store that opens.
 #[derive(Clone, Copy)]
 enum Doing {
@@ -115,6 +132,8 @@ enum Doing {
     Open,
     /// `http://a/` is raised to this number.
     Raise(u32),
+    /// The base is raised to this number.
+    RaiseBase(u32),
 }
 
 /// Does that with a store that has opened, and answers whether it went and what is left below the
@@ -127,6 +146,7 @@ fn done<S: Alter + Drop>(
     let went = match doing {
         Doing::Open => true,
         Doing::Raise(number) => raised(&mut store, alloc, number)?,
+        Doing::RaiseBase(number) => rebased(&mut store, number)?,
     };
     Ok((went, store.into_connection().into_store()))
 }
@@ -204,6 +224,13 @@ const BASE: Stops = Stops {
     doing: Doing::Raise(70_000),
     before: (65_536, 0, 0, 65_536),
     after: (0, 70_000, 70_000, 70_000),
+};
+
+/// A raise of the base, over which one floor stays.
+const HIGHER: Stops = Stops {
+    doing: Doing::RaiseBase(4),
+    before: (2, 0, 3, 5),
+    after: (2, 4, 4, 5),
 };
 
 /// A file of form 1 is brought to form 2.
@@ -343,4 +370,9 @@ fn a_main_file_that_stops_as_the_base_is_made(rt: HostRuntime) -> Result<(), Fai
 #[test]
 fn files_of_form_1_that_stop_as_they_are_brought_over(rt: HostRuntime) -> Result<(), Fail> {
     all_stops(rt.alloc(), &older_files(rt.alloc())?, OLDER)
+}
+
+#[test]
+fn files_that_stop_as_the_base_rises(rt: HostRuntime) -> Result<(), Fail> {
+    all_stops(rt.alloc(), &two_files(rt.alloc())?, HIGHER)
 }
