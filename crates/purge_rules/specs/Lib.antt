@@ -4,6 +4,7 @@ pub mod Needed
 pub mod Purges
 pub mod Places
 pub mod Calls
+pub mod Waiting
 pub mod Clear
 pub mod Names
 pub mod Store
