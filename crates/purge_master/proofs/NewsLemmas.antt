@@ -55,8 +55,8 @@ marks_from : (o : Option Purge) (a : Option Admission) (marked : List ℕ) → S
 marks_from (Some p) a marked e = inl record { purge = p; is = refl; marks = cc }
 marks_from None None marked e = absurd (cc)
 marks_from None (Some a) marked e = (elim a.is_done as (λ b. Some marked ≡ cond b None (Some []) → AreOfPurge None marked ⊎ AreOfAdmission (Some a) marked) [
-  | true ↦ λ no. absurd (cc)
-  | false ↦ λ yes. inr record { admission = a; is = refl; marks = cc }
+  | true ↦ λ f. absurd (cc)
+  | false ↦ λ f. inr record { admission = a; is = refl; marks = cc }
 ]) e
 
 -- of the members with one id, each is among the set of that id
@@ -149,8 +149,8 @@ module _ (needs : List ℕ) (purges : PurgeList) (id number : ℕ) (marked : Lis
 pub not_given : (needs : List ℕ) (purges : PurgeList) (id number : ℕ) → AreNumbered purges → purges.last < number →
     IsNews needs purges id number news.Nothing
 not_given needs purges id number are l =
-    let no : pending_at purges number ≡ None = absent purges.pending number (λ k d h e. let given = are.given k d h in absurd (omega arith)) in
+    let unlisted : pending_at purges number ≡ None = absent purges.pending number (λ k d h e. let given = are.given k d h in absurd (omega arith)) in
     let none : admission_at purges number ≡ None = find_none (λ (a : Admission). a.number == number) purges.admissions (λ k d h.
     let given = are.admitted.given k d h in eqb_other (λ (e : (get_or purges.admissions k d).number ≡ number). omega arith)) in
-    let marks : marks_at purges number ≡ None = ap (λ o. marks_by o (admission_at purges number)) no ∙ ap (λ a. marks_by None a) none in
+    let marks : marks_at purges number ≡ None = ap (λ o. marks_by o (admission_at purges number)) unlisted ∙ ap (λ a. marks_by None a) none in
     (ap (counted needs purges id number) marks, ap (is_news needs id) marks)

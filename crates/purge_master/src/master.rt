@@ -65,8 +65,7 @@ impl<S: PurgeStore> Master<S> {
     /// Errors: `Closed`, `NumbersSpent` after the number 4294967295, `TooManyPending` if 1,024
     /// purges and admissions are pending; the first that holds, and nothing changes. Else
     /// `NoMemory` if an allocation failed, which closes the master if it was the store's; or
-    /// `StoreFault`, which
-    /// closes it.
+    /// `StoreFault`, which closes it.
     pub fn issue(&mut self, key: &Key) -> Result<u32, MasterFault>
         ensures { IsCalled (witness (S.is_honest self.old.store) (S.may_find self.old.store)
             (S.failed self.old.store))
@@ -94,8 +93,8 @@ impl<S: PurgeStore> Master<S> {
     }
 
     /// Admits the joining node with this id: gives the next number to its admission, commits it,
-    /// and returns the number. Purges of greater numbers need the node. `message` then gives the CLR to
-    /// send to it.
+    /// and returns the number. Purges of greater numbers need the node. `message` then gives the
+    /// CLR to send to it.
     ///
     /// Errors: `Closed`, `NotJoining` if no joining node of the roster has this id or it has an
     /// admission, then those of `issue`; the first that holds, and nothing changes. `NoMemory` and

@@ -191,34 +191,38 @@ any_default [] i d e l = absurd (omega arith)
 any_default (x ∷ xs) zero d e l = refl
 any_default (x ∷ xs) (suc i) d e l = any_default xs i d e (omega arith)
 
--- the one at the place is set, as it has the number
-pub set_here : (number : ℕ) (old now : List Admission) (place : ℕ) (e : Admission) → AreSet number old now place → place < length now →
-    (get_or now place e).number ≡ number → AreSet number old (set now place (ended (get_or now place e))) (place + 1)
-set_here number old now place e are l same = record {
-  size = length-set now place (ended (get_or now place e)) ∙ are.size;
+-- what is read at the place is as it was
+read_at : (number : ℕ) (old now : List Admission) (place : ℕ) (a d : Admission) → AreSet number old now place → place < length now →
+    a ≡ get_or now place a → a ≡ get_or old place d
+read_at number old now place a d are l is = is ∙ any_default now place a d l ∙ are.after place d (omega arith)
+
+-- the one at the place, which is read twice, is set, as it has the number
+pub set_here : (number : ℕ) (old now : List Admission) (place : ℕ) (a b : Admission) → AreSet number old now place → place < length now →
+    a ≡ get_or now place a → b ≡ get_or now place b → a.number ≡ number → AreSet number old (set now place (ended b)) (place + 1)
+set_here number old now place a b are l first second same = record {
+  size = length-set now place (ended b) ∙ are.size;
   before = λ k d less low. elim (cases_eq k place) [
     | inl at ↦
-        let read : get_or now place e ≡ get_or old place d = any_default now place e d l ∙ are.after place d (omega arith) in
-        let test : (get_or old place d).number ≡ number = ap (λ (x : Admission). x.number) (sym read) ∙ same in
-        get_or-set_at now place k (ended (get_or now place e)) d at l ∙ ap ended read
-        ∙ sym (ap (λ b. cond b (ended (get_or old place d)) (get_or old place d)) (eqb_same test))
+        let test : (get_or old place d).number ≡ number = ap (λ (x : Admission). x.number) (sym (read_at number old now place a d are l first)) ∙ same in
+        get_or-set_at now place k (ended b) d at l ∙ ap ended (read_at number old now place b d are l second)
+        ∙ sym (ap (λ c. cond c (ended (get_or old place d)) (get_or old place d)) (eqb_same test))
         ∙ ap (λ i. end_of number (get_or old i d)) (sym at)
-    | inr n ↦ get_or-set_other now place k (ended (get_or now place e)) d n ∙ are.before k d (omega (arith, n)) low
+    | inr n ↦ get_or-set_other now place k (ended b) d n ∙ are.before k d (omega (arith, n)) low
   ];
-  after = λ k d le. get_or-set_other now place k (ended (get_or now place e)) d (λ (at : k ≡ place). omega (arith, at)) ∙ are.after k d (omega arith);
+  after = λ k d le. get_or-set_other now place k (ended b) d (λ (at : k ≡ place). omega (arith, at)) ∙ are.after k d (omega arith);
 }
 
 -- the one at the place has another number, and stays
-pub stays_here : (number : ℕ) (old now : List Admission) (place : ℕ) (e : Admission) → AreSet number old now place → place < length now →
-    (get_or now place e).number ≢ number → AreSet number old now (place + 1)
-stays_here number old now place e are l other = record {
+pub stays_here : (number : ℕ) (old now : List Admission) (place : ℕ) (a : Admission) → AreSet number old now place → place < length now →
+    a ≡ get_or now place a → a.number ≢ number → AreSet number old now (place + 1)
+stays_here number old now place a are l first other = record {
   size = are.size;
   before = λ k d less low. elim (cases_eq k place) [
     | inl at ↦
-        let here : get_or now k d ≡ get_or old k d = are.after k d (omega (arith, at)) in
-        let read : get_or old k d ≡ get_or now place e = sym here ∙ ap (λ i. get_or now i d) at ∙ any_default now place d e l in
-        let number_is : (get_or old k d).number ≢ number = λ f. other (ap (λ (x : Admission). x.number) (sym read) ∙ f) in
-        here ∙ sym (ap (λ b. cond b (ended (get_or old k d)) (get_or old k d)) (eqb_other number_is))
+        let test : (get_or old place d).number ≢ number = λ e. other (ap (λ (x : Admission). x.number) (read_at number old now place a d are l first) ∙ e) in
+        ap (λ i. get_or now i d) at ∙ are.after place d (omega arith)
+        ∙ sym (ap (λ c. cond c (ended (get_or old place d)) (get_or old place d)) (eqb_other test))
+        ∙ ap (λ i. end_of number (get_or old i d)) (sym at)
     | inr n ↦ are.before k d (omega (arith, n)) low
   ];
   after = λ k d le. are.after k d (omega arith);

@@ -1,12 +1,11 @@
 -- What is due, as the loops find it: between one pending purge and the next only admissions are
 -- pending, so going over the purges, with the admissions between them, goes over all numbers.
-use Rattle.std.proofs.Common.{◌≡◌, ◌≢◌, ℕ, zero, suc, ◌+◌, ◌-◌, ◌<◌, ◌≤◌, ◌==◌, nat_lt, nat_le, Bool, true, false, cond, ◌&&◌, List, [], ◌∷◌, ◌++◌, map, length}
-use Rattle.std.proofs.Common.{get_or, take, All, Option, Some, None, inl, inr, refl, sym, ap, ◌∙◌, subst, append_assoc, append-nil, arith}
+use Rattle.std.proofs.Common.{◌≡◌, ℕ, zero, suc, ◌+◌, ◌-◌, ◌<◌, ◌≤◌, ◌==◌, nat_lt, nat_le, true, false, cond, ◌&&◌, List, [], ◌∷◌, ◌++◌, map, length}
+use Rattle.std.proofs.Common.{get_or, take, All, Some, None, inl, inr, refl, sym, ap, ◌∙◌, subst, append_assoc, append-nil, arith}
 use Rattle.std.specs.List.{flat_map, AllPairs}
 use Rattle.std.proofs.lemmas.Bool.{cases_lt, cases_eq}
 use Rattle.std.proofs.lemmas.Bool.Decides.{nat_tests}
 use Rattle.std.proofs.lemmas.List.{take_more, flat_map_more}
-use Rattle.std.proofs.lemmas.Grind.{flat_map-append}
 use Rattle.purge_rules.specs.declared.nodes.Nodes.{Nodes}
 use Rattle.purge_rules.specs.declared.purges.Purge.{Purge}
 use Rattle.purge_rules.specs.declared.purges.Admission.{Admission}
@@ -15,7 +14,7 @@ use Rattle.purge_rules.specs.Needed.{admission_in, needed}
 use Rattle.purge_rules.specs.Purges.{PurgeList, AreNumbered, pending_at, admission_at, marks_by}
 use Rattle.purge_rules.specs.Calls.{due, due_of, unmarked_of}
 use Rattle.purge_rules.specs.Waiting.{between}
-use Rattle.purge_rules.proofs.Finding.{find_none, absent, eqb_same, eqb_other}
+use Rattle.purge_rules.proofs.Finding.{find_none, absent, eqb_other}
 
 -- Between two numbers
 
@@ -63,7 +62,7 @@ module _ {X : Type 0} (f : ℕ → List X) where
             let test : (a.number == suc after) ≡ false = eqb_other (λ (e : a.number ≡ suc after). omega (arith, e)) in
             ap (λ l. f (suc after) ++ (l ++ flat_map (between f (suc after) upto) gs)) here
             ∙ next after upto gs room (λ i j d lt l. ascend (suc i) (suc j) d (omega arith) (omega arith))
-            (λ no. none (ap (λ b. cond b (Some a) (admission_in gs (suc after))) test ∙ no))
+            (λ absent_there. none (ap (λ b. cond b (Some a) (admission_in gs (suc after))) test ∙ absent_there))
             ∙ ap (λ l. l ++ flat_map (between f after upto) gs) (sym there)
         | inr from ↦ elim (cases_eq a.number (suc after)) [
           | inl e ↦
@@ -98,7 +97,7 @@ module _ {X : Type 0} (f : ℕ → List X) where
       let same : after ≡ upto = omega arith in
       sym (nothing_between after gs) ∙ ap (λ n. flat_map (between f after n) gs) same
   all_between (suc count) after upto gs sum ascend none =
-      ap (λ l. f (suc after) ++ l) (all_between count (suc after) upto gs (omega arith) ascend (λ n low high no. none n (omega arith) high no))
+      ap (λ l. f (suc after) ++ l) (all_between count (suc after) upto gs (omega arith) ascend (λ n low high gone. none n (omega arith) high gone))
       ∙ next after upto gs (omega arith) ascend (none (suc after) (omega arith) (omega arith))
 
   -- one more admission
@@ -145,8 +144,8 @@ none_listed nodes purges are = record {
 -- nothing is due of a number that no pending purge and no admission has
 nothing_due : (nodes : Nodes) (purges : PurgeList) (number : ℕ) → pending_at purges number ≡ None → admission_at purges number ≡ None →
     due_of nodes purges number ≡ []
-nothing_due nodes purges number no none =
-    ap (λ o. map (λ id. (number, id)) (unmarked_of (needed nodes purges.admissions number) (marks_by o (admission_at purges number)))) no
+nothing_due nodes purges number unlisted none =
+    ap (λ o. map (λ id. (number, id)) (unmarked_of (needed nodes purges.admissions number) (marks_by o (admission_at purges number)))) unlisted
     ∙ ap (λ a. map (λ id. (number, id)) (unmarked_of (needed nodes purges.admissions number) (marks_by None a))) none
 
 -- no pending purge has a number above this and up to the next

@@ -1,9 +1,8 @@
 -- Which members a number needs: as the code finds them, and that neither the end of an admission nor
 -- a later one changes it.
-use Rattle.std.proofs.Common.{◌≡◌, ◌≢◌, ℕ, ◌+◌, ◌<◌, ◌≤◌, ◌==◌, nat_lt, Bool, true, false, cond, not, ◌&&◌, ◌||◌, List, []}
-use Rattle.std.proofs.Common.{◌∷◌, ◌++◌, map, filter, find, length}
-use Rattle.std.proofs.Common.{take, get_or, All, Option, Some, None, option_map, refl, sym, ap, ◌∙◌, arith}
-use Rattle.std.specs.List.{list_any}
+use Rattle.std.proofs.Common.{◌≡◌, ℕ, ◌+◌, ◌<◌, ◌≤◌, ◌==◌, nat_lt, Bool, true, false, cond, not, ◌&&◌, ◌||◌, List, []}
+use Rattle.std.proofs.Common.{◌∷◌, ◌++◌, filter, length}
+use Rattle.std.proofs.Common.{take, get_or, Option, Some, None, option_map, refl, sym, ap, ◌∙◌, arith}
 use Rattle.std.proofs.lemmas.Bool.{eqb-true}
 use Rattle.std.proofs.lemmas.Bool.Decides.{nat_tests}
 use Rattle.std.proofs.lemmas.List.{take_more}
@@ -14,7 +13,7 @@ use Rattle.purge_rules.specs.declared.nodes.Nodes.{Nodes}
 use Rattle.purge_rules.specs.declared.purges.Admission.{Admission}
 use Rattle.purge_rules.specs.Members.{is_among, with_id}
 use Rattle.purge_rules.specs.Needed.{admission_in, was_admitted, needs_by, needs, needed}
-use Rattle.purge_rules.specs.Purges.{ended, ended_at}
+use Rattle.purge_rules.specs.Purges.{ended_at}
 use Rattle.purge_rules.proofs.Ids.{among_with}
 use Rattle.purge_rules.proofs.Finding.{eqb_other}
 use Rattle.purge_rules.proofs.Changing.{end_of, end_number, end_member}

@@ -17,7 +17,11 @@ base_line number = codes "X-Purge-Base: " ++ decimal number ++ 13 ∷ 10 ∷ []
 
 -- the CLR with this TRANS-ID, URI and REQ-HDRS: it desires a response, and its REASON is 0
 abbrev pub clear_with : ℕ → List ℕ → List ℕ → Htcp
-clear_with number uri headers = record { minor = 0; trans = number; content = content.ClrAsk true 0 record { method = codes "GET"; uri = uri; version = codes "HTTP/1.1"; request_headers = headers } }
+clear_with number uri headers = record {
+  minor = 0;
+  trans = number;
+  content = content.ClrAsk true 0 record { method = codes "GET"; uri = uri; version = codes "HTTP/1.1"; request_headers = headers };
+}
 
 -- the CLR of a purge of the key [Master 4]
 abbrev pub clear : ℕ → List ℕ → Htcp

@@ -1,4 +1,4 @@
-use Rattle.std.proofs.Common.{◌≡◌, ◌+◌, ◌==◌, ◌&&◌, false, get_or, ap, ◌∙◌, arith}
+use Rattle.std.proofs.Common.{◌+◌, ◌==◌, ◌&&◌, false, get_or, ap, ◌∙◌, arith}
 use Rattle.purge_rules.proofs.Ids.{filtered, one_first}
 use Rattle.purge_rules.proofs.members.MemberSet.only.Goals as goal
 

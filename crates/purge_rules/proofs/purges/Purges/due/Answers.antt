@@ -3,7 +3,7 @@ use Rattle.purge_rules.proofs.Listing.{none_listed, due_more_of, due_last}
 use Rattle.purge_rules.proofs.purges.Purges.due.Goals as goal
 
 pub loop-purge-init : goal.loop-purge-init
-loop-purge-init c = none_listed c.args.nodes.now c.args.self.now c.pending-pending.ensures.numbered
+loop-purge-init c = rw c.new-pairs.ensures.items (none_listed c.args.nodes.now c.args.self.now c.pending-pending.ensures.numbered)
 
 pub loop-purge-preserved : goal.loop-purge-preserved
 loop-purge-preserved c =
@@ -14,6 +14,6 @@ loop-purge-preserved c =
 
 pub returns : goal.returns
 returns c =
-    rw (c.in_ok-add_admissions-2.ensures, c.last.ensures.value)
+    rw (c.new.ensures, c.in_ok-add_admissions-2.ensures, c.last.ensures.value)
     (due_last c.args.nodes.now c.args.self.now c.pending-pending.result.now c.loop-purge.purge-index c.loop-purge.after c.loop-purge.pairs.items
     c.pending-pending.ensures.numbered c.pending-pending.ensures.value (omega arith) c.loop-purge.invariant)
