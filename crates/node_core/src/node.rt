@@ -1,7 +1,8 @@
 ghost use Rattle.std.specs.Prelude.{◌≡◌, ◌==◌, find, option_map, OnOk, OnErr};
 ghost use Rattle.floor_rules.specs.Floors.{new_base};
 ghost use Rattle.object_store.specs.Listed.{without_all_below};
-ghost use Rattle.node_rules.specs.State.{fetch_serial, closed_node, with_copies};
+ghost use Rattle.node_rules.specs.State.{fetch_serial, closed_node, with_copies, setting};
+ghost use Rattle.node_rules.specs.State.{is_outside};
 ghost use Rattle.node_core.specs.View.{IsSameNode, IsTied};
 
 use floor_rules::{FloorStore, Floors};
@@ -67,6 +68,14 @@ impl<T, S: FloorStore> Node<T, S> {
         self.closed
     }
 
+    /// Whether the node is outside: its entry joins, and its base is 0, since the master has not
+    /// admitted it.
+    pub fn is_outside(&self) -> bool
+        ensures { result ≡ is_outside (setting self.now.roster self.now.id) self.now.state }
+    {
+        !self.roster.is_founding(self.id) && self.floors.base() == 0
+    }
+
     /// The base of its floors after a purge of the key with this number, where the base rises, else
     /// 0. Takes no memory.
     pub fn new_base(&self, key: &Key, number: u32) -> u32
@@ -111,8 +120,8 @@ impl<T: Drop, S: FloorStore> Node<T, S> {
         self.pending = PendingList::new(self.alloc);
     }
 
-    /// Drops all copies with a stamp less than this base, as a purge does whose raise makes the
-    /// base. `AllocError`: an allocation failed, and nothing changes.
+    /// Drops all copies with a stamp less than this base, as a raise does that makes the base.
+    /// `AllocError`: an allocation failed, and nothing changes.
     pub fn drop_below(&mut self, base: u32) -> Result<(), AllocError>
         ensures same { IsSameNode self.old self.new }
         ensures ok { OnOk result (self.new.state ≡ with_copies self.old.state
