@@ -38,6 +38,8 @@ no_memory_told (here.Replied node (Ok reply)) had is = cc
 no_memory_told (here.Replied node (Err f)) had is = had.0 (cc)
 no_memory_told (here.Issued number) had is = cc
 no_memory_told (here.NotIssued f) had is = cc
+no_memory_told (here.Admitted number) had is = cc
+no_memory_told (here.NotAdmitted f) had is = cc
 no_memory_told (here.Reported number status) had is = cc
 no_memory_told here.Nothing had is = cc
 
@@ -47,6 +49,8 @@ no_store_told (here.Replied node (Ok reply)) had is = cc
 no_store_told (here.Replied node (Err f)) had is = had.1 (cc)
 no_store_told (here.Issued number) had is = cc
 no_store_told (here.NotIssued f) had is = cc
+no_store_told (here.Admitted number) had is = cc
+no_store_told (here.NotAdmitted f) had is = cc
 no_store_told (here.Reported number status) had is = cc
 no_store_told here.Nothing had is = cc
 
