@@ -2,6 +2,7 @@
 ghost use Rattle.std.specs.Prelude.{◌≡◌, ◌≢◌, ◌⊎◌, ◌<◌, ◌++◌, [], length, false, IsFalse, Err};
 ghost use Rattle.std.specs.Prelude.{IfOk, IfSome, OnOk, OnErr};
 ghost use Rattle.htcp_wire.specs.Written.{Fits};
+ghost use Rattle.purge_rules.specs.Calls.{missing as missing_of};
 ghost use Rattle.purge_master.specs.Store.{witness};
 ghost use Rattle.purge_rules.specs.declared.fault.MasterFault.TheVariants as faults;
 ghost use Rattle.cluster_master.specs.LockedBook.{IsCalledAt, IsUnmade, IsTaken, IsNothingDue};
@@ -14,7 +15,7 @@ use crate::weight::{answer_octets, call_octets, entry_weight};
 use htcp_wire::Htcp;
 use node_seats::Places;
 use purge_master::{MOST_ENTRIES, MasterBook, MasterEntry};
-use purge_rules::{MasterAnswer, MasterCall, MasterFault, PurgeStore, Purges};
+use purge_rules::{MasterAnswer, MasterCall, MasterFault, MemberSet, PurgeStore, Purges};
 use std::alloc::{AllocError, Global};
 use std::marker::Model;
 use std::mem::replace;
@@ -44,14 +45,14 @@ fn has_place(to_keep: KeptEntries, kept: u64) -> bool
 }
 
 /// Whether a CLR may be due after an answer. None is due once the answer is that nothing is due, or
-/// that the master is closed, which it stays. One may be due from the next purge or response on.
+/// that the master is closed, which it stays. One may be due from the next number or response on.
 fn may_be_due_after(answer: &Result<MasterAnswer, MasterFault>, was: bool) -> bool
     ensures { result ≡ may_be_due_by answer.now was }
 {
     match answer {
         Ok(MasterAnswer::Due(pairs)) => !pairs.as_slice().is_empty(),
         Ok(MasterAnswer::Status(_)) => was,
-        Ok(MasterAnswer::Issue(_) | MasterAnswer::Acknowledge(_)) => true,
+        Ok(MasterAnswer::Issue(_) | MasterAnswer::Admit(_) | MasterAnswer::Acknowledge(_)) => true,
         Err(MasterFault::Closed) => false,
         Err(_) => was,
     }
@@ -191,7 +192,7 @@ impl<S: PurgeStore> LockedBook<S> {
         self.may_be_due
     }
 
-    /// The CLR of the pending purge of a number, if there is one.
+    /// The CLR of a number, if it is pending: that of its purge, or that of its admission.
     pub(crate) fn message(&self, number: u32) -> Result<Option<Htcp>, AllocError>
         ensures clear { IfOk result (λ message. IfSome message (IsClearOf number)) }
         ensures fits { IfOk result (λ message. IfSome message Fits) }
@@ -199,7 +200,16 @@ impl<S: PurgeStore> LockedBook<S> {
         self.book.message(number)
     }
 
-    /// A copy of the pending purges, with the last number.
+    /// The members that a number needs and that have not acknowledged it; none where it is not
+    /// pending.
+    pub(crate) fn missing(&self, number: u32) -> MemberSet
+        ensures { result ≡ missing_of self.now.book.master.nodes self.now.book.master.state.purges
+            number }
+    {
+        self.book.purges().missing(self.book.nodes(), number)
+    }
+
+    /// A copy of the pending purges and the admissions, with the last number.
     pub(crate) fn purges(&self) -> Result<Purges, AllocError>
         ensures { IfOk result (λ purges. purges ≡ self.now.book.master.state.purges) }
     {

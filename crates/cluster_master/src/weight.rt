@@ -12,7 +12,7 @@ use url_key::LONGEST_KEY;
 /// How many octets weigh as much as an entry without a URL and without a list.
 const UNIT: u64 = 1_024;
 
-/// The longest list of what is due: 1,024 purges with 16 members each.
+/// The longest list of what is due: 1,024 numbers with 16 members each.
 const LONGEST_LIST: usize = 16_384;
 
 /// How many octets a number takes with its member.

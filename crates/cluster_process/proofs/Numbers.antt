@@ -1,9 +1,12 @@
--- A member that is found to be ahead of a number is one of those that are. Where the members are judged well, none is.
+-- A member that is found to be ahead of a number is one of those that are. Where the members are judged well, none is, and
+-- no file of one that was admitted is lost.
 use Rattle.std.proofs.Common.{◌≡◌, ℕ, ◌<◌, Bool, true, false, cond, ◌||◌, Option, Some, None, List, [], ◌∷◌, map, find, Result, Ok, Err, OnOk, refl, sym, subst}
 use Rattle.std.proofs.Common.{ap, ◌∙◌, arith}
 use Rattle.std.proofs.lemmas.Bool.Decides.{nat_tests}
 use Rattle.std.specs.Prelude.{nat_lt}
 use Rattle.std.specs.List.{list_any}
+use Rattle.purge_rules.specs.declared.purges.Admission.{Admission}
+use Rattle.cluster_process.specs.Folder.{IsMissed}
 use Rattle.cluster_process.specs.Numbers.{has_ahead, IsJudged}
 use Rattle.cluster_process.specs.declared.fault.ClusterFault.{ClusterFault}
 
@@ -36,3 +39,10 @@ module _ {X : Type 0} (seen : X → ℕ) (last : ℕ) where
 pub judged_well : (last : ℕ) (greatest : List ℕ) (told : Result (Unit {0}) ClusterFault) → IsJudged last greatest told → OnOk told (has_ahead last greatest ≡ false)
 judged_well last greatest (Ok done) judged = judged
 judged_well last greatest (Err fault) judged = tt
+
+-- where the files are judged well, none is lost
+pub none_lost : (found : Option Admission) (told : Result (Unit {0}) ClusterFault) → IsMissed found told → OnOk told (found ≡ None)
+none_lost None (Ok done) missed = refl
+none_lost None (Err fault) missed = tt
+none_lost (Some a) (Ok done) missed = absurd missed
+none_lost (Some a) (Err fault) missed = tt

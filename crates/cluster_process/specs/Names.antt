@@ -11,6 +11,7 @@ use Rattle.cluster_process.specs.declared.fault.ClusterFault.TheVariants as clus
 -- the name of the fault inside, where there is one; Io for a file or a socket that is not opened
 abbrev pub cluster_fault_name : ClusterFault → List ℕ
 cluster_fault_name (cluster.OtherRoster dir) = codes "OtherRoster"
+cluster_fault_name (cluster.LostMember dir id) = codes "OtherRoster"
 cluster_fault_name (cluster.File path) = codes "Io"
 cluster_fault_name (cluster.Ports id http icp htcp) = codes "Io"
 cluster_fault_name (cluster.Floors path fault) = floor_fault_name fault

@@ -15,11 +15,19 @@ use thiserror::Error;
 #[derive(Debug, Drop, Error)]
 pub enum ClusterFault {
     /// A file in the folder is that of no member of the roster; or the folder has a master's file,
-    /// and lacks that of a member.
+    /// and lacks that of a founding member.
     #[error("the files in {dir} are those of other members than the roster's")]
     OtherRoster {
         /// The folder.
         dir: String,
+    },
+    /// The folder lacks the file of a member that was admitted, or it is empty: its floors are lost.
+    #[error("{dir}/node-{id}.db is missing or empty, and node {id} was admitted: put the newest one back, or take node {id} out of the roster")]
+    LostMember {
+        /// The folder.
+        dir: String,
+        /// The id of the member.
+        id: u8,
     },
     /// The file of a member or of the master could not be opened, or it is lost: only its log is
     /// there.
@@ -121,7 +129,7 @@ impl ClusterFault {
             | ClusterFault::System
             | ClusterFault::Input
             | ClusterFault::Output => "Io",
-            ClusterFault::OtherRoster { .. } => "OtherRoster",
+            ClusterFault::OtherRoster { .. } | ClusterFault::LostMember { .. } => "OtherRoster",
             ClusterFault::MasterBehind { .. } => "MasterBehind",
             ClusterFault::Floors { fault, .. } => fault.name(),
             ClusterFault::Purges { fault, .. } => fault.name(),
