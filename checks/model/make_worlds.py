@@ -7,10 +7,10 @@ from model.make_rosters import good_roster, toml_text
 from model.roster import read_roster
 from model.world import World
 
-TEXTS = [[b"http://o/a", b"HTTP://O/a", b"http://o:80/a", b"hTtP://o:00080/a"], [b"http://o/", b"http://o", b"http://O:080"], [b"http://o?q", b"http://o/?q"],
+TEXTS = [[b"http://o/a", b"HTTP://O/a", b"http://o:/a", b"http://o:80/a", b"hTtP://o:00080/a"], [b"http://o/", b"http://o", b"http://O:080"], [b"http://o?q", b"http://o/?q"],
          [b"http://o/bb", b"http://O/bb"], [b"http://o/%41"], [b"http://o/A"], [b"http://o:8080/x", b"http://O:08080/x"], [b"http://p/", b"http://P:80/"],
          [b"http://q/", b"http://q:80"]]
-BAD_URLS = [b"https://o/", b"/a", b"http://u@o/", b"http://o:0/", b"http://o/a#b", b"http://o/" + b"x" * 1016, b"http://o/\x7f", b"http://o:/",
+BAD_URLS = [b"https://o/", b"/a", b"http://u@o/", b"http://o:0/", b"http://o/a#b", b"http://o/" + b"x" * 1016, b"http://o/\x7f", b"http://o:x/",
             b"*", b"http://o/a\r"]
 BAD_LINES = [line.strip(b"\n") for line in b"""
  clock 1

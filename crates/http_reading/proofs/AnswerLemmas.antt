@@ -1,7 +1,8 @@
 -- From the places that the parser gave to the head that stands there, and from heads and body to a
 -- response. Octets that come later change nothing before them, so what a head says still holds
 -- once its body was read.
-use Rattle.std.proofs.Common.{◌≡◌, ℕ, ◌≤◌, ◌<◌, ◌+◌, ◌⊎◌, Bool, true, false, not, nat_le, if◌then◌else◌, List, [], ◌∷◌, ◌++◌, length, take, drop, Option, Some}
+use Rattle.std.proofs.Common.{◌≡◌, ℕ, ◌≤◌, ◌<◌, ◌+◌, ◌⊎◌, Bool, true, false, not, ◌&&◌, ◌==◌, codes, nat_le, if◌then◌else◌, List, [], ◌∷◌, ◌++◌, length, take}
+use Rattle.std.proofs.Common.{drop, Option, Some}
 use Rattle.std.proofs.Common.{None, Result, Ok, Err, IfOk, IfErr, refl, sym, ◌∙◌, ap, subst, inl, inr, arith, length-take, length-append, take-append-drop}
 use Rattle.std.proofs.Common.{drop-drop, append_assoc, append-nil}
 use Rattle.std.proofs.KnownBytes.{Consumes-trans}
@@ -17,11 +18,11 @@ use Rattle.http_messages.specs.Field.{are_few_fields}
 use Rattle.http_messages.specs.declared.fault.FetchFault.{FetchFault}
 use Rattle.http_messages.specs.declared.fault.FetchFault.TheVariants.{Io, EndOfInput, BadHead, HeadTooLong, BadTarget, MethodNotServed, Credentials, BadBody}
 use Rattle.http_messages.specs.declared.fault.FetchFault.TheVariants.{BodyTooLong, TooManyTurns, NoMemory}
-use Rattle.http_reading.specs.Fields.{fields_of}
+use Rattle.http_reading.specs.Fields.{fields_of, has_field}
 use Rattle.std.specs.Io.KnownBytes.{IsAtEnd}
 use Rattle.http_intake.specs.Reading.{Held, Takes, calls_made, IsReadFault}
 use Rattle.http_intake.specs.Heads.{longest_head, most_fields, head_window, IsLongResponse, IsOpenResponse, IsHeadFault}
-use Rattle.http_reading.specs.AnswerHead.{AnswerHead, ToldText, parts_of, head_at, is_interim, is_final, some_framing, framing_by, framed, told}
+use Rattle.http_reading.specs.AnswerHead.{AnswerHead, ToldText, parts_of, head_at, is_interim, is_final, some_framing, framing_in, framing_by, framed, told}
 use Rattle.http_reading.specs.declared.framing.BadLength.{BadLength}
 use Rattle.http_reading.specs.declared.framing.BadCoding.{BadCoding}
 use Rattle.http_reading.specs.declared.framing.Framing.{Framing}
@@ -32,14 +33,17 @@ use Rattle.http_reading.specs.Answers.{IsShortHead, IsInterim, PassesInterim, He
 use Rattle.http_reading.proofs.BodyLemmas.{takes_none}
 
 -- a head of these parts
-made : ℕ → List (List ℕ × List ℕ) → AnswerHead
-made status fields = record { status = status; fields = fields }
+made : ℕ → ℕ → List (List ℕ × List ℕ) → AnswerHead
+made status minor fields = record { status = status; minor = minor; fields = fields }
 
 -- the parts that the places cover are those of the head
 head_is : (window : List ℕ) (headers : List HeaderSpan) (r : ResponseSpans) (h : ResponseHead) → IsResponseAt window headers r h →
     head_at window headers r ≡ parts_of h
 unfolding made
-head_is window headers r h is = ap (λ s. made s (fields_of window (take r.headers headers))) is.code ∙ ap (made (status_code h)) is.fields
+head_is window headers r h is =
+    ap (λ s. made s r.version (fields_of window (take r.headers headers))) is.code
+    ∙ ap (λ v. made (status_code h) v (fields_of window (take r.headers headers))) is.version
+    ∙ ap (made (status_code h) h.minor) is.fields
 
 -- a head has no more fields than there was room for
 few_fields : (window : List ℕ) (headers : List HeaderSpan) (r : ResponseSpans) (h : ResponseHead) → AreFieldsAt window headers r.headers h.fields →
@@ -157,9 +161,11 @@ plain_told : (h : AnswerHead) → Plain (told h)
 plain_told h =
     plain_if (not (is_final h.status)) (Err BadHead) _ (λ calls. refl)
     (plain_if (are_few_fields (kept h.fields)) _ (Err HeadTooLong)
-    (plain_framed h (framing_by h.status h.fields)
+    (plain_framed h (framing_by h.status h.minor h.fields)
     (plain_if (has_no_body h.status) (Ok None) _ tt
-    (plain_some (framing h.fields) (plain_framing (is_chunked h.fields) (content_length h.fields)))))
+    (plain_some (framing_in h.minor h.fields)
+    (plain_if ((h.minor == 0) && has_field (codes "transfer-encoding") h.fields) (Err BadBody) (framing h.fields) (λ calls. refl)
+    (plain_framing (is_chunked h.fields) (content_length h.fields))))))
     (λ calls. refl))
 
 -- a head that was refused for what it says

@@ -36,7 +36,8 @@ use std::io::Read;
 /// - `HeadTooLong`: more than 56 fields are kept, or their lines have more than 16,000 octets
 ///   together;
 /// - `BadBody` or `BodyTooLong`: the fields give no valid length of the body, or one over 65,536
-///   octets. With status 204 or 304 there is no body, whatever the fields say.
+///   octets; or a response of HTTP/1.0 names a transfer coding. With status 204 or 304 there is no
+///   body, whatever the fields say.
 ///
 /// Then come the faults of reading the body: `BadBody`, `BodyTooLong`, `HeadTooLong` (of a
 /// trailer), and those of the reader. `NoMemory` may come at any point.

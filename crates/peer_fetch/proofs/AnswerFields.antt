@@ -18,7 +18,7 @@ use Rattle.http_messages.specs.Field.{FieldText, is_dropped_name, dropped_names,
 use Rattle.http_writing.specs.Lines.{number_line, last_lines}
 use Rattle.http_writing.specs.Answer.{kept_line, kept_lines, number_lines}
 use Rattle.http_reading.specs.Fields.{is_named, value_of, values_named}
-use Rattle.http_reading.specs.Kept.{is_kept, kept_text, kept_by, kept}
+use Rattle.http_reading.specs.Kept.{is_kept, kept_text, kept_by, marks_by, kept}
 use Rattle.peer_fetch.specs.Writable.{IsFieldText}
 use Rattle.peer_fetch.proofs.Pairs.{IsPlainPair, ArePlain, pair_line, visible_pair}
 use Rattle.peer_fetch.proofs.Names.{age_token, stamp_token, length_token}
@@ -220,7 +220,7 @@ pub kept_back : (fields : List FieldText) (age stamp len : Option ℕ) (via : Li
     kept (answer_pairs fields age stamp len via) ≡ fields
 kept_back fields age stamp len via plain =
     let own : Pairs = own_pairs age stamp len via in
-    ap (λ options. kept_by options (answer_pairs fields age stamp len via)) (pairs_say fields age stamp len via plain).options
+    ap (λ options. marks_by options ++ kept_by options (answer_pairs fields age stamp len via)) (pairs_say fields age stamp len via plain).options
     ∙ kept_both closing (map pair_of fields) own
     ∙ ap₂ (λ (xs ys : List FieldText). xs ++ ys) (kept_fields_again fields plain) (own_dropped age stamp len via)
     ∙ append-nil fields
