@@ -29,7 +29,7 @@ use Rattle.http_reading.specs.declared.framing.Framing.{Framing}
 use Rattle.http_reading.specs.declared.framing.Framing.TheVariants.{Length}
 use Rattle.http_reading.specs.Framing.{content_length, is_chunked, framing_told, framing}
 use Rattle.http_reading.specs.Kept.{kept}
-use Rattle.http_reading.specs.Answers.{IsShortHead, IsInterim, PassesInterim, HeadSays, SpellsBody, StopsAtHead, ReadsBody, ReadsRest, ReadsOn, answer_of}
+use Rattle.http_reading.specs.Answers.{most_interim, IsShortHead, IsInterim, PassesInterim, HeadSays, SpellsBody, StopsAtHead, ReadsBody, ReadsRest, ReadsOn, answer_of}
 use Rattle.http_reading.proofs.BodyLemmas.{takes_none}
 
 -- a head of these parts
@@ -78,12 +78,13 @@ stands octets start headers r h room is =
 
 -- what the parts at the places say is what the head says
 pub head_says : (octets : List ℕ) (start : ℕ) (headers : List HeaderSpan) (r : ResponseSpans) (outcome : Result ToldText FetchFault) →
-    length headers ≡ most_fields → IsResponseOf (head_window start octets) headers r → is_interim r.code ≡ false → start + r.len ≤ length octets
+    start ≤ most_interim → length headers ≡ most_fields → IsResponseOf (head_window start octets) headers r → is_interim r.code ≡ false → start + r.len ≤ length octets
     → told (head_at (head_window start octets) headers r) ≡ outcome → PassesInterim octets start → HeadSays octets start (start + r.len) outcome
-head_says octets start headers r outcome room (h, is) final inside says passes =
+head_says octets start headers r outcome few room (h, is) final inside says passes =
     let at : StandsAt octets start r h = stands octets start headers r h room is in
     record {
       interim = passes;
+      few = few;
       head = h;
       final = ap is_interim (sym is.code) ∙ final;
       short = at.short;
@@ -108,6 +109,7 @@ says_more : (octets more : List ℕ) (start end : ℕ) (outcome : Result ToldTex
     HeadSays (octets ++ more) start end outcome
 says_more octets more start end outcome says = record {
   interim = passes_more octets more start says.interim;
+  few = says.few;
   head = says.head;
   final = says.final;
   short = says.short;
@@ -179,7 +181,7 @@ refused reader held start end fault few why = record {
     | inr says ↦ let plain : Plain {A = ToldText} (Err fault) = subst Plain says.says (plain_told (parts_of says.head)) in omega (arith, plain held.calls, few)
   ];
   outcome = elim why [
-    | inl same ↦ inr (inr (inr same))
+    | inl same ↦ inr (inr (inr (inr same)))
     | inr says ↦ inr (inl (start, end, says))
   ];
 }
@@ -233,7 +235,7 @@ rest_read before after old start end t (Err fault) says rest = record {
   taken = rest.taken;
   made = rest.made;
   outcome = elim rest.outcome [
-    | inl same ↦ inr (inr (inr same))
+    | inl same ↦ inr (inr (inr (inr same)))
     | inr stops ↦ inr (inr (inl (start, end, t, says_taken before after old rest.held start end (Ok t) rest.taken says, stops)))
   ];
 }
@@ -298,15 +300,15 @@ some_octets octets headers r (h, is) =
 
 -- a fault while a head was read
 pub head_stops : (reader_old reader : Option (List ℕ)) (old held : Held) (start : ℕ) (fault : FetchFault) → Takes reader_old reader old held →
-    calls_made fault held.calls ≤ 70000 → PassesInterim held.octets start → IsHeadFault fault
+    calls_made fault held.calls ≤ 70000 → PassesInterim held.octets start → start ≤ most_interim → IsHeadFault fault
     → (fault ≡ BadHead → NeverHasResponse (head_window start held.octets)) → (fault ≡ HeadTooLong → IsLongResponse (head_window start held.octets))
     → (IsReadFault fault → IsOpenResponse (drop start held.octets)) → (fault ≡ EndOfInput → IsAtEnd reader) → (fault ≡ TooManyTurns → held.calls ≡ 70000) →
     ReadsOn reader_old reader old (Err fault)
-head_stops reader_old reader old held start fault taken made passes kind bad long opened ended spent = record {
+head_stops reader_old reader old held start fault taken made passes few kind bad long opened ended spent = record {
   held = held;
   taken = taken;
   made = made;
-  outcome = inl (start, passes, stops fault kind bad long opened ended spent);
+  outcome = inl (start, passes, few, stops fault kind bad long opened ended spent);
 }
   where
     stops : (fault : FetchFault) → IsHeadFault fault → (fault ≡ BadHead → NeverHasResponse (head_window start held.octets)) →
@@ -324,6 +326,16 @@ head_stops reader_old reader old held start fault taken made passes kind bad lon
     stops BodyTooLong kind bad long opened ended spent = absurd cc
     stops TooManyTurns kind bad long opened ended spent = (opened refl, spent refl)
     stops NoMemory kind bad long opened ended spent = tt
+
+-- interim heads that have too many octets
+pub too_many : (reader_old reader : Option (List ℕ)) (old held : Held) (start : ℕ) → Takes reader_old reader old held → held.calls ≤ 70000
+    → PassesInterim held.octets start → most_interim < start → ReadsOn reader_old reader old (Err HeadTooLong)
+too_many reader_old reader old held start taken made passes many = record {
+  held = held;
+  taken = taken;
+  made = made;
+  outcome = inr (inr (inr (inl (start, passes, many, refl))));
+}
 
 -- two takings in a row are one
 pub takes_then : (old middle new : Held) (before between after : Option (List ℕ)) → Takes before between old middle → Takes between after middle new →
