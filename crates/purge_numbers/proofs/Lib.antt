@@ -1,29 +1,16 @@
-<<<<<<< ours
--- In this order, beside those of `purge_tables`. Schema: `CheckLemmas` (a CHECK). Statements: `Texts`
--- (what each text means), `CommitLemmas` (a transaction, and the floors of each form), `LookLemmas`
--- and `PutLemmas` (a raise on the rows), `CallLemmas` (a raise on a connection), `DropLemmas` (the
--- rows are dropped), `RebaseLemmas` (the base is set). Opening: `LoadLemmas` (the queries),
--- `AddLemmas` (rows as floors), `OpenLemmas` (a file that was read or refused), `MakeLemmas` (a blank
--- file, and one of form 1).
-pub mod CheckLemmas
-=======
 -- In this order, beside those of `purge_tables`. Statements: `Texts` (what each text means),
 -- `CommitLemmas` (a transaction, and the floors of each form), `LookLemmas` and `PutLemmas` (a raise
 -- on the rows), `CallLemmas` (a raise on a connection), `BaseLemmas` (a raise of the base),
--- `RebaseLemmas` (a raise at a full table). Opening: `LoadLemmas` (the queries), `AddLemmas` (rows as
--- floors), `OpenLemmas` (a file that was read or refused), `MakeLemmas` (a blank file, and one of form
--- 1).
->>>>>>> theirs
+-- `DropLemmas` (the rows are dropped), `RebaseLemmas` (a raise at a full table). Opening:
+-- `LoadLemmas` (the queries), `AddLemmas` (rows as floors), `OpenLemmas` (a file that was read or
+-- refused), `MakeLemmas` (a blank file, and one of form 1).
 pub mod Texts
 pub mod CommitLemmas
 pub mod LookLemmas
 pub mod PutLemmas
 pub mod CallLemmas
-<<<<<<< ours
 pub mod DropLemmas
-=======
 pub mod BaseLemmas
->>>>>>> theirs
 pub mod RebaseLemmas
 pub mod LoadLemmas
 pub mod AddLemmas

@@ -1,10 +1,5 @@
-<<<<<<< ours
 -- What the last statement of the transaction that sets the base does to a node's file: the UPDATE
 -- replaces the one row of `base`.
-=======
--- What the transaction that drops all rows and sets the base does to a node's file. A DELETE without a
--- test takes all rows, since the query shows the rowid of each.
->>>>>>> theirs
 use Rattle.std.proofs.Common.{◌≡◌, ℕ, ℤ, pos, Bool, true, not, ◌||◌, cond, List, [], ◌∷◌, map, filter, length, None, Ok, Err, Result, OnOk, refl, sym, ap}
 use Rattle.std.proofs.Common.{subst, ◌∙◌, inl, inr, arith}
 use Rattle.std.specs.List.{AllByRecursion, list_any}
@@ -36,13 +31,8 @@ use Rattle.purge_tables.specs.Rows.{HasVersion}
 use Rattle.purge_tables.proofs.StatementLemmas.{Ran, inside}
 use Rattle.purge_tables.proofs.StepLemmas.{base, task_on, concluded, deleted}
 use Rattle.purge_tables.proofs.QueryLemmas.{answered, all_matched}
-<<<<<<< ours
 use Rattle.purge_numbers.specs.Tables.{floors_table, base_table, node_schema, base_in, shown_base, IsBase, IsFloorRow}
 use Rattle.purge_numbers.specs.Put.{base_text, base_params}
-=======
-use Rattle.purge_numbers.specs.Tables.{floors_table, node_schema, base_in, rows_of, IsBase, IsFloorRow}
-use Rattle.purge_numbers.specs.Put.{clear_text, base_text, base_params}
->>>>>>> theirs
 use Rattle.purge_numbers.specs.Store.{IsNode}
 use Rattle.purge_numbers.specs.Writing.{HasNoRows, Holds}
 use Rattle.purge_numbers.proofs.BaseLemmas.{base_runs}

@@ -1,11 +1,6 @@
-<<<<<<< ours
--- The statements of a raise: one for a row (SQLite, "UPSERT"), and one transaction for the base.
-use Rattle.std.specs.Prelude.{◌≡◌, ◌⊎◌, ℕ, pos, true, List, [], ◌∷◌, codes, Ok, Err}
-=======
--- The statements of a raise: one for a row (SQLite, "UPSERT"), and a transaction of two where all rows go. The
--- statement of a raise of the base, where rows stay.
+-- The statements of a raise: one for a row (SQLite, "UPSERT"), and one transaction where all rows go. The statement of a
+-- raise of the base, where rows stay.
 use Rattle.std.specs.Prelude.{◌≡◌, ◌⊎◌, ℕ, ◌<◌, pos, true, List, [], ◌∷◌, codes, Ok, Err}
->>>>>>> theirs
 use Rattle.sqlite.specs.declared.types.Value.TheVariants.{Int, Text}
 use Rattle.sqlite_value.specs.Order.{Row}
 use Rattle.sqlite_trees.specs.declared.store.Store.{Ghosts}

@@ -1,38 +1,21 @@
-<<<<<<< ours
-//! A raise: first in the file, then in the copy in memory. A row takes one statement, the base one
-//! transaction.
+//! A raise of a key or of the base: first in the file, then in the copy in memory. A row takes one
+//! statement, a full table one transaction, and a raise of the base one statement.
 //!
 //! Functions that take a transaction state what each statement leads from and to, by
 //! `specs/Writing`.
-ghost use Rattle.std.specs.Prelude.{◌≡◌, ◌≢◌, ◌⊎◌, [], List, IsTrue, IfErr, OnOk, Ok, Err};
+ghost use Rattle.std.specs.Prelude.{◌≡◌, ◌≢◌, ◌⊎◌, ◌≤◌, [], List, IsTrue, IfErr, OnOk, Ok, Err};
 ghost use Rattle.sqlite.specs.State.{HasCleanDisk, Survives, Executes, ExecutesInside};
 ghost use Rattle.sqlite.specs.Held.{state};
 ghost use Rattle.sqlite_value.specs.Order.{Row as Values};
-ghost use Rattle.floor_rules.specs.Floors.{FloorTable, raised, with_row, base_only};
-=======
-//! A raise of a key or of the base: first in the file, then in the copy in memory. A row takes one
-//! statement, a full table a transaction of two, and a raise of the base one statement.
-//!
-//! Functions that take a transaction state what each statement leads from and to, by
-//! `specs/Writing`.
-ghost use Rattle.std.specs.Prelude.{◌≡◌, ◌≢◌, ◌⊎◌, ◌≤◌, [], IsTrue, IfErr, OnOk, Ok, Err};
-ghost use Rattle.sqlite.specs.State.{HasCleanDisk, Survives, Executes, ExecutesInside};
-ghost use Rattle.sqlite.specs.Held.{state};
 ghost use Rattle.floor_rules.specs.Floors.{FloorTable, raised, with_base, with_row, base_only};
->>>>>>> theirs
 ghost use Rattle.floor_rules.specs.Raising.{after};
 ghost use Rattle.floor_rules.specs.Store.{IsBeforeOrAfter, IsBeforeOrAfterBase};
 ghost use Rattle.purge_tables.specs.Making.{Makes};
-<<<<<<< ours
 ghost use Rattle.purge_numbers.specs.Making.{HasForm, HasNoFloors, HasNode};
 ghost use Rattle.purge_numbers.specs.Put.{FailsAmong, FailsInside, FailsToRebase, FailsToWrite};
-ghost use Rattle.purge_numbers.specs.Put.{FailsToRaise, Rebases, RunsAll, base_params, base_text};
-ghost use Rattle.purge_numbers.specs.Put.{clear_texts, drop_base_text, drop_floors_text, put_params};
-=======
-ghost use Rattle.purge_numbers.specs.Put.{FailsInside, FailsToRebase, FailsToWrite, FailsToRaise};
-ghost use Rattle.purge_numbers.specs.Put.{FailsToRaiseBase};
-ghost use Rattle.purge_numbers.specs.Put.{Rebases, base_params, base_text, clear_text, put_params};
->>>>>>> theirs
+ghost use Rattle.purge_numbers.specs.Put.{FailsToRaise, FailsToRaiseBase, Rebases, RunsAll};
+ghost use Rattle.purge_numbers.specs.Put.{base_params, base_text, clear_texts, drop_base_text};
+ghost use Rattle.purge_numbers.specs.Put.{drop_floors_text, put_params};
 ghost use Rattle.purge_numbers.specs.Put.{put_text};
 ghost use Rattle.purge_numbers.specs.Store.{IsReady, IsNode, AreIn, committed_floors, MayFind};
 ghost use Rattle.purge_numbers.specs.Tables.{floors_in};
