@@ -7,6 +7,7 @@ ghost use Rattle.node_bytes.specs.Stepping.{AnswersAsk};
 ghost use Rattle.node_bytes.specs.Nodes.{TakesStep};
 
 use floor_rules::FloorStore;
+use http_messages::Ask;
 use node_core::Node;
 use node_rules::{Event, Reply, StepFault};
 
@@ -20,6 +21,10 @@ pub trait Stepper {
     fn step(&mut self, event: Event<()>) -> Result<Reply<()>, StepFault>
         ensures takes { takes self.old event result self.new }
         ensures asks { IfOk result (AnswersAsk event) };
+
+    /// Whether a held copy would serve this request at this time, as far as is known. Takes no
+    /// step, so a step may find otherwise.
+    fn has_copy_for(&self, ask: &Ask, now: u64) -> bool;
 }
 
 impl<S: FloorStore> Stepper for Node<(), S> {
@@ -27,5 +32,9 @@ impl<S: FloorStore> Stepper for Node<(), S> {
 
     fn step(&mut self, event: Event<()>) -> Result<Reply<()>, StepFault> {
         Node::step(self, event, ())
+    }
+
+    fn has_copy_for(&self, ask: &Ask, now: u64) -> bool {
+        Node::has_copy_for(self, ask, now)
     }
 }

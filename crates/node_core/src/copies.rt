@@ -1,5 +1,5 @@
 //! Copies that are held, and new ones.
-ghost use Rattle.std.specs.Prelude.{◌≡◌, option_map, unwrap_or, IfOk, IfErr, OnOk};
+ghost use Rattle.std.specs.Prelude.{◌≡◌, option_map, unwrap_or, is_some, IfOk, IfErr, OnOk};
 ghost use Rattle.node_rules.specs.State as state;
 ghost use Rattle.node_rules.specs.Asks.{copy_for as copy_for_ask};
 ghost use Rattle.node_rules.specs.Arrivals.{stored};
@@ -71,6 +71,13 @@ impl<T: Copy + Drop, S: FloorStore> Node<T, S> {
         } else {
             self.good_copy(&ask.key, now)
         }
+    }
+
+    /// Whether a held copy would serve this request at this time. The store keeps its order.
+    pub fn has_copy_for(&self, ask: &Ask, now: u64) -> bool
+        ensures { result ≡ is_some (copy_for_ask self.now.state ask.now now) }
+    {
+        self.copy_for(ask, now).is_some()
     }
 
     /// The same as a copy to hand out.

@@ -1,8 +1,9 @@
 //! The edge of a node over HTTP (RFC 9112): reads a request, takes one step with it, and writes
 //! what is served.
 //!
-//! - [`take_ask`] reads a request and takes its step. It returns [`Taken`]: what is served now, or
-//!   that the request waits. [`status_for`] is the status of a refusal.
+//! - [`take_ask`] reads a request and takes its step, and [`take_read`] takes the step of one that
+//!   was read. They return [`Taken`]: what is served now, or that the request waits.
+//!   [`status_for`] is the status of a refusal.
 //! - [`serve_ask`] is the whole way. It returns [`Asked`]: the response is written, or the request
 //!   waits as the pending request of a block, with a `Turn` to carry out until then.
 //! - [`finish`] writes what a later step serves to a client that waited.
@@ -43,4 +44,4 @@ pub use fault::ServeFault;
 pub use refusing::status_for;
 pub use roster_names::name_of;
 pub use serving::finish;
-pub use taking::{Taken, take_ask};
+pub use taking::{Taken, take_ask, take_read};

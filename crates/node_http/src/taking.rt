@@ -4,7 +4,7 @@ ghost use Rattle.roster.specs.Lookups.{is_member as is_member_of};
 ghost use Rattle.node_bytes.specs.Stepping.{AnswersAsker};
 ghost use Rattle.node_bytes.specs.Turns.{turn_of};
 ghost use Rattle.node_http.specs.Asking.{IsTaken, TakesAsk, TakesFor, event_by as event_from};
-ghost use Rattle.node_http.specs.Asking.{block_of as block_begun};
+ghost use Rattle.node_http.specs.Asking.{asker_of as asker_from, block_of as block_begun};
 
 use crate::ServeFault;
 use crate::roster_names::asker_of;
@@ -49,12 +49,24 @@ pub fn take_ask<N: Stepper, R: Read>(
         (R.remaining reader.old) (R.remaining reader.new) result }
 {
     match read_ask(alloc, reader) {
-        Ok(ask) => {
-            let asker = asker_of(roster, id, ask.member);
-            step_for(alloc, node, asker, ask, now)
-        }
+        Ok(ask) => take_read(alloc, roster, id, node, ask, now),
         Err(fault) => Err(ServeFault::Fetch(fault)),
     }
+}
+
+/// Takes one step with a request that was read, as [`take_ask`] does.
+pub fn take_read<N: Stepper>(
+    alloc: Global,
+    roster: &Roster,
+    id: u8,
+    node: &mut N,
+    ask: Ask,
+    now: u64,
+) -> Result<Taken, ServeFault>
+    ensures { TakesFor N.takes (asker_from roster.now id ask.member) ask now node.old node.new result }
+{
+    let asker = asker_of(roster, id, ask.member);
+    step_for(alloc, node, asker, ask, now)
 }
 
 /// Takes one step with a request.

@@ -2,6 +2,7 @@
 use crate::seat::{Origin, Seat};
 use crate::shared::SharedNode;
 use floor_rules::FloorStore;
+use http_messages::Ask;
 use node_bytes::Stepper;
 use node_rules::{Event, Reply, StepFault};
 use std::sync::Wait;
@@ -26,5 +27,10 @@ impl<S: FloorStore + Drop, J: Origin, R: Wait> Stepper for AtSeat<'_, S, J, R> {
     /// Makes one call of [`SharedNode::call`].
     fn step(&mut self, event: Event<()>) -> Result<Reply<()>, StepFault> {
         self.node.call(self.rt, &mut self.seat, event)
+    }
+
+    /// Asks [`SharedNode::has_copy_for`].
+    fn has_copy_for(&self, ask: &Ask, now: u64) -> bool {
+        self.node.has_copy_for(self.rt, ask, now)
     }
 }

@@ -15,6 +15,7 @@ use crate::steps::Steps;
 use crate::weight::octets_of;
 use crate::whole::Whole;
 use floor_rules::FloorStore;
+use http_messages::Ask;
 use node_book::{NodeBook, Record};
 use node_core::Node;
 use node_rules::{Event, StepFault};
@@ -30,7 +31,6 @@ const MOST_OCTETS: u64 = 4_194_304;
 /// A contract sees the history, and the book.
 #[derive(Drop)]
 pub(crate) struct Desk<S: FloorStore, J: Origin> {
-    pub(crate) alloc: Global,
     /// The node, and its book if its steps are recorded. None once an entry could not be added to
     /// the history, which never happens.
     pub(crate) steps: Option<Steps<S>>,
@@ -80,7 +80,6 @@ impl<S: FloorStore + Drop, J: Origin> Desk<S, J> {
     {
         let steps = new_steps(alloc, node, retention)?;
         Ok(Desk {
-            alloc,
             steps: Some(steps),
             whole,
             places,
@@ -136,14 +135,7 @@ impl<S: FloorStore + Drop, J: Origin> Desk<S, J> {
                 }
             }
             Some(Steps::Alone(node)) => {
-                if let Some(told) = enter_alone(
-                    self.alloc,
-                    node,
-                    &mut self.whole,
-                    seat,
-                    place,
-                    event,
-                ) {
+                if let Some(told) = enter_alone(node, &mut self.whole, seat, place, event) {
                     return told;
                 }
             }
@@ -176,6 +168,15 @@ impl<S: FloorStore + Drop, J: Origin> Desk<S, J> {
         self.steps = without_book(self.steps.take());
         self.retention = Retention::Dropped;
         self.octets = 0;
+    }
+
+    /// Whether a held copy would serve this request at this time.
+    pub(crate) fn has_copy_for(&self, ask: &Ask, now: u64) -> bool {
+        match &self.steps {
+            Some(Steps::Recorded(book)) => book.node().has_copy_for(ask, now),
+            Some(Steps::Alone(node)) => node.has_copy_for(ask, now),
+            None => false,
+        }
     }
 
     /// Takes out the record of all pages, and begins the next one; or takes none, where none is

@@ -12,6 +12,7 @@ use crate::retention::Retention;
 use crate::seat::{Origin, Seat};
 use crate::whole::Whole;
 use floor_rules::FloorStore;
+use http_messages::Ask;
 use node_book::{NodeEntry, Record};
 use node_core::Node;
 use node_rules::{Event, Reply, StepFault};
@@ -64,6 +65,12 @@ impl<S: FloorStore + Drop, J: Origin> SharedNode<S, J> {
         ensures asks { IfOk result (AnswersAsk event) }
     {
         self.desk.lock(rt).call(seat, event)
+    }
+
+    /// Whether a held copy would serve this request at this time. Takes no step, so a call may find
+    /// otherwise.
+    pub fn has_copy_for<R: Wait>(&self, rt: &R, ask: &Ask, now: u64) -> bool {
+        self.desk.lock(rt).has_copy_for(ask, now)
     }
 
     /// Holds the node: no call is made until what is returned is dropped.

@@ -4,6 +4,7 @@ use crate::held::node_of;
 use crate::http::{
     ANY, End, HELD, HELD_FOR_A_MEMBER, OF_MEMBER_2, UNAVAILABLE, ends_so, fetches, is_answered,
 };
+use http_messages::Ask;
 use node_bytes::Stepper;
 use node_rules::{Event, Reply, StepFault};
 use std::alloc::Global;
@@ -23,6 +24,10 @@ impl Stepper for Refusing {
     fn step(&mut self, _event: Event<()>) -> Result<Reply<()>, StepFault> {
         self.steps = self.steps.saturating_add(1);
         Err(self.fault)
+    }
+
+    fn has_copy_for(&self, _ask: &Ask, _now: u64) -> bool {
+        false
     }
 }
 
