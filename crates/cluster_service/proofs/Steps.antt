@@ -14,7 +14,9 @@ use Rattle.values_plain.specs.declared.address.Udp.{Udp}
 use Rattle.node_bytes.specs.Turns.{MeetsOctets}
 use Rattle.cluster_service.specs.Questions.{begins_question}
 use Rattle.cluster_service.specs.Steps.{AsksOnce, Ending, QuestionsView, MeetsQuestion, DealsWith, Takes, Outcome, IsTurnOf, Step, Leads, begun_by, begun_in}
-use Rattle.cluster_service.specs.Steps.{Follow, GoesOn, CarriesOn, turn_after, TakesRequest}
+use Rattle.cluster_service.specs.Steps.{Follow, GoesOn, CarriesOn, turn_after, TakesRequest, DoesJob, DoesRequest}
+use Rattle.cluster_jobs.specs.declared.job.Job.{Job}
+use Rattle.cluster_jobs.specs.declared.job.Job.TheVariants as job
 
 -- Where nothing has begun, no step follows.
 pub none_follows : (ends : Ending) (begun : Option Begin) (steps : List Step) → Follow ends None steps →
@@ -83,3 +85,19 @@ pub question_refused : {N : Type 0} (takes : Takes N) (udp : Udp) (from : Addres
     DealsWith takes udp from octets before false after
 question_refused {N} takes udp from octets now fault before after is meets held =
     subst (λ asks. MeetsQuestion takes asks udp from octets before false after) (sym is) (now, Err fault, meets, (refl, held))
+
+-- The job is a connection.
+abbrev pub IsStream : Job → Type 0
+IsStream (job.Datagram sender udp from octets) = ⊥
+IsStream (job.Stream number stream octets) = Unit {0}
+IsStream (job.Timer serial) = ⊥
+IsStream (job.Fetched f) = ⊥
+
+-- The steps of a request do the job of its connection.
+pub request_does : {N : Type 0} (takes : Takes N) (roster : Tables) (id : ℕ) (given : Job) (before after : N) →
+    IsStream given → DoesRequest takes roster id before after → DoesJob takes roster id given before after
+request_does takes roster id (job.Datagram sender udp from octets) before after is done = absurd is
+request_does takes roster id (job.Stream number stream octets) before after is done =
+    record { turn = done.turn; between = done.between; first = done.first; further = done.further }
+request_does takes roster id (job.Timer serial) before after is done = absurd is
+request_does takes roster id (job.Fetched f) before after is done = absurd is

@@ -1,5 +1,5 @@
 -- What the threads of a node do with its steps: which event each takes, and what is done after it. The rules are
--- `DoesJob` (a worker) and `DealsWith` (the thread of the event loop).
+-- `DoesJob` (a worker), `DealsWith` and `Answers` (the thread of the event loop).
 use Rattle.std.specs.Prelude.{◌≡◌, ◌⊎◌, ℕ, List, [], ◌∷◌, ◌++◌, length, nat_lt, if◌then◌else◌, Bool, true, false, Option, Some, None, Result, Ok, Err}
 use Rattle.std.specs.Result.{result_ok}
 use Rattle.values_plain.specs.declared.address.Address.{Address}
@@ -183,10 +183,19 @@ pub record DoesJob {N : Type 0} (takes : Takes N) (roster : Tables) (id : ℕ) (
   pub first : TakesJob takes roster id job before between turn
   pub further : GoesOn takes GivesUp (begun_in turn) between after
 
+-- A request takes its step. Further steps only give up what the step before each of them began.
+pub record DoesRequest {N : Type 0} (takes : Takes N) (roster : Tables) (id : ℕ) (before after : N) : Type 0 where
+  pub turn : Option Turn
+  pub between : N
+  pub first : TakesRequest takes roster id before between turn
+  pub further : GoesOn takes GivesUp (begun_in turn) between after
+
 -- The thread of the event loop
 
--- What takes the steps of questions, and the turns that are held back.
+-- The roster and the id of the member, what takes its steps, and the turns that are held back.
 pub record QuestionsView (N : Type 0) : Type 0 where
+  pub roster : Tables
+  pub id : ℕ
   pub node : N
   pub held : List Turn
 
@@ -214,6 +223,12 @@ abbrev pub MeetsQuestion : {N : Type 0} → Takes N → Bool → Udp → Address
 MeetsQuestion takes false udp from octets before handled after = (handled ≡ false) × (after ≡ before)
 MeetsQuestion takes true udp from octets before handled after = (now : ℕ) × (told : Result Turn StepFault)
     × MeetsOctets takes udp from octets now before.node after.node told × ToldAfter before.held told handled after.held
+
+-- A request is answered at once, by the steps of its job; or its job comes back, and nothing is done.
+abbrev pub Answers : {N : Type 0} → Takes N → Job → QuestionsView N → Option Job → QuestionsView N → Type 0
+Answers takes given before None after = (after.held ≡ before.held)
+    × DoesJob takes before.roster before.id given before.node after.node
+Answers takes given before (Some back) after = (back ≡ given) × (after ≡ before)
 
 -- A datagram that arrived is dealt with at once, or left to a worker.
 abbrev pub DealsWith : {N : Type 0} → Takes N → Udp → Address → List ℕ → QuestionsView N → Bool → QuestionsView N →

@@ -1,15 +1,20 @@
-//! ICP queries and HTCP TST requests, which are answered on the thread of the event loop.
+//! What is answered on the thread of the event loop: ICP queries and HTCP TST requests, and HTTP
+//! requests that a held copy serves.
 ghost use Rattle.std.specs.Prelude.{◌≡◌, []};
 ghost use Rattle.node_rules.specs.declared.message.Message.{Message};
 ghost use Rattle.node_rules.specs.Questions.{is_question as asks};
 ghost use Rattle.node_bytes.specs.Bytes.{SpellsBy};
 ghost use Rattle.cluster_service.specs.Questions.{begins_question};
-ghost use Rattle.cluster_service.specs.Steps.{Holds, CarriesOut, DealsWith};
+ghost use Rattle.cluster_service.specs.Steps.{Answers, CarriesOut, DealsWith, Holds, QuestionsView};
 
 use crate::gate::Gate;
-use crate::station::{Station, seconds};
-use cluster_jobs::Sender;
+use crate::seated::Seated;
+use crate::station::seconds;
+use crate::worker::Worker;
+use cluster_jobs::{Job, Sender};
 use cluster_sockets::AtOnce;
+use http_messages::Ask;
+use http_reading::read_ask;
 use node_bytes::{Stepper, Turn, on_datagram};
 use node_rules::SERIALS;
 use roster::{Address, Roster, Udp, address_by};
@@ -20,49 +25,66 @@ use std::time::Clock;
 /// How many responses are held back at most, so that the first waits for no more than 32 steps.
 const MOST_HELD: usize = 32;
 
+/// How many HTTP requests are answered at once in a poll at most, so that datagrams and fetches
+/// wait for no more than these. Workers answer the others.
+const MOST_ANSWERED: u32 = 32;
+
 /// Answers ICP queries and HTCP TST requests as they come. The step of such a question begins
 /// nothing and serves no client. So it waits for no fetch and no client, only for the node's lock,
-/// and no worker is woken.
+/// and no worker is woken. The same is true of an HTTP request that a held copy serves.
 ///
 /// Responses to questions that came together are sent together: the first one wakes the receiver,
 /// and the others mostly find it awake.
 ///
-/// A contract sees what takes the steps, and the turns that are held back.
+/// A contract sees the roster, the member's id, what takes the steps, and the turns that are held
+/// back.
 #[derive(Drop)]
-pub struct Questions<'a, N: Stepper + Drop, G: Gate + Drop> {
-    station: &'a Station<G>,
-    node: N,
+pub struct Questions<'a, N: Stepper + Drop, G: Gate + Drop, R> {
+    /// What takes the steps, and answers clients.
+    worker: Worker<'a, N, G, R>,
     held: Vec<Turn>,
+    /// How many requests were answered at once since `finish` was last called.
+    answered: u32,
 }
 
-impl<'a, N: Stepper + Drop, G: Gate + Drop> Model for Questions<'a, N, G> {
+impl<'a, N: Stepper + Drop, G: Gate + Drop, R> Model for Questions<'a, N, G, R> {
     ghost use Rattle.cluster_service.specs.Steps.{QuestionsView};
 
     ghost Value = { QuestionsView N };
 
-    ghost view = { λ questions. record { node = questions.node; held = questions.held.items } };
+    ghost view = { λ questions. record {
+      roster = questions.worker.seated.station.now.roster;
+      id = questions.worker.seated.station.now.id;
+      node = questions.worker.seated.node;
+      held = questions.held.items;
+    } };
 }
 
-impl<'a, N: Stepper + Drop, G: Gate + Drop> Questions<'a, N, G> {
+impl<'a, N: Stepper + Drop, G: Gate + Drop, R> Questions<'a, N, G, R> {
     /// Questions to this node, none of which is held back.
-    pub fn new(station: &'a Station<G>, node: N) -> Questions<'a, N, G>
-        ensures { result ≡ record { node = node; held = [] } }
+    pub fn new(seated: Seated<'a, N, G, R>) -> Questions<'a, N, G, R>
+        ensures { result ≡ record {
+          roster = seated.station.now.roster;
+          id = seated.station.now.id;
+          node = seated.node;
+          held = [];
+        } }
     {
         Questions {
-            station,
-            node,
-            held: Vec::new(station.alloc),
+            held: Vec::new(seated.station.alloc),
+            worker: Worker { seated },
+            answered: 0,
         }
     }
 }
 
-impl<N: Stepper + Drop, G: Gate + Drop> Questions<'_, N, G> {
+impl<N: Stepper + Drop, G: Gate + Drop, R: Wait + Clock> Questions<'_, N, G, R> {
     /// Sends the responses that are held back, in the order of their questions.
     fn send_held(&mut self)
-        ensures { self.new ≡ record { node = self.old.node; held = [] } }
+        ensures { self.new ≡ record self.old { held = [] } }
     {
         for turn in self.held.as_slice() {
-            self.station.send_all(turn.send.as_slice());
+            self.worker.seated.station.send_all(turn.send.as_slice());
         }
         self.held.clear();
     }
@@ -70,7 +92,7 @@ impl<N: Stepper + Drop, G: Gate + Drop> Questions<'_, N, G> {
     /// Holds a response back until the loop has read what is ready, or 32 are held. Where there is
     /// no memory to hold it, it is sent now, after those that are held.
     fn hold(&mut self, turn: Turn)
-        ensures node { self.new.node ≡ self.old.node }
+        ensures same { self.new ≡ record self.old { held = self.new.held } }
         ensures held { Holds self.old.held turn self.new.held }
     {
         if self.held.len() >= MOST_HELD {
@@ -80,20 +102,49 @@ impl<N: Stepper + Drop, G: Gate + Drop> Questions<'_, N, G> {
             self.held.push_reserved(turn);
         } else {
             self.send_held();
-            self.station.send_all(turn.send.as_slice());
+            self.worker.seated.station.send_all(turn.send.as_slice());
         }
     }
 
     /// Has what a step asks for sent. What a question never asks for (to serve a client, or to
     /// begin a fetch) is carried out at once, without the others.
-    fn carry_out<R: Wait + Clock>(&mut self, rt: &R, turn: Turn)
-        ensures node { self.new.node ≡ self.old.node }
+    fn carry_out<C: Wait + Clock>(&mut self, rt: &C, turn: Turn)
+        ensures same { self.new ≡ record self.old { held = self.new.held } }
         ensures held { CarriesOut turn.serve turn.begin self.old.held turn self.new.held }
     {
         if turn.serve.is_none() && turn.begin.is_none() {
             self.hold(turn);
         } else {
-            self.station.carry_out(rt, turn);
+            self.worker.seated.station.carry_out(rt, turn);
+        }
+    }
+
+    /// Reads a request of which these octets have come, if a held copy would serve it at this time.
+    fn request_held(&self, octets: &[u8], now: u64) -> Option<Ask> {
+        let seated = &self.worker.seated;
+        let mut reader = octets;
+        match read_ask(seated.station.alloc, &mut reader) {
+            Ok(ask) if seated.node.has_copy_for(&ask, now) => Some(ask),
+            Ok(_) | Err(_) => None,
+        }
+    }
+
+    /// Answers the request of a connection whose job this is, if a held copy would serve it at this
+    /// time; or gives the job back.
+    fn answer_held(&mut self, job: Job, now: u64) -> Option<Job>
+        ensures { Answers N.takes job self.old result self.new }
+    {
+        let asked = match &job {
+            Job::Stream { octets, .. } => self.request_held(octets.as_slice(), now),
+            Job::Datagram { .. } | Job::Timer { .. } | Job::Fetched(_) => None,
+        };
+        match (asked, job) {
+            (Some(ask), Job::Stream { stream, .. }) => {
+                self.answered = self.answered.saturating_add(1);
+                self.worker.do_request(stream, ask, now);
+                None
+            }
+            (_, job) => Some(job),
         }
     }
 }
@@ -127,10 +178,10 @@ fn is_question(udp: Udp, octets: &[u8]) -> bool
     }
 }
 
-impl<N: Stepper + Drop, G: Gate + Drop> AtOnce for Questions<'_, N, G> {
-    fn deals_with<R: Wait + Clock>(
+impl<N: Stepper + Drop, G: Gate + Drop, R: Wait + Clock> AtOnce for Questions<'_, N, G, R> {
+    fn deals_with<C: Wait + Clock>(
         &mut self,
-        rt: &R,
+        rt: &C,
         udp: Udp,
         from: Address,
         octets: &[u8],
@@ -141,7 +192,15 @@ impl<N: Stepper + Drop, G: Gate + Drop> AtOnce for Questions<'_, N, G> {
             return false;
         }
         let now = seconds(rt);
-        match on_datagram(self.station.alloc, &mut self.node, udp, from, octets, now) {
+        let seated = &mut self.worker.seated;
+        match on_datagram(
+            seated.station.alloc,
+            &mut seated.node,
+            udp,
+            from,
+            octets,
+            now,
+        ) {
             Ok(turn) => {
                 self.carry_out(rt, turn);
                 true
@@ -151,21 +210,39 @@ impl<N: Stepper + Drop, G: Gate + Drop> AtOnce for Questions<'_, N, G> {
         }
     }
 
+    fn answers<C: Wait + Clock>(&mut self, rt: &C, job: Job) -> Option<Job>
+        ensures { Answers N.takes job self.old result self.new }
+    {
+        if self.answered >= MOST_ANSWERED {
+            return Some(job);
+        }
+        self.answer_held(job, seconds(rt))
+    }
+
     fn sender_of(&self, udp: Udp, from: Address) -> Sender {
-        sender_in(&self.station.roster, udp, from)
+        sender_in(&self.worker.seated.station.roster, udp, from)
     }
 
-    fn is_wanted<R: Wait>(&self, rt: &R, serial: u32) -> bool {
-        self.station.tables.is_awaited(rt, serial / SERIALS)
+    fn is_wanted<C: Wait>(&self, rt: &C, serial: u32) -> bool {
+        self.worker
+            .seated
+            .station
+            .tables
+            .is_awaited(rt, serial / SERIALS)
     }
 
-    fn is_there<R: Wait>(&self, rt: &R, serial: u32) -> bool {
-        self.station.tables.is_there(rt, serial / SERIALS)
+    fn is_there<C: Wait>(&self, rt: &C, serial: u32) -> bool {
+        self.worker
+            .seated
+            .station
+            .tables
+            .is_there(rt, serial / SERIALS)
     }
 
     fn finish(&mut self)
-        ensures { self.new ≡ record { node = self.old.node; held = [] } }
+        ensures { self.new ≡ record self.old { held = [] } }
     {
+        self.answered = 0;
         if !self.held.is_empty() {
             self.send_held();
         }

@@ -4,7 +4,8 @@ ghost use Rattle.roster.specs.Lookups.{is_member};
 ghost use Rattle.node_rules.specs.State.{serial_of as serial_begun};
 ghost use Rattle.cluster_service.specs.Steps.{AsksOnce, EndsFetch, TakesDatagram, TakesMessage};
 ghost use Rattle.cluster_service.specs.Steps.{TakesRequest, TakesJob, DoesJob, GoesOn, GivesUp};
-ghost use Rattle.cluster_service.specs.Steps.{CarriesOn, HandsOver, begun_in};
+ghost use Rattle.cluster_service.specs.Steps.{CarriesOn, DoesRequest, HandsOver, begun_in};
+ghost use Rattle.cluster_service.specs.Steps.{turn_after};
 
 use crate::client::Client;
 use crate::gate::Gate;
@@ -14,9 +15,10 @@ use crate::telling::{begin_ask, status};
 use cluster_fetch::{Fetched, ResponseSource};
 use cluster_jobs::Job;
 use cluster_sockets::Errand;
+use http_messages::Ask;
 use mio::net::TcpStream;
 use node_bytes::{Stepper, Turn, on_datagram};
-use node_http::{ServeFault, Taken, status_for, take_ask};
+use node_http::{ServeFault, Taken, status_for, take_ask, take_read};
 use node_rules::Begin;
 use roster::{Address, Udp};
 use std::io::Read;
@@ -166,13 +168,57 @@ impl<N: Stepper + Drop, G: Gate + Drop, R: Wait + Clock> Worker<'_, N, G, R> {
         let mut stream = stream;
         let seated = &mut self.seated;
         let since = seated.station.next();
-        match ask(
+        let taken = ask(
             seated.rt,
             seated.station,
             &mut seated.node,
             &mut stream,
             octets,
-        ) {
+        );
+        self.answer(stream, taken, since)
+    }
+
+    /// Takes the step of a request that was read, at a time in seconds, and answers it or leaves
+    /// its client in the table.
+    fn take_request(&mut self, stream: TcpStream, ask: Ask, now: u64) -> Option<Turn>
+        ensures { TakesRequest N.takes self.old.seated.station.now.roster
+            self.old.seated.station.now.id self.old.seated.node self.new.seated.node result }
+    {
+        let seated = &mut self.seated;
+        let station = seated.station;
+        let since = station.next();
+        let taken = take_read(
+            station.alloc,
+            &station.roster,
+            station.id,
+            &mut seated.node,
+            ask,
+            now,
+        );
+        self.answer(stream, taken, since)
+    }
+
+    /// Does the job of a connection whose request was read.
+    pub(crate) fn do_request(&mut self, stream: TcpStream, ask: Ask, now: u64)
+        ensures { DoesRequest N.takes self.old.seated.station.now.roster
+            self.old.seated.station.now.id self.old.seated.node self.new.seated.node }
+    {
+        let turn = self.take_request(stream, ask, now);
+        self.go_on(turn);
+    }
+
+    /// Answers a request, or leaves its client in the table. `since` is the number of the next
+    /// response as its step began.
+    fn answer(
+        &mut self,
+        stream: TcpStream,
+        taken: Result<Taken, ServeFault>,
+        since: u64,
+    ) -> Option<Turn>
+        ensures node { self.new.seated.node ≡ self.old.seated.node }
+        ensures turn { result ≡ turn_after taken }
+    {
+        match taken {
             Ok(Taken::Serves(serve)) => {
                 self.seated.tell(stream, serve, false);
                 None

@@ -1,11 +1,13 @@
 //! What the event loop asks of the layer above it.
-use cluster_jobs::Sender;
+ghost use Rattle.std.specs.Prelude.{◌≡◌, IfSome};
+
+use cluster_jobs::{Job, Sender};
 use std::sync::Wait;
 use std::time::Clock;
 use values_plain::{Address, Udp};
 
-/// Answers datagrams on the thread of the event loop, without queueing a job and without waking a
-/// worker. It must not wait for a socket or a client. It may wait for a lock that others hold for
+/// Answers datagrams and requests on the thread of the event loop, without queueing a job and
+/// without waking a worker. It must not wait for a socket or a client. It may wait for a lock that others hold for
 /// one step, such as the node's, also while what the step changed is written to a file. Meanwhile
 /// the loop reads nothing, and datagrams wait in the sockets' buffers.
 pub trait AtOnce {
@@ -19,6 +21,11 @@ pub trait AtOnce {
         octets: &[u8],
     ) -> bool;
 
+    /// Answers the request of a connection whose head has come, and returns none; or returns its
+    /// job, and the loop queues it.
+    fn answers<R: Wait + Clock>(&mut self, rt: &R, job: Job) -> Option<Job>
+        ensures { IfSome result (λ back. back ≡ job) };
+
     /// Whose a datagram is that came by this protocol from this address.
     fn sender_of(&self, udp: Udp, from: Address) -> Sender;
 
@@ -30,12 +37,13 @@ pub trait AtOnce {
     fn is_there<R: Wait>(&self, rt: &R, serial: u32) -> bool;
 
     /// Sends what was held back since the last call, such as answers that are sent together. The
-    /// loop calls it once in each poll, after it has read the datagrams that were ready. It waits
-    /// for no more than `deals_with` does.
+    /// loop calls it once in each poll, after it has read the datagrams that were ready and before
+    /// it reads connections. It waits for no more than `deals_with` does.
     fn finish(&mut self);
 }
 
-/// Answers no datagram: each is queued, as a stranger's. All fetches are wanted.
+/// Answers no datagram and no request: each is queued, a datagram as a stranger's. All fetches are
+/// wanted.
 #[derive(Clone, Copy, Debug, PartialEq, Eq)]
 pub struct Never;
 
@@ -48,6 +56,10 @@ impl AtOnce for Never {
         _octets: &[u8],
     ) -> bool {
         false
+    }
+
+    fn answers<R: Wait + Clock>(&mut self, _rt: &R, job: Job) -> Option<Job> {
+        Some(job)
     }
 
     fn sender_of(&self, _udp: Udp, _from: Address) -> Sender {

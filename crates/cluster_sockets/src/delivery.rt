@@ -68,11 +68,6 @@ impl Delivery {
         patience: Duration,
         now: Instant,
     ) -> Delivery {
-        // (where the system refuses this, a short piece may wait until the one before it is
-        // acknowledged)
-        match stream.set_nodelay(true) {
-            Ok(()) | Err(_) => {}
-        }
         Delivery {
             stream,
             serve,
@@ -150,6 +145,11 @@ impl Delivery {
 
     /// Has a poll tell, under this token, when it may go on.
     pub(crate) fn register(&mut self, registry: &Registry, token: Token) -> io::Result<()> {
+        // (where the system refuses this, a short piece may wait until the one before it is
+        // acknowledged; a response that is taken whole at once needs it not, since its end follows)
+        match self.stream.set_nodelay(true) {
+            Ok(()) | Err(_) => {}
+        }
         let interest = Interest::READABLE | Interest::WRITABLE;
         registry.register(&mut self.stream, token, interest)
     }

@@ -8,8 +8,9 @@
 //!
 //! - It reads the datagrams that are ready, 256 of each protocol, and puts a job for each. One that
 //!   an [`AtOnce`] answers on this thread needs no job.
-//! - It accepts 256 connections, and puts a job for each whose request a worker can read without
-//!   waiting for its client: once its head has come whole, is as long as a head may be (16,384
+//! - It accepts 256 connections. An [`AtOnce`] may answer the request of one whose head has come.
+//!   The loop puts a job for each other one whose request a worker can read without waiting for its
+//!   client: once its head has come whole, is as long as a head may be (16,384
 //!   octets), or its client sends no more, or once five seconds have passed since it was accepted
 //!   (RFC 9112, section 9.5). Until then the connection waits in the loop, so slow and silent
 //!   clients occupy no worker. A connection of which nothing has come by then is closed.

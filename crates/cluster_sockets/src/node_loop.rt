@@ -178,8 +178,8 @@ impl NodeLoop {
     }
 
     /// Polls until something is ready, for the time of a poll at most. Then puts a job for each
-    /// datagram that is not answered at once, for each connection whose request has come, and for
-    /// each fetch that has ended; begins the fetches that were left in the inbox; and writes
+    /// datagram and each request that has come and is not answered at once, and for each fetch that
+    /// has ended; begins the fetches that were left in the inbox; and writes
     /// responses on as their clients take them. It takes a limited share of each source, and leaves
     /// the rest to the next poll.
     ///
@@ -220,13 +220,13 @@ impl NodeLoop {
         rt: &R,
         jobs: &Jobs<Q>,
         pass: Pass<Q>,
-        at_once: &A,
+        at_once: &mut A,
     ) -> (Pass<Q>, Result<bool, LoopFault>)
         ensures { HasPut pass result.0 }
     {
         match Instant::now(rt) {
             Ok(now) => {
-                let (pass, streams) = self.put_streams(rt, jobs, pass, now);
+                let (pass, streams) = self.put_streams(rt, jobs, pass, at_once, now);
                 self.go_on(now);
                 let pass = self.put_fetches(rt, jobs, pass, at_once, now);
                 (pass, streams)
@@ -244,20 +244,23 @@ impl NodeLoop {
             || (self.owed.is_none() && has_fetches)
     }
 
-    /// Puts the connections whose requests have come. Returns whether there may be more to accept.
-    fn put_streams<Q: Run, R: Wait>(
+    /// Puts the connections whose requests have come, but those that are answered at once. Returns
+    /// whether there may be more to accept.
+    fn put_streams<Q: Run, A: AtOnce, R: Wait + Clock>(
         &mut self,
         rt: &R,
         jobs: &Jobs<Q>,
         pass: Pass<Q>,
+        at_once: &mut A,
         now: Instant,
     ) -> (Pass<Q>, Result<bool, LoopFault>)
         ensures { HasPut pass result.0 }
     {
         let registry = self.poll.registry();
-        let pass = self.streams.put_noted(rt, registry, jobs, pass);
+        let pass = self.streams.put_noted(rt, registry, jobs, pass, at_once);
         let pass = self.streams.put_late(rt, registry, jobs, pass, now);
-        self.streams.put_accepted(rt, registry, jobs, pass, now)
+        self.streams
+            .put_accepted(rt, registry, jobs, pass, at_once, now)
     }
 
     /// Tells those whose connections are refused, writes responses on, and ends those that are

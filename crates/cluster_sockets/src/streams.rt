@@ -3,6 +3,7 @@ ghost use Rattle.std.specs.Prelude.{IfOk, IfSome};
 ghost use Rattle.cluster_jobs.specs.Order.{sight_of};
 ghost use Rattle.cluster_sockets.specs.Polls.{HasCome, HasPut, IsSound};
 
+use crate::at_once::AtOnce;
 use crate::fault::LoopFault;
 use crate::heads::{Head, Reading};
 use crate::per_address::PerAddress;
@@ -16,7 +17,7 @@ use std::collections::VecDeque;
 use std::io::{self, ErrorKind};
 use std::mem::replace;
 use std::sync::Wait;
-use std::time::Instant;
+use std::time::{Clock, Instant};
 use values_plain::Address;
 
 /// How many connections wait in the loop at most.
@@ -113,6 +114,25 @@ impl Streams {
         pass
     }
 
+    /// Has the request of a connection answered at once, or puts its job, if there is one.
+    fn answer_or_put<Q: Run, A: AtOnce, R: Wait + Clock>(
+        &mut self,
+        rt: &R,
+        jobs: &Jobs<Q>,
+        pass: Pass<Q>,
+        at_once: &mut A,
+        job: Option<Job>,
+    ) -> Pass<Q>
+        requires { IfSome job (λ job. HasCome (sight_of job)) }
+        ensures { HasPut pass result }
+    {
+        let left = match job {
+            Some(job) => at_once.answers(rt, job),
+            None => None,
+        };
+        self.put_job(rt, jobs, pass, left)
+    }
+
     /// Keeps the connection of a job that is refused until it is told so.
     fn refuse_job(&mut self, job: Job) {
         match job {
@@ -201,13 +221,15 @@ impl Streams {
         }
     }
 
-    /// Puts the connections that were noted and whose requests have come.
-    pub(crate) fn put_noted<Q: Run, R: Wait>(
+    /// Puts the connections that were noted and whose requests have come, but those that are
+    /// answered at once.
+    pub(crate) fn put_noted<Q: Run, A: AtOnce, R: Wait + Clock>(
         &mut self,
         rt: &R,
         registry: &Registry,
         jobs: &Jobs<Q>,
         mut pass: Pass<Q>,
+        at_once: &mut A,
     ) -> Pass<Q>
         ensures { HasPut pass result }
     {
@@ -216,7 +238,7 @@ impl Streams {
                 break;
             };
             let job = self.read_on(registry, key);
-            pass = self.put_job(rt, jobs, pass, job);
+            pass = self.answer_or_put(rt, jobs, pass, at_once, job);
         }
         self.came.clear();
         pass
@@ -368,14 +390,15 @@ impl Streams {
         }
     }
 
-    /// Accepts what is there, 256 connections at most, and puts those whose requests have come.
-    /// Returns whether there may be more.
-    pub(crate) fn put_accepted<Q: Run, R: Wait>(
+    /// Accepts what is there, 256 connections at most, and puts those whose requests have come, but
+    /// those that are answered at once. Returns whether there may be more.
+    pub(crate) fn put_accepted<Q: Run, A: AtOnce, R: Wait + Clock>(
         &mut self,
         rt: &R,
         registry: &Registry,
         jobs: &Jobs<Q>,
         mut pass: Pass<Q>,
+        at_once: &mut A,
         now: Instant,
     ) -> (Pass<Q>, Result<bool, LoopFault>)
         ensures { HasPut pass result.0 }
@@ -385,7 +408,7 @@ impl Streams {
         }
         for _ in 0..MOST_ACCEPTED {
             match self.accept(registry, now) {
-                Ok(Come::Taken(job)) => pass = self.put_job(rt, jobs, pass, job),
+                Ok(Come::Taken(job)) => pass = self.answer_or_put(rt, jobs, pass, at_once, job),
                 Ok(Come::Nothing) => {
                     self.is_ready = false;
                     return (pass, Ok(false));

@@ -195,7 +195,8 @@ fn refuse_rest<Q: Run, G: Gate + Drop, R: Wait + Clock>(
 }
 
 /// Polls the event loop until the node is to stop, and holds the node whenever that is wanted. Then
-/// answers 503 to the clients whose requests wait for a worker.
+/// answers 503 to the clients whose requests wait for a worker. `own` is where pieces of what is
+/// answered at once are kept, and `kept` those of other responses.
 fn poll_until_stopped<
     Q: Run,
     S: FloorStore + Drop,
@@ -205,14 +206,14 @@ fn poll_until_stopped<
 >(
     shared: &Shared<'_, Q, S, J, G, R>,
     seat: Seat<J>,
+    own: Vec<u8>,
     poller: &mut NodeLoop,
     kept: &mut Vec<u8>,
     mut pass: Pass<Q>,
 ) {
     let (rt, station, jobs) = (shared.rt, shared.station, shared.jobs);
     let halt = &shared.signals.halt;
-    let node = shared.node;
-    let mut questions = Questions::new(station, AtSeat { rt, node, seat });
+    let mut questions = Questions::new(seated(shared, seat, own));
     let mut owed = None;
     for _ in rt.forever() {
         if station.is_stopped() {
@@ -260,13 +261,14 @@ pub(crate) fn run_threads<
             requires { IsSend Q.row × IsSend S.row × IsSend J.row × IsSend G.row }
         {
             let (pass, started) = start_workers(scope, shared, count, &mut seats, pass);
-            match (started, seats.next()) {
-                (Ok(()), Some(seat)) => {
+            match (started, seats.next(), Delivery::buffer(shared.alloc)) {
+                (Ok(()), Some(seat), Ok(own)) => {
                     report.tell(rt, Ok(()));
-                    poll_until_stopped(shared, seat, poller, kept, pass);
+                    poll_until_stopped(shared, seat, own, poller, kept, pass);
                 }
-                (Ok(()), None) => report.tell(rt, Err(Unready::NoThread)),
-                (Err(fault), _) => report.tell(rt, Err(fault)),
+                (Ok(()), Some(_), Err(_)) => report.tell(rt, Err(Unready::NoMemory)),
+                (Ok(()), None, _) => report.tell(rt, Err(Unready::NoThread)),
+                (Err(fault), _, _) => report.tell(rt, Err(fault)),
             }
             jobs.end(rt);
         },
