@@ -579,11 +579,13 @@ fn addresses_are_told_apart(rt: HostRuntime) -> Result<(), Fail> {
     Ok(())
 }
 
-/// Deals with each datagram, and counts.
+/// Deals with each datagram and answers each request, and counts.
 #[derive(Clone, Copy, PartialEq, Eq)]
 struct Counting {
     /// How many datagrams it has dealt with.
     dealt: u32,
+    /// How many requests it has answered.
+    answered: u32,
     /// How often it was told that a poll has read them.
     finished: u32,
     /// How many it had dealt with when it was told the last time.
@@ -600,6 +602,11 @@ impl AtOnce for Counting {
     ) -> bool {
         self.dealt = self.dealt.saturating_add(1);
         true
+    }
+
+    fn answers<R: Wait + Clock>(&mut self, _rt: &R, _job: Job) -> Option<Job> {
+        self.answered = self.answered.saturating_add(1);
+        None
     }
 
     fn sender_of(&self, _udp: Udp, _from: Address) -> Sender {
@@ -620,8 +627,10 @@ impl AtOnce for Counting {
     }
 }
 
-/// Datagrams of both protocols.
-const MIXED: [Act; 5] = [
+/// Datagrams of both protocols, and a request.
+const MIXED: [Act; 7] = [
+    Act::Connect(1),
+    Act::Send(0, WHOLE),
     Act::Datagram(Udp::Icp, b"a"),
     Act::Datagram(Udp::Icp, b"b"),
     Act::Datagram(Udp::Htcp, b"c"),
@@ -629,57 +638,64 @@ const MIXED: [Act; 5] = [
     Act::Datagram(Udp::Htcp, b"e"),
 ];
 
-/// What was counted after a poll that datagrams are ready for, and after one more.
+/// What was counted after a poll that datagrams and a request are ready for, and after one more; and
+/// whether the queue is empty then.
 fn counted<Q: Run, R: Net + Wait + Clock>(
     rt: &R,
     alloc: Global,
     new: NewHistory<Step>,
     poller: &mut NodeLoop,
-) -> Result<([Counting; 2], Result<(), LoopFault>), AllocError>
+) -> Result<([Counting; 2], bool, Result<(), LoopFault>), AllocError>
     requires { new.seen.book ≡ Q.book }
 {
     let (jobs, pass) = Jobs::<Q>::new(alloc, new)?;
     let mut counting = Counting {
         dealt: 0,
+        answered: 0,
         finished: 0,
         before: 0,
     };
     let (pass, polled) = poller.poll_once(rt, &jobs, pass, &mut counting);
     let first = counting;
-    let (_pass, again) = poller.poll_once(rt, &jobs, pass, &mut counting);
-    Ok(([first, counting], polled.and(again)))
+    let (pass, again) = poller.poll_once(rt, &jobs, pass, &mut counting);
+    let (_pass, job) = jobs.take(rt, pass);
+    Ok(([first, counting], job.is_none(), polled.and(again)))
 }
 
-/// What was counted, with a queue of its own, where these datagrams are ready.
+/// What was counted, with a queue of its own, where these datagrams and a request are ready; and
+/// whether the queue is empty then.
 fn counted_at<R: Net + Wait + Clock>(
     rt: &HostRuntime,
     wait: &R,
     held: &mut Held,
-) -> Result<[Counting; 2], Fail> {
+) -> Result<([Counting; 2], bool), Fail> {
     for act in &MIXED {
         held.clients.act(rt, *act)?;
     }
     let new = NewHistory::new();
-    let (counted, polled) = counted::<Brand, R>(wait, rt.alloc(), new, &mut held.poller)?;
+    let (counted, is_empty, polled) = counted::<Brand, R>(wait, rt.alloc(), new, &mut held.poller)?;
     polled?;
-    Ok(counted)
+    Ok((counted, is_empty))
 }
 
-/// What is counted where five datagrams were dealt with before each poll was finished.
+/// What is counted where five datagrams were dealt with before each poll was finished, and one
+/// request was answered.
 const fn after(finished: u32) -> Counting {
     Counting {
         dealt: 5,
+        answered: 1,
         finished,
         before: 5,
     }
 }
 
 /// A poll deals with all that is ready of both protocols before it says so, and says so once, also
-/// where nothing was ready.
+/// where nothing was ready. What is answered at once has no job.
 #[test]
 fn a_poll_is_finished_once(rt: HostRuntime) -> Result<(), Fail> {
     let mut held = held_at(&rt, FIRST, 21240)?;
-    let counted = counted_at(&rt, &rt, &mut held)?;
-    assert!(rt; counted == [after(1), after(2)]);
+    let (counted, is_empty) = counted_at(&rt, &rt, &mut held)?;
+    assert!(rt; counted == [after(1), after(2)], "the counts");
+    assert!(rt; is_empty, "no job");
     Ok(())
 }
