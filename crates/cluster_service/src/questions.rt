@@ -123,9 +123,11 @@ impl<N: Stepper + Drop, G: Gate + Drop, R: Wait + Clock> Questions<'_, N, G, R> 
     fn request_held(&self, octets: &[u8], now: u64) -> Option<Ask> {
         let seated = &self.worker.seated;
         let mut reader = octets;
-        match read_ask(seated.station.alloc, &mut reader) {
-            Ok(ask) if seated.node.has_copy_for(&ask, now) => Some(ask),
-            Ok(_) | Err(_) => None,
+        let ask = read_ask(seated.station.alloc, &mut reader).ok()?;
+        if seated.node.has_copy_for(&ask, now) {
+            Some(ask)
+        } else {
+            None
         }
     }
 
@@ -138,13 +140,16 @@ impl<N: Stepper + Drop, G: Gate + Drop, R: Wait + Clock> Questions<'_, N, G, R> 
             Job::Stream { octets, .. } => self.request_held(octets.as_slice(), now),
             Job::Datagram { .. } | Job::Timer { .. } | Job::Fetched(_) => None,
         };
-        match (asked, job) {
-            (Some(ask), Job::Stream { stream, .. }) => {
+        let Some(ask) = asked else {
+            return Some(job);
+        };
+        match job {
+            Job::Stream { stream, .. } => {
                 self.answered = self.answered.saturating_add(1);
                 self.worker.do_request(stream, ask, now);
                 None
             }
-            (_, job) => Some(job),
+            other => Some(other),
         }
     }
 }

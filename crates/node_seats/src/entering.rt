@@ -71,6 +71,7 @@ pub(crate) fn enter_recorded<S: FloorStore, J: Origin>(
 }
 
 /// A step that was taken, of which no entry is kept. Its event was moved on: only proofs have it.
+#[derive(Drop)]
 struct Taken {
     seat: u8,
     place: u64,
