@@ -7,9 +7,9 @@ use std::time::Clock;
 use values_plain::{Address, Udp};
 
 /// Answers datagrams and requests on the thread of the event loop, without queueing a job and
-/// without waking a worker. It must not wait for a socket or a client. It may wait for a lock that others hold for
-/// one step, such as the node's, also while what the step changed is written to a file. Meanwhile
-/// the loop reads nothing, and datagrams wait in the sockets' buffers.
+/// without waking a worker. It must not wait for a socket or a client. It may wait for a lock that
+/// others hold for one step, such as the node's, also while what the step changed is written to a
+/// file. Meanwhile the loop reads nothing, and datagrams wait in the sockets' buffers.
 pub trait AtOnce {
     /// Answers this datagram, which came by this protocol from this address, and returns true; or
     /// returns false, and the loop queues a job for it.
