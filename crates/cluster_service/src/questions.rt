@@ -133,6 +133,7 @@ impl<N: Stepper + Drop, G: Gate + Drop, R: Wait + Clock> Questions<'_, N, G, R> 
 
     /// Answers the request of a connection whose job this is, if a held copy would serve it at this
     /// time; or gives the job back.
+    #[tactic(auto, using(crate::proofs::Steps::request_does))]
     fn answer_held(&mut self, job: Job, now: u64) -> Option<Job>
         ensures { Answers N.takes job self.old result self.new }
     {
