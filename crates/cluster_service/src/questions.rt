@@ -5,7 +5,7 @@ ghost use Rattle.node_rules.specs.declared.message.Message.{Message};
 ghost use Rattle.node_rules.specs.Questions.{is_question as asks};
 ghost use Rattle.node_bytes.specs.Bytes.{SpellsBy};
 ghost use Rattle.cluster_service.specs.Questions.{begins_question};
-ghost use Rattle.cluster_service.specs.Steps.{Answers, CarriesOut, DealsWith, Holds, QuestionsView};
+ghost use Rattle.cluster_service.specs.Steps.{Answers, CarriesOut, DealsWith, Holds};
 
 use crate::gate::Gate;
 use crate::seated::Seated;
