@@ -2,10 +2,9 @@
 ghost use Rattle.std.specs.Prelude.{◌≡◌, IfOk, map};
 ghost use Rattle.node_bytes.specs.Turns.{packet_of, turn_of, idle, MeetsOctets};
 
-use crate::packets::Packets;
 use crate::{Stepper, event_of, octets_of};
 use node_rules::{Begin, Outgoing, Reply, Serve, StepFault};
-use roster::{Address, Udp};
+use roster::{Address, Listed, Udp};
 use std::alloc::{AllocError, Global};
 use values_plain::Octets;
 
@@ -26,7 +25,7 @@ pub struct Turn {
     /// What to serve, if anything.
     pub serve: Option<Serve<()>>,
     /// The datagrams to send, in order.
-    pub send: Packets,
+    pub send: Listed<Packet>,
     /// What to begin, if anything.
     pub begin: Option<Begin>,
 }
@@ -38,7 +37,7 @@ impl Turn {
     {
         Turn {
             serve: None,
-            send: Packets::new(Vec::new(alloc)),
+            send: Listed::new(Vec::new(alloc)),
             begin: None,
         }
     }
@@ -69,12 +68,12 @@ fn packet_of(alloc: Global, sent: &Outgoing) -> Result<Packet, AllocError>
 }
 
 /// Encodes messages, in order. One alone takes no memory beside its octets.
-fn packets_of(alloc: Global, messages: &[Outgoing]) -> Result<Packets, AllocError>
+fn packets_of(alloc: Global, messages: &[Outgoing]) -> Result<Listed<Packet>, AllocError>
     ensures { IfOk result (λ packets. packets ≡ map packet_of messages.now) }
 {
     match messages {
-        [sent] => Ok(Packets::one(packet_of(alloc, sent)?)),
-        _ => Ok(Packets::new(any_packets_of(alloc, messages)?)),
+        [sent] => Ok(Listed::one(packet_of(alloc, sent)?)),
+        _ => Ok(Listed::new(any_packets_of(alloc, messages)?)),
     }
 }
 

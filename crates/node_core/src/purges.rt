@@ -29,14 +29,9 @@ use std::alloc::{AllocError, Global};
 use url_key::Key;
 
 /// The response to a CLR that is not allowed.
-fn refused<T: Drop>(
-    alloc: Global,
-    from: Address,
-    trans: u32,
-    desired: bool,
-) -> Result<Reply<T>, AllocError>
-    ensures { IfOk result (λ reply. (s : NodeState T) →
-        datagrams.clr_refused s from trans desired ≡ state.replies s reply) }
+fn refused<T: Drop>(alloc: Global, from: Address, trans: u32, desired: bool) -> Reply<T>
+    ensures { (s : NodeState T) →
+        datagrams.clr_refused s from trans desired ≡ state.replies s result }
 {
     sends_if(
         alloc,
@@ -124,13 +119,13 @@ impl<T: Copy + Drop, S: FloorStore> Node<T, S> {
             self.old.state result self.new.state }
     {
         if !is_known(&self.roster, self.id, Udp::Htcp, from) && !self.roster.is_master(from) {
-            return Ok(refused(self.alloc, from, trans, desired)?);
+            return Ok(refused(self.alloc, from, trans, desired));
         }
         let held = match key {
             Some(key) => self.copies.peek(key).is_some(),
             None => false,
         };
-        let reply = sends_if(self.alloc, desired, clr_answer(from, trans, held))?;
+        let reply = sends_if(self.alloc, desired, clr_answer(from, trans, held));
         if let Some(key) = key {
             self.copies.remove(key);
         }
@@ -202,7 +197,7 @@ impl<T: Copy + Drop, S: FloorStore> Node<T, S> {
             self.old.state (Some (key.now, number)) result self.new.state }
     {
         let dropped = self.holds_below(key, number.max(self.floors.new_base(key, number)));
-        let reply = sends_if(self.alloc, desired, clr_answer(from, trans, dropped))?;
+        let reply = sends_if(self.alloc, desired, clr_answer(from, trans, dropped));
         raise_in_memory(self.alloc, &mut self.floors, &mut self.copies, key, number)?;
         match self.store.raise(self.alloc, key, number) {
             Ok(()) => {

@@ -26,6 +26,7 @@ use peer_chooser::{Round, Said};
 use roster::{Address, Peer, Udp, is_foreign};
 use std::alloc::{AllocError, Global};
 use url_key::{Key, KeyFault};
+use values_plain::Octets;
 
 /// What an answer to a round says. It may differ by who sent it.
 #[derive(Clone, Copy)]
@@ -133,6 +134,33 @@ impl<T: Copy + Drop, S: FloorStore> Node<T, S> {
         }
     }
 
+    /// The opcode that answers a QUERY for a URL, and the URL. One that is its own key is not
+    /// copied.
+    fn told_of(
+        &self,
+        from: Address,
+        url: Octets,
+        now: u64,
+    ) -> Result<(IcpOp, Octets), AllocError>
+        ensures url { IfOk result (λ told. told.1 ≡ url) }
+        ensures op { IfOk result (λ told. (read : Option (List ℕ)) × HasKeyOf url read
+            × (told.0 ≡ datagrams.icp_answer (is_known_at self.now.roster self.now.id udp.Icp from)
+            self.now.state now read)) }
+    {
+        match Key::from_plain(url.into_vec()) {
+            Ok(key) => {
+                let op = self.query_answer(from, Some(&key), now);
+                Ok((op, Octets::from_vec(key.into_text())))
+            }
+            Err(text) => {
+                let url = Octets::from_vec(text);
+                let key = key_of_text(self.alloc, url.as_slice())?;
+                let op = self.query_answer(from, key.as_ref(), now);
+                Ok((op, url))
+            }
+        }
+    }
+
     /// A QUERY arrives. The response repeats number and URL, and the store keeps its order.
     pub(crate) fn icp_query(
         &self,
@@ -145,10 +173,9 @@ impl<T: Copy + Drop, S: FloorStore> Node<T, S> {
             Leads (datagrams.icp_query (setting_of self.now key_of) self.now.state from message now)
             self.now.state result self.now.state }
     {
-        let key = key_of_text(self.alloc, message.url.as_slice())?;
-        let op = self.query_answer(from, key.as_ref(), now);
-        let answer = icp_answer(self.alloc, from, op, message.number, message.url);
-        Ok(sends(self.alloc, answer)?)
+        let (op, url) = self.told_of(from, message.url, now)?;
+        let answer = icp_answer(self.alloc, from, op, message.number, url);
+        Ok(sends(answer))
     }
 
     /// The stamp of the copy that a SPECIFIER means, if the copy may be served. Only GET means one.
@@ -188,10 +215,10 @@ impl<T: Copy + Drop, S: FloorStore> Node<T, S> {
             return Ok(quiet(self.alloc));
         }
         if !is_known(&self.roster, self.id, Udp::Htcp, from) {
-            return Ok(sends(self.alloc, overall_answer(from, trans, TST, NOT_ALLOWED))?);
+            return Ok(sends(overall_answer(from, trans, TST, NOT_ALLOWED)));
         }
         let stamp = self.stamp_meant(spec, now)?;
-        Ok(sends(self.alloc, tst_answer(self.alloc, from, trans, stamp)?)?)
+        Ok(sends(tst_answer(self.alloc, from, trans, stamp)?))
     }
 
     /// An ICP message other than QUERY arrives. It counts for the round of its request number, if

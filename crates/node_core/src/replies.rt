@@ -50,31 +50,25 @@ pub(crate) fn serves<T>(
     }
 }
 
-/// A reply that only sends one message.
-pub(crate) fn sends<T: Drop>(alloc: Global, message: Outgoing) -> Result<Reply<T>, AllocError>
-    ensures { IfOk result (λ reply. reply ≡ state.sending (message ∷ [])) }
+/// A reply that only sends one message. Allocates nothing.
+pub(crate) fn sends<T>(message: Outgoing) -> Reply<T>
+    ensures { result ≡ state.sending (message ∷ []) }
 {
-    let mut messages = Vec::with_capacity(alloc, 1)?;
-    messages.push(message)?;
-    Ok(Reply {
+    Reply {
         serve: None,
-        send: Listed::new(messages),
+        send: Listed::one(message),
         begin: None,
-    })
+    }
 }
 
 /// The same, only if a response is desired (RFC 2756, "RD"); else a reply that does nothing.
-pub(crate) fn sends_if<T: Drop>(
-    alloc: Global,
-    desired: bool,
-    message: Outgoing,
-) -> Result<Reply<T>, AllocError>
-    ensures { IfOk result (λ reply. (s : NodeState T) →
-        datagrams.if_desired s desired message.to message.message ≡ state.replies s reply) }
+pub(crate) fn sends_if<T: Drop>(alloc: Global, desired: bool, message: Outgoing) -> Reply<T>
+    ensures { (s : NodeState T) →
+        datagrams.if_desired s desired message.to message.message ≡ state.replies s result }
 {
     if desired {
-        sends(alloc, message)
+        sends(message)
     } else {
-        Ok(quiet(alloc))
+        quiet(alloc)
     }
 }
