@@ -1,7 +1,6 @@
 ghost use Rattle.std.specs.Prelude.{◌≡◌, ◌∷◌, []};
 
 use std::marker::Model;
-use std::slice;
 
 /// Items in order. They do not change. One alone takes no memory beside its own.
 ///
@@ -15,7 +14,7 @@ pub struct Listed<T> {
 #[derive(Debug, Drop)]
 pub(crate) enum Items<T> {
     /// One alone.
-    One(T),
+    One([T; 1]),
     /// Any number.
     Any(Vec<T>),
 }
@@ -44,7 +43,7 @@ impl<T> Listed<T> {
         ensures { result ≡ item ∷ [] }
     {
         Listed {
-            items: Items::One(item),
+            items: Items::One([item]),
         }
     }
 
@@ -53,7 +52,7 @@ impl<T> Listed<T> {
         ensures { result.now ≡ self.now }
     {
         match &self.items {
-            Items::One(item) => slice::from_ref(item),
+            Items::One(item) => item.as_slice(),
             Items::Any(items) => items.as_slice(),
         }
     }
