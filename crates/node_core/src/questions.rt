@@ -136,12 +136,7 @@ impl<T: Copy + Drop, S: FloorStore> Node<T, S> {
 
     /// The opcode that answers a QUERY for a URL, and the URL. One that is its own key is not
     /// copied.
-    fn told_of(
-        &self,
-        from: Address,
-        url: Octets,
-        now: u64,
-    ) -> Result<(IcpOp, Octets), AllocError>
+    fn told_of(&self, from: Address, url: Octets, now: u64) -> Result<(IcpOp, Octets), AllocError>
         ensures url { IfOk result (λ told. told.1 ≡ url) }
         ensures op { IfOk result (λ told. (read : Option (List ℕ)) × HasKeyOf url read
             × (told.0 ≡ datagrams.icp_answer (is_known_at self.now.roster self.now.id udp.Icp from)
