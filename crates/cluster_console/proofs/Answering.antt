@@ -133,8 +133,15 @@ module _ (roster : Tables) where
   -- what is said of it
   says_long : (now : Option Gathered) (line : List ℕ) (middle new : Option (List ℕ)) (c : Bool) → is_long line ≡ true →
       AppendsText middle new c (codes "LineTooLong" ++ newline ∷ []) → AnswersLine roster now line middle new c now
-  says_long now line middle new c long wrote =
-      (codes "LineTooLong", (subst (λ b. MatchBool b (codes "LineTooLong" ≡ codes "LineTooLong") ((codes "LineTooLong" ≡ codes "NoMemory") ⊎ LineTells roster now line (codes "LineTooLong"))) (sym long) refl, goes_on now now refl), wrote)
+  says_long now line middle new c long wrote = (
+    codes "LineTooLong",
+    (
+      subst (λ b. MatchBool b (codes "LineTooLong" ≡ codes "LineTooLong")
+          ((codes "LineTooLong" ≡ codes "NoMemory") ⊎ LineTells roster now line (codes "LineTooLong"))) (sym long) refl,
+      goes_on now now refl,
+    ),
+    wrote,
+  )
 
   answered_long : (b c f : Bool) (before now : Option Gathered) (input rest after : Option (List ℕ)) (line : List ℕ)
       (old middle new : Option (List ℕ)) → Answering roster b f before now input rest old middle → TakesLine rest after taken.TooLong line →

@@ -1,4 +1,4 @@
-//! When the CLRs of pending purges are sent again.
+//! When the CLRs of pending purges are sent again. That of an admission is sent as a purge's is.
 ghost use Rattle.std.specs.Prelude.{◌≡◌, ◌≤◌, ◌*◌, length, min, IfErr};
 
 use std::alloc::Global;

@@ -17,7 +17,7 @@ use Rattle.node_rules.specs.declared.reply.StepFault.{StepFault}
 use Rattle.node_rules.specs.declared.reply.StepFault.TheVariants.{Busy}
 use Rattle.node_rules.specs.State.{Setting, Stepped, replies, refuses, serving}
 use Rattle.node_rules.specs.Known.{has_origin}
-use Rattle.node_rules.specs.Asks.{is_cached_only, begin_round, begin_with_read, ask_around, begin_ask, begin_if_free, not_held, by_copy, ask_comes}
+use Rattle.node_rules.specs.Asks.{is_cached_only, begin_round, begin_with_read, ask_around, begin_ask, begin_if_free, not_held, by_copy, ask_comes, ask_comes_to}
 use Rattle.node_rules.specs.Step.{open_step, step_if, step}
 use Rattle.node_rules.specs.Relation.{Steps}
 use Rattle.node_bytes.specs.Stepping.{AnswersAsker, AnswersAsk}
@@ -69,9 +69,15 @@ module _ {X : Type 0} (g : Setting) where
   by_copy_fits s asker ask now mark None = not_held_fits s asker ask now mark
   by_copy_fits s asker ask now mark (Some c) = serves asker _
 
+  ask_comes_to_fits : (s : NodeState X) (asker : Option ℕ) (ask : Ask) (now : ℕ) (mark : X) (outside : Bool) →
+      Answers asker (ask_comes_to g s asker ask now mark outside).outcome
+  unfolding ask_comes_to
+  ask_comes_to_fits s asker ask now mark true = serves asker (Status 503)
+  ask_comes_to_fits s asker ask now mark false = by_copy_fits s asker ask now mark _
+
   ask_comes_fits : (s : NodeState X) (asker : Option ℕ) (ask : Ask) (now : ℕ) (mark : X) → Answers asker (ask_comes g s asker ask now mark).outcome
   unfolding ask_comes
-  ask_comes_fits s asker ask now mark = by_copy_fits s asker ask now mark _
+  ask_comes_fits s asker ask now mark = ask_comes_to_fits s asker ask now mark _
 
   client_step : (s : NodeState X) (ask : Ask) (now : ℕ) (mark : X) (closed : Bool) → Answers None (step_if g s (event.Client ask now) mark closed).outcome
   unfolding step_if open_step

@@ -49,7 +49,8 @@ use Rattle.sqlite_catalog.proofs.LayoutLemmas.{ascending_filter}
 use Rattle.sqlite_rules.specs.Calls.{ids_of}
 use Rattle.purge_tables.proofs.StatementLemmas.{went, same_value, cast_null, cast_int}
 use Rattle.purge_tables.proofs.QueryLemmas.{answered}
-use Rattle.purge_numbers.specs.Tables.{node_schema, floors_table, rows_of, floors_in, version_in, base_in, IsFloorRow, IsFloorTable, url_index}
+use Rattle.purge_tables.specs.Rows.{version_in}
+use Rattle.purge_numbers.specs.Tables.{node_schema, floors_table, rows_of, floors_in, base_in, IsFloorRow, IsFloorTable, url_index}
 use Rattle.floor_rules.specs.Floors.{with_row}
 use Rattle.purge_numbers.proofs.Texts.{put_command, update_query}
 use Rattle.floor_rules.proofs.Urls.{same_url, equal_urls, own_url}

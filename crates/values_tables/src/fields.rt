@@ -1,4 +1,4 @@
-//! Reads one field of a table: a number, a text or an address at a key.
+//! Reads one field of a table: a number, a flag, a text or an address at a key.
 ghost use Rattle.std.specs.Prelude.{◌≡◌, true, false, MatchResult, Some, None, codes, option_map};
 ghost use Rattle.std.specs.Prelude.{option_and_then};
 ghost use Rattle.std.specs.List.{list_all};
@@ -10,7 +10,7 @@ ghost use Rattle.values_tables.specs.Ranges.{is_between, is_port};
 ghost use Rattle.values_tables.specs.Ranges.{is_name_letter as is_letter_of_name};
 ghost use Rattle.values_tables.specs.Ranges.{is_host_letter as is_letter_of_host};
 ghost use Rattle.values_tables.specs.Ranges.{is_name as is_name_text, is_host as is_host_text};
-ghost use Rattle.values_tables.specs.Reading.{natural_in, natural_of, text_in, ip_value};
+ghost use Rattle.values_tables.specs.Reading.{natural_in, natural_of, text_in, flag_in, ip_value};
 ghost use Rattle.values_tables.specs.Reading.{port as port_at, role_of, udp_of};
 ghost use Rattle.values_tables.specs.Reading.{number as number_within};
 ghost use Rattle.values_tables.specs.Reading.{number_or as number_within_or, ip_of as ip_of_text};
@@ -98,6 +98,20 @@ pub(crate) fn number_or(
     match value_at(table, key) {
         None => Ok(usual),
         Some(_) => number(table, key, range.0, range.1, place),
+    }
+}
+
+/// Whether the value at a key is true; `false` where the table has no such key.
+pub(crate) fn flag(table: &Table, key: &'static str, place: TextPlace) -> Result<bool, TablesFault>
+    ensures { MatchResult result
+        (λ b. flag_in (get_member key.now (table_view table.now)) ≡ Some b)
+        (λ fault. IsFieldFault fault (flag_in (get_member key.now (table_view table.now))
+        ≡ None)) }
+{
+    match value_at(table, key) {
+        None => Ok(false),
+        Some(Value::Boolean(is_true)) => Ok(*is_true),
+        Some(_) => Err(place.fault_at(key)),
     }
 }
 

@@ -1,7 +1,8 @@
 use Rattle.std.proofs.Common.{arith}
 use Rattle.sqlite.specs.Held.{state}
 use Rattle.purge_numbers.proofs.Texts.{ask_text}
-use Rattle.purge_numbers.proofs.LoadLemmas.{asks_rows, asks_same, asks_only, base_plain, base_shown}
+use Rattle.purge_tables.proofs.QueryLemmas.{asks_rows, asks_same, asks_only}
+use Rattle.purge_numbers.proofs.LoadLemmas.{base_plain, base_shown}
 use Rattle.purge_numbers.proofs.opening.base_rows.Goals as goal
 
 pub returns-clause-rows : goal.returns-clause-rows

@@ -1,7 +1,8 @@
 use Rattle.std.proofs.Common.{arith}
 use Rattle.sqlite.specs.Held.{state}
 use Rattle.purge_tables.proofs.Texts.{version_text}
-use Rattle.purge_numbers.proofs.LoadLemmas.{asks_rows, asks_same, asks_only, version_plain, versions_shown}
+use Rattle.purge_tables.proofs.QueryLemmas.{asks_rows, asks_same, asks_only}
+use Rattle.purge_numbers.proofs.LoadLemmas.{version_plain, versions_shown}
 use Rattle.purge_numbers.proofs.opening.version_rows.Goals as goal
 
 pub returns-clause-rows : goal.returns-clause-rows

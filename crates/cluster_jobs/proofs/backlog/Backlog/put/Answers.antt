@@ -15,7 +15,8 @@ push_back_reserved-requires g c =
     let at : c.place-place.result ≡ place_of (lane_of s) = c.place-place.ensures ∙ ap place_of c.lane.ensures in
     let here = c.self.invariant.2.each (place_of (lane_of s)) c.index.result.now (below_six s) in
     let value = c.index.ensures ∙ (ap (λ k. slice_index_or counts k c.index.result.now) at ∙ here) in
-    let room = has_room counts (map sight_of jobs.items) (place_of (lane_of s)) c.self.invariant.2 (below_six s) (omega (arith, c.if-index-ge-CAPACITY.false, value)) in
+    let room = has_room counts (map sight_of jobs.items) (place_of (lane_of s)) c.self.invariant.2 (below_six s)
+    (omega (arith, c.if-index-ge-CAPACITY.false, value)) in
     omega (arith, room, length-map jobs.items sight_of, jobs.ok.0, c.self.invariant.3)
 
 pub invariant_of-self : goal.invariant_of-self
