@@ -5,8 +5,8 @@
 //!
 //! - `Floors`: the rows of keys and the base in memory, for look-ups.
 //! - `FloorStore`: the contract of a store whose floors outlive a restart: `load`, `raise`,
-//!   `raise_base`, `failures`. A node knows its store by this contract alone, so no proof of a node reads a
-//!   database.
+//!   `raise_base`, `failures`. A node knows its store by this contract alone, so no proof of a node
+//!   reads a database.
 //! - `MemoryFloors`: a store in memory, for the world and for tests. The store in a file is
 //!   `purge_numbers`.
 //! - `FloorFault`: why a call on a store fails.

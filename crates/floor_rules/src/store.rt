@@ -13,9 +13,9 @@ use url_key::Key;
 ///
 /// What is said of commits and crashes holds if the disk is honest (`is_honest`).
 ///
-/// After `StoreFault` each raise, of a key or of the base, returns `StoreFault` and each load fails,
-/// until the store is opened again. A store in a file does the same after `NoMemory` from a raise;
-/// this contract does not demand it.
+/// After `StoreFault` each raise, of a key or of the base, returns `StoreFault` and each load
+/// fails, until the store is opened again. A store in a file does the same after `NoMemory` from a
+/// raise; this contract does not demand it.
 pub trait FloorStore {
     // The floors that the last commit left.
     ghost content: { Self → FloorTable };

@@ -17,7 +17,8 @@ use Rattle.node_rules.specs.declared.reply.StepFault.{StepFault}
 use Rattle.node_rules.specs.declared.reply.StepFault.TheVariants.{Busy}
 use Rattle.node_rules.specs.State.{Setting, Stepped, replies, refuses, serving}
 use Rattle.node_rules.specs.Known.{has_origin}
-use Rattle.node_rules.specs.Asks.{is_cached_only, begin_round, begin_with_read, ask_around, begin_ask, begin_if_free, not_held, by_copy, ask_comes, ask_comes_to}
+use Rattle.node_rules.specs.Asks.{is_cached_only, begin_round, begin_with_read, ask_around, begin_ask, begin_if_free, not_held, by_copy, ask_comes}
+use Rattle.node_rules.specs.Asks.{ask_comes_to}
 use Rattle.node_rules.specs.Step.{open_step, step_if, step}
 use Rattle.node_rules.specs.Relation.{Steps}
 use Rattle.node_bytes.specs.Stepping.{AnswersAsker, AnswersAsk}

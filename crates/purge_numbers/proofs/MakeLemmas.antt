@@ -54,6 +54,7 @@ version_params version = Int (pos version) ∷ []
 abbrev version_row : ℕ → Row
 version_row version = Int (pos version) ∷ cast Integer Null ∷ []
 
+-- `form` was empty, so the row that is put in is its only one; the other tables stay
 name_step : (version : ℕ) (floors : List Row) (old new : State) (count : ℕ) → HasTables [] floors old.now
     → Executes text.name_text (version_params version) old new (Ok count) → IsVersioned version floors new.now
 name_step version floors old new count from h =
@@ -131,6 +132,7 @@ set_step version versions floors old new count was from h =
 
 -- ---- the base starts
 
+-- `base` was empty, so the row that is put in is its only one; the other tables stay
 start_step : (floors : List Row) (old new : State) (count : ℕ) → IsVersioned 2 floors old.now → Executes start_text [] old new (Ok count) →
     IsBaseless floors new.now
 start_step floors old new count from h =
@@ -177,7 +179,8 @@ makes_name version old new (Ok count) h = λ clean floors on from. let it = insi
 pub makes_set : (version : ℕ) (old new : State) (r : Result ℕ Error) → Ran text.set_text (version_params version) old new r
     → OnOk r (HasCleanDisk new → (versions floors : List Row) → HasVersion 1 versions → Makes (HasTables versions floors) (IsVersioned version floors) old new)
 makes_set version old new (Err e) h = tt
-makes_set version old new (Ok count) h = λ clean versions floors was on from. let it = inside old new text.set_text (version_params version) count (h clean on) in
+makes_set version old new (Ok count) h = λ clean versions floors was on from. let it =
+    inside old new text.set_text (version_params version) count (h clean on) in
     (it.1, set_step version versions floors old new count was from it.0)
 
 pub makes_start : (old new : State) (r : Result ℕ Error) → Ran start_text [] old new r

@@ -285,6 +285,7 @@ module _ (limit : Option ℕ) (keys : Keys) (trees : Trees) (u : List ℕ) (n : 
   clears [] none h = puts none h
   clears (x ∷ more) none h = puts none h
 
+  -- the rowid finds one row alone, that of the url, and the statement puts it back with the new number
   updates : (there : Row) (r : Row) → Has (trees 1) r → same_url (url_of r) u ≡ true → there ≡ rowid r ∷ []
       → Updates (task limit keys u n) (record { lets = []; body = update_query }) (Text u ∷ Int (pos n) ∷ rowid there ∷ Int id ∷ Text u ∷ Int (pos n) ∷ [])
       trees (Ok w) → IsPut trees u n w.trees

@@ -245,7 +245,8 @@ ask_query = record {
   offset = lit (Int (pos 0));
 }
 
-pub ask_is : (command_of (understood node_schema ask_text) ≡ Select (record { lets = []; body = ask_query }) (codes "id" ∷ codes "number" ∷ [])) × (reads_listing node_schema ask_text ≡ false)
+pub ask_is : (command_of (understood node_schema ask_text) ≡ Select (record { lets = []; body = ask_query }) (codes "id" ∷ codes "number" ∷ []))
+    × (reads_listing node_schema ask_text ≡ false)
 unfolding understood everything
 ask_is = (refl, refl)
 

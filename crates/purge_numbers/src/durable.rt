@@ -39,7 +39,12 @@ impl<S: Alter> Model for SqliteFloors<S> {
 
     ghost coded = { durable_code S.code };
 
-    ghost view = { λ it. record { conn = it.conn; floors = it.floors; is_usable = it.is_usable; failures = it.failures } };
+    ghost view = { λ it. record {
+      conn = it.conn;
+      floors = it.floors;
+      is_usable = it.is_usable;
+      failures = it.failures;
+    } };
 
     ghost invariant = { λ it. IsKept S.Store it.conn it.floors it.is_usable };
 }

@@ -65,6 +65,7 @@ none_marked (p ∷ purges) number id none =
     ap (λ q. q ∷ map (mark_of number id) purges) (mark_other number id p (none 0 p (omega arith)))
     ∙ ap (λ qs. p ∷ qs) (none_marked purges number id (λ k d l. none (suc k) d (omega arith)))
 
+-- a mark changes no number, so what is said of the numbers holds as before
 pub numbered_marked : (purges : PurgeList) (number id : ℕ) → AreNumbered purges → AreNumbered (with_mark purges number id)
 numbered_marked purges number id are = record {
   ascend = λ i j d lt l.
@@ -137,6 +138,7 @@ end_number number a = elim (a.number == number) as (λ b. (cond b (ended a) a).n
 pub end_member : (number : ℕ) (a : Admission) → (end_of number a).member ≡ a.member
 end_member number a = elim (a.number == number) as (λ b. (cond b (ended a) a).member ≡ a.member) [ true ↦ refl | false ↦ refl ]
 
+-- an end changes neither the number nor the member of an admission, so what is said of them holds as before
 admitted_ended : (last number : ℕ) (gs : List Admission) → AreAdmissions last gs → AreAdmissions last (ended_at number gs)
 admitted_ended last number gs are = record {
   ascend = λ i j d lt l.

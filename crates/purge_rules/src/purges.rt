@@ -63,9 +63,17 @@ impl Model for Purges {
 
     ghost Value = { PurgeList };
 
-    ghost view = { λ p. record { last = p.last; pending = p.pending.items; admissions = p.admissions.items } };
+    ghost view = { λ p. record {
+      last = p.last;
+      pending = p.pending.items;
+      admissions = p.admissions.items;
+    } };
 
-    ghost invariant = { λ p. AreNumbered record { last = p.last; pending = p.pending.items; admissions = p.admissions.items } };
+    ghost invariant = { λ p. AreNumbered record {
+      last = p.last;
+      pending = p.pending.items;
+      admissions = p.admissions.items;
+    } };
 }
 
 impl Purge {

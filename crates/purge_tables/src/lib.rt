@@ -8,8 +8,8 @@
 //! - [`is_blank`] tests whether a schema is empty, [`is_form`] whether a table is `form`, and
 //!   [`is_version`] whether the rows that were read from it are a version.
 //! - [`is_named`], [`is_column`], [`is_place`], [`is_unique_place`], [`has_rowid`],
-//!   [`has_rowid_key`], [`is_plain_order`], [`has_no_terms`] and [`is_plain`] compare the parts of a
-//!   table.
+//!   [`has_rowid_key`], [`is_plain_order`], [`has_no_terms`] and [`is_plain`] compare the parts of
+//!   a table.
 //! - [`is_equal_at`], [`is_range_at`] and [`is_either_at`] compare a CHECK.
 //!
 //! Each test has two clauses: what holds if it answers yes, and what if it answers no.

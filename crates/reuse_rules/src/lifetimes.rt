@@ -113,7 +113,8 @@ fn forbids_storing(directive: Directive<'_>) -> bool
 /// there, and an `expires` field is.
 fn told_seconds(answer: &Answer, default: u64) -> Option<u64>
     ensures { result ≡ spec.told_seconds (spec.first_seconds (codes "s-maxage") answer.now)
-        (spec.first_seconds (codes "max-age") answer.now) (spec.has_field (codes "expires") answer.now) default }
+        (spec.first_seconds (codes "max-age") answer.now)
+        (spec.has_field (codes "expires") answer.now) default }
 {
     let told = first_seconds(b"s-maxage", answer).or_else(|| first_seconds(b"max-age", answer));
     match told {

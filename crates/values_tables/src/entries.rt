@@ -148,10 +148,12 @@ impl Entry for Peer {
 /// The id of a peer: 1 to 16 or 101 to 108.
 fn peer_id(table: &Table, place: TextPlace) -> Result<u8, TablesFault>
     ensures { MatchResult result
-        (λ id. (option_and_then (checked may_be_peer) (number_within 1 108 (codes "id") (table_view table.now)) ≡ Some id)
+        (λ id. (option_and_then (checked may_be_peer)
+        (number_within 1 108 (codes "id") (table_view table.now)) ≡ Some id)
         × (may_be_peer id ≡ true))
         (λ fault. IsFieldFault fault
-        (option_and_then (checked may_be_peer) (number_within 1 108 (codes "id") (table_view table.now)) ≡ None)) }
+        (option_and_then (checked may_be_peer)
+        (number_within 1 108 (codes "id") (table_view table.now)) ≡ None)) }
 {
     let id = number(table, "id", 1, 108, place)?;
     if id <= 16 || 101 <= id {

@@ -212,8 +212,10 @@ pub(crate) fn name(
     place: TextPlace,
 ) -> Result<Listed<u8>, TablesFault>
     ensures { MatchResult result
-        (λ name. (text_where is_name_text (codes "name") (table_view table.now) ≡ Some name) × (is_name_text name ≡ true))
-        (λ fault. IsFieldFault fault (text_where is_name_text (codes "name") (table_view table.now) ≡ None)) }
+        (λ name. (text_where is_name_text (codes "name") (table_view table.now) ≡ Some name)
+        × (is_name_text name ≡ true))
+        (λ fault. IsFieldFault fault
+        (text_where is_name_text (codes "name") (table_view table.now) ≡ None)) }
 {
     match text_at(table, "name") {
         Some(text) if is_name(text) => Ok(Listed::new(Vec::from_slice(alloc, text)?)),
@@ -228,8 +230,10 @@ pub(crate) fn host(
     place: TextPlace,
 ) -> Result<Listed<u8>, TablesFault>
     ensures { MatchResult result
-        (λ host. (text_where is_host_text (codes "host") (table_view table.now) ≡ Some host) × (is_host_text host ≡ true))
-        (λ fault. IsFieldFault fault (text_where is_host_text (codes "host") (table_view table.now) ≡ None)) }
+        (λ host. (text_where is_host_text (codes "host") (table_view table.now) ≡ Some host)
+        × (is_host_text host ≡ true))
+        (λ fault. IsFieldFault fault
+        (text_where is_host_text (codes "host") (table_view table.now) ≡ None)) }
 {
     match text_at(table, "host") {
         Some(text) if is_host(text) => Ok(Listed::new(Vec::from_slice(alloc, text)?)),
@@ -240,9 +244,10 @@ pub(crate) fn host(
 /// The role at the key `role`.
 pub(crate) fn role(table: &Table, place: TextPlace) -> Result<Role, TablesFault>
     ensures { MatchResult result
-        (λ role. option_and_then role_of (text_in (get_member (codes "role") (table_view table.now))) ≡ Some role)
-        (λ fault. IsFieldFault fault
-        (option_and_then role_of (text_in (get_member (codes "role") (table_view table.now))) ≡ None)) }
+        (λ role. option_and_then role_of
+        (text_in (get_member (codes "role") (table_view table.now))) ≡ Some role)
+        (λ fault. IsFieldFault fault (option_and_then role_of
+        (text_in (get_member (codes "role") (table_view table.now))) ≡ None)) }
 {
     match text_at(table, "role") {
         Some(word) if word == b"sibling".as_slice() => Ok(Role::Sibling),
@@ -254,9 +259,10 @@ pub(crate) fn role(table: &Table, place: TextPlace) -> Result<Role, TablesFault>
 /// The protocol at the key `by`.
 pub(crate) fn udp(table: &Table, place: TextPlace) -> Result<Udp, TablesFault>
     ensures { MatchResult result
-        (λ by. option_and_then udp_of (text_in (get_member (codes "by") (table_view table.now))) ≡ Some by)
-        (λ fault. IsFieldFault fault
-        (option_and_then udp_of (text_in (get_member (codes "by") (table_view table.now))) ≡ None)) }
+        (λ by. option_and_then udp_of
+        (text_in (get_member (codes "by") (table_view table.now))) ≡ Some by)
+        (λ fault. IsFieldFault fault (option_and_then udp_of
+        (text_in (get_member (codes "by") (table_view table.now))) ≡ None)) }
 {
     match text_at(table, "by") {
         Some(word) if word == b"icp".as_slice() => Ok(Udp::Icp),

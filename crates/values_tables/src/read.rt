@@ -105,8 +105,10 @@ fn limits(table: &Table, place: TextPlace) -> Result<Limits, TablesFault>
 /// The address of the master.
 fn master(table: &Table) -> Result<Address, TablesFault>
     ensures { MatchResult result
-        (λ a. (master_of (get_member (codes "master") (table_view table.now)) ≡ Some a) × (is_port a.port ≡ true))
-        (λ fault. IsFieldFault fault (master_of (get_member (codes "master") (table_view table.now)) ≡ None)) }
+        (λ a. (master_of (get_member (codes "master") (table_view table.now)) ≡ Some a)
+        × (is_port a.port ≡ true))
+        (λ fault. IsFieldFault fault
+        (master_of (get_member (codes "master") (table_view table.now)) ≡ None)) }
 {
     let place = TextPlace::of(TableKind::Master);
     let master = table_of(TableKind::Master, value_at(table, "master"), place)?;

@@ -15,11 +15,13 @@ returns-clause-rows g c =
 pub returns-clause-same : goal.returns-clause-same
 returns-clause-same g c =
     let old = state g.S.Store c.args.conn.now in
-    asks_same version_text old (state g.S.Store c.query_all.new.self) (λ clean. version_plain old c.requires) (λ clean. omega (arith, c.query_all.ensures.survives.clean)) _
+    asks_same version_text old (state g.S.Store c.query_all.new.self) (λ clean. version_plain old c.requires)
+    (λ clean. omega (arith, c.query_all.ensures.survives.clean)) _
     c.query_all.ensures.ok
 
 pub returns-clause-survives : goal.returns-clause-survives
 returns-clause-survives g c =
     let old = state g.S.Store c.args.conn.now in
-    asks_only version_text old (state g.S.Store c.query_all.new.self) (λ clean. version_plain old c.requires) (λ clean. omega (arith, c.query_all.ensures.survives.clean))
+    asks_only version_text old (state g.S.Store c.query_all.new.self) (λ clean. version_plain old c.requires)
+    (λ clean. omega (arith, c.query_all.ensures.survives.clean))
     c.query_all.ensures.survives
